@@ -66,6 +66,16 @@ impl<const N: usize> Bytes<N> {
         bytes
     }
 
+    /// The same bytes again.
+    pub fn copy(&self) -> Self
+        ensures { result ≡ self.now }
+    {
+        match Bytes::from_slice(self.as_slice()) {
+            Some(bytes) => bytes,
+            None => unreachable!(),
+        }
+    }
+
     /// How many bytes these are.
     pub fn len(&self) -> usize
         ensures value { result ≡ length self.now }
