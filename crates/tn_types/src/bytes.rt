@@ -88,5 +88,4 @@ impl<const N: usize> Bytes<N> {
 /// The bytes of a slice are below 256: a caller learns it where a type does not say so.
 pub fn are_bytes(bytes: &[u8])
     ensures { AreBytes bytes.now }
-{
-}
+{}

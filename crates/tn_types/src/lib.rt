@@ -8,7 +8,7 @@ mod moves;
 mod values;
 
 pub use bytes::{Bytes, are_bytes};
-pub use choices::{Class, Choice, Drain, NoMemory, Op, Read, Verdict};
+pub use choices::{Choice, Class, Drain, NoMemory, Op, Read, Verdict};
 pub use moves::Move;
 pub use values::Values;
 
