@@ -1,0 +1,5 @@
+pub mod Bits
+pub mod Reading
+pub mod Laws
+pub mod Writer
+pub mod Reader

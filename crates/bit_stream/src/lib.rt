@@ -1,0 +1,26 @@
+//! Numbers of a few bits each, written into a datagram and read from one.
+//!
+//! Bit `k` of a datagram is bit `k mod 8` of its byte `k div 8`, and a number is written with its
+//! least bit first (docs/formats.md, "Datagrams"). Both ends keep whole bytes and fewer than eight
+//! pending bits in a 64-bit word, so a number costs one shift and at most five bytes.
+#![tactic(auto)]
+
+mod accumulator;
+mod laws;
+mod reader;
+#[cfg(test)]
+mod tests;
+mod writer;
+
+pub use laws::{bit_of_bytes, bits_come_back, number_comes_back};
+pub use reader::{BitReader, PaddingFault, Short};
+pub use writer::BitWriter;
+
+/// The most bytes that a [`BitWriter`] has room for.
+pub const MAX_WRITTEN_BYTES: usize = 1200;
+
+/// The most bytes that a [`BitReader`] goes over.
+pub const MAX_READ_BYTES: usize = 65_536;
+
+/// The most bits of one number.
+pub const MAX_WIDTH: u32 = 32;
