@@ -1,0 +1,4 @@
+pub mod Bits
+pub mod State
+pub mod Log
+pub mod Stands

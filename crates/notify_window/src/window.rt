@@ -1,0 +1,160 @@
+//! The window and its calls.
+
+ghost use Rattle.std.specs.Prelude.{◌≡◌, ◌≢◌, ℕ, ◌+◌, ◌-◌, ◌<◌, ◌≤◌, ◌↔◌, List, [], ◌∷◌, IfOk, OnErr, OnOk, IfErr, IsErr};
+ghost use Rattle.std.specs.Int.{bit_at};
+
+use crate::masks::{moved, turned};
+use crate::{AckAhead, Arrival, MAX_LIFE, Notices, SendState, WINDOW};
+use std::marker::Model;
+
+/// What one end knows of the packets of both.
+///
+/// A clause sees the numbers of `WindowState`, and what they mean by the log of what the window saw.
+#[derive(Drop)]
+pub struct Window {
+    sent: u32,
+    first_unjudged: u32,
+    horizon: u32,
+    mask: u32,
+    life: u32,
+}
+
+impl Model for Window {
+    ghost use Rattle.notify_window.specs.State.{WindowState, IsBounded};
+
+    ghost Value = { WindowState };
+
+    ghost view = { λ w. record { sent = w.sent; first_unjudged = w.first_unjudged; horizon = w.horizon; mask = w.mask; life = w.life } };
+
+    ghost invariant = { λ w. IsBounded (record { sent = w.sent; first_unjudged = w.first_unjudged; horizon = w.horizon; mask = w.mask; life = w.life }) };
+}
+
+impl Window {
+    ghost use Rattle.notify_window.specs.State.{send_state};
+    ghost use Rattle.notify_window.specs.Log.{WindowEvent, Sent, Came, Told, fate_of, fate_of_bit, send_state_of, arrival_of, notices_of};
+    ghost use Rattle.notify_window.specs.Stands.{StandsFor};
+
+    /// The window of a new connection, whose two ends each send at most `life` data packets.
+    pub fn new(life: u32) -> Window
+        requires { life ≤ MAX_LIFE }
+        ensures stands { StandsFor result [] }
+        ensures life { result.life ≡ life }
+    {
+        Window {
+            sent: 0,
+            first_unjudged: 1,
+            horizon: 0,
+            mask: 0,
+            life,
+        }
+    }
+
+    /// What a pack makes now: `Held` exactly where 32 packets are unjudged, `Worn` exactly where fewer are
+    /// and `life` were sent (docs/connection.md, "Sending").
+    pub fn can_send(&self) -> SendState
+        ensures state { result ≡ send_state self.now }
+        ensures log { (log : List WindowEvent) → StandsFor self.now log → result ≡ send_state_of self.now.life log }
+    {
+        if self.sent + 1 == self.first_unjudged + WINDOW {
+            SendState::Held
+        } else if self.sent == self.life {
+            SendState::Worn
+        } else {
+            SendState::Room
+        }
+    }
+
+    /// Counts a data packet, and gives its number, from 1 on. A ping is not counted.
+    pub fn send(&mut self) -> u32
+        requires { send_state self.old ≡ SendState.Room }
+        ensures number { result ≡ self.old.sent + 1 }
+        ensures stands { (log : List WindowEvent) → StandsFor self.old log → StandsFor self.new (Sent ∷ log) }
+        ensures life { self.new.life ≡ self.old.life }
+    {
+        self.sent += 1;
+        self.sent
+    }
+
+    /// The number of the last data packet that was sent, 0 where none was.
+    pub fn last_sent(&self) -> u32
+        ensures { result ≡ self.now.sent }
+    {
+        self.sent
+    }
+
+    /// The least number that has no verdict, of those sent and to be sent.
+    pub fn first_unjudged(&self) -> u32
+        ensures { result ≡ self.now.first_unjudged }
+    {
+        self.first_unjudged
+    }
+
+    /// What the other end is told: the horizon, and the mask whose bit i is set where packet `horizon - i`
+    /// was processed.
+    pub fn ack(&self) -> (u32, u32)
+        ensures { result ≡ (self.now.horizon, self.now.mask) }
+    {
+        (self.horizon, self.mask)
+    }
+
+    /// Takes a datagram of the other end (docs/connection.md, "Receiving").
+    ///
+    /// `Old` comes exactly for a data packet with `seq` at most the horizon, and changes nothing. A fresh
+    /// data packet moves the horizon to `seq` and is processed. A ping moves the horizon where `seq` is
+    /// above it, and marks nothing as processed.
+    pub fn receive(&mut self, ping: bool, seq: u32) -> Arrival
+        ensures answer { result ≡ arrival_of ping seq self.old.horizon }
+        ensures old { result ≢ Arrival.Fresh → self.new ≡ self.old }
+        ensures fresh { result ≡ Arrival.Fresh → (log : List WindowEvent) → StandsFor self.old log → StandsFor self.new (Came ping seq ∷ log) }
+        ensures life { self.new.life ≡ self.old.life }
+    {
+        if !ping && seq <= self.horizon {
+            return Arrival::Old {
+                seq,
+                horizon: self.horizon,
+            };
+        }
+        self.mask = moved(self.mask, seq.saturating_sub(self.horizon), !ping);
+        self.horizon = self.horizon.max(seq);
+        Arrival::Fresh
+    }
+
+    /// Reads an acknowledgement: the verdicts of all packets from the first unjudged one to `horizon`, in
+    /// rising order (docs/connection.md, "Notices").
+    ///
+    /// `AckAhead` comes exactly where the horizon is above the last number that was sent, and changes
+    /// nothing. Where the horizon is below the first unjudged number, nothing is judged.
+    pub fn notices(&mut self, horizon: u32, mask: u32) -> Result<Notices, AckAhead>
+        ensures ahead { IsErr result ↔ (self.old.sent < horizon) }
+        ensures names { IfErr result (λ e. (e.horizon ≡ horizon) × (e.last ≡ self.old.sent)) }
+        ensures unchanged { OnErr result (self.new ≡ self.old) }
+        ensures stands { OnOk result ((log : List WindowEvent) → StandsFor self.old log → StandsFor self.new (Told horizon mask ∷ log)) }
+        ensures first { IfOk result (λ n. n.first ≡ self.old.first_unjudged) }
+        ensures count { IfOk result (λ n. n.count ≡ horizon + 1 - self.old.first_unjudged) }
+        ensures notices { IfOk result (λ n. (log : List WindowEvent) → StandsFor self.old log → n ≡ notices_of horizon mask log) }
+        ensures verdicts { IfOk result (λ n. (log : List WindowEvent) → StandsFor self.old log → (i : ℕ) → i < n.count → fate_of (n.first + i) (Told horizon mask ∷ log) ≡ fate_of_bit (bit_at n.bits i)) }
+        ensures life { self.new.life ≡ self.old.life }
+    {
+        if horizon > self.sent {
+            return Err(AckAhead {
+                horizon,
+                last: self.sent,
+            });
+        }
+        let first = self.first_unjudged;
+        if horizon < first {
+            return Ok(Notices {
+                first,
+                count: 0,
+                bits: 0,
+            });
+        }
+        let count = horizon + 1 - first;
+        self.first_unjudged = horizon + 1;
+        Ok(Notices {
+            first,
+            count,
+            bits: turned(mask, count),
+        })
+    }
+}
