@@ -1,0 +1,4 @@
+pub mod Nearest
+pub mod Gaps
+pub mod Specs
+pub mod Limits

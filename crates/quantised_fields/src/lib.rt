@@ -1,0 +1,18 @@
+//! Kinds of objects, their fields, and the levels in which values travel.
+//!
+//! A field holds a whole number from `lo` to `hi`, and travels as one of 2^bits levels. A kind is a list
+//! of fields with a weight, and a table has up to 16 kinds. No call takes memory.
+#![tactic(auto)]
+
+pub mod field;
+pub mod kind;
+pub mod levels;
+pub mod table;
+
+pub use field::{FieldList, FieldSpec};
+pub use kind::Kind;
+pub use levels::{level, shown};
+pub use table::{KindFault, KindTable};
+
+#[cfg(test)]
+mod tests;
