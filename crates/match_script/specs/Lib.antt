@@ -1,0 +1,7 @@
+pub mod Text
+pub mod Words
+pub mod Shape
+pub mod Lines
+pub mod Script
+pub mod Ranges
+pub mod Print

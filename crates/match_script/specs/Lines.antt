@@ -1,0 +1,106 @@
+-- What a line of the body says. A line is known by its first word, the number of its words and, for a post, its
+-- class; then its words are read from left to right. A further kind of line is one case here.
+use Rattle.std.specs.Prelude.{ℕ, ◌≡◌, ◌^◌, List, [], ◌∷◌, ◌&&◌, ◌||◌, Bool, false, if◌then◌else◌, codes, Result, Ok, Err, refl}
+use Rattle.std.specs.Str.{bytes_eq}
+use Rattle.tn_types.specs.declared.choices.Class.{Class}
+use Rattle.tn_types.specs.declared.choices.Class.TheVariants.{Guaranteed}
+use Rattle.match_script.specs.declared.limits.TheConstants.{MOST_PAYLOAD, MOST_CLIENTS, MOST_LIFE, LEAST_SIZE, MOST_SIZE, MOST_RADIUS}
+use Rattle.match_script.specs.declared.types.ScriptFault.{ScriptFault}
+use Rattle.match_script.specs.declared.types.ScriptFault.TheVariants.{UnknownWord, NotBuilt, BadHeader, BadNumber, OutOfRange}
+use Rattle.match_script.specs.declared.types.BodyLine.{BodyLine}
+use Rattle.match_script.specs.declared.types.BodyLine.TheVariants.{Post, Pack, ClientPack, Down, Up, Show}
+use Rattle.match_script.specs.declared.types.Head.{Head}
+use Rattle.match_script.specs.Words.{◌>>=◌, number, number_from, hex}
+
+abbrev pub is : List ℕ → List ℕ → Bool
+is word name = bytes_eq word name
+
+-- Lines of the format that no version so far reads, in the header and in the body.
+unfoldable pub is_unbuilt : List (List ℕ) → Bool
+is_unbuilt (kind ∷ []) = is kind (codes "tick") || is kind (codes "world")
+is_unbuilt (kind ∷ word ∷ []) = is kind (codes "scan") || is kind (codes "block")
+is_unbuilt (kind ∷ c ∷ bytes ∷ []) = is kind (codes "raw")
+is_unbuilt (kind ∷ c ∷ class ∷ bytes ∷ []) =
+    (is kind (codes "post") && is class (codes "u"))
+    || (is kind (codes "cpost") && (is class (codes "g") || is class (codes "u")))
+is_unbuilt (kind ∷ c ∷ v ∷ w ∷ x ∷ y ∷ []) = is kind (codes "move") || is kind (codes "player") || is kind (codes "spawn")
+is_unbuilt words = false
+
+-- why these words are no line of the body
+unfoldable pub no_body_line : List (List ℕ) → ScriptFault
+no_body_line words = if is_unbuilt words then NotBuilt else UnknownWord
+
+-- why these words are no line of the header where they stand
+unfoldable pub no_header_line : List (List ℕ) → ScriptFault
+no_header_line words = if is_unbuilt words then NotBuilt else BadHeader
+
+unfoldable pub post_line : ℕ → List ℕ → Class → List ℕ → Result BodyLine ScriptFault
+post_line clients c class bytes = do
+  client ← number clients c
+  payload ← hex MOST_PAYLOAD bytes
+  Ok (Post client class payload)
+
+unfoldable pub pack_line : ℕ → List ℕ → Result BodyLine ScriptFault
+pack_line clients c = do
+  client ← number clients c
+  Ok (Pack client)
+
+unfoldable pub client_pack_line : ℕ → List ℕ → Result BodyLine ScriptFault
+client_pack_line clients c = do
+  client ← number clients c
+  Ok (ClientPack client)
+
+unfoldable pub down_line : ℕ → List ℕ → List ℕ → Result BodyLine ScriptFault
+down_line clients c place = do
+  client ← number clients c
+  k ← number (2 ^ 32) place
+  Ok (Down client k)
+
+unfoldable pub up_line : ℕ → List ℕ → List ℕ → Result BodyLine ScriptFault
+up_line clients c place = do
+  client ← number clients c
+  k ← number (2 ^ 32) place
+  Ok (Up client k)
+
+unfoldable pub show_line : ℕ → List ℕ → Result BodyLine ScriptFault
+show_line clients c = do
+  client ← number clients c
+  Ok (Show client)
+
+-- the line of the body that these words are
+unfoldable pub body_line : ℕ → List (List ℕ) → Result BodyLine ScriptFault
+body_line clients (kind ∷ c ∷ []) =
+    if is kind (codes "pack") then pack_line clients c
+    else if is kind (codes "cpack") then client_pack_line clients c
+    else if is kind (codes "show") then show_line clients c
+    else Err (no_body_line (kind ∷ c ∷ []))
+body_line clients (kind ∷ c ∷ place ∷ []) =
+    if is kind (codes "down") then down_line clients c place
+    else if is kind (codes "up") then up_line clients c place
+    else Err (no_body_line (kind ∷ c ∷ place ∷ []))
+body_line clients (kind ∷ c ∷ class ∷ bytes ∷ []) =
+    if is kind (codes "post") && is class (codes "g") then post_line clients c Guaranteed bytes
+    else Err (no_body_line (kind ∷ c ∷ class ∷ bytes ∷ []))
+body_line clients words = Err (no_body_line words)
+
+-- the five numbers of `match SEED CLIENTS LIFE SIZE RADIUS`
+unfoldable pub match_numbers : ℕ → List ℕ → List ℕ → List ℕ → List ℕ → List ℕ → Result Head ScriptFault
+match_numbers version seed clients life size radius = do
+  seed ← number (2 ^ 32) seed
+  clients ← number_from 1 MOST_CLIENTS clients
+  life ← number_from 1 MOST_LIFE life
+  size ← number_from LEAST_SIZE MOST_SIZE size
+  radius ← number_from 0 MOST_RADIUS radius
+  Ok (record { version = version; seed = seed; clients = clients; life = life; size = size; radius = radius })
+
+packed : body_line 2 (codes "pack" ∷ codes "1" ∷ []) ≡ Ok (Pack 1)
+unfolding body_line pack_line number
+packed = refl
+
+client_first : body_line 1 (codes "down" ∷ codes "1" ∷ codes "x" ∷ []) ≡ Err OutOfRange
+unfolding body_line down_line number
+client_first = refl
+
+class_before_numbers : body_line 1 (codes "post" ∷ codes "99" ∷ codes "x" ∷ codes "6" ∷ []) ≡ Err UnknownWord
+unfolding body_line no_body_line is_unbuilt
+class_before_numbers = refl

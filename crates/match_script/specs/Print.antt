@@ -1,0 +1,54 @@
+-- The one text that a script is printed as: the words of each line with a space between each two, and a newline
+-- behind each line. Numbers are decimal, and bytes are hexadecimal digits in lower case.
+use Rattle.std.specs.Prelude.{ℕ, List, [], ◌∷◌, ◌++◌, map, codes}
+use Rattle.std.specs.Fmt.{decimal}
+use Rattle.hex.specs.Hex.{encode_lower}
+use Rattle.tn_types.specs.declared.choices.Class.{Class}
+use Rattle.tn_types.specs.declared.choices.Class.TheVariants.{Guaranteed, Loose}
+use Rattle.match_script.specs.declared.types.BodyLine.{BodyLine}
+use Rattle.match_script.specs.declared.types.BodyLine.TheVariants.{Post, Pack, ClientPack, Down, Up, Show}
+use Rattle.match_script.specs.declared.types.Head.{Head}
+use Rattle.match_script.specs.declared.types.Script.{Script}
+use Rattle.match_script.specs.Text.{spelled}
+
+abbrev pub hex_word : List ℕ → List ℕ
+hex_word [] = codes "-"
+hex_word (b ∷ bytes) = encode_lower (b ∷ bytes)
+
+abbrev pub class_word : Class → List ℕ
+class_word Guaranteed = codes "g"
+class_word Loose = codes "u"
+
+abbrev pub line_words : BodyLine → List (List ℕ)
+line_words (Post c class bytes) = codes "post" ∷ decimal c ∷ class_word class ∷ hex_word bytes ∷ []
+line_words (Pack c) = codes "pack" ∷ decimal c ∷ []
+line_words (ClientPack c) = codes "cpack" ∷ decimal c ∷ []
+line_words (Down c k) = codes "down" ∷ decimal c ∷ decimal k ∷ []
+line_words (Up c k) = codes "up" ∷ decimal c ∷ decimal k ∷ []
+line_words (Show c) = codes "show" ∷ decimal c ∷ []
+
+abbrev pub version_words : ℕ → List (List ℕ)
+version_words version = codes "tribes" ∷ decimal version ∷ []
+
+abbrev pub match_words : Head → List (List ℕ)
+match_words h = codes "match" ∷ decimal h.seed ∷ decimal h.clients ∷ decimal h.life ∷ decimal h.size ∷ decimal h.radius ∷ []
+
+abbrev pub go_words : List (List ℕ)
+go_words = codes "go" ∷ []
+
+-- the words of each line of a header
+abbrev pub header_words : Head → List (List (List ℕ))
+header_words h = version_words h.version ∷ match_words h ∷ go_words ∷ []
+
+-- lines with a newline behind each
+unfoldable pub joined : List (List ℕ) → List ℕ
+joined [] = []
+joined (line ∷ lines) = line ++ 10 ∷ joined lines
+
+-- the text of a script
+abbrev pub text_of : Script → List ℕ
+text_of s = joined (map spelled (header_words s.head ++ map line_words s.body))
+
+-- a text with a further line
+abbrev pub with_line : List ℕ → List (List ℕ) → List ℕ
+with_line text words = text ++ (spelled words ++ 10 ∷ [])

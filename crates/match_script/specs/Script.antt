@@ -1,0 +1,101 @@
+-- The script of a text, line by line: the header's three lines, then the body's. Where a text has no script, it
+-- has a least line that can't stand where it stands, and that line's first fault.
+use Rattle.std.specs.Prelude.{ℕ, ◌≡◌, suc, ◌+◌, List, [], ◌∷◌, ◌++◌, Bool, not, ◌&&◌, nat_le, if◌then◌else◌, codes, Option, Some, None, Result, Ok, Err, refl}
+use Rattle.match_script.specs.declared.limits.TheConstants.{VERSION, MOST_BODY_LINES}
+use Rattle.match_script.specs.declared.types.ScriptFault.{ScriptFault}
+use Rattle.match_script.specs.declared.types.ScriptFault.TheVariants.{NotText, BadHeader, TooManyLines, UnknownWord}
+use Rattle.match_script.specs.declared.types.ParseFault.{ParseFault}
+use Rattle.match_script.specs.declared.types.ParseFault.TheVariants.{Bad, NoMemory}
+use Rattle.match_script.specs.declared.types.BodyLine.{BodyLine}
+use Rattle.match_script.specs.declared.types.BodyLine.TheVariants.{Pack}
+use Rattle.match_script.specs.declared.types.Head.{Head}
+use Rattle.match_script.specs.declared.types.Script.{Script}
+use Rattle.match_script.specs.Text.{lines_of, words_of, is_text}
+use Rattle.match_script.specs.Lines.{is, body_line, match_numbers, no_header_line}
+
+-- a line, numbered from 1, and its first fault
+abbrev pub Fault : Type 0
+Fault = ℕ × ScriptFault
+
+-- the next lines are read where these have no fault
+infixl 10 ◌>>=◌
+abbrev pub ◌>>=◌ : {A B : Type 0} → Result A Fault → (A → Result B Fault) → Result B Fault
+(Ok x) >>= f = f x
+(Err e) >>= f = Err e
+
+-- the words of line n of the header, and the lines after it
+unfoldable pub header_words : ℕ → List (List ℕ) → Result (List (List ℕ) × List (List ℕ)) Fault
+header_words n [] = Err (n, BadHeader)
+header_words n (line ∷ lines) = if is_text line then Ok (words_of line, lines) else Err (n, NotText)
+
+-- what the words of line n of the header say, or why they can't stand there
+abbrev pub stands : {A : Type 0} → ℕ → List (List ℕ) → Option A → Result A Fault
+stands n words (Some x) = Ok x
+stands n words None = Err (n, no_header_line words)
+
+-- `tribes 1`: the version
+unfoldable pub version_line : List (List ℕ) → Option ℕ
+version_line (kind ∷ version ∷ []) = if is kind (codes "tribes") && is version (codes "1") then Some VERSION else None
+version_line _ = None
+
+abbrev pub without_fault : {A : Type 0} → Result A ScriptFault → Option A
+without_fault (Ok x) = Some x
+without_fault (Err e) = None
+
+unfoldable pub match_line : ℕ → List (List ℕ) → Option Head
+match_line version (kind ∷ seed ∷ clients ∷ life ∷ size ∷ radius ∷ []) =
+    if is kind (codes "match") then without_fault (match_numbers version seed clients life size radius) else None
+match_line version _ = None
+
+-- `go` ends the header
+unfoldable pub go_line : List (List ℕ) → Option (Unit {0})
+go_line (kind ∷ []) = if is kind (codes "go") then Some tt else None
+go_line _ = None
+
+-- the header of the lines, and the lines after it
+unfoldable pub header : List (List ℕ) → Result (Head × List (List ℕ)) Fault
+header lines = do
+  first ← header_words 1 lines
+  version ← stands 1 first.0 (version_line first.0)
+  second ← header_words 2 first.1
+  head ← stands 2 second.0 (match_line version second.0)
+  third ← header_words 3 second.1
+  ended ← stands 3 third.0 (go_line third.0)
+  Ok (head, third.1)
+
+-- line k of the body, counted from 0
+unfoldable pub line_at : ℕ → ℕ → List ℕ → Result BodyLine ScriptFault
+line_at clients k line =
+    if not (is_text line) then Err NotText
+    else if nat_le MOST_BODY_LINES k then Err TooManyLines
+    else body_line clients (words_of line)
+
+-- what a line of the body says, whose number in the text is n
+abbrev pub body_fault : {A : Type 0} → ℕ → Result A ScriptFault → Result A Fault
+body_fault n (Ok line) = Ok line
+body_fault n (Err fault) = Err (n, fault)
+
+-- the lines of a body from line k on, behind line n of the text
+unfoldable pub body_of : ℕ → ℕ → ℕ → List (List ℕ) → Result (List BodyLine) Fault
+body_of clients n k [] = Ok []
+body_of clients n k (line ∷ lines) = do
+  first ← body_fault (n + suc k) (line_at clients k line)
+  rest ← body_of clients n (suc k) lines
+  Ok (first ∷ rest)
+
+-- the script of the lines
+unfoldable pub script_in : List (List ℕ) → Result Script Fault
+script_in lines = do
+  begun ← header lines
+  body ← body_of begun.0.clients 3 0 begun.1
+  Ok (record { head = begun.0; body = body })
+
+-- the script of a text
+abbrev pub script_of : List ℕ → Result Script Fault
+script_of text = script_in (lines_of text)
+
+-- what a call gave is what the definitions read, but where memory ran out
+abbrev pub Gives : {X Y : Type 0} → (X → Y) → Result X ParseFault → Result Y Fault → Type 0
+Gives view (Ok x) read = read ≡ Ok (view x)
+Gives view (Err (Bad line fault)) read = read ≡ Err (line, fault)
+Gives view (Err NoMemory) read = Unit {0}

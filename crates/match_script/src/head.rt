@@ -1,0 +1,143 @@
+//! The three lines of the header.
+ghost use Rattle.std.specs.Prelude.{◌≡◌, List, ℕ, Ok, Err, IfOk, IfSome};
+ghost use Rattle.match_script.specs.declared.types.ParseFault.TheVariants.{Bad};
+ghost use Rattle.match_script.specs.Text.{lines_of, words_of};
+ghost use Rattle.match_script.specs.Lines.{no_header_line, match_numbers};
+ghost use Rattle.match_script.specs.Script.{Gives, header_words, version_line, match_line, go_line, header};
+ghost use Rattle.match_script.specs.Ranges.{HeadFits};
+
+use crate::cut::{cut_line, is_text};
+use crate::limits::{LEAST_SIZE, MOST_CLIENTS, MOST_LIFE, MOST_RADIUS, MOST_SIZE, VERSION};
+use crate::types::{Head, ParseFault, ScriptFault};
+use crate::unbuilt::no_header_line;
+use crate::word;
+use crate::words::{Words, parted};
+
+// The line that is to stand at place n of the header, and what comes after it.
+#[tactic(auto, using(crate::proofs::Bodies::no_line), unfolding(crate::specs::Script::header_words))]
+fn header_line(n: u32, text: &[u8]) -> Result<(&[u8], &[u8]), ParseFault>
+    ensures { Gives (λ x. (words_of x.0.now, lines_of x.1.now)) result (header_words n (lines_of text.now)) }
+{
+    if text.len() == 0 {
+        return Err(ParseFault::Bad {
+            line: n,
+            fault: ScriptFault::BadHeader,
+        });
+    }
+    let (line, rest) = cut_line(text);
+    if is_text(line) {
+        Ok((line, rest))
+    } else {
+        Err(ParseFault::Bad {
+            line: n,
+            fault: ScriptFault::NotText,
+        })
+    }
+}
+
+// The version that `tribes 1` names.
+#[tactic(auto, unfolding(crate::specs::Script::version_line))]
+fn version_line(line: &[u8]) -> Option<u8>
+    ensures value { result ≡ version_line (words_of line.now) }
+    ensures fits { IfSome result (λ version. version ≡ VERSION) }
+{
+    match parted(line) {
+        Words::Two(kind, version) => {
+            if kind == b"tribes".as_slice() && version == b"1".as_slice() {
+                Some(VERSION)
+            } else {
+                None
+            }
+        }
+        _ => None,
+    }
+}
+
+#[tactic(auto, using(crate::proofs::Numbers::number_from_fits, crate::proofs::Numbers::number_below), unfolding(crate::specs::Lines::match_numbers))]
+fn match_numbers(version: u8, seed: &[u8], clients: &[u8], life: &[u8], size: &[u8], radius: &[u8]) -> Result<Head, ScriptFault>
+    ensures value { result ≡ match_numbers version seed.now clients.now life.now size.now radius.now }
+    ensures fits { version ≡ VERSION → IfOk result HeadFits }
+{
+    let seed = word::number_32(seed)?;
+    let clients = word::number_from(1, MOST_CLIENTS, clients)?;
+    let life = word::number_from(1, MOST_LIFE, life)?;
+    let size = word::number_from(LEAST_SIZE, MOST_SIZE, size)?;
+    let radius = word::number_from(0, MOST_RADIUS, radius)?;
+    Ok(Head {
+        version,
+        seed,
+        clients: clients as u8,
+        life,
+        size,
+        radius,
+    })
+}
+
+// The header that `match SEED CLIENTS LIFE SIZE RADIUS` gives.
+#[tactic(auto, unfolding(crate::specs::Script::match_line))]
+fn match_line(version: u8, line: &[u8]) -> Option<Head>
+    ensures value { result ≡ match_line version (words_of line.now) }
+    ensures fits { version ≡ VERSION → IfSome result HeadFits }
+{
+    match parted(line) {
+        Words::Six(kind, seed, clients, life, size, radius) => {
+            if kind == b"match".as_slice() {
+                match match_numbers(version, seed, clients, life, size, radius) {
+                    Ok(head) => Some(head),
+                    Err(_) => None,
+                }
+            } else {
+                None
+            }
+        }
+        _ => None,
+    }
+}
+
+// Whether a line is `go`, which ends the header.
+#[tactic(auto, unfolding(crate::specs::Script::go_line))]
+fn go_line(line: &[u8]) -> Option<()>
+    ensures { result ≡ go_line (words_of line.now) }
+{
+    match parted(line) {
+        Words::One(kind) => {
+            if kind == b"go".as_slice() {
+                Some(())
+            } else {
+                None
+            }
+        }
+        _ => None,
+    }
+}
+
+// Line n of the header can't stand there.
+fn misplaced(n: u32, line: &[u8]) -> ParseFault
+    ensures { result ≡ Bad n (no_header_line (words_of line.now)) }
+{
+    ParseFault::Bad {
+        line: n,
+        fault: no_header_line(line),
+    }
+}
+
+// The header of a text, and what comes after it.
+#[tactic(auto, unfolding(crate::specs::Script::header))]
+pub fn header(text: &[u8]) -> Result<(Head, &[u8]), ParseFault>
+    ensures value { Gives (λ x. (x.0, lines_of x.1.now)) result (header (lines_of text.now)) }
+    ensures fits { IfOk result (λ x. HeadFits x.0) }
+{
+    let (line, rest) = header_line(1, text)?;
+    let Some(version) = version_line(line) else {
+        return Err(misplaced(1, line));
+    };
+    let (line, rest) = header_line(2, rest)?;
+    let Some(head) = match_line(version, line) else {
+        return Err(misplaced(2, line));
+    };
+    let (line, rest) = header_line(3, rest)?;
+    let Some(_) = go_line(line) else {
+        return Err(misplaced(3, line));
+    };
+    Ok((head, rest))
+}

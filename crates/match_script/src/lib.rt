@@ -1,0 +1,18 @@
+//! writes it. The format stands in docs/formats.md, "The script".
+#![tactic(auto)]
+
+mod cut;
+mod head;
+mod limits;
+mod line;
+mod reader;
+mod types;
+mod unbuilt;
+mod word;
+mod words;
+
+pub use limits::{
+    LEAST_SIZE, MOST_BODY_LINES, MOST_CLIENTS, MOST_LIFE, MOST_PAYLOAD, MOST_RADIUS, MOST_SIZE, VERSION,
+};
+pub use reader::parse;
+pub use types::{Body, BodyLine, Head, ParseFault, Script, ScriptFault};

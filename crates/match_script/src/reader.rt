@@ -1,0 +1,71 @@
+//! From a text to its script.
+ghost use Rattle.std.specs.Prelude.{◌≡◌, ◌≤◌, List, ℕ, IfOk, length};
+ghost use Rattle.std.specs.List.{All};
+ghost use Rattle.match_script.specs.Text.{lines_of};
+ghost use Rattle.match_script.specs.Script.{Gives, line_at, body_of, script_of};
+ghost use Rattle.match_script.specs.Ranges.{LineFits, HasRanges};
+
+use crate::cut::{cut_line, is_text};
+use crate::head::header;
+use crate::limits::MOST_BODY_LINES;
+use crate::line::body_line;
+use crate::types::{Body, BodyLine, ParseFault, Script, ScriptFault};
+use std::alloc::Global;
+
+// Lines of the header.
+const HEADER_LINES: u32 = 3;
+
+// Line k of the body, counted from 0.
+#[tactic(auto, unfolding(crate::specs::Script::line_at))]
+fn line_at(clients: u8, k: u32, line: &[u8]) -> Result<BodyLine, ScriptFault>
+    ensures value { result ≡ line_at clients k line.now }
+    ensures fits { IfOk result (LineFits clients) }
+{
+    if !is_text(line) {
+        return Err(ScriptFault::NotText);
+    }
+    if k >= MOST_BODY_LINES {
+        return Err(ScriptFault::TooManyLines);
+    }
+    body_line(clients, line)
+}
+
+// The body of the text behind the header.
+#[tactic(auto, using(crate::proofs::Bodies::body_goes_on, crate::proofs::Bodies::body_stops, crate::proofs::Bodies::body_ends, crate::proofs::Bodies::line_few, crate::proofs::Bodies::fits_more))]
+fn body_of(alloc: Global, clients: u8, text: &[u8]) -> Result<Body, ParseFault>
+    ensures value { Gives (λ b. b) result (body_of clients 3 0 (lines_of text.now)) }
+    ensures few { IfOk result (λ b. length b ≤ MOST_BODY_LINES) }
+    ensures fits { IfOk result (All (LineFits clients)) }
+{
+    let mut lines = Vec::new(alloc);
+    let mut rest = text;
+    let mut k = 0u32;
+    while rest.len() > 0 {
+        let (line, after) = cut_line(rest);
+        match line_at(clients, k, line) {
+            Ok(line) => lines.push(line)?,
+            Err(fault) => {
+                return Err(ParseFault::Bad {
+                    line: HEADER_LINES + (k + 1),
+                    fault,
+                });
+            }
+        }
+        rest = after;
+        k += 1;
+    }
+    Ok(Body::from_vec(lines))
+}
+
+/// The script of a text, or the least line that can't stand where it stands, with its first fault; each exactly
+/// as docs/formats.md, "The script" and "Faults of a script", says. Any bytes may come, and they are gone over
+/// once.
+#[tactic(auto, unfolding(crate::specs::Script::script_in))]
+pub fn parse(alloc: Global, bytes: &[u8]) -> Result<Script, ParseFault>
+    ensures grammar { Gives (λ script. script) result (script_of bytes.now) }
+    ensures ranges { IfOk result HasRanges }
+{
+    let (head, rest) = header(bytes)?;
+    let body = body_of(alloc, head.clients, rest)?;
+    Ok(Script { head, body })
+}

@@ -1,0 +1,137 @@
+//! A script, and why a text has none.
+ghost use Rattle.std.specs.Prelude.{◌≡◌, ◌++◌, ◌∷◌, [], OnOk, OnErr, length};
+
+use std::alloc::{AllocError, AllocFailed};
+use std::marker::Model;
+use tn_types::{Class, Payload};
+
+/// One line of a script's body. Each client is below the number of clients in the header.
+#[derive(Drop)]
+pub enum BodyLine {
+    /// `post C g HEX`: the server posts an event to a client.
+    Post { client: u8, class: Class, payload: Payload },
+    /// `pack C`: the server makes a datagram for a client.
+    Pack { client: u8 },
+    /// `cpack C`: a client makes a datagram.
+    ClientPack { client: u8 },
+    /// `down C K`: a client gets the K-th datagram that the server sent it, counted from 0.
+    Down { client: u8, k: u32 },
+    /// `up C K`: the server gets the K-th datagram of a client, counted from 0.
+    Up { client: u8, k: u32 },
+    /// `show C`: what a client has is told.
+    Show { client: u8 },
+}
+
+/// Why a line can't stand where it stands (docs/formats.md, "Faults of a script").
+#[derive(Clone, Copy, Debug, PartialEq, Eq)]
+pub enum ScriptFault {
+    /// A byte is none of 0x20 to 0x7E.
+    NotText,
+    /// The header has no such line here, or the text ends before `go`.
+    BadHeader,
+    /// This is the 100,001st line of the body.
+    TooManyLines,
+    /// No line has this first word with this number of words, or the class is neither `g` nor `u`.
+    UnknownWord,
+    /// A word where a number stands is none.
+    BadNumber,
+    /// A number or a count of bytes is outside its range.
+    OutOfRange,
+    /// A word where bytes stand is neither `-` nor pairs of hexadecimal digits.
+    BadHex,
+    /// The format has this line, but this version doesn't read it yet.
+    NotBuilt,
+}
+
+/// Why bytes were not read as a script.
+#[derive(Clone, Copy, Debug, PartialEq, Eq)]
+pub enum ParseFault {
+    /// The least faulty line, numbered from 1 with the header's lines, and its first fault.
+    Bad { line: u32, fault: ScriptFault },
+    /// Memory was not to be had.
+    NoMemory,
+}
+
+impl From<AllocError> for ParseFault {
+    ghost use Rattle.std.specs.Prelude.{◌≡◌};
+    ghost use Rattle.match_script.specs.declared.types.ParseFault.TheVariants.{NoMemory};
+
+    ghost from_gives = { λ _ e. e ≡ NoMemory };
+
+    fn from(_error: AllocError) -> Self {
+        ParseFault::NoMemory
+    }
+}
+
+impl<T: Drop> From<AllocFailed<T>> for ParseFault {
+    ghost use Rattle.std.specs.Prelude.{◌≡◌};
+    ghost use Rattle.match_script.specs.declared.types.ParseFault.TheVariants.{NoMemory};
+
+    ghost from_gives = { λ _ e. e ≡ NoMemory };
+
+    fn from(_error: AllocFailed<T>) -> Self {
+        ParseFault::NoMemory
+    }
+}
+
+/// The lines of a body, in order; contracts see them as a list.
+#[derive(Drop)]
+pub struct Body {
+    lines: Vec<BodyLine>,
+}
+
+impl Model for Body {
+    ghost use Rattle.std.specs.Prelude.{List};
+    ghost use Rattle.match_script.specs.declared.types.BodyLine.{BodyLine};
+
+    ghost Value = { List BodyLine };
+
+    ghost view = { λ b. b.lines.items };
+}
+
+impl Body {
+    /// A body of these lines.
+    pub fn from_vec(lines: Vec<BodyLine>) -> Body
+        ensures { result ≡ lines.items }
+    {
+        Body { lines }
+    }
+
+    /// The lines, lent.
+    pub fn as_slice(&self) -> &[BodyLine]
+        ensures { result.now ≡ self.now }
+    {
+        self.lines.as_slice()
+    }
+
+    /// How many lines these are.
+    pub fn len(&self) -> usize
+        ensures { result ≡ length self.now }
+    {
+        self.lines.len()
+    }
+}
+
+/// What the header says.
+#[derive(Clone, Copy, Debug, PartialEq, Eq)]
+pub struct Head {
+    /// The version of the format and of the datagrams: 1.
+    pub version: u8,
+    /// Where the world's chances start: below 2^32.
+    pub seed: u32,
+    /// How many clients there are: 1 to 16.
+    pub clients: u8,
+    /// What ends each counter of a connection: 1 to 16,777,215.
+    pub life: u32,
+    /// Bytes of a datagram at the most: 128 to 1,200.
+    pub size: u32,
+    /// How far a player sees, in centimetres: 0 to 65,535.
+    pub radius: u32,
+}
+
+/// A script: the header and the body's lines.
+#[derive(Drop)]
+pub struct Script {
+    pub head: Head,
+    pub body: Body,
+}

@@ -1,0 +1,155 @@
+//! What a word says: a number in a range, or bytes.
+ghost use Rattle.std.specs.Prelude.{◌≡◌, ◌^◌, ◌-◌, ◌<◌, min, IsTrue, IfOk};
+ghost use Rattle.std.specs.List.{list_all};
+ghost use Rattle.hex.specs.Hex.{is_hex_digit};
+ghost use Rattle.std.specs.Str.Parse.{digits_value};
+ghost use Rattle.match_script.specs.Words.{is_digit, is_number, is_hex, number, number_from, hex};
+ghost use Rattle.match_script.specs.Ranges.{PayloadFits};
+
+use crate::limits::MOST_PAYLOAD;
+use crate::types::ScriptFault;
+use tn_types::{Payload, are_bytes};
+
+// Decimal digits with no leading zero.
+fn is_number(word: &[u8]) -> bool
+    ensures { result ≡ is_number word.now }
+{
+    match word.split_first() {
+        None => false,
+        Some((first, rest)) => {
+            if *first == b'0' {
+                rest.len() == 0
+            } else {
+                is_digit(*first) && are_digits(rest)
+            }
+        }
+    }
+}
+
+fn is_digit(b: u8) -> bool
+    ensures { result ≡ is_digit b }
+{
+    48 <= b && b <= 57
+}
+
+fn are_digits(word: &[u8]) -> bool
+    ensures { result ≡ list_all is_digit word.now }
+{
+    word.iter().all(|b| is_digit(*b))
+}
+
+// The number that the digits say, or the greatest.
+#[tactic(auto, using(crate::proofs::Numbers::value_step))]
+fn value(word: &[u8]) -> u64
+    requires { IsTrue (is_number word.now) }
+    ensures { result ≡ min (digits_value 10 word.now) (2 ^ 64 - 1) }
+{
+    let mut value = 0u64;
+    for b in word {
+        value = value.saturating_mul(10).saturating_add(digit(*b));
+    }
+    value
+}
+
+// The value of a digit.
+fn digit(b: u8) -> u64
+    ensures { result ≡ b - 48 }
+{
+    u64::from(b.saturating_sub(48))
+}
+
+// The number that a word says, below the limit.
+#[tactic(auto, unfolding(crate::specs::Words::number))]
+pub fn number(limit: u64, word: &[u8]) -> Result<u64, ScriptFault>
+    requires { limit < 2 ^ 64 }
+    ensures { result ≡ number limit word.now }
+{
+    if !is_number(word) {
+        return Err(ScriptFault::BadNumber);
+    }
+    let n = value(word);
+    if n < limit { Ok(n) } else { Err(ScriptFault::OutOfRange) }
+}
+
+// The client that a word names.
+#[tactic(auto, using(crate::proofs::Numbers::number_below))]
+pub fn client(clients: u8, word: &[u8]) -> Result<u8, ScriptFault>
+    ensures value { result ≡ number clients word.now }
+    ensures fits { IfOk result (λ c. c < clients) }
+{
+    match number(u64::from(clients), word) {
+        Ok(n) => Ok(n as u8),
+        Err(fault) => Err(fault),
+    }
+}
+
+// The number below 2^32 that a word says.
+#[tactic(auto, using(crate::proofs::Numbers::number_below))]
+pub fn number_32(word: &[u8]) -> Result<u32, ScriptFault>
+    ensures { result ≡ number (2 ^ 32) word.now }
+{
+    match number(1 << 32, word) {
+        Ok(n) => Ok(n as u32),
+        Err(fault) => Err(fault),
+    }
+}
+
+// The number from `least` to `most` that a word says.
+#[tactic(auto, using(crate::proofs::Numbers::number_below), unfolding(crate::specs::Words::number_from))]
+pub fn number_from(least: u32, most: u32, word: &[u8]) -> Result<u32, ScriptFault>
+    ensures value { result ≡ number_from least most word.now }
+{
+    match number(u64::from(most) + 1, word) {
+        Ok(n) => {
+            if n < u64::from(least) {
+                Err(ScriptFault::OutOfRange)
+            } else {
+                Ok(n as u32)
+            }
+        }
+        Err(fault) => Err(fault),
+    }
+}
+
+// The bytes of an event that a word says.
+#[tactic(auto, unfolding(crate::specs::Words::hex))]
+pub fn payload(word: &[u8]) -> Result<Payload, ScriptFault>
+    ensures value { result ≡ hex MOST_PAYLOAD word.now }
+    ensures fits { IfOk result PayloadFits }
+{
+    if word == b"-".as_slice() {
+        return Ok(Payload::new());
+    }
+    if word.len() == 0 || !is_hex(word) {
+        return Err(ScriptFault::BadHex);
+    }
+    let half = word.len() / 2;
+    if half > MOST_PAYLOAD {
+        return Err(ScriptFault::OutOfRange);
+    }
+    let mut buf = [0u8; MOST_PAYLOAD];
+    let (out, _) = buf.split_at_mut(half);
+    match hex::decode_to_slice(word, out) {
+        Ok(()) => {
+            are_bytes(out);
+            match Payload::from_slice(out) {
+                Some(payload) => Ok(payload),
+                None => Err(ScriptFault::OutOfRange),
+            }
+        }
+        Err(_) => Err(ScriptFault::BadHex),
+    }
+}
+
+// An even number of hexadecimal digits.
+fn is_hex(word: &[u8]) -> bool
+    ensures { result ≡ is_hex word.now }
+{
+    word.len() % 2 == 0 && are_hex_digits(word)
+}
+
+fn are_hex_digits(word: &[u8]) -> bool
+    ensures { result ≡ list_all is_hex_digit word.now }
+{
+    word.iter().all(|b| b.is_ascii_hexdigit())
+}
