@@ -1,3 +1,4 @@
+//! The text of a match script: `parse` reads it, with the first fault of its least faulty line, and `print`
 //! writes it. The format stands in docs/formats.md, "The script".
 #![tactic(auto)]
 
@@ -5,6 +6,7 @@ mod cut;
 mod head;
 mod limits;
 mod line;
+mod printer;
 mod reader;
 mod types;
 mod unbuilt;
@@ -14,5 +16,6 @@ mod words;
 pub use limits::{
     LEAST_SIZE, MOST_BODY_LINES, MOST_CLIENTS, MOST_LIFE, MOST_PAYLOAD, MOST_RADIUS, MOST_SIZE, VERSION,
 };
+pub use printer::print;
 pub use reader::parse;
 pub use types::{Body, BodyLine, Head, ParseFault, Script, ScriptFault};

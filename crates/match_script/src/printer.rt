@@ -1,0 +1,124 @@
+//! From a script to its text.
+ghost use Rattle.std.specs.Prelude.{◌≡◌, ◌++◌, ◌∷◌, [], List, ℕ, OnOk, IfOk, Ok, string_bytes, map};
+ghost use Rattle.match_script.specs.declared.types.BodyLine.TheVariants.{Post};
+ghost use Rattle.match_script.specs.Text.{spelled};
+ghost use Rattle.match_script.specs.Script.{script_of};
+ghost use Rattle.match_script.specs.Ranges.{HasRanges};
+ghost use Rattle.match_script.specs.Print.{class_word, hex_word, line_words, version_words, match_words, go_words, header_words, joined, with_line, text_of};
+
+use crate::types::{BodyLine, Head, Script};
+use std::alloc::{AllocError, Global};
+use std::fmt::Write;
+use tn_types::{Class, NoMemory};
+
+fn class_text(class: Class) -> &'static str
+    ensures { result.now ≡ class_word class }
+{
+    match class {
+        Class::Guaranteed => "g",
+        Class::Loose => "u",
+    }
+}
+
+fn hex_text(alloc: Global, bytes: &[u8]) -> Result<String, AllocError>
+    ensures { IfOk result (λ s. string_bytes s ≡ hex_word bytes.now) }
+{
+    if bytes.len() == 0 {
+        return String::from_str(alloc, "-");
+    }
+    hex::encode(alloc, bytes)
+}
+
+#[tactic(auto, unfolding(crate::specs::Text::spelled))]
+fn put_post(alloc: Global, out: &mut String, client: u8, class: Class, bytes: &[u8]) -> Result<(), AllocError>
+    ensures { OnOk result (string_bytes out.new ≡ with_line (string_bytes out.old) (line_words (Post client class bytes.now))) }
+{
+    let class = class_text(class);
+    let text = hex_text(alloc, bytes)?;
+    let text = text.as_str();
+    writeln!(out, "post {client} {class} {text}")
+}
+
+#[tactic(auto, unfolding(crate::specs::Text::spelled))]
+fn put_line(alloc: Global, out: &mut String, line: &BodyLine) -> Result<(), AllocError>
+    ensures { OnOk result (string_bytes out.new ≡ with_line (string_bytes out.old) (line_words line.now)) }
+{
+    match line {
+        BodyLine::Post {
+            client,
+            class,
+            payload,
+        } => put_post(alloc, out, *client, *class, payload.as_slice()),
+        BodyLine::Pack { client } => writeln!(out, "pack {client}"),
+        BodyLine::ClientPack { client } => writeln!(out, "cpack {client}"),
+        BodyLine::Down { client, k } => writeln!(out, "down {client} {k}"),
+        BodyLine::Up { client, k } => writeln!(out, "up {client} {k}"),
+        BodyLine::Show { client } => writeln!(out, "show {client}"),
+    }
+}
+
+#[tactic(auto, unfolding(crate::specs::Text::spelled))]
+fn put_version(out: &mut String, version: u8) -> Result<(), AllocError>
+    ensures { OnOk result (string_bytes out.new ≡ with_line (string_bytes out.old) (version_words version)) }
+{
+    writeln!(out, "tribes {version}")
+}
+
+#[tactic(auto, unfolding(crate::specs::Text::spelled))]
+fn put_match(out: &mut String, head: &Head) -> Result<(), AllocError>
+    ensures { OnOk result (string_bytes out.new ≡ with_line (string_bytes out.old) (match_words head.now)) }
+{
+    let Head {
+        version: _,
+        seed,
+        clients,
+        life,
+        size,
+        radius,
+    } = *head;
+    writeln!(out, "match {seed} {clients} {life} {size} {radius}")
+}
+
+#[tactic(auto, unfolding(crate::specs::Text::spelled))]
+fn put_go(out: &mut String) -> Result<(), AllocError>
+    ensures { OnOk result (string_bytes out.new ≡ with_line (string_bytes out.old) go_words) }
+{
+    writeln!(out, "go")
+}
+
+#[tactic(auto, using(crate::proofs::Joining::three_lines))]
+fn header_text(alloc: Global, head: &Head) -> Result<String, AllocError>
+    ensures { IfOk result (λ text. string_bytes text ≡ joined (map spelled (header_words head.now))) }
+{
+    let mut out = String::new(alloc);
+    put_version(&mut out, head.version)?;
+    put_match(&mut out, head)?;
+    put_go(&mut out)?;
+    Ok(out)
+}
+
+#[tactic(auto, using(crate::proofs::Joining::one_line_more))]
+fn text_of(alloc: Global, script: &Script) -> Result<String, AllocError>
+    ensures { IfOk result (λ text. string_bytes text ≡ text_of script.now) }
+{
+    let mut out = header_text(alloc, &script.head)?;
+    let lines = script.body.as_slice();
+    for line in lines {
+        put_line(alloc, &mut out, line)?;
+    }
+    Ok(out)
+}
+
+/// The text of a script: each line as docs/formats.md, "The script", says, with a newline at each end. `parse`
+/// reads it as this script again.
+#[tactic(auto, using(crate::proofs::PrintedLines::read_again))]
+pub fn print(alloc: Global, script: &Script) -> Result<Vec<u8>, NoMemory>
+    requires { HasRanges script.now }
+    ensures text { IfOk result (λ text. text.items ≡ text_of script.now) }
+    ensures read_again { IfOk result (λ text. script_of text.items ≡ Ok script.now) }
+{
+    match text_of(alloc, script) {
+        Ok(text) => Ok(text.into_bytes()),
+        Err(_) => Err(NoMemory),
+    }
+}
