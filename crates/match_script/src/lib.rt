@@ -8,6 +8,8 @@ mod limits;
 mod line;
 mod printer;
 mod reader;
+#[cfg(test)]
+mod tests;
 mod types;
 mod unbuilt;
 mod word;
