@@ -1,5 +1,5 @@
 -- The first line or word of some bytes, by the place of its separator.
-use Rattle.std.proofs.Common.{◌≡◌, ℕ, zero, suc, ◌+◌, ◌-◌, ◌<◌, ◌≤◌, ◌⊎◌, Bool, true, false, List, [], ◌∷◌, length, take, drop, nat_eq, refl, sym, ap, ◌∙◌, cond, not, Some, None, Option, arith, inl, inr, add-one}
+use Rattle.std.proofs.Common.{◌≡◌, ℕ, suc, ◌+◌, ◌<◌, ◌≤◌, Bool, true, false, List, [], ◌∷◌, length, take, drop, nat_eq, refl, ap, cond, not, Some, None, arith, add-one}
 use Rattle.std.specs.List.{position, position_or_len}
 use Rattle.match_script.specs.Shape.{has_shape}
 use Rattle.match_script.specs.Text.{lines_of, words_of, onto}

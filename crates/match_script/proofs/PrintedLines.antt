@@ -1,5 +1,5 @@
 -- Each line that is printed is read again, and the script with it.
-use Rattle.std.proofs.Common.{◌≡◌, ℕ, suc, ◌+◌, ◌^◌, ◌<◌, ◌≤◌, Bool, true, false, List, [], ◌∷◌, ◌++◌, length, map, arith, Result, Ok, Err, nat_le, refl, ap, ◌∙◌, Some}
+use Rattle.std.proofs.Common.{◌≡◌, ℕ, suc, ◌+◌, ◌^◌, ◌<◌, ◌≤◌, true, false, List, [], ◌∷◌, ◌++◌, length, map, arith, Ok, nat_le, refl, ap, ◌∙◌, Some}
 use Rattle.std.specs.Prelude.{codes}
 use Rattle.std.specs.List.{list_all, All}
 use Rattle.std.proofs.lemmas.List.Elements.{All-head, All-tail}
@@ -11,11 +11,11 @@ use Rattle.match_script.specs.declared.types.BodyLine.{BodyLine}
 use Rattle.match_script.specs.declared.types.BodyLine.TheVariants.{Post, Pack, ClientPack, Down, Up, Show}
 use Rattle.match_script.specs.declared.types.Head.{Head}
 use Rattle.match_script.specs.declared.types.Script.{Script}
-use Rattle.match_script.specs.Text.{lines_of, words_of, is_text, spelled}
+use Rattle.match_script.specs.Text.{is_text, spelled}
 use Rattle.match_script.specs.Lines.{body_line, post_line, pack_line, client_pack_line, down_line, up_line, show_line, match_numbers}
-use Rattle.match_script.specs.Script.{◌>>=◌, script_in, script_of, body_of, line_at, header, header_words, version_line, match_line, go_line}
+use Rattle.match_script.specs.Script.{script_in, script_of, body_of, line_at, header, header_words, version_line, match_line, go_line}
 use Rattle.match_script.specs.Ranges.{LineFits, HeadFits, HasRanges}
-use Rattle.match_script.specs.Print.{hex_word, line_words, version_words, match_words, go_words, joined, text_of}
+use Rattle.match_script.specs.Print.{line_words, version_words, match_words, go_words, text_of}
 use Rattle.match_script.specs.Print.{header_words as printed_header}
 use Rattle.match_script.proofs.Printing.{is_plain, lines_joined, words_spelled, text_spelled, number_decimal, number_from_decimal, plain_decimal, hex_back, plain_hex, bytes_are}
 
@@ -110,12 +110,14 @@ go_read = refl
 header_back : (h : Head) (rest : List (List (List ℕ))) → HeadFits h → header (map spelled (printed_header h ++ rest)) ≡ Ok (h, map spelled rest)
 unfolding header
 header_back h rest f =
-    rw (header_line_back 1 (codes "tribes") (decimal h.version ∷ []) (spelled (match_words h) ∷ spelled go_words ∷ map spelled rest) (version_plain h f),
-        version_read h f,
-        header_line_back 2 (codes "match") (decimal h.seed ∷ decimal h.clients ∷ decimal h.life ∷ decimal h.size ∷ decimal h.radius ∷ []) (spelled go_words ∷ map spelled rest) (match_plain h f),
-        match_read h f,
-        header_line_back 3 (codes "go") [] (map spelled rest) refl,
-        go_read) refl
+    rw (
+      header_line_back 1 (codes "tribes") (decimal h.version ∷ []) (spelled (match_words h) ∷ spelled go_words ∷ map spelled rest) (version_plain h f),
+      version_read h f,
+      header_line_back 2 (codes "match") (decimal h.seed ∷ decimal h.clients ∷ decimal h.life ∷ decimal h.size ∷ decimal h.radius ∷ []) (spelled go_words ∷ map spelled rest) (match_plain h f),
+      match_read h f,
+      header_line_back 3 (codes "go") [] (map spelled rest) refl,
+      go_read,
+    ) refl
 
 script_back : (s : Script) → HasRanges s → script_in (map spelled (printed_header s.head ++ map line_words s.body)) ≡ Ok s
 unfolding script_in

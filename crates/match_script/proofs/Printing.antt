@@ -1,9 +1,9 @@
 -- The lines and words of what was printed: each is read again.
-use Rattle.std.proofs.Common.{◌≡◌, ℕ, zero, suc, ◌+◌, ◌*◌, ◌^◌, ◌<◌, ◌≤◌, ◌/◌, ◌%◌, Bool, true, false, ◌&&◌, List, [], ◌∷◌, ◌++◌, length, map, arith, Result, Ok, Err, nat_lt, nat_le, nat_eq, refl, get_or}
+use Rattle.std.proofs.Common.{◌≡◌, ℕ, zero, suc, ◌+◌, ◌^◌, ◌<◌, ◌≤◌, ◌/◌, ◌%◌, Bool, true, false, ◌&&◌, List, [], ◌∷◌, ◌++◌, length, map, arith, Ok, nat_lt, nat_le, nat_eq, refl, get_or}
 use Rattle.std.specs.Prelude.{codes}
 use Rattle.std.specs.List.{list_all}
 use Rattle.std.specs.Str.{bytes_eq}
-use Rattle.std.specs.Str.Parse.{digits_value, AllDigits}
+use Rattle.std.specs.Str.Parse.{AllDigits}
 use Rattle.std.specs.Char.{digit_value}
 use Rattle.std.specs.Int.Digits.{digits_of}
 use Rattle.std.specs.Fmt.{decimal, digits}
@@ -18,7 +18,7 @@ use Rattle.tn_types.specs.Bytes.{AreBytes}
 use Rattle.tn_types.specs.declared.choices.Class.{Class}
 use Rattle.tn_types.specs.declared.choices.Class.TheVariants.{Guaranteed, Loose}
 use Rattle.match_script.specs.Text.{lines_of, words_of, is_text, is_text_byte, spelled}
-use Rattle.match_script.specs.Words.{number, number_from, hex, is_number, is_digit, is_hex}
+use Rattle.match_script.specs.Words.{number, number_from, hex, is_number, is_digit}
 use Rattle.match_script.specs.Print.{hex_word, class_word, joined}
 
 abbrev pub is_word_byte : ℕ → Bool

@@ -6,7 +6,7 @@ use Rattle.tn_types.specs.declared.choices.Class.{Class}
 use Rattle.tn_types.specs.declared.choices.Class.TheVariants.{Guaranteed}
 use Rattle.match_script.specs.declared.limits.TheConstants.{MOST_PAYLOAD, MOST_CLIENTS, MOST_LIFE, LEAST_SIZE, MOST_SIZE, MOST_RADIUS}
 use Rattle.match_script.specs.declared.types.ScriptFault.{ScriptFault}
-use Rattle.match_script.specs.declared.types.ScriptFault.TheVariants.{UnknownWord, NotBuilt, BadHeader, BadNumber, OutOfRange}
+use Rattle.match_script.specs.declared.types.ScriptFault.TheVariants.{UnknownWord, NotBuilt, BadHeader, OutOfRange}
 use Rattle.match_script.specs.declared.types.BodyLine.{BodyLine}
 use Rattle.match_script.specs.declared.types.BodyLine.TheVariants.{Post, Pack, ClientPack, Down, Up, Show}
 use Rattle.match_script.specs.declared.types.Head.{Head}

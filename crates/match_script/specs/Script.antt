@@ -1,13 +1,12 @@
 -- The script of a text, line by line: the header's three lines, then the body's. Where a text has no script, it
 -- has a least line that can't stand where it stands, and that line's first fault.
-use Rattle.std.specs.Prelude.{ℕ, ◌≡◌, suc, ◌+◌, List, [], ◌∷◌, ◌++◌, Bool, not, ◌&&◌, nat_le, if◌then◌else◌, codes, Option, Some, None, Result, Ok, Err, refl}
+use Rattle.std.specs.Prelude.{ℕ, ◌≡◌, suc, ◌+◌, List, [], ◌∷◌, not, ◌&&◌, nat_le, if◌then◌else◌, codes, Option, Some, None, Result, Ok, Err}
 use Rattle.match_script.specs.declared.limits.TheConstants.{VERSION, MOST_BODY_LINES}
 use Rattle.match_script.specs.declared.types.ScriptFault.{ScriptFault}
-use Rattle.match_script.specs.declared.types.ScriptFault.TheVariants.{NotText, BadHeader, TooManyLines, UnknownWord}
+use Rattle.match_script.specs.declared.types.ScriptFault.TheVariants.{NotText, BadHeader, TooManyLines}
 use Rattle.match_script.specs.declared.types.ParseFault.{ParseFault}
 use Rattle.match_script.specs.declared.types.ParseFault.TheVariants.{Bad, NoMemory}
 use Rattle.match_script.specs.declared.types.BodyLine.{BodyLine}
-use Rattle.match_script.specs.declared.types.BodyLine.TheVariants.{Pack}
 use Rattle.match_script.specs.declared.types.Head.{Head}
 use Rattle.match_script.specs.declared.types.Script.{Script}
 use Rattle.match_script.specs.Text.{lines_of, words_of, is_text}

@@ -54,7 +54,14 @@ fn version_line(line: &[u8]) -> Option<u8>
 }
 
 #[tactic(auto, using(crate::proofs::Numbers::number_from_fits, crate::proofs::Numbers::number_below), unfolding(crate::specs::Lines::match_numbers))]
-fn match_numbers(version: u8, seed: &[u8], clients: &[u8], life: &[u8], size: &[u8], radius: &[u8]) -> Result<Head, ScriptFault>
+fn match_numbers(
+    version: u8,
+    seed: &[u8],
+    clients: &[u8],
+    life: &[u8],
+    size: &[u8],
+    radius: &[u8],
+) -> Result<Head, ScriptFault>
     ensures value { result ≡ match_numbers version seed.now clients.now life.now size.now radius.now }
     ensures fits { version ≡ VERSION → IfOk result HeadFits }
 {

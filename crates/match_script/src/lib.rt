@@ -16,7 +16,8 @@ mod word;
 mod words;
 
 pub use limits::{
-    LEAST_SIZE, MOST_BODY_LINES, MOST_CLIENTS, MOST_LIFE, MOST_PAYLOAD, MOST_RADIUS, MOST_SIZE, VERSION,
+    LEAST_SIZE, MOST_BODY_LINES, MOST_CLIENTS, MOST_LIFE, MOST_PAYLOAD, MOST_RADIUS, MOST_SIZE,
+    VERSION,
 };
 pub use printer::print;
 pub use reader::parse;

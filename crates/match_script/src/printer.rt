@@ -30,7 +30,13 @@ fn hex_text(alloc: Global, bytes: &[u8]) -> Result<String, AllocError>
 }
 
 #[tactic(auto, unfolding(crate::specs::Text::spelled))]
-fn put_post(alloc: Global, out: &mut String, client: u8, class: Class, bytes: &[u8]) -> Result<(), AllocError>
+fn put_post(
+    alloc: Global,
+    out: &mut String,
+    client: u8,
+    class: Class,
+    bytes: &[u8],
+) -> Result<(), AllocError>
     ensures { OnOk result (string_bytes out.new ≡ with_line (string_bytes out.old) (line_words (Post client class bytes.now))) }
 {
     let class = class_text(class);

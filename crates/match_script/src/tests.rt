@@ -50,21 +50,77 @@ fn header_faults(rt: HostRuntime) -> Result<(), Fail> {
         ("tribes 2\n\t\n", 1, ScriptFault::BadHeader),
         ("tribes 1\n", 2, ScriptFault::BadHeader),
         ("tribes 1\n\n", 2, ScriptFault::BadHeader),
-        ("tribes 1\nmatch 4294967296 1 100 128 1000\n", 2, ScriptFault::BadHeader),
-        ("tribes 1\nmatch 1 0 100 128 1000\n", 2, ScriptFault::BadHeader),
-        ("tribes 1\nmatch 1 17 100 128 1000\n", 2, ScriptFault::BadHeader),
-        ("tribes 1\nmatch 1 1 0 128 1000\n", 2, ScriptFault::BadHeader),
-        ("tribes 1\nmatch 1 1 16777216 128 1000\n", 2, ScriptFault::BadHeader),
-        ("tribes 1\nmatch 1 1 100 127 1000\n", 2, ScriptFault::BadHeader),
-        ("tribes 1\nmatch 1 1 100 1201 1000\n", 2, ScriptFault::BadHeader),
-        ("tribes 1\nmatch 1 1 100 128 65536\n", 2, ScriptFault::BadHeader),
+        (
+            "tribes 1\nmatch 4294967296 1 100 128 1000\n",
+            2,
+            ScriptFault::BadHeader,
+        ),
+        (
+            "tribes 1\nmatch 1 0 100 128 1000\n",
+            2,
+            ScriptFault::BadHeader,
+        ),
+        (
+            "tribes 1\nmatch 1 17 100 128 1000\n",
+            2,
+            ScriptFault::BadHeader,
+        ),
+        (
+            "tribes 1\nmatch 1 1 0 128 1000\n",
+            2,
+            ScriptFault::BadHeader,
+        ),
+        (
+            "tribes 1\nmatch 1 1 16777216 128 1000\n",
+            2,
+            ScriptFault::BadHeader,
+        ),
+        (
+            "tribes 1\nmatch 1 1 100 127 1000\n",
+            2,
+            ScriptFault::BadHeader,
+        ),
+        (
+            "tribes 1\nmatch 1 1 100 1201 1000\n",
+            2,
+            ScriptFault::BadHeader,
+        ),
+        (
+            "tribes 1\nmatch 1 1 100 128 65536\n",
+            2,
+            ScriptFault::BadHeader,
+        ),
         ("tribes 1\nmatch 1 1 100 128\n", 2, ScriptFault::BadHeader),
-        ("tribes 1\nmatch 1 1 100 128 1000", 3, ScriptFault::BadHeader),
-        ("tribes 1\nmatch 1 1 100 128 1000\nblock\n", 3, ScriptFault::BadHeader),
-        ("tribes 1\nmatch 1 1 100 128 1000\nblock 61\n", 3, ScriptFault::NotBuilt),
-        ("tribes 1\nmatch 1 1 100 128 1000\nplayer 0 0 0 1 1\n", 3, ScriptFault::NotBuilt),
-        ("tribes 1\nmatch 1 1 100 128 1000\nspawn x 0 0 1 1\n", 3, ScriptFault::NotBuilt),
-        ("tribes 1\nmatch 1 1 100 128 1000\ngo 1\n", 3, ScriptFault::BadHeader),
+        (
+            "tribes 1\nmatch 1 1 100 128 1000",
+            3,
+            ScriptFault::BadHeader,
+        ),
+        (
+            "tribes 1\nmatch 1 1 100 128 1000\nblock\n",
+            3,
+            ScriptFault::BadHeader,
+        ),
+        (
+            "tribes 1\nmatch 1 1 100 128 1000\nblock 61\n",
+            3,
+            ScriptFault::NotBuilt,
+        ),
+        (
+            "tribes 1\nmatch 1 1 100 128 1000\nplayer 0 0 0 1 1\n",
+            3,
+            ScriptFault::NotBuilt,
+        ),
+        (
+            "tribes 1\nmatch 1 1 100 128 1000\nspawn x 0 0 1 1\n",
+            3,
+            ScriptFault::NotBuilt,
+        ),
+        (
+            "tribes 1\nmatch 1 1 100 128 1000\ngo 1\n",
+            3,
+            ScriptFault::BadHeader,
+        ),
     ] {
         let want = Some(ParseFault::Bad { line, fault });
         assert_eq!(rt; first_fault(rt.alloc(), text), want, "at {text:?}");
@@ -109,9 +165,18 @@ fn body_faults(rt: HostRuntime) -> Result<(), Fail> {
         ("down 1 x", ScriptFault::OutOfRange),
         ("down 0 4294967296", ScriptFault::OutOfRange),
         ("up 0 99999999999999999999999999", ScriptFault::OutOfRange),
-        ("post 0 g 00000000000000000000000000000000000000000000000000", ScriptFault::OutOfRange),
-        ("post 0 g 0000000000000000000000000000000000000000000000000", ScriptFault::BadHex),
-        ("post 0 g x000000000000000000000000000000000000000000000000000", ScriptFault::BadHex),
+        (
+            "post 0 g 00000000000000000000000000000000000000000000000000",
+            ScriptFault::OutOfRange,
+        ),
+        (
+            "post 0 g 0000000000000000000000000000000000000000000000000",
+            ScriptFault::BadHex,
+        ),
+        (
+            "post 0 g x000000000000000000000000000000000000000000000000000",
+            ScriptFault::BadHex,
+        ),
         ("post 0 g ", ScriptFault::BadHex),
         ("post 0 g 6", ScriptFault::BadHex),
         ("post 0 g --", ScriptFault::BadHex),
@@ -145,7 +210,11 @@ fn long_bodies(rt: HostRuntime) -> Result<(), Fail> {
             line: 100_004,
             fault,
         });
-        assert_eq!(rt; first_fault(rt.alloc(), longer.as_str()), want, "at {line:?}");
+        assert_eq!(rt;
+            first_fault(rt.alloc(), longer.as_str()),
+            want,
+            "at {line:?}"
+        );
     }
     Ok(())
 }

@@ -9,17 +9,33 @@ use tn_types::{Class, Payload};
 #[derive(Drop)]
 pub enum BodyLine {
     /// `post C g HEX`: the server posts an event to a client.
-    Post { client: u8, class: Class, payload: Payload },
+    Post {
+        client: u8,
+        class: Class,
+        payload: Payload,
+    },
     /// `pack C`: the server makes a datagram for a client.
-    Pack { client: u8 },
+    Pack {
+        client: u8,
+    },
     /// `cpack C`: a client makes a datagram.
-    ClientPack { client: u8 },
+    ClientPack {
+        client: u8,
+    },
     /// `down C K`: a client gets the K-th datagram that the server sent it, counted from 0.
-    Down { client: u8, k: u32 },
+    Down {
+        client: u8,
+        k: u32,
+    },
     /// `up C K`: the server gets the K-th datagram of a client, counted from 0.
-    Up { client: u8, k: u32 },
+    Up {
+        client: u8,
+        k: u32,
+    },
     /// `show C`: what a client has is told.
-    Show { client: u8 },
+    Show {
+        client: u8,
+    },
 }
 
 /// Why a line can't stand where it stands (docs/formats.md, "Faults of a script").

@@ -18,11 +18,14 @@ fn is_unbuilt(line: &[u8]) -> bool
             if kind == b"post".as_slice() {
                 class == b"u".as_slice()
             } else {
-                kind == b"cpost".as_slice() && (class == b"g".as_slice() || class == b"u".as_slice())
+                kind == b"cpost".as_slice()
+                    && (class == b"g".as_slice() || class == b"u".as_slice())
             }
         }
         Words::Six(kind, _, _, _, _, _) => {
-            kind == b"move".as_slice() || kind == b"player".as_slice() || kind == b"spawn".as_slice()
+            kind == b"move".as_slice()
+                || kind == b"player".as_slice()
+                || kind == b"spawn".as_slice()
         }
         Words::Other => false,
     }
@@ -33,7 +36,11 @@ fn is_unbuilt(line: &[u8]) -> bool
 pub fn no_body_line(line: &[u8]) -> ScriptFault
     ensures { result ≡ no_body_line (words_of line.now) }
 {
-    if is_unbuilt(line) { ScriptFault::NotBuilt } else { ScriptFault::UnknownWord }
+    if is_unbuilt(line) {
+        ScriptFault::NotBuilt
+    } else {
+        ScriptFault::UnknownWord
+    }
 }
 
 // Why a line can't stand where it stands in the header.
@@ -41,5 +48,9 @@ pub fn no_body_line(line: &[u8]) -> ScriptFault
 pub fn no_header_line(line: &[u8]) -> ScriptFault
     ensures { result ≡ no_header_line (words_of line.now) }
 {
-    if is_unbuilt(line) { ScriptFault::NotBuilt } else { ScriptFault::BadHeader }
+    if is_unbuilt(line) {
+        ScriptFault::NotBuilt
+    } else {
+        ScriptFault::BadHeader
+    }
 }

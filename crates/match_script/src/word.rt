@@ -68,7 +68,11 @@ pub fn number(limit: u64, word: &[u8]) -> Result<u64, ScriptFault>
         return Err(ScriptFault::BadNumber);
     }
     let n = value(word);
-    if n < limit { Ok(n) } else { Err(ScriptFault::OutOfRange) }
+    if n < limit {
+        Ok(n)
+    } else {
+        Err(ScriptFault::OutOfRange)
+    }
 }
 
 // The client that a word names.
