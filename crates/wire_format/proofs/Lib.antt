@@ -1,0 +1,11 @@
+pub mod Formats
+pub mod Counted
+pub mod Whole
+pub mod Lengths
+pub mod Sizes
+pub mod HeaderFormat
+pub mod ItemFormats
+pub mod MoveFormat
+pub mod ServerFormat
+pub mod ClientFormat
+pub mod Steps

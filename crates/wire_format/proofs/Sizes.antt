@@ -1,0 +1,82 @@
+-- How many bits whole packets have.
+use Rattle.std.proofs.Common.{◌≡◌, ℕ, ◌+◌, ◌*◌, List, [], ◌∷◌, ◌++◌, Bool, Option, Some, None, length, refl, arith, length-append}
+use Rattle.std.specs.Prelude.{sum_by, if◌then◌else◌, is_some}
+use Rattle.std.specs.List.{flat_map}
+use Rattle.std.proofs.lemmas.List.Sums.{sum_by-cons}
+use Rattle.bit_stream.specs.Bits.{number}
+use Rattle.bit_stream.proofs.Numbers.{length-number}
+use Rattle.tn_types.specs.declared.moves.Move.{Move}
+use Rattle.wire_format.specs.declared.widths.TheConstants.{SLOT_WIDTH}
+use Rattle.wire_format.specs.declared.blocks.BlockItem.{BlockItem}
+use Rattle.wire_format.specs.declared.events.EventItem.{EventItem}
+use Rattle.wire_format.specs.declared.header.Header.{Header}
+use Rattle.wire_format.specs.declared.server.ServerBody.{ServerBody}
+use Rattle.wire_format.specs.declared.server.ServerPacket.{ServerPacket}
+use Rattle.wire_format.specs.declared.server.ServerPacket.TheVariants.{Ping, Body}
+use Rattle.wire_format.specs.declared.client.ClientBody.{ClientBody}
+use Rattle.wire_format.specs.declared.client.ClientPacket.{ClientPacket}
+use Rattle.wire_format.specs.declared.client.ClientPacket.TheVariants as from_client
+use Rattle.wire_format.specs.Reading.{optional}
+use Rattle.wire_format.specs.Header.{header}
+use Rattle.wire_format.specs.Blocks.{block, block_size}
+use Rattle.wire_format.specs.Events.{event, event_size}
+use Rattle.wire_format.specs.Moves.{the_move}
+use Rattle.wire_format.specs.Server.{server, server_rest, server_size}
+use Rattle.wire_format.specs.Client.{client, client_rest, client_size}
+use Rattle.wire_format.proofs.Lengths.{length-octets}
+
+abbrev none : List Bool
+none = []
+
+module _ {A : Type 0} where
+  pub length-items : (item : A → List Bool) (size : A → ℕ) (xs : List A) → ((x : A) → length (item x) ≡ size x) → length (flat_map item xs) ≡ sum_by size xs
+  length-items item size [] same = refl
+  length-items item size (x ∷ xs) same = omega (arith, length-append (item x) (flat_map item xs), same x, length-items item size xs same, sum_by-cons size x xs)
+
+pub length-header : (h : Header) → length (header h) ≡ 84
+length-header h = grind (arith, length-append, length-number)
+
+pub length-event : (e : EventItem) → length (event e) ≡ event_size e
+length-event e = of_number e.number e.payload
+  where
+    of_number : (number : Option ℕ) (payload : List ℕ) → length (event (record { number = number; payload = payload })) ≡ event_size (record { number = number; payload = payload })
+    of_number None payload = grind (arith, length-append, length-number, length-octets)
+    of_number (Some n) payload = grind (arith, length-append, length-number, length-octets)
+
+pub length-block : (b : BlockItem) → length (block b) ≡ block_size b
+length-block b = grind (arith, length-append, length-number, length-octets)
+
+pub length-move : (m : Move) → length (the_move m) ≡ 10
+length-move m = grind (arith, length-append, length-number)
+
+pub length-server_rest : (p : ServerBody) → length (server_rest p) ≡ 41 + length (optional SLOT_WIDTH p.control) + length (flat_map block p.blocks) + length (flat_map event p.events)
+length-server_rest p = grind (arith, length-append, length-number)
+
+length-optional : (width : ℕ) (o : Option ℕ) → length (optional width o) ≡ 1 + (if is_some o then width else 0)
+length-optional width None = grind (arith, length-append, length-number)
+length-optional width (Some n) = grind (arith, length-append, length-number)
+
+length-moves : (ms : List Move) → length (flat_map the_move ms) ≡ 10 * length ms
+length-moves [] = refl
+length-moves (m ∷ ms) = omega (arith, length-append (the_move m) (flat_map the_move ms), length-move m, length-moves ms)
+
+-- behind the header
+pub length-server_data : (p : ServerBody) → length (server (Body p)) ≡ 86 + length (server_rest p)
+length-server_data p = omega (arith, length-append (number 2 0) (header p.head ++ server_rest p), length-number 2 0, length-append (header p.head) (server_rest p), length-header p.head)
+
+pub length-server : (p : ServerPacket) → length (server p) ≡ server_size p
+length-server (Ping h) = omega (arith, length-append (number 2 1) (header h ++ none), length-number 2 1, length-append (header h) none, length-header h)
+length-server (Body p) =
+    omega (arith, length-server_data p, length-server_rest p, length-optional SLOT_WIDTH p.control, length-items block block_size p.blocks length-block, length-items event event_size p.events length-event)
+
+pub length-client_rest : (p : ClientBody) → length (client_rest p) ≡ 35 + length (flat_map the_move p.moves) + length (flat_map event p.events)
+length-client_rest p = grind (arith, length-append, length-number)
+
+-- behind the header
+pub length-client_data : (p : ClientBody) → length (client (from_client.Body p)) ≡ 86 + length (client_rest p)
+length-client_data p = omega (arith, length-append (number 2 0) (header p.head ++ client_rest p), length-number 2 0, length-append (header p.head) (client_rest p), length-header p.head)
+
+pub length-client : (p : ClientPacket) → length (client p) ≡ client_size p
+length-client (from_client.Ping h) = omega (arith, length-append (number 2 1) (header h ++ none), length-number 2 1, length-append (header h) none, length-header h)
+length-client (from_client.Body p) =
+    omega (arith, length-client_data p, length-client_rest p, length-moves p.moves, length-items event event_size p.events length-event)

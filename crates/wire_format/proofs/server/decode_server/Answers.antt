@@ -1,0 +1,19 @@
+use Rattle.std.proofs.Common.{◌≡◌, ◌∙◌, sym, ap, Result, Ok, Err, List, ℕ, arith}
+use Rattle.std.specs.Prelude.{IfOk}
+use Rattle.bit_stream.specs.Bits.{IsBytes, datagram}
+use Rattle.wire_format.specs.declared.server.ServerPacket.{ServerPacket}
+use Rattle.wire_format.specs.declared.fault.BitsFault.{BitsFault}
+use Rattle.wire_format.specs.Server.{server, server_at, server_of, IsServer}
+use Rattle.wire_format.proofs.ServerFormat.{a_server}
+use Rattle.wire_format.proofs.Whole.{whole_takes, whole_again}
+use Rattle.wire_format.proofs.server.decode_server.Goals as goal
+
+found : (bytes : List ℕ) (r : Result ServerPacket BitsFault) → IsBytes bytes → r ≡ server_of bytes → IfOk r (λ p. IsServer p × (bytes ≡ datagram (server p)))
+found bytes (Ok p) fits e = whole_takes server_at server IsServer a_server bytes p fits (sym e)
+found bytes (Err f) fits e = tt
+
+pub returns-clause-found : goal.returns-clause-found
+returns-clause-found c = found c.args.bytes.now c.read_whole.result (λ i. omega (arith, c.type_inv.bytes i)) c.read_whole.ensures
+
+pub returns-clause-only : goal.returns-clause-only
+returns-clause-only c = λ p fits e. c.read_whole.ensures ∙ ap server_of e ∙ whole_again server_at server IsServer a_server p fits

@@ -1,0 +1,88 @@
+-- A packet of a client: how it is spelled, and how it is read. A ping is a header alone.
+use Rattle.std.specs.Prelude.{ℕ, ◌+◌, ◌*◌, ◌<◌, ◌^◌, ◌==◌, if◌then◌else◌, sum_by, length, List, [], ◌∷◌, ◌++◌, Bool, Result, Ok}
+use Rattle.std.specs.List.{AllByRecursion}
+use Rattle.bit_stream.specs.Bits.{number}
+use Rattle.bit_stream.specs.Reading.{Unread}
+use Rattle.wire_format.specs.declared.widths.TheConstants.{KIND_WIDTH, DATA, PING, NUMBER_WIDTH, MOVE_COUNT_WIDTH, EVENT_COUNT_WIDTH, MAX_MOVES, MAX_EVENTS, HEADER_BITS, CLIENT_FIXED_BITS, MOVE_BITS}
+use Rattle.wire_format.specs.declared.fault.BitsFault.{BitsFault}
+use Rattle.wire_format.specs.declared.fault.BitsCause.TheVariants.{KindBits}
+use Rattle.wire_format.specs.declared.header.Header.{Header}
+use Rattle.wire_format.specs.declared.client.ClientBody.{ClientBody}
+use Rattle.wire_format.specs.declared.client.ClientPacket.{ClientPacket}
+use Rattle.wire_format.specs.declared.client.ClientPacket.TheVariants.{Ping, Body}
+use Rattle.wire_format.specs.Reading.{◌>>=◌, spelled, part_at, within_at, listed, listed_at, AreListed, whole_of}
+use Rattle.wire_format.specs.Header.{header, header_at, IsHeader, IsHeaderInRange}
+use Rattle.wire_format.specs.Moves.{the_move, move_at, AnyMove}
+use Rattle.wire_format.specs.Events.{event, event_at, event_size, IsEvent, IsEventInRange}
+
+-- ---- what stands behind the header of a data packet
+
+abbrev pub client_rest : ClientBody → List Bool
+client_rest p = spelled (number NUMBER_WIDTH p.first ∷ listed MOVE_COUNT_WIDTH the_move p.moves ∷ listed EVENT_COUNT_WIDTH event p.events ∷ [])
+
+unfoldable pub client_body_at : Header → Unread → Result (ClientBody × Unread) BitsFault
+client_body_at head s = do
+  first ← part_at NUMBER_WIDTH s
+  moves ← listed_at MAX_MOVES MOVE_COUNT_WIDTH move_at first.1
+  events ← listed_at MAX_EVENTS EVENT_COUNT_WIDTH event_at moves.1
+  Ok (record { head = head; first = first.0; moves = moves.0; events = events.0 }, events.1)
+
+-- ---- the packet
+
+abbrev pub client_kind : ClientPacket → ℕ
+client_kind (Ping head) = PING
+client_kind (Body p) = DATA
+
+abbrev pub client_head : ClientPacket → Header
+client_head (Ping head) = head
+client_head (Body p) = p.head
+
+abbrev pub behind_header : ClientPacket → List Bool
+behind_header (Ping head) = []
+behind_header (Body p) = client_rest p
+
+abbrev pub client : ClientPacket → List Bool
+client p = number KIND_WIDTH (client_kind p) ++ (header (client_head p) ++ behind_header p)
+
+abbrev pub client_of_kind : ℕ → Header → Unread → Result (ClientPacket × Unread) BitsFault
+client_of_kind kind head s = if kind == PING then Ok (Ping head, s) else (do
+  body ← client_body_at head s
+  Ok (Body body.0, body.1))
+
+unfoldable pub client_at : Unread → Result (ClientPacket × Unread) BitsFault
+client_at s = do
+  kind ← within_at KindBits DATA PING KIND_WIDTH s
+  head ← header_at kind.1
+  client_of_kind kind.0 head.0 head.1
+
+-- the packet that these bytes are, or the first fault
+abbrev pub client_of : List ℕ → Result ClientPacket BitsFault
+client_of bytes = whole_of client_at bytes
+
+-- ---- what has a spelling
+
+-- each number fits its part
+pub record IsClientBodyInRange (p : ClientBody) : Type 0 where
+  pub head : IsHeaderInRange p.head
+  pub first : p.first < 2 ^ NUMBER_WIDTH
+  pub events : AllByRecursion IsEventInRange p.events
+
+abbrev pub IsClientInRange : ClientPacket → Type 0
+IsClientInRange (Ping head) = IsHeaderInRange head
+IsClientInRange (Body p) = IsClientBodyInRange p
+
+pub record IsClientBody (p : ClientBody) : Type 0 where
+  pub head : IsHeader p.head
+  pub first : p.first < 2 ^ NUMBER_WIDTH
+  pub moves : AreListed MAX_MOVES AnyMove p.moves
+  pub events : AreListed MAX_EVENTS IsEvent p.events
+
+abbrev pub IsClient : ClientPacket → Type 0
+IsClient (Ping head) = IsHeader head
+IsClient (Body p) = IsClientBody p
+
+-- ---- how many bits it has
+
+abbrev pub client_size : ClientPacket → ℕ
+client_size (Ping head) = HEADER_BITS
+client_size (Body p) = CLIENT_FIXED_BITS + MOVE_BITS * length p.moves + sum_by event_size p.events

@@ -1,0 +1,10 @@
+pub mod Reading
+pub mod Header
+pub mod Blocks
+pub mod Events
+pub mod Steps
+pub mod StepRange
+pub mod Moves
+pub mod Server
+pub mod Client
+pub mod Sizes

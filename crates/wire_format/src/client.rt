@@ -1,0 +1,156 @@
+ghost use Rattle.std.specs.Prelude.{◌≡◌, ◌+◌, ◌*◌, ◌≤◌, ◌++◌, Ok, length, IfOk};
+ghost use Rattle.bit_stream.specs.Bits.{datagram};
+ghost use Rattle.bit_stream.specs.Reading.{Gives};
+ghost use Rattle.wire_format.specs.Header.{IsHeader};
+ghost use Rattle.wire_format.specs.Client.{client, client_at, client_of, client_rest, client_body_at, client_size, IsClient, IsClientBody, IsClientInRange, IsClientBodyInRange};
+
+use crate::events::EventList;
+use crate::fault::{BitsCause, BitsFault};
+use crate::header::{Header, put_header, read_header};
+use crate::items::{list_bits, put_list, read_list};
+use crate::moves::MoveList;
+use crate::parts::{part, within};
+use crate::widths::{
+    DATA, EVENT_COUNT_WIDTH, HEADER_BITS, KIND_WIDTH, MAX_EVENTS, MAX_MOVES, MAX_PACKET_BITS,
+    MOVE_COUNT_WIDTH, NUMBER_WIDTH, PING,
+};
+use bit_stream::{BitReader, BitWriter, MAX_READ_BYTES};
+
+/// A packet of a client.
+#[derive(Drop)]
+pub enum ClientPacket {
+    /// What is sent while 32 packets are unjudged: the header alone.
+    Ping(Header),
+    Body(ClientBody),
+}
+
+/// A data packet of a client.
+#[derive(Drop)]
+pub struct ClientBody {
+    pub head: Header,
+    /// The number of the first move, below 2^24.
+    pub first: u32,
+    /// The moves from `first` on.
+    pub moves: MoveList,
+    pub events: EventList,
+}
+
+/// Reads what stands behind a data packet's header, or gives its first fault.
+#[tactic(auto, unfolding(crate::specs::Client::client_body_at))]
+fn read_client_body(reader: &mut BitReader<'_>, head: Header) -> Result<ClientBody, BitsFault>
+    ensures { Gives result reader.new (client_body_at head reader.old) }
+{
+    let first = part(reader, NUMBER_WIDTH)?;
+    let moves = read_list(reader, MAX_MOVES as u32, MOVE_COUNT_WIDTH)?;
+    let events = read_list(reader, MAX_EVENTS as u32, EVENT_COUNT_WIDTH)?;
+    Ok(ClientBody {
+        head,
+        first,
+        moves,
+        events,
+    })
+}
+
+/// Reads a packet, or gives its first fault.
+#[tactic(auto, unfolding(crate::specs::Client::client_at))]
+fn read_client(reader: &mut BitReader<'_>) -> Result<ClientPacket, BitsFault>
+    ensures { Gives result reader.new (client_at reader.old) }
+{
+    let kind = within(reader, BitsCause::KindBits, DATA, PING, KIND_WIDTH)?;
+    let head = read_header(reader)?;
+    if kind == PING {
+        return Ok(ClientPacket::Ping(head));
+    }
+    let body = read_client_body(reader, head)?;
+    Ok(ClientPacket::Body(body))
+}
+
+/// The whole of these bytes.
+fn read_whole(bytes: &[u8]) -> Result<ClientPacket, BitsFault>
+    requires { length bytes.now ≤ MAX_READ_BYTES }
+    ensures { result ≡ client_of bytes.now }
+{
+    let mut reader = BitReader::new(bytes);
+    let packet = read_client(&mut reader)?;
+    match reader.end() {
+        Ok(()) => Ok(packet),
+        Err(padding) => Err(BitsFault {
+            place: padding.place,
+            cause: BitsCause::Padding,
+        }),
+    }
+}
+
+/// The bits of what stands behind the header.
+fn client_rest_bits(body: &ClientBody) -> u32
+    ensures value { result ≡ length (client_rest body.now) }
+    ensures few { result ≤ MAX_PACKET_BITS }
+{
+    let moves = list_bits(&body.moves);
+    let events = list_bits(&body.events);
+    NUMBER_WIDTH + MOVE_COUNT_WIDTH + EVENT_COUNT_WIDTH + moves + events
+}
+
+/// The bits of a packet: those of the header, and in a data packet [`CLIENT_FIXED_BITS`](crate::CLIENT_FIXED_BITS)
+/// and the bits of all items.
+pub fn client_bits(packet: &ClientPacket) -> u32
+    ensures value { result ≡ length (client packet.now) }
+    ensures size { result ≡ client_size packet.now }
+{
+    match packet {
+        ClientPacket::Ping(_) => HEADER_BITS,
+        ClientPacket::Body(body) => HEADER_BITS + client_rest_bits(body),
+    }
+}
+
+/// Writes what stands behind the header.
+#[tactic(auto, using(crate::proofs::Lengths::lengths))]
+fn put_client_rest(out: &mut BitWriter, body: &ClientBody)
+    requires fits { IsClientBodyInRange body.now }
+    requires head { IsHeader body.now.head }
+    requires room { length out.old.bits + length (client_rest body.now) ≤ 8 * out.old.size }
+    ensures spelled { IsClientBody body.now }
+    ensures bits { out.new.bits ≡ out.old.bits ++ client_rest body.now }
+    ensures size { out.new.size ≡ out.old.size }
+{
+    out.put(body.first, NUMBER_WIDTH);
+    put_list(out, &body.moves, MOVE_COUNT_WIDTH);
+    put_list(out, &body.events, EVENT_COUNT_WIDTH);
+}
+
+/// Writes a packet in its one spelling. The caller sees to it that each number fits its part and all
+/// of [`client_bits`] fit the room.
+#[tactic(auto, using(crate::proofs::Lengths::lengths))]
+pub fn encode_client(packet: &ClientPacket, out: &mut BitWriter)
+    requires fits { IsClientInRange packet.now }
+    requires room { length out.old.bits + length (client packet.now) ≤ 8 * out.old.size }
+    ensures spelled { IsClient packet.now }
+    ensures bits { out.new.bits ≡ out.old.bits ++ client packet.now }
+    ensures size { out.new.size ≡ out.old.size }
+{
+    match packet {
+        ClientPacket::Ping(head) => {
+            out.put(PING, KIND_WIDTH);
+            put_header(out, head);
+        }
+        ClientPacket::Body(body) => {
+            out.put(DATA, KIND_WIDTH);
+            put_header(out, &body.head);
+            put_client_rest(out, body);
+        }
+    }
+}
+
+/// The packet that these bytes spell, at most 65,536 of them, or the first fault in reading order
+/// with the bit at which the faulty part begins (docs/formats.md, "Datagrams").
+pub fn decode_client(bytes: &[u8]) -> Result<ClientPacket, BitsFault>
+    requires { length bytes.now ≤ MAX_READ_BYTES }
+    // What is read is spelled so, and it alone.
+    ensures found { IfOk result (λ p. IsClient p × (bytes.now ≡ datagram (client p))) }
+    // What is spelled so is read.
+    ensures only { (p : ClientPacket) → IsClient p → bytes.now ≡ datagram (client p) → result ≡ Ok p }
+    // Which fault it is.
+    ensures exact { result ≡ client_of bytes.now }
+{
+    read_whole(bytes)
+}

@@ -1,0 +1,91 @@
+ghost use Rattle.std.specs.Prelude.{◌≡◌, ◌≤◌, length};
+ghost use Rattle.bit_stream.specs.Reading.{Gives};
+ghost use Rattle.wire_format.specs.Events.{event, event_at, event_size};
+
+use crate::fault::{BitsCause, BitsFault};
+use crate::items::Item;
+use crate::lists::ItemList;
+use crate::parts::{optional, optional_bits, put_bytes, put_optional, read_bytes, within};
+use crate::widths::{
+    BYTE_WIDTH, EVENT_LENGTH_WIDTH, MAX_EVENT_BITS, MAX_EVENT_BYTES, MAX_EVENTS, NUMBER_WIDTH,
+};
+use bit_stream::{BitReader, BitWriter};
+use tn_types::Payload;
+
+/// An event in a packet.
+#[derive(Drop)]
+pub struct EventItem {
+    /// The event's number, below 2^24, where it is guaranteed.
+    pub number: Option<u32>,
+    /// The event's bytes, 0 to 24.
+    pub payload: Payload,
+}
+
+impl Default for EventItem {
+    fn default() -> Self {
+        EventItem {
+            number: None,
+            payload: Payload::new(),
+        }
+    }
+}
+
+/// The events of a packet, at most 31.
+pub type EventList = ItemList<EventItem, MAX_EVENTS>;
+
+/// Reads an event, or gives its first fault.
+#[tactic(auto, unfolding(crate::specs::Events::event_at))]
+fn read_event(reader: &mut BitReader<'_>) -> Result<EventItem, BitsFault>
+    ensures { Gives result reader.new (event_at reader.old) }
+{
+    let number = optional(reader, NUMBER_WIDTH)?;
+    let count = within(
+        reader,
+        BitsCause::LengthBits,
+        0,
+        MAX_EVENT_BYTES as u32,
+        EVENT_LENGTH_WIDTH,
+    )?;
+    let payload = read_bytes(reader, count)?;
+    Ok(EventItem { number, payload })
+}
+
+/// The bits of an event: at most 222.
+#[tactic(auto, using(crate::proofs::Lengths::lengths))]
+pub fn event_bits(item: &EventItem) -> u32
+    ensures value { result ≡ length (event item.now) }
+    ensures size { result ≡ event_size item.now }
+    ensures few { result ≤ MAX_EVENT_BITS }
+{
+    optional_bits(item.number, NUMBER_WIDTH)
+        + EVENT_LENGTH_WIDTH
+        + BYTE_WIDTH * item.payload.len() as u32
+}
+
+impl Item for EventItem {
+    ghost use Rattle.wire_format.specs.Events.{event, event_at, IsEventInRange, IsEvent};
+
+    ghost spelling = { event };
+
+    ghost reading = { event_at };
+
+    ghost in_range = { IsEventInRange };
+
+    ghost is_item = { IsEvent };
+
+    fn read(reader: &mut BitReader<'_>) -> Result<Self, BitsFault> {
+        read_event(reader)
+    }
+
+    fn bits(&self) -> u32 {
+        event_bits(self)
+    }
+
+    #[tactic(auto, using(crate::proofs::Lengths::lengths))]
+    fn put(&self, out: &mut BitWriter) {
+        put_optional(out, self.number, NUMBER_WIDTH);
+        let bytes = self.payload.as_slice();
+        out.put(bytes.len() as u32, EVENT_LENGTH_WIDTH);
+        put_bytes(out, bytes);
+    }
+}

@@ -1,0 +1,125 @@
+//! The items of a packet, which stand one after the other behind their count.
+ghost use Rattle.std.specs.Prelude.{◌≡◌, ◌+◌, ◌*◌, ◌^◌, ◌<◌, ◌≤◌, ◌++◌, length, List, Bool, Result, sum_by};
+ghost use Rattle.std.specs.List.{flat_map, AllByRecursion};
+ghost use Rattle.bit_stream.specs.Reading.{Gives, Unread};
+ghost use Rattle.wire_format.specs.declared.fault.BitsFault.{BitsFault};
+ghost use Rattle.wire_format.specs.Reading.{counted_at, listed, listed_at};
+
+use crate::fault::{BitsCause, BitsFault};
+use crate::lists::ItemList;
+use crate::parts::within;
+use crate::widths::{MAX_ITEM_BITS, MAX_ITEMS};
+use bit_stream::{BitReader, BitWriter, MAX_WIDTH};
+
+/// An item of a list in a packet.
+pub(crate) trait Item: Default + Drop {
+    /// The item's bits.
+    ghost spelling: { Self → List Bool };
+
+    /// How an item is read.
+    ghost reading: { Unread → Result (Self × Unread) BitsFault };
+
+    /// Each number of the item fits its part.
+    ghost in_range: { Self → Type 0 };
+
+    /// The item has a spelling that is read again.
+    ghost is_item: { Self → Type 0 };
+
+    /// Reads an item, or gives its first fault.
+    fn read(reader: &mut BitReader<'_>) -> Result<Self, BitsFault>
+        ensures { Gives result reader.new (reading reader.old) };
+
+    /// The bits of the item.
+    fn bits(&self) -> u32
+        ensures value { result ≡ length (spelling self.now) }
+        ensures few { result ≤ MAX_ITEM_BITS };
+
+    /// Writes the item in its one spelling.
+    fn put(&self, out: &mut BitWriter)
+        requires fits { in_range self.now }
+        requires room { length out.old.bits + length (spelling self.now) ≤ 8 * out.old.size }
+        ensures is_item { is_item self.now }
+        ensures bits { out.new.bits ≡ out.old.bits ++ spelling self.now }
+        ensures len { length out.new.bits ≡ length out.old.bits + length (spelling self.now) }
+        ensures size { out.new.size ≡ out.old.size };
+}
+
+/// As many items as were counted.
+fn read_counted<T: Item, const N: usize>(
+    reader: &mut BitReader<'_>,
+    count: u32,
+) -> Result<ItemList<T, N>, BitsFault>
+    requires { count ≤ N }
+    ensures { Gives result reader.new (counted_at T.reading count reader.old) }
+{
+    let mut list = ItemList::new();
+    for _ in 0..count {
+        let item = T::read(reader)?;
+        list.push(item);
+    }
+    Ok(list)
+}
+
+/// A count of `width` bits, at most `most`, and then so many items.
+#[tactic(auto, unfolding(crate::specs::Reading::listed_at))]
+pub(crate) fn read_list<T: Item, const N: usize>(
+    reader: &mut BitReader<'_>,
+    most: u32,
+    width: u32,
+) -> Result<ItemList<T, N>, BitsFault>
+    requires width { width ≤ MAX_WIDTH }
+    requires most { most ≤ N }
+    ensures { Gives result reader.new (listed_at most width T.reading reader.old) }
+{
+    let count = within(reader, BitsCause::CountBits, 0, most, width)?;
+    read_counted(reader, count)
+}
+
+/// Writes items one after the other.
+fn put_each<T: Item>(out: &mut BitWriter, items: &[T])
+    requires fits { AllByRecursion T.in_range items.now }
+    requires room { length out.old.bits + length (flat_map T.spelling items.now) ≤ 8 * out.old.size }
+    ensures are_items { AllByRecursion T.is_item items.now }
+    ensures bits { out.new.bits ≡ out.old.bits ++ flat_map T.spelling items.now }
+    ensures len { length out.new.bits ≡ length out.old.bits + length (flat_map T.spelling items.now) }
+    ensures size { out.new.size ≡ out.old.size }
+{
+    for item in items {
+        item.put(out);
+    }
+}
+
+/// Writes a count of `width` bits, and then the items.
+#[tactic(auto, using(crate::proofs::Lengths::lengths))]
+pub(crate) fn put_list<T: Item, const N: usize>(
+    out: &mut BitWriter,
+    list: &ItemList<T, N>,
+    width: u32,
+)
+    requires width { width ≤ MAX_WIDTH }
+    requires count { N < 2 ^ width }
+    requires fits { AllByRecursion T.in_range list.now }
+    requires room { length out.old.bits + length (listed width T.spelling list.now) ≤ 8 * out.old.size }
+    ensures are_items { AllByRecursion T.is_item list.now }
+    ensures few { length list.now ≤ N }
+    ensures bits { out.new.bits ≡ out.old.bits ++ listed width T.spelling list.now }
+    ensures len { length out.new.bits ≡ length out.old.bits + length (listed width T.spelling list.now) }
+    ensures size { out.new.size ≡ out.old.size }
+{
+    let items = list.as_slice();
+    out.put(items.len() as u32, width);
+    put_each(out, items);
+}
+
+/// The bits of the items, without their count.
+pub(crate) fn list_bits<T: Item, const N: usize>(list: &ItemList<T, N>) -> u32
+    requires { N ≤ MAX_ITEMS }
+    ensures value { result ≡ length (flat_map T.spelling list.now) }
+    ensures few { result ≤ MAX_ITEM_BITS * N }
+{
+    let mut bits = 0;
+    for item in list.as_slice() {
+        bits += item.bits();
+    }
+    bits
+}

@@ -1,0 +1,35 @@
+//! Datagrams: what they are made of, how they are written and how they are read.
+//!
+//! Each packet has exactly one spelling, part by part (docs/formats.md, "Datagrams"). The encoders
+//! write it, and the decoders read it back or name the first fault and the bit at which the faulty
+//! part begins. No call takes memory.
+#![tactic(auto)]
+
+mod blocks;
+mod client;
+mod events;
+mod fault;
+mod header;
+mod items;
+mod laws;
+mod lists;
+mod moves;
+mod parts;
+mod server;
+#[cfg(test)]
+mod tests;
+mod widths;
+
+pub use blocks::{BlockItem, BlockList, block_bits};
+pub use client::{ClientBody, ClientPacket, client_bits, decode_client, encode_client};
+pub use events::{EventItem, EventList, event_bits};
+pub use fault::{BitsCause, BitsFault};
+pub use header::Header;
+pub use laws::sizes_are_bits;
+pub use lists::ItemList;
+pub use moves::MoveList;
+pub use server::{ServerBody, ServerPacket, decode_server, encode_server, server_bits};
+pub use widths::{
+    CLIENT_FIXED_BITS, HEADER_BITS, MAX_BLOCK_BITS, MAX_BLOCK_BYTES, MAX_BLOCKS, MAX_EVENT_BITS,
+    MAX_EVENT_BYTES, MAX_EVENTS, MAX_MOVES, MOVE_BITS, SERVER_FIXED_BITS,
+};

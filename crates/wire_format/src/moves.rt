@@ -1,0 +1,90 @@
+ghost use Rattle.std.specs.Prelude.{◌≡◌, ◌<◌, ◌≤◌, ◌≤ℤ◌, pos, negsuc};
+ghost use Rattle.bit_stream.specs.Reading.{Gives};
+ghost use Rattle.wire_format.specs.Moves.{move_at, move_of};
+ghost use Rattle.wire_format.specs.Steps.{raised, step_of};
+
+use crate::fault::BitsFault;
+use crate::items::Item;
+use crate::lists::ItemList;
+use crate::parts::part;
+use crate::widths::{FLAG_WIDTH, MAX_MOVES, MOVE_BITS, STEP_WIDTH};
+use bit_stream::{BitReader, BitWriter};
+use tn_types::Move;
+
+/// The moves of a packet, at most 32.
+pub type MoveList = ItemList<Move, MAX_MOVES>;
+
+/// What a step is raised by, so that it is written as a number from 0 on.
+const RAISED_BY: i8 = 8;
+
+/// A step from -8 to 7 as it is written.
+fn raise(step: i8) -> u32
+    requires least { negsuc 7 ≤ℤ step }
+    requires greatest { step ≤ℤ pos 7 }
+    ensures value { result ≡ raised step }
+    ensures fits { result < 16 }
+{
+    (step + RAISED_BY) as u32
+}
+
+/// The step that was raised to this number.
+fn lower(number: u32) -> i8
+    requires { number < 16 }
+    ensures value { result ≡ step_of number }
+{
+    number as i8 - RAISED_BY
+}
+
+/// The move that is written as these four numbers.
+fn moved(dx: u32, dy: u32, fire: u32, act: u32) -> Move
+    requires dx { dx < 16 }
+    requires dy { dy < 16 }
+    ensures { result ≡ move_of dx dy fire act }
+{
+    Move {
+        dx: lower(dx),
+        dy: lower(dy),
+        fire: fire == 1,
+        act: act == 1,
+    }
+}
+
+/// Reads a move, or gives its first fault.
+#[tactic(auto, unfolding(crate::specs::Moves::move_at))]
+fn read_move(reader: &mut BitReader<'_>) -> Result<Move, BitsFault>
+    ensures { Gives result reader.new (move_at reader.old) }
+{
+    let dx = part(reader, STEP_WIDTH)?;
+    let dy = part(reader, STEP_WIDTH)?;
+    let fire = part(reader, FLAG_WIDTH)?;
+    let act = part(reader, FLAG_WIDTH)?;
+    Ok(moved(dx, dy, fire, act))
+}
+
+impl Item for Move {
+    ghost use Rattle.wire_format.specs.Moves.{the_move, move_at, AnyMove};
+
+    ghost spelling = { the_move };
+
+    ghost reading = { move_at };
+
+    ghost in_range = { AnyMove };
+
+    ghost is_item = { AnyMove };
+
+    fn read(reader: &mut BitReader<'_>) -> Result<Self, BitsFault> {
+        read_move(reader)
+    }
+
+    fn bits(&self) -> u32 {
+        MOVE_BITS
+    }
+
+    #[tactic(auto, using(crate::proofs::Lengths::lengths))]
+    fn put(&self, out: &mut BitWriter) {
+        out.put(raise(self.dx), STEP_WIDTH);
+        out.put(raise(self.dy), STEP_WIDTH);
+        out.put(u32::from(self.fire), FLAG_WIDTH);
+        out.put(u32::from(self.act), FLAG_WIDTH);
+    }
+}
