@@ -1,5 +1,5 @@
 -- How far each block is, against the packets that carry it.
-use Rattle.std.proofs.Common.{◌≡◌, ◌≢◌, ℕ, zero, suc, ◌+◌, ◌-◌, ◌<◌, ◌≤◌, min, Bool, true, false, not, ◌&&◌, ◌||◌, ◌==◌, nat_lt, nat_le, List, [], ◌∷◌, ◌++◌, if◌then◌else◌, length, get_or, refl, sym, ◌∙◌, ap, subst, arith, inl, inr, ◌⊎◌}
+use Rattle.std.proofs.Common.{◌≡◌, ◌≢◌, ℕ, ◌+◌, ◌-◌, ◌<◌, ◌≤◌, min, Bool, true, false, not, ◌&&◌, ◌||◌, ◌==◌, nat_lt, List, [], ◌∷◌, if◌then◌else◌, length, refl, sym, ◌∙◌, ap, subst, arith, inl, inr, ◌⊎◌}
 use Rattle.std.proofs.Math.ListN.{set, replicate}
 use Rattle.std.specs.Int.{bit_at}
 use Rattle.std.proofs.lemmas.Bool.Decides.{nat_tests}
@@ -11,12 +11,12 @@ use Rattle.tn_types.specs.declared.choices.Verdict.{Verdict}
 use Rattle.tn_types.specs.declared.choices.Verdict.TheVariants as verdict
 use Rattle.datablocks.specs.declared.progress.Progress.{Progress}
 use Rattle.datablocks.specs.declared.progress.Progress.TheVariants.{Due, Carried, Done}
-use Rattle.datablocks.specs.Sending.{SenderEvent, Wrote, carriers, is_lost, all_lost, any_received, least, those_below, is_unacked, first_unacked, is_due, due_of, fate_for, judged}
+use Rattle.datablocks.specs.Sending.{SenderEvent, carriers, is_lost, all_lost, any_received, least, those_below, is_unacked, first_unacked, is_due, due_of, fate_for, judged}
 use Rattle.datablocks.specs.ProgressWords.{progress_at, is_due_at, is_open, is_done, done_bit, TellsDone, verdict_progress, progress_after}
 use Rattle.datablocks.specs.ProgressWords as now
-use Rattle.datablocks.specs.SenderState.{SenderState, first_open, is_due_now, due_now, IsDue, IsKept}
+use Rattle.datablocks.specs.SenderState.{SenderState, first_open, is_due_now, due_now, IsKept}
 use Rattle.datablocks.specs.SenderStands.{ProgressIs, StandsFor}
-use Rattle.datablocks.proofs.Below.{none_below, same_below, none_behind, least_is, least_same, least_le, least_below, least_passes}
+use Rattle.datablocks.proofs.Below.{same_below, none_behind, least_is, least_same, least_le, least_below, least_passes}
 
 -- ---- fates
 

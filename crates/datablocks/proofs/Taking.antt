@@ -1,16 +1,13 @@
 -- Blocks taken one after another.
-use Rattle.std.proofs.Common.{◌≡◌, ℕ, zero, suc, ◌+◌, ◌<◌, ◌≤◌, Bool, true, false, not, ◌==◌, nat_eq, List, [], ◌∷◌, ◌++◌, if◌then◌else◌, length, take, drop, get_or, Option, Some, None, Result, Ok, Err, refl, sym, ◌∙◌, ap, subst, arith, inl, inr, ◌⊎◌, add-one, drop-cons}
-use Rattle.std.proofs.Math.ListN.{set}
+use Rattle.std.proofs.Common.{◌≡◌, ℕ, zero, suc, ◌+◌, ◌<◌, ◌≤◌, Bool, true, false, ◌==◌, List, [], ◌∷◌, ◌++◌, length, take, drop, get_or, Option, Some, None, Ok, Err, refl, sym, ◌∙◌, ap, subst, arith, inl, inr, add-one, drop-cons}
 use Rattle.std.specs.List.{All}
-use Rattle.std.specs.Str.{bytes_eq}
 use Rattle.std.proofs.lemmas.Bool.Decides.{nat_tests}
 use Rattle.std.proofs.lemmas.Bool.{cases_eq}
-use Rattle.std.proofs.lemmas.List.{take_more, take_all, drop_all, get_or-set_same, get_or-set_other, length-set}
+use Rattle.std.proofs.lemmas.List.{take_more, drop_all, get_or-set_same, get_or-set_other, length-set}
 use Rattle.std.proofs.lemmas.List.Elements.{All-take, All-get_or, All-nil, All-push}
 use Rattle.wire_format.specs.declared.blocks.BlockItem.{BlockItem}
-use Rattle.datablocks.specs.declared.receiver.BlockFault.{BlockFault}
 use Rattle.datablocks.specs.declared.receiver.BlockFault.TheVariants.{BlockDiffers}
-use Rattle.datablocks.specs.Holding.{block_at, differs, differs_then, take_answer, after_take, after_all, then_check, check_answer}
+use Rattle.datablocks.specs.Holding.{block_at, differs, differs_then, after_take, after_all, check_answer}
 
 abbrev IsNumbered : BlockItem → Type 0
 IsNumbered item = item.number < 64

@@ -1,9 +1,9 @@
 -- What a sender of blocks shows: the blocks, and how far each is on its way.
-use Rattle.std.specs.Prelude.{◌≡◌, ℕ, ◌+◌, ◌<◌, ◌≤◌, Bool, true, false, ◌&&◌, nat_lt, List, length}
+use Rattle.std.specs.Prelude.{◌≡◌, ℕ, ◌+◌, ◌<◌, ◌≤◌, Bool, true, ◌&&◌, nat_lt, List, length}
 use Rattle.datablocks.specs.declared.progress.TheConstants.{BLOCK_WINDOW, MAX_SCRIPT_BLOCKS}
 use Rattle.datablocks.specs.declared.progress.Progress.{Progress}
 use Rattle.datablocks.specs.Sending.{least, those_below}
-use Rattle.datablocks.specs.ProgressWords.{progress_at, is_due_at, is_open, TellsDone}
+use Rattle.datablocks.specs.ProgressWords.{is_due_at, is_open, TellsDone}
 
 pub record SenderState : Type 0 where
   pub blocks : List (List ℕ)

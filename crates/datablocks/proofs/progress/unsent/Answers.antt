@@ -1,4 +1,3 @@
-use Rattle.datablocks.specs.declared.progress.Progress.TheVariants.{Due}
 use Rattle.datablocks.proofs.Progressing.{due_everywhere}
 use Rattle.datablocks.proofs.progress.unsent.Goals as goal
 
