@@ -1,0 +1,32 @@
+-- The six kinds of a match, by number: player, disc, mine, drone, flag and clock.
+use Rattle.std.specs.Prelude.{ℕ, pos, List, [], ◌∷◌, true, false}
+use Rattle.quantised_fields.specs.declared.field.FieldSpec.{FieldSpec}
+use Rattle.quantised_fields.specs.declared.kind.Kind.{Kind}
+
+-- a field from 0 to this number, in so many bits
+abbrev pub up_to : ℕ → ℕ → FieldSpec
+up_to hi bits = record { lo = pos 0; hi = pos hi; bits = bits }
+
+abbrev pub coordinate : FieldSpec
+coordinate = up_to 65535 16
+
+abbrev pub player_kind : Kind
+player_kind = record { fields = coordinate ∷ coordinate ∷ up_to 100 7 ∷ up_to 20 5 ∷ up_to 255 8 ∷ []; weight = 8; always = false }
+
+abbrev pub disc_kind : Kind
+disc_kind = record { fields = coordinate ∷ coordinate ∷ []; weight = 6; always = false }
+
+abbrev pub mine_kind : Kind
+mine_kind = record { fields = coordinate ∷ coordinate ∷ up_to 1 1 ∷ []; weight = 3; always = false }
+
+abbrev pub drone_kind : Kind
+drone_kind = record { fields = up_to 65535 12 ∷ up_to 65535 12 ∷ up_to 100 5 ∷ []; weight = 4; always = false }
+
+abbrev pub flag_kind : Kind
+flag_kind = record { fields = coordinate ∷ coordinate ∷ up_to 16 5 ∷ []; weight = 5; always = true }
+
+abbrev pub clock_kind : Kind
+clock_kind = record { fields = up_to 16777215 24 ∷ up_to 255 8 ∷ up_to 255 8 ∷ []; weight = 1; always = true }
+
+abbrev pub match_kinds : List Kind
+match_kinds = player_kind ∷ disc_kind ∷ mine_kind ∷ drone_kind ∷ flag_kind ∷ clock_kind ∷ []

@@ -1,0 +1,5 @@
+pub mod StillRange
+pub mod Rules
+pub mod Next
+pub mod Kinds
+pub mod Spawning

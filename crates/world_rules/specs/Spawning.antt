@@ -1,0 +1,67 @@
+-- What a match starts with: each object stands alive at its home, numbered in the order of the setup.
+use Rattle.std.specs.Prelude.{ℕ, suc, pos, ◌≡◌, ◌<◌, ◌≤◌, ◌≤ℤ◌, ◌⊎◌, List, [], ◌∷◌, length, true, false, ◌==◌, if◌then◌else◌, Option, Some, None}
+use Rattle.std.specs.List.{All}
+use Rattle.world_rules.specs.declared.kinds.TheConstants.{PLAYER, MINE, DRONE, FLAG, CLOCK}
+use Rattle.world_rules.specs.declared.object.Object.{Object}
+use Rattle.world_rules.specs.declared.object.State.{State}
+use Rattle.world_rules.specs.declared.object.State.TheVariants.{Player, Mine, Drone, Flag, Clock}
+use Rattle.world_rules.specs.declared.setup.Spawn.{Spawn}
+use Rattle.world_rules.specs.declared.setup.Setup.{Setup}
+use Rattle.world_rules.specs.Rules.{clamp}
+
+abbrev pub state_at_first : ℕ → ℕ → Option ℕ → State
+state_at_first number kind (Some client) = Player (record { client = client; hp = 100; ammo = 20; score = 0 })
+state_at_first number kind None =
+    if kind == MINE then Mine (record { armed = false; age = 0 })
+    else if kind == DRONE then Drone (record { number = number; hp = 100 })
+    else if kind == FLAG then Flag (record { holder = None })
+    else Clock (record { tick = 0; red = 0; blue = 0 })
+
+abbrev pub spawned : ℕ → Spawn → Object
+spawned number s = record {
+    block = s.block;
+    team = s.team;
+    home = record { x = clamp s.x; y = clamp s.y };
+    alive = true;
+    place = record { x = clamp s.x; y = clamp s.y };
+    state = state_at_first number s.kind s.owner;
+  }
+
+-- the objects of these spawns, of which the first has this number
+abbrev pub first_objects : ℕ → List Spawn → List Object
+first_objects number [] = []
+first_objects number (s ∷ spawns) = spawned number s ∷ first_objects (suc number) spawns
+
+-- a player has an owner among the clients, and only a player has one
+abbrev pub OwnerFits : ℕ → ℕ → Option ℕ → Type 0
+OwnerFits clients kind (Some client) = (kind ≡ PLAYER) × (client < clients)
+OwnerFits clients kind None = (MINE ≤ kind) × (kind ≤ CLOCK)
+
+pub record SpawnFits (clients : ℕ) (s : Spawn) : Type 0 where
+  pub owner : OwnerFits clients s.kind s.owner
+  pub block : s.block < 64
+  pub team : s.team < 2
+  pub x_least : pos 0 ≤ℤ s.x
+  pub x_most : s.x ≤ℤ pos 65535
+  pub y_least : pos 0 ≤ℤ s.y
+  pub y_most : s.y ≤ℤ pos 65535
+
+-- players come first, by rising client, from this one on
+abbrev pub owner_rises : ℕ → Option ℕ → List Spawn → (ℕ → List Spawn → Type 0) → (List Spawn → Type 0) → Type 0
+owner_rises least (Some client) spawns more none = (least ≤ client) × more (suc client) spawns
+owner_rises least None spawns more none = none spawns
+
+abbrev pub HasNoOwner : Spawn → Type 0
+HasNoOwner s = s.owner ≡ None
+
+abbrev pub OwnersRise : ℕ → List Spawn → Type 0
+OwnersRise least [] = Unit {0}
+OwnersRise least (s ∷ spawns) = owner_rises least s.owner spawns (λ next rest. OwnersRise next spawns) (λ rest. All HasNoOwner spawns)
+
+-- the ranges and the order of a setup
+pub record SetupFits (setup : Setup) : Type 0 where
+  pub clients_least : 1 ≤ setup.clients
+  pub clients : setup.clients ≤ 16
+  pub few : length setup.spawns ≤ 1024
+  pub spawns : All (SpawnFits setup.clients) setup.spawns
+  pub owners : OwnersRise 0 setup.spawns

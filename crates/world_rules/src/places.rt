@@ -1,0 +1,100 @@
+//! Places in the field, and steps.
+ghost use Rattle.std.specs.Prelude.{◌≡◌, ◌≤ℤ◌, ◌+ℤ◌, ◌*ℤ◌, ℤ, pos, negsuc};
+ghost use Rattle.world_rules.specs.Rules.{apart, is_within, clamp, is_in_field, stepped, spent};
+
+use crate::object::Place;
+use tn_types::Move;
+
+// How far two numbers are apart.
+fn apart(a: u32, b: u32) -> u32
+    ensures { result ≡ apart a b }
+{
+    a.saturating_sub(b) + b.saturating_sub(a)
+}
+
+/// Whether two places are within this reach, the reach itself included. The distance is the greater of both ways.
+#[tactic(auto, unfolding(crate::specs::Rules::is_within))]
+pub fn is_within(reach: u32, a: &Place, b: &Place) -> bool
+    ensures { result ≡ is_within reach a.now b.now }
+{
+    apart(a.x, b.x).max(apart(a.y, b.y)) <= reach
+}
+
+// The number, brought into the field.
+pub(crate) fn clamp(z: i64) -> u32
+    ensures { result ≡ clamp z }
+{
+    if z < 0 {
+        0
+    } else if z > 65535 {
+        65535
+    } else {
+        z as u32
+    }
+}
+
+// Whether a coordinate lies in the field.
+pub(crate) fn is_in_field(z: i64) -> bool
+    ensures { result ≡ is_in_field z }
+{
+    0 <= z && z <= 65535
+}
+
+// A number times a small one.
+fn scaled(k: i64, d: i8) -> i64
+    requires least { pos 0 ≤ℤ k }
+    requires most { k ≤ℤ pos 1000 }
+    ensures { result ≡ k *ℤ d }
+{
+    k * i64::from(d)
+}
+
+// The coordinate that is so far along, in the field.
+pub(crate) fn along(x: u32, by: i64) -> u32
+    requires least { negsuc 2147483647 ≤ℤ by }
+    requires most { by ≤ℤ pos 2147483647 }
+    ensures { result ≡ clamp (pos x +ℤ by) }
+{
+    clamp(i64::from(x) + by)
+}
+
+/// Where a player is after a step.
+pub fn stepped(place: &Place, m: &Move) -> Place
+    ensures { result ≡ stepped place.now m.now }
+{
+    Place {
+        x: along(place.x, scaled(25, m.dx)),
+        y: along(place.y, scaled(25, m.dy)),
+    }
+}
+
+/// Where a standing player is after a move, and its ammo (docs/world.md, "Players"). x and y are 0 to 65,535, ammo 0
+/// to 20.
+pub fn step_player(x: i64, y: i64, ammo: i64, m: Move) -> (i64, i64, i64)
+    requires x_least { pos 0 ≤ℤ x }
+    requires x_most { x ≤ℤ pos 65535 }
+    requires y_least { pos 0 ≤ℤ y }
+    requires y_most { y ≤ℤ pos 65535 }
+    requires ammo_least { pos 0 ≤ℤ ammo }
+    requires ammo_most { ammo ≤ℤ pos 20 }
+    ensures { result ≡ (pos (clamp (x +ℤ pos 25 *ℤ m.dx)), pos (clamp (y +ℤ pos 25 *ℤ m.dy)), spent ammo m.fire) }
+{
+    (moved(x, m.dx), moved(y, m.dy), spent(ammo, m.fire))
+}
+
+// A coordinate after a step.
+fn moved(x: i64, d: i8) -> i64
+    requires least { pos 0 ≤ℤ x }
+    requires most { x ≤ℤ pos 65535 }
+    ensures { result ≡ pos (clamp (x +ℤ pos 25 *ℤ d)) }
+{
+    i64::from(clamp(x + scaled(25, d)))
+}
+
+// Ammo after a move.
+fn spent(ammo: i64, fire: bool) -> i64
+    requires { pos 0 ≤ℤ ammo }
+    ensures { result ≡ spent ammo fire }
+{
+    if fire && ammo > 0 { ammo - 1 } else { ammo }
+}
