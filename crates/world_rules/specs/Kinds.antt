@@ -2,6 +2,18 @@
 use Rattle.std.specs.Prelude.{ℕ, pos, List, [], ◌∷◌, true, false}
 use Rattle.quantised_fields.specs.declared.field.FieldSpec.{FieldSpec}
 use Rattle.quantised_fields.specs.declared.kind.Kind.{Kind}
+use Rattle.world_rules.specs.declared.kinds.TheConstants.{PLAYER, DISC, MINE, DRONE, FLAG, CLOCK}
+use Rattle.world_rules.specs.declared.object.State.{State}
+use Rattle.world_rules.specs.declared.object.State.TheVariants.{Player, Disc, Mine, Drone, Flag, Clock}
+
+-- the number of an object's kind
+abbrev pub kind_of : State → ℕ
+kind_of (Player p) = PLAYER
+kind_of (Disc d) = DISC
+kind_of (Mine m) = MINE
+kind_of (Drone d) = DRONE
+kind_of (Flag f) = FLAG
+kind_of (Clock c) = CLOCK
 
 -- a field from 0 to this number, in so many bits
 abbrev pub up_to : ℕ → ℕ → FieldSpec

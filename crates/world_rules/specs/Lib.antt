@@ -3,3 +3,4 @@ pub mod Rules
 pub mod Next
 pub mod Kinds
 pub mod Spawning
+pub mod Ranges

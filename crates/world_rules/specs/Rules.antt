@@ -194,10 +194,10 @@ unfoldable pub drone_next : ℕ → ℕ → Object → DronePart → Object
 drone_next r harm o d =
     if not o.alive then o
     else record o {
-        alive = nat_lt harm d.hp;
-        place = record { x = clamp (pos o.place.x +ℤ (pos (r % 101) -ℤ pos 50)); y = clamp (pos o.place.y +ℤ (pos (r / 101 % 101) -ℤ pos 50)) };
-        state = Drone (record d { hp = d.hp - harm });
-      }
+      alive = nat_lt harm d.hp;
+      place = record { x = clamp (pos o.place.x +ℤ (pos (r % 101) -ℤ pos 50)); y = clamp (pos o.place.y +ℤ (pos (r / 101 % 101) -ℤ pos 50)) };
+      state = Drone (record d { hp = d.hp - harm });
+    }
 
 -- ---- flags
 

@@ -19,13 +19,13 @@ state_at_first number kind None =
 
 abbrev pub spawned : ℕ → Spawn → Object
 spawned number s = record {
-    block = s.block;
-    team = s.team;
-    home = record { x = clamp s.x; y = clamp s.y };
-    alive = true;
-    place = record { x = clamp s.x; y = clamp s.y };
-    state = state_at_first number s.kind s.owner;
-  }
+  block = s.block;
+  team = s.team;
+  home = record { x = clamp s.x; y = clamp s.y };
+  alive = true;
+  place = record { x = clamp s.x; y = clamp s.y };
+  state = state_at_first number s.kind s.owner;
+}
 
 -- the objects of these spawns, of which the first has this number
 abbrev pub first_objects : ℕ → List Spawn → List Object

@@ -105,7 +105,13 @@ fn carried(moves: &[Option<Move>], o: &Object, client: u8, player: Option<&Objec
 
 /// A flag after the tick, where these are the standing ones of all objects.
 #[tactic(auto, using(crate::proofs::Taker::taker_standing), unfolding(crate::specs::Rules::flag_next))]
-pub fn flag_next(objects: &[Object], standing: &[Object], moves: &[Option<Move>], o: &Object, holder: Option<u8>) -> Object
+pub fn flag_next(
+    objects: &[Object],
+    standing: &[Object],
+    moves: &[Option<Move>],
+    o: &Object,
+    holder: Option<u8>,
+) -> Object
     requires { standing.now ≡ filter is_standing objects.now }
     ensures { result ≡ flag_next objects.now moves.now o.now holder }
 {
@@ -149,7 +155,10 @@ pub fn captures(objects: &[Object], team: u8) -> usize
     ensures value { result ≡ captures objects.now team }
     ensures few { result ≤ length objects.now }
 {
-    objects.iter().filter(|f| is_captured(objects, team, f)).count()
+    objects
+        .iter()
+        .filter(|f| is_captured(objects, team, f))
+        .count()
 }
 
 /// The clock after the tick, with the captures of both teams.

@@ -13,7 +13,11 @@ pub fn player_next(harm: u32, scored: u32, o: &Object, p: &Player, m: &Move) -> 
 {
     let score = p.score.saturating_add(scored).min(255);
     if p.hp > 0 {
-        let ammo = if m.fire { p.ammo.saturating_sub(1) } else { p.ammo };
+        let ammo = if m.fire {
+            p.ammo.saturating_sub(1)
+        } else {
+            p.ammo
+        };
         Object {
             place: stepped(&o.place, m),
             state: State::Player(Player {
@@ -42,7 +46,8 @@ pub fn player_next(harm: u32, scored: u32, o: &Object, p: &Player, m: &Move) -> 
 fn is_leaving(place: &Place, d: &Disc) -> bool
     ensures { result ≡ is_leaving place.now d.now }
 {
-    !(is_in_field(i64::from(place.x) + i64::from(d.vx)) && is_in_field(i64::from(place.y) + i64::from(d.vy)))
+    !(is_in_field(i64::from(place.x) + i64::from(d.vx))
+        && is_in_field(i64::from(place.y) + i64::from(d.vy)))
 }
 
 // A disc that hits nothing.

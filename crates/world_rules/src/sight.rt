@@ -1,7 +1,9 @@
 //! Who is what to whom: targets, enemies and what is near.
 ghost use Rattle.std.specs.Prelude.{◌≡◌, ◌&&◌};
+ghost use Rattle.world_rules.specs.Kinds.{kind_of};
 ghost use Rattle.world_rules.specs.Rules.{is_standing, is_other_near, is_flying, is_armed, is_target, is_drone_part, is_of};
 
+use crate::kinds::{CLOCK, DISC, DRONE, FLAG, MINE, PLAYER};
 use crate::object::{Object, State};
 use crate::places::is_within;
 
@@ -52,6 +54,20 @@ impl Object {
         ensures { result ≡ is_target self.now }
     {
         self.is_standing() || self.is_living_drone()
+    }
+
+    /// The number of its kind.
+    pub fn kind(&self) -> u8
+        ensures { result ≡ kind_of self.now.state }
+    {
+        match self.state {
+            State::Player(_) => PLAYER,
+            State::Disc(_) => DISC,
+            State::Mine(_) => MINE,
+            State::Drone(_) => DRONE,
+            State::Flag(_) => FLAG,
+            State::Clock(_) => CLOCK,
+        }
     }
 
     /// A disc of this client.

@@ -1,0 +1,6 @@
+pub mod RowFields
+pub mod RowLoops
+pub mod Made
+pub mod WorldLaws
+pub mod Started
+pub mod Gathered

@@ -1,0 +1,74 @@
+-- The versions and writes of one object, field by field.
+use Rattle.std.proofs.Common.{◌≡◌, ℕ, zero, suc, ◌<◌, ◌≤◌, ◌+◌, ◌-◌, ◌^◌, List, [], ◌∷◌, ◌++◌, length, get_or, take, drop, refl, sym, ap, ◌∙◌, arith, append_assoc, length-drop, ◌⊎◌, inl, inr}
+use Rattle.std.specs.Prelude.{ℤ, pos}
+use Rattle.std.specs.List.{AllByRecursion}
+use Rattle.std.proofs.lemmas.List.{drop_more, drop_all, append-nil}
+use Rattle.world_sim.specs.declared.rows.Write.{Write}
+use Rattle.world_sim.specs.Rows.{row_versions, row_writes, version_next, field_writes}
+
+step : (a b : ℤ) (v : ℕ) (ps qs : List ℤ) (rs : List ℕ) (xs ys : List ℤ) (zs : List ℕ) → xs ≡ a ∷ ps → ys ≡ b ∷ qs → zs ≡ v ∷ rs → row_versions xs ys zs ≡ version_next a b v ∷ row_versions ps qs rs
+unfolding row_versions
+step a b v ps qs rs xs ys zs e f g = rw (e, f, g) refl
+
+write_step : (o f : ℕ) (a b : ℤ) (v : ℕ) (ps qs : List ℤ) (rs : List ℕ) (xs ys : List ℤ) (zs : List ℕ) → xs ≡ a ∷ ps → ys ≡ b ∷ qs → zs ≡ v ∷ rs → row_writes o f xs ys zs ≡ field_writes o f a b v ++ row_writes o (suc f) ps qs rs
+unfolding row_writes
+write_step o f a b v ps qs rs xs ys zs e h g = rw (e, h, g) refl
+
+-- what is read so far, and what is left
+abbrev pub versions_from : List ℕ → ℕ → List ℤ → List ℤ → List ℕ → List ℕ
+versions_from front i before now versions = front ++ row_versions (drop i before) (drop i now) (drop i versions)
+
+abbrev pub writes_from : List Write → ℕ → ℕ → List ℤ → List ℤ → List ℕ → List Write
+writes_from front object i before now versions = front ++ row_writes object i (drop i before) (drop i now) (drop i versions)
+
+pub versions_more : (front : List ℕ) (i : ℕ) (before now : List ℤ) (versions : List ℕ) (a b : ℤ) (v : ℕ) → i < length before → i < length now → i < length versions → versions_from front i before now versions ≡ versions_from (front ++ version_next (get_or before i a) (get_or now i b) (get_or versions i v) ∷ []) (i + 1) before now versions
+versions_more front i before now versions a b v l m n =
+    rw (step (get_or before i a) (get_or now i b) (get_or versions i v) (drop (i + 1) before) (drop (i + 1) now) (drop (i + 1) versions) (drop i before) (drop i now) (drop i versions) (drop_more before i a l) (drop_more now i b m) (drop_more versions i v n), append_assoc) refl
+
+no_more_versions : (xs : List ℤ) (zs : List ℕ) → row_versions xs [] zs ≡ []
+unfolding row_versions
+no_more_versions [] zs = refl
+no_more_versions (x ∷ xs) zs = refl
+
+no_more_writes : (o f : ℕ) (xs : List ℤ) (zs : List ℕ) → row_writes o f xs [] zs ≡ []
+unfolding row_writes
+no_more_writes o f [] zs = refl
+no_more_writes o f (x ∷ xs) zs = refl
+
+no_before_versions : (ys : List ℤ) (zs : List ℕ) → row_versions [] ys zs ≡ []
+unfolding row_versions
+no_before_versions ys zs = refl
+
+no_counts : (xs ys : List ℤ) → row_versions xs ys [] ≡ []
+unfolding row_versions
+no_counts [] ys = refl
+no_counts (x ∷ xs) [] = refl
+no_counts (x ∷ xs) (y ∷ ys) = refl
+
+no_before_writes : (o f : ℕ) (ys : List ℤ) (zs : List ℕ) → row_writes o f [] ys zs ≡ []
+unfolding row_writes
+no_before_writes o f ys zs = refl
+
+no_count_writes : (o f : ℕ) (xs ys : List ℤ) → row_writes o f xs ys [] ≡ []
+unfolding row_writes
+no_count_writes o f [] ys = refl
+no_count_writes o f (x ∷ xs) [] = refl
+no_count_writes o f (x ∷ xs) (y ∷ ys) = refl
+
+abbrev pub IsEnd : ℕ → List ℤ → List ℤ → List ℕ → Type 0
+IsEnd i before now versions = (length before ≤ i) ⊎ ((length now ≤ i) ⊎ (length versions ≤ i))
+
+pub versions_end : (front : List ℕ) (i : ℕ) (before now : List ℤ) (versions : List ℕ) → IsEnd i before now versions → versions_from front i before now versions ≡ front
+versions_end front i before now versions (inl h) = rw (drop_all i before h, no_before_versions (drop i now) (drop i versions), append-nil) refl
+versions_end front i before now versions (inr (inl h)) = rw (drop_all i now h, no_more_versions (drop i before) (drop i versions), append-nil) refl
+versions_end front i before now versions (inr (inr h)) = rw (drop_all i versions h, no_counts (drop i before) (drop i now), append-nil) refl
+
+pub writes_more : (front : List Write) (o i : ℕ) (before now : List ℤ) (versions : List ℕ) (a b : ℤ) (v : ℕ) → i < length before → i < length now → i < length versions → writes_from front o i before now versions ≡ writes_from (front ++ field_writes o i (get_or before i a) (get_or now i b) (get_or versions i v)) o (i + 1) before now versions
+writes_more front o i before now versions a b v l m n =
+    let e : i + 1 ≡ suc i = omega arith in
+    rw (e, append_assoc, ← e) (ap (λ (ws : List Write). front ++ ws) (write_step o i (get_or before i a) (get_or now i b) (get_or versions i v) (drop (i + 1) before) (drop (i + 1) now) (drop (i + 1) versions) (drop i before) (drop i now) (drop i versions) (drop_more before i a l) (drop_more now i b m) (drop_more versions i v n) ∙ rw e refl))
+
+pub writes_end : (front : List Write) (o i : ℕ) (before now : List ℤ) (versions : List ℕ) → IsEnd i before now versions → writes_from front o i before now versions ≡ front
+writes_end front o i before now versions (inl h) = rw (drop_all i before h, no_before_writes o i (drop i now) (drop i versions), append-nil) refl
+writes_end front o i before now versions (inr (inl h)) = rw (drop_all i now h, no_more_writes o i (drop i before) (drop i versions), append-nil) refl
+writes_end front o i before now versions (inr (inr h)) = rw (drop_all i versions h, no_count_writes o i (drop i before) (drop i now), append-nil) refl

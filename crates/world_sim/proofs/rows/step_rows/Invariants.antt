@@ -1,0 +1,7 @@
+use Rattle.std.proofs.Common.{◌≡◌}
+use Rattle.world_sim.specs.RowsNext.{rows_next, rows_writes}
+use Rattle.world_sim.proofs.RowLoops.{rows_from, row_writes_from}
+use Rattle.world_sim.proofs.rows.step_rows.Given as goal
+
+abbrev pub invariant-loop-i : goal.invariant-loop-i
+invariant-loop-i l = rows_next l.rows l.after ≡ rows_from l.next.items l.i l.rows l.after

@@ -1,0 +1,4 @@
+pub mod Rows
+pub mod RowsNext
+pub mod Worlds
+pub mod Found

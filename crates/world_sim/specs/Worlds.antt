@@ -1,0 +1,64 @@
+-- The world tick by tick: the objects after it by the world's rules, the rows of their values, and what the tick wrote.
+use Rattle.std.specs.Prelude.{ℕ, ℤ, Bool, option_map, slice_get, ◌+◌, ◌≤◌, ◌≡◌, List, ◌++◌, ◌∷◌, [], length, map, Option, Some, None, nat_lt, if◌then◌else◌}
+use Rattle.std.specs.List.{AllByRecursion}
+use Rattle.tn_types.specs.declared.moves.Move.{Move}
+use Rattle.world_rules.specs.declared.object.Object.{Object}
+use Rattle.world_rules.specs.Rules.{Moment}
+use Rattle.world_rules.specs.Kinds.{kind_of}
+use Rattle.world_rules.specs.Ranges.{ObjectFits}
+use Rattle.world_rules.specs.Next.{objects_next}
+use Rattle.world_sim.specs.declared.rows.Write.{Write}
+use Rattle.world_sim.specs.declared.rows.Row.{Row}
+use Rattle.world_sim.specs.RowsNext.{fresh_row, rows_next, rows_writes, WasCounted}
+
+pub record Worlds : Type 0 where
+  pub seed : ℕ
+  pub ticks : ℕ
+  pub objects : List Object
+  pub rows : List Row
+  pub writes : List Write
+
+-- the objects with one more, if it was made and there is a place
+abbrev pub added : List Object → Option Object → List Object
+added now None = now
+added now (Some disc) = if nat_lt (length now) 1024 then now ++ disc ∷ [] else now
+
+-- the moment of the next tick
+abbrev pub coming : Worlds → Moment
+coming w = record { seed = w.seed; tick = w.ticks + 1 }
+
+abbrev pub after : Worlds → List (Option Move) → List Object
+after w moves = objects_next w.objects moves (coming w)
+
+unfoldable pub next : Worlds → List (Option Move) → Worlds
+next w moves = record {
+  seed = w.seed;
+  ticks = w.ticks + 1;
+  objects = after w moves;
+  rows = rows_next w.rows (after w moves);
+  writes = rows_writes 0 w.rows (after w moves);
+}
+
+-- what holds of every world
+pub record IsWorld (w : Worlds) : Type 0 where
+  pub few : length w.objects ≤ 1024
+  pub rows : length w.rows ≡ length w.objects
+  pub counted : AllByRecursion (WasCounted w.ticks) w.rows
+  pub fits : AllByRecursion ObjectFits w.objects
+
+-- the world before its first tick
+abbrev pub first_world : ℕ → List Object → Worlds
+first_world seed os = record { seed = seed; ticks = 0; objects = os; rows = map fresh_row os; writes = [] }
+
+-- what stands at this number
+abbrev pub alive_at : Worlds → ℕ → Option Bool
+alive_at w object = option_map (λ o. o.alive) (slice_get w.objects object)
+
+abbrev pub kind_at : Worlds → ℕ → Option ℕ
+kind_at w object = option_map (λ o. kind_of o.state) (slice_get w.objects object)
+
+abbrev pub block_at : Worlds → ℕ → Option ℕ
+block_at w object = option_map (λ o. o.block) (slice_get w.objects object)
+
+abbrev pub values_at : Worlds → ℕ → Option (List ℤ)
+values_at w object = option_map (λ r. r.values.items) (slice_get w.rows object)

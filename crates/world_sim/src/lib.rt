@@ -1,0 +1,10 @@
+//! The world of a match, tick by tick. Its rules stand in docs/world.md.
+#![tactic(auto)]
+
+mod found;
+mod rows;
+mod step;
+mod world;
+
+pub use rows::{Row, Write};
+pub use world::{MAX_OBJECTS, World};

@@ -1,0 +1,253 @@
+//! The values of all objects, their versions, and what a tick writes.
+ghost use Rattle.std.specs.Prelude.{◌≡◌, ◌<◌, ◌≤◌, ◌+◌, ◌-◌, ◌^◌, ◌++◌, ℤ, ℕ, List, length, OnOk, IfOk, [], ◌∷◌, slice_index, slice_index_or, pos, ◌⊎◌, replicate};
+ghost use Rattle.std.specs.List.{AllByRecursion};
+ghost use Rattle.world_sim.specs.RowsNext.{row_next, fresh_row, rows_next, rows_writes, IsSmallRow};
+ghost use Rattle.world_sim.specs.Rows.{values_of, differs, version_next, field_writes, row_versions, row_writes, no_versions, as_number, holder_number};
+
+use arrayvec::ArrayVec;
+use std::alloc::AllocError;
+use world_rules::{Object, State};
+
+/// A field that has a new value.
+#[derive(Clone, Copy, Debug, PartialEq, Eq)]
+pub struct Write {
+    /// The object's number.
+    pub object: u32,
+    pub field: u8,
+    /// How often the field was written, this write counted.
+    pub version: u32,
+    pub value: i64,
+}
+
+/// The values of an object's fields and their versions.
+#[derive(Drop)]
+pub struct Row {
+    pub values: ArrayVec<i64, 5>,
+    pub versions: ArrayVec<u32, 5>,
+}
+
+fn as_number(b: bool) -> i64
+    ensures { result ≡ pos (as_number b) }
+{
+    if b { 1 } else { 0 }
+}
+
+fn holder_number(holder: Option<u8>) -> i64
+    ensures { result ≡ pos (holder_number holder) }
+{
+    match holder {
+        None => 0,
+        Some(client) => i64::from(client) + 1,
+    }
+}
+
+fn listed(values: &[i64]) -> ArrayVec<i64, 5>
+    requires { length values.now ≤ 5 }
+    ensures { result.items ≡ values.now }
+{
+    let mut all = ArrayVec::new();
+    let _ = all.try_extend_from_slice(values);
+    all
+}
+
+/// The values of the fields, in order.
+pub fn values_of(o: &Object) -> ArrayVec<i64, 5>
+    ensures { result.items ≡ values_of o.now }
+{
+    let x = i64::from(o.place.x);
+    let y = i64::from(o.place.y);
+    match &o.state {
+        State::Player(p) => listed(&[x, y, i64::from(p.hp), i64::from(p.ammo), i64::from(p.score)]),
+        State::Disc(_) => listed(&[x, y]),
+        State::Mine(m) => listed(&[x, y, as_number(m.armed)]),
+        State::Drone(d) => listed(&[x, y, i64::from(d.hp)]),
+        State::Flag(f) => listed(&[x, y, holder_number(f.holder)]),
+        State::Clock(c) => listed(&[i64::from(c.tick), i64::from(c.red), i64::from(c.blue)]),
+    }
+}
+
+fn differs(a: i64, b: i64) -> bool
+    ensures { result ≡ differs a b }
+{
+    a < b || b < a
+}
+
+fn version_next(before: i64, now: i64, version: u32) -> u32
+    requires { version < 2 ^ 32 - 1 }
+    ensures { result ≡ version_next before now version }
+{
+    if differs(before, now) {
+        version + 1
+    } else {
+        version
+    }
+}
+
+// Notes the write of a field, if it is one.
+fn note(
+    object: u32,
+    field: u8,
+    before: i64,
+    now: i64,
+    version: u32,
+    writes: &mut Vec<Write>,
+) -> Result<(), AllocError>
+    requires { version < 2 ^ 32 - 1 }
+    ensures { IfOk result (λ _. writes.new.items ≡ writes.old.items ++ field_writes object field before now version) }
+{
+    if differs(before, now) {
+        writes.push(Write {
+            object,
+            field,
+            version: version + 1,
+            value: now,
+        })?;
+    }
+    Ok(())
+}
+
+fn note_at(
+    object: u32,
+    f: usize,
+    before: &[i64],
+    now: &[i64],
+    versions: &[u32],
+    writes: &mut Vec<Write>,
+) -> Result<(), AllocError>
+    requires before { f < length before.now }
+    requires now { f < length now.now }
+    requires versions { f < length versions.now }
+    requires few { f < 5 }
+    requires small { slice_index versions.now f < 2 ^ 32 - 1 }
+    ensures { OnOk result (writes.new.items ≡ writes.old.items ++ field_writes object f (slice_index_or before.now f (pos 0)) (slice_index_or now.now f (pos 0)) (slice_index versions.now f)) }
+{
+    note(object, f as u8, before[f], now[f], versions[f], writes)
+}
+
+// How many fields all three have.
+fn common_len(before: &[i64], now: &[i64], versions: &[u32]) -> usize
+    ensures before { result ≤ length before.now }
+    ensures now { result ≤ length now.now }
+    ensures versions { result ≤ length versions.now }
+    ensures shortest { (length before.now ≤ result) ⊎ ((length now.now ≤ result) ⊎ (length versions.now ≤ result)) }
+{
+    before.len().min(now.len()).min(versions.len())
+}
+
+// The versions after the writes of one object.
+#[tactic(auto, using(crate::proofs::RowFields::versions_more, crate::proofs::RowFields::versions_end))]
+fn row_versions(before: &[i64], now: &[i64], versions: &[u32]) -> ArrayVec<u32, 5>
+    requires few { length now.now ≤ 5 }
+    requires small { AllByRecursion (λ v. v < 2 ^ 32 - 1) versions.now }
+    ensures { result.items ≡ row_versions before.now now.now versions.now }
+{
+    let n = common_len(before, now, versions);
+    let mut next = ArrayVec::new();
+    for f in 0..n {
+        next.push(version_next(before[f], now[f], versions[f]));
+    }
+    next
+}
+
+// Notes the writes of one object.
+#[tactic(auto, using(crate::proofs::RowFields::writes_more, crate::proofs::RowFields::writes_end))]
+fn note_row(
+    object: u32,
+    before: &[i64],
+    now: &[i64],
+    versions: &[u32],
+    writes: &mut Vec<Write>,
+) -> Result<(), AllocError>
+    requires few { length now.now ≤ 5 }
+    requires small { AllByRecursion (λ v. v < 2 ^ 32 - 1) versions.now }
+    ensures { OnOk result (writes.new.items ≡ writes.old.items ++ row_writes object 0 before.now now.now versions.now) }
+{
+    let n = common_len(before, now, versions);
+    for f in 0..n {
+        note_at(object, f, before, now, versions, writes)?;
+    }
+    Ok(())
+}
+
+// The row of an object that had this one.
+fn next_row(old: &Row, o: &Object) -> Row
+    requires { IsSmallRow old.now }
+    ensures { result ≡ row_next old.now o.now }
+{
+    let values = values_of(o);
+    let versions = row_versions(
+        old.values.as_slice(),
+        values.as_slice(),
+        old.versions.as_slice(),
+    );
+    Row { values, versions }
+}
+
+// Notes the writes of an object that had this row.
+fn note_next(object: u32, old: &Row, o: &Object, writes: &mut Vec<Write>) -> Result<(), AllocError>
+    requires { IsSmallRow old.now }
+    ensures { OnOk result (writes.new.items ≡ writes.old.items ++ row_writes object 0 old.now.values.items (values_of o.now) old.now.versions.items) }
+{
+    let values = values_of(o);
+    note_row(
+        object,
+        old.values.as_slice(),
+        values.as_slice(),
+        old.versions.as_slice(),
+        writes,
+    )
+}
+
+fn zeros(n: usize) -> ArrayVec<u32, 5>
+    requires { n ≤ 5 }
+    ensures { result.items ≡ replicate n 0 }
+{
+    let mut all = ArrayVec::new();
+    for i in 0..n {
+        let _ = i;
+        all.push(0);
+    }
+    all
+}
+
+// The row of a new object.
+pub fn fresh_row(o: &Object) -> Row
+    ensures { result ≡ fresh_row o.now }
+{
+    let values = values_of(o);
+    let versions = zeros(values.len());
+    Row { values, versions }
+}
+
+// Each object's row after the tick.
+#[tactic(auto, using(crate::proofs::RowLoops::rows_more, crate::proofs::RowLoops::rows_fresh, crate::proofs::RowLoops::rows_end, crate::proofs::RowLoops::small_at))]
+pub fn step_rows(rows: &[Row], after: &[Object], next: &mut Vec<Row>) -> Result<(), AllocError>
+    requires few { length rows.now ≤ length after.now }
+    requires small { AllByRecursion IsSmallRow rows.now }
+    ensures { OnOk result (next.new.items ≡ rows_next rows.now after.now) }
+{
+    next.clear();
+    for (i, o) in after.iter().enumerate() {
+        if i < rows.len() {
+            next.push(next_row(&rows[i], o))?;
+        } else {
+            next.push(fresh_row(o))?;
+        }
+    }
+    Ok(())
+}
+
+// The writes of a tick, by object and field.
+#[tactic(auto, using(crate::proofs::RowLoops::small_at, crate::proofs::RowLoops::row_writes_more, crate::proofs::RowLoops::row_writes_end))]
+pub fn note_rows(rows: &[Row], after: &[Object], writes: &mut Vec<Write>) -> Result<(), AllocError>
+    requires few { length rows.now ≤ length after.now }
+    requires most { length rows.now ≤ 1024 }
+    requires small { AllByRecursion IsSmallRow rows.now }
+    ensures { OnOk result (writes.new.items ≡ rows_writes 0 rows.now after.now) }
+{
+    writes.clear();
+    for (i, row) in rows.iter().enumerate() {
+        note_next(i as u32, row, &after[i], writes)?;
+    }
+    Ok(())
+}

@@ -1,0 +1,311 @@
+//! The world and its ticks.
+ghost use Rattle.std.specs.Prelude.{◌≡◌, ◌<◌, ◌≤◌, ◌+◌, ◌-◌, ◌^◌, ◌++◌, List, length, map, take, OnOk, OnErr, [], IfOk, slice_get, Some};
+ghost use Rattle.std.specs.List.{filter_map, AllByRecursion};
+ghost use Rattle.world_rules.specs.Rules.{fired};
+ghost use Rattle.world_rules.specs.Next.{objects_next};
+ghost use Rattle.world_rules.specs.Spawning.{first_objects, SetupFits};
+ghost use Rattle.world_rules.specs.Ranges.{ObjectFits};
+ghost use Rattle.world_sim.specs.Worlds.{next, added, first_world, alive_at, kind_at, block_at, values_at};
+ghost use Rattle.world_sim.specs.RowsNext.{fresh_row, rows_next, rows_writes, IsSmallRow};
+
+use crate::found::find_all;
+use crate::rows::{Row, Write, fresh_row, note_rows, step_rows};
+use crate::step::{Old, step_each};
+use std::alloc::{AllocError, Global};
+use std::marker::Model;
+use std::mem;
+use tn_types::{Move, NoMemory};
+use world_rules::fire::fired;
+use world_rules::flags::captures;
+use world_rules::{Object, Setup, Spawn};
+
+/// Objects of a match at the most, dead ones too.
+pub const MAX_OBJECTS: usize = 1024;
+
+// Writes of a tick at the most: five fields of each object.
+const MAX_WRITES: usize = 5 * MAX_OBJECTS;
+
+// What a tick works in. All room is made at the start.
+#[derive(Drop)]
+pub struct Work {
+    pub after: Vec<Object>,
+    pub after_rows: Vec<Row>,
+    pub after_writes: Vec<Write>,
+    pub flying: Vec<Object>,
+    pub targets: Vec<Object>,
+    pub standing: Vec<Object>,
+    pub hitting: Vec<Object>,
+    pub triggered: Vec<Object>,
+}
+
+fn workroom(alloc: Global) -> Result<Work, AllocError> {
+    Ok(Work {
+        after: Vec::with_capacity(alloc, MAX_OBJECTS)?,
+        after_rows: Vec::with_capacity(alloc, MAX_OBJECTS)?,
+        after_writes: Vec::with_capacity(alloc, MAX_WRITES)?,
+        flying: Vec::with_capacity(alloc, MAX_OBJECTS)?,
+        targets: Vec::with_capacity(alloc, MAX_OBJECTS)?,
+        standing: Vec::with_capacity(alloc, MAX_OBJECTS)?,
+        hitting: Vec::with_capacity(alloc, MAX_OBJECTS)?,
+        triggered: Vec::with_capacity(alloc, MAX_OBJECTS)?,
+    })
+}
+
+/// The objects of a match, tick by tick. A tick makes the next world beside the present one and then swaps both, so
+/// every rule reads the world before it, and want of memory leaves it unchanged.
+#[derive(Drop)]
+pub struct World {
+    seed: u32,
+    ticks: u32,
+    objects: Vec<Object>,
+    rows: Vec<Row>,
+    writes: Vec<Write>,
+    work: Work,
+}
+
+impl Model for World {
+    ghost use Rattle.world_sim.specs.Worlds.{Worlds, IsWorld};
+
+    ghost Value = { Worlds };
+
+    ghost view = { λ w. record { seed = w.seed; ticks = w.ticks; objects = w.objects.items; rows = w.rows.items; writes = w.writes.items } };
+
+    ghost invariant = { λ w. IsWorld (record { seed = w.seed; ticks = w.ticks; objects = w.objects.items; rows = w.rows.items; writes = w.writes.items }) };
+}
+
+// Adds a disc that is made, if there is a place.
+fn add_disc(made: Option<Object>, after: &mut Vec<Object>) -> Result<(), AllocError>
+    ensures { OnOk result (after.new.items ≡ added after.old.items made) }
+{
+    if let Some(disc) = made {
+        if after.len() < MAX_OBJECTS {
+            after.push(disc)?;
+        }
+    }
+    Ok(())
+}
+
+// The discs that are made, behind the others, as long as there are places.
+#[tactic(auto, using(crate::proofs::Made::added_more, crate::proofs::Made::added_few))]
+fn make_discs(
+    objects: &[Object],
+    moves: &[Option<Move>],
+    after: &mut Vec<Object>,
+) -> Result<(), AllocError>
+    requires { length after.old.items ≤ 1024 }
+    ensures made { OnOk result (after.new.items ≡ after.old.items ++ take (1024 - length after.old.items) (filter_map (fired moves.now) objects.now)) }
+    ensures few { OnOk result (length after.new.items ≤ 1024) }
+{
+    for o in objects {
+        add_disc(fired(moves, o), after)?;
+    }
+    Ok(())
+}
+
+// The objects after a tick.
+#[tactic(auto, unfolding(world_rules::specs::Next::discs_made))]
+fn next_objects(
+    objects: &[Object],
+    moves: &[Option<Move>],
+    seed: u32,
+    tick: u32,
+    work: &mut Work,
+) -> Result<(), AllocError>
+    requires { length objects.now ≤ 1024 }
+    ensures objects { OnOk result (work.new.after.items ≡ objects_next objects.now moves.now (record { seed = seed; tick = tick })) }
+    ensures few { OnOk result (length work.new.after.items ≤ 1024) }
+{
+    find_all(
+        objects,
+        &mut work.flying,
+        &mut work.targets,
+        &mut work.standing,
+        &mut work.hitting,
+        &mut work.triggered,
+    )?;
+    let old = Old {
+        objects,
+        flying: work.flying.as_slice(),
+        targets: work.targets.as_slice(),
+        standing: work.standing.as_slice(),
+        hitting: work.hitting.as_slice(),
+        triggered: work.triggered.as_slice(),
+        red: captures(objects, 0) as u32,
+        blue: captures(objects, 1) as u32,
+        moves,
+        seed,
+        tick,
+    };
+    step_each(&old, &mut work.after)?;
+    make_discs(objects, moves, &mut work.after)?;
+    Ok(())
+}
+
+// What a tick makes of the objects and their rows.
+#[tactic(auto, using(crate::proofs::WorldLaws::more_objects))]
+fn advance(
+    objects: &[Object],
+    rows: &[Row],
+    moves: &[Option<Move>],
+    seed: u32,
+    tick: u32,
+    work: &mut Work,
+) -> Result<(), AllocError>
+    requires few { length objects.now ≤ 1024 }
+    requires rows { length rows.now ≡ length objects.now }
+    requires small { AllByRecursion IsSmallRow rows.now }
+    ensures objects { OnOk result (work.new.after.items ≡ objects_next objects.now moves.now (record { seed = seed; tick = tick })) }
+    ensures rows { OnOk result (work.new.after_rows.items ≡ rows_next rows.now (objects_next objects.now moves.now (record { seed = seed; tick = tick }))) }
+    ensures writes { OnOk result (work.new.after_writes.items ≡ rows_writes 0 rows.now (objects_next objects.now moves.now (record { seed = seed; tick = tick }))) }
+{
+    next_objects(objects, moves, seed, tick, work)?;
+    step_rows(rows, &work.after, &mut work.after_rows)?;
+    note_rows(rows, &work.after, &mut work.after_writes)?;
+    Ok(())
+}
+
+// The objects at the start.
+#[tactic(auto, using(crate::proofs::Started::first_more, crate::proofs::Started::first_end))]
+fn start_objects(alloc: Global, spawns: &[Spawn]) -> Result<Vec<Object>, AllocError>
+    requires { length spawns.now ≤ 1024 }
+    ensures objects { IfOk result (λ v. v.items ≡ first_objects 0 spawns.now) }
+    ensures few { IfOk result (λ v. length v.items ≤ 1024) }
+{
+    let mut objects = Vec::with_capacity(alloc, MAX_OBJECTS)?;
+    for (i, spawn) in spawns.iter().enumerate() {
+        objects.push(spawn.object(i as u32))?;
+    }
+    Ok(objects)
+}
+
+// The rows of the first objects.
+fn first_rows(alloc: Global, objects: &[Object]) -> Result<Vec<Row>, AllocError>
+    ensures { IfOk result (λ v. v.items ≡ map fresh_row objects.now) }
+{
+    let mut rows = Vec::with_capacity(alloc, MAX_OBJECTS)?;
+    for o in objects {
+        rows.push(fresh_row(o))?;
+    }
+    Ok(rows)
+}
+
+impl World {
+    /// The world before its first tick: the players and objects of a setup at their homes.
+    #[tactic(auto, using(world_rules::proofs::Ranging::first_objects_fit))]
+    pub fn new(alloc: Global, seed: u32, setup: &Setup) -> Result<World, NoMemory>
+        requires { SetupFits setup.now }
+        ensures { IfOk result (λ w. w ≡ first_world seed (first_objects 0 setup.now.spawns)) }
+    {
+        match World::start(alloc, seed, setup.spawns.as_slice()) {
+            Ok(world) => Ok(world),
+            Err(_) => Err(NoMemory),
+        }
+    }
+
+    fn start(alloc: Global, seed: u32, spawns: &[Spawn]) -> Result<World, AllocError>
+        requires few { length spawns.now ≤ 1024 }
+        requires fits { AllByRecursion ObjectFits (first_objects 0 spawns.now) }
+        ensures { IfOk result (λ w. w ≡ first_world seed (first_objects 0 spawns.now)) }
+    {
+        let objects = start_objects(alloc, spawns)?;
+        let rows = first_rows(alloc, &objects)?;
+        let writes = Vec::with_capacity(alloc, MAX_WRITES)?;
+        let work = workroom(alloc)?;
+        Ok(World {
+            seed,
+            ticks: 0,
+            objects,
+            rows,
+            writes,
+            work,
+        })
+    }
+
+    /// The world makes one tick with a move or none of each client (docs/world.md). Nothing changes for want of
+    /// memory.
+    pub fn tick(&mut self, _alloc: Global, moves: &[Option<Move>]) -> Result<(), NoMemory>
+        requires { self.old.ticks < 2 ^ 32 - 1 }
+        ensures ok { OnOk result (self.new ≡ next self.old moves.now) }
+        ensures err { OnErr result (self.new ≡ self.old) }
+    {
+        match self.step(moves) {
+            Ok(()) => Ok(()),
+            Err(_) => Err(NoMemory),
+        }
+    }
+
+    #[tactic(auto, using(crate::proofs::WorldLaws::small_rows), unfolding(crate::specs::Worlds::next))]
+    fn step(&mut self, moves: &[Option<Move>]) -> Result<(), AllocError>
+        requires { self.old.ticks < 2 ^ 32 - 1 }
+        ensures ok { OnOk result (self.new ≡ next self.old moves.now) }
+        ensures err { OnErr result (self.new ≡ self.old) }
+    {
+        advance(
+            &self.objects,
+            &self.rows,
+            moves,
+            self.seed,
+            self.ticks + 1,
+            &mut self.work,
+        )?;
+        mem::swap(&mut self.objects, &mut self.work.after);
+        mem::swap(&mut self.rows, &mut self.work.after_rows);
+        mem::swap(&mut self.writes, &mut self.work.after_writes);
+        self.ticks += 1;
+        Ok(())
+    }
+
+    /// The writes of the last tick, by object and field.
+    pub fn writes(&self) -> &[Write]
+        ensures { result.now ≡ self.now.writes }
+    {
+        self.writes.as_slice()
+    }
+
+    /// Ticks so far.
+    pub fn ticks(&self) -> u32
+        ensures { result ≡ self.now.ticks }
+    {
+        self.ticks
+    }
+
+    /// Objects made so far, dead ones too.
+    pub fn objects(&self) -> u32
+        ensures value { result ≡ length self.now.objects }
+        ensures few { result ≤ 1024 }
+    {
+        self.objects.len() as u32
+    }
+
+    /// Whether an object is alive.
+    pub fn alive(&self, object: u32) -> bool
+        requires { object < length self.now.objects }
+        ensures { Some result ≡ alive_at self.now object }
+    {
+        self.objects[object as usize].alive
+    }
+
+    /// The number of an object's kind.
+    pub fn kind(&self, object: u32) -> u8
+        requires { object < length self.now.objects }
+        ensures { Some result ≡ kind_at self.now object }
+    {
+        self.objects[object as usize].kind()
+    }
+
+    /// The block that an object refers to.
+    pub fn block(&self, object: u32) -> u8
+        requires { object < length self.now.objects }
+        ensures { Some result ≡ block_at self.now object }
+    {
+        self.objects[object as usize].block
+    }
+
+    /// The values of an object's fields, in order.
+    pub fn values(&self, object: u32) -> &[i64]
+        requires { object < length self.now.objects }
+        ensures { Some result.now ≡ values_at self.now object }
+    {
+        self.rows[object as usize].values.as_slice()
+    }
+}
