@@ -1,5 +1,5 @@
 -- Every rule keeps the ranges of the world and the kind of each object.
-use Rattle.std.proofs.Common.{◌≡◌, ℕ, zero, suc, ◌+◌, ◌-◌, ◌*◌, ◌<◌, ◌≤◌, min, Bool, true, false, cond, not, ◌&&◌, ◌||◌, nat_lt, nat_le, nat_eq, List, [], ◌∷◌, ◌++◌, length, take, map, Option, Some, None, refl, sym, ap, ◌∙◌, arith}
+use Rattle.std.proofs.Common.{ℕ, zero, suc, ◌-◌, ◌≤◌, Bool, true, false, cond, not, ◌||◌, nat_lt, nat_le, nat_eq, List, [], ◌∷◌, ◌++◌, length, take, map, Option, Some, None, arith}
 use Rattle.std.specs.Prelude.{ℤ, pos, negsuc, find}
 use Rattle.std.specs.List.{AllByRecursion, All, filter_map, cons_option}
 use Rattle.std.proofs.lemmas.List.Elements.{recursion_from_All}
@@ -15,10 +15,9 @@ use Rattle.world_rules.specs.declared.object.Mine.{Mine as MinePart}
 use Rattle.world_rules.specs.declared.object.Drone.{Drone as DronePart}
 use Rattle.world_rules.specs.declared.object.Clock.{Clock as ClockPart}
 use Rattle.world_rules.specs.declared.setup.Spawn.{Spawn}
-use Rattle.world_rules.specs.Kinds.{kind_of}
-use Rattle.world_rules.specs.Rules.{clamp, stepped, player_next, flown, is_leaving, disc_next, mine_next, drone_next, flag_next, carried, went_home, is_standing, is_home, taker, taking, first_of, is_enemy_near, using_part, is_player, clock_next, move_of, is_firing, speed, fired_by, fired_part, fired, by_kind, object_next, damage, harm, hits, drawn, captures, is_hitting, is_triggered, Moment, aged}
+use Rattle.world_rules.specs.Rules.{clamp, stepped, player_next, is_leaving, disc_next, mine_next, drone_next, flag_next, carried, went_home, is_standing, is_home, taker, taking, first_of, is_enemy_near, using_part, is_player, clock_next, move_of, is_firing, fired_by, fired_part, fired, by_kind, object_next, damage, harm, hits, drawn, captures, is_hitting, is_triggered, Moment, aged}
 use Rattle.world_rules.specs.Next.{objects_next, discs_made}
-use Rattle.world_rules.specs.Spawning.{state_at_first, spawned, first_objects, SpawnFits, OwnerFits}
+use Rattle.world_rules.specs.Spawning.{state_at_first, first_objects, SpawnFits, OwnerFits}
 use Rattle.world_rules.specs.Ranges.{PlaceFits, HolderFits, StateFits, ObjectFits}
 
 -- one of two

@@ -1,9 +1,9 @@
 -- The least client that takes a flag, player by player.
-use Rattle.std.proofs.Common.{◌≡◌, ℕ, ◌<◌, ◌≤◌, ◌+◌, List, [], ◌∷◌, length, get_or, drop, Option, Some, None, Bool, true, false, ◌&&◌, cond, filter, refl, sym, ap, ◌∙◌, arith}
+use Rattle.std.proofs.Common.{◌≡◌, ℕ, ◌<◌, ◌≤◌, ◌+◌, List, [], ◌∷◌, length, get_or, drop, Option, Some, None, Bool, true, false, cond, filter, refl, sym, ap, ◌∙◌}
 use Rattle.std.proofs.lemmas.List.{drop_more, drop_all}
 use Rattle.world_rules.specs.declared.object.Object.{Object}
 use Rattle.tn_types.specs.declared.moves.Move.{Move}
-use Rattle.world_rules.specs.Rules.{taker, taking, first_of, is_standing, is_other_near, using_part}
+use Rattle.world_rules.specs.Rules.{taker, taking, first_of, is_standing}
 
 pub taker_passes : (os : List Object) (moves : List (Option Move)) (o : Object) (i : ℕ) (x : Object) → i < length os → taking moves o (get_or os i x) ≡ None → taker (drop i os) moves o ≡ taker (drop (i + 1) os) moves o
 taker_passes os moves o i x lt e = rw (drop_more os i x lt, e) refl

@@ -1,6 +1,6 @@
 -- The objects after a tick: each by the rule of its kind, and behind them the discs that were made, as long as there
 -- are places. Every rule reads the objects before the tick.
-use Rattle.std.specs.Prelude.{ℕ, ◌-◌, List, ◌++◌, length, map, take, Option}
+use Rattle.std.specs.Prelude.{◌-◌, List, ◌++◌, length, map, take, Option}
 use Rattle.std.specs.List.{filter_map}
 use Rattle.tn_types.specs.declared.moves.Move.{Move}
 use Rattle.world_rules.specs.declared.object.Object.{Object}

@@ -1,7 +1,6 @@
 -- The rule of each kind of object. Each reads the objects as they were before the tick.
-use Rattle.std.specs.Prelude.{ℕ, ℤ, pos, negsuc, ◌+◌, ◌-◌, ◌*◌, ◌+ℤ◌, ◌-ℤ◌, ◌*ℤ◌, ◌/◌, ◌%◌, ◌^◌, find, min, max, List, [], ◌∷◌, length, count_by, Bool, true, false, not, ◌&&◌, ◌||◌, nat_lt, nat_le, ◌==◌, if◌then◌else◌, Option, Some, None, slice_get}
+use Rattle.std.specs.Prelude.{ℕ, ℤ, pos, negsuc, ◌+◌, ◌-◌, ◌*◌, ◌+ℤ◌, ◌-ℤ◌, ◌*ℤ◌, ◌/◌, ◌%◌, ◌^◌, find, min, max, List, [], ◌∷◌, count_by, Bool, true, false, not, ◌&&◌, ◌||◌, nat_lt, nat_le, ◌==◌, if◌then◌else◌, Option, Some, None, slice_get}
 use Rattle.std.specs.List.{list_any}
-use Rattle.std.specs.Int.RustNames.{unsigned_abs}
 use Rattle.tn_types.specs.declared.moves.Move.{Move}
 use Rattle.world_rules.specs.StillRange.{no_step-range}
 use Rattle.world_rules.specs.declared.object.Place.{Place}
@@ -9,7 +8,6 @@ use Rattle.world_rules.specs.declared.object.Player.{Player as PlayerPart}
 use Rattle.world_rules.specs.declared.object.Disc.{Disc as DiscPart}
 use Rattle.world_rules.specs.declared.object.Mine.{Mine as MinePart}
 use Rattle.world_rules.specs.declared.object.Drone.{Drone as DronePart}
-use Rattle.world_rules.specs.declared.object.Flag.{Flag as FlagPart}
 use Rattle.world_rules.specs.declared.object.Clock.{Clock as ClockPart}
 use Rattle.world_rules.specs.declared.object.State.{State}
 use Rattle.world_rules.specs.declared.object.State.TheVariants.{Player, Disc, Mine, Drone, Flag, Clock}

@@ -1,5 +1,5 @@
 -- What a match starts with: each object stands alive at its home, numbered in the order of the setup.
-use Rattle.std.specs.Prelude.{ℕ, suc, pos, ◌≡◌, ◌<◌, ◌≤◌, ◌≤ℤ◌, ◌⊎◌, List, [], ◌∷◌, length, true, false, ◌==◌, if◌then◌else◌, Option, Some, None}
+use Rattle.std.specs.Prelude.{ℕ, suc, pos, ◌≡◌, ◌<◌, ◌≤◌, ◌≤ℤ◌, List, [], ◌∷◌, length, true, false, ◌==◌, if◌then◌else◌, Option, Some, None}
 use Rattle.std.specs.List.{All}
 use Rattle.world_rules.specs.declared.kinds.TheConstants.{PLAYER, MINE, DRONE, FLAG, CLOCK}
 use Rattle.world_rules.specs.declared.object.Object.{Object}

@@ -4,9 +4,15 @@ ghost use Rattle.std.specs.Option.{option_copied};
 ghost use Rattle.world_rules.specs.Rules.{is_standing, is_player, taking, using_part, taker, is_home, went_home, carried, flag_next, is_capturing, is_captured, captures, clock_next};
 
 use crate::fire::move_of;
-use crate::object::{Clock, Flag, Object, State};
+use crate::object::{Clock, Flag, MAX_SCORE, Object, State};
 use crate::places::{is_within, stepped};
 use tn_types::Move;
+
+/// How near a flag is taken, and how near home it is captured, in centimetres.
+pub const FLAG_REACH: u32 = 300;
+
+// Where a clock stops.
+const MAX_TICK: u32 = 16_777_215;
 
 /// Whether this is the client's player.
 pub fn is_player(client: u8, o: &Object) -> bool
@@ -29,7 +35,7 @@ fn player_of(client: u8, objects: &[Object]) -> Option<&Object>
 fn taking(moves: &[Option<Move>], o: &Object, p: &Object) -> Option<u8>
     ensures { result ≡ taking moves.now o.now p.now }
 {
-    if p.is_standing() && o.is_other_near(300, p) {
+    if p.is_standing() && o.is_other_near(FLAG_REACH, p) {
         using(moves, &p.state)
     } else {
         None
@@ -68,7 +74,7 @@ fn taker(objects: &[Object], moves: &[Option<Move>], o: &Object) -> Option<u8>
 fn is_home(p: &Object) -> bool
     ensures { result ≡ is_home p.now }
 {
-    is_within(300, &p.place, &p.home)
+    is_within(FLAG_REACH, &p.place, &p.home)
 }
 
 // The flag, back at home.
@@ -168,9 +174,9 @@ pub fn clock_next(red: u32, blue: u32, o: &Object, c: &Clock) -> Object
 {
     Object {
         state: State::Clock(Clock {
-            tick: c.tick.saturating_add(1).min(16_777_215),
-            red: c.red.saturating_add(red).min(255),
-            blue: c.blue.saturating_add(blue).min(255),
+            tick: c.tick.saturating_add(1).min(MAX_TICK),
+            red: c.red.saturating_add(red).min(MAX_SCORE),
+            blue: c.blue.saturating_add(blue).min(MAX_SCORE),
         }),
         ..*o
     }

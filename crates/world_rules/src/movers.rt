@@ -2,7 +2,9 @@
 ghost use Rattle.std.specs.Prelude.{◌≡◌, ◌<◌, ◌+ℤ◌, ◌-ℤ◌, pos};
 ghost use Rattle.world_rules.specs.Rules.{clamp, player_next, disc_next, mine_next, flown, aged, is_leaving, drawn, drone_next};
 
-use crate::object::{Disc, Drone, Mine, Object, Place, Player, State};
+use crate::object::{
+    Disc, Drone, MAX_AGE, MAX_AMMO, MAX_HP, MAX_SCORE, Mine, Object, Place, Player, State,
+};
 use crate::places::{along, is_in_field, stepped};
 use tn_types::Move;
 
@@ -11,7 +13,7 @@ use tn_types::Move;
 pub fn player_next(harm: u32, scored: u32, o: &Object, p: &Player, m: &Move) -> Object
     ensures { result ≡ player_next harm scored o.now p.now m.now }
 {
-    let score = p.score.saturating_add(scored).min(255);
+    let score = p.score.saturating_add(scored).min(MAX_SCORE);
     if p.hp > 0 {
         let ammo = if m.fire {
             p.ammo.saturating_sub(1)
@@ -32,8 +34,8 @@ pub fn player_next(harm: u32, scored: u32, o: &Object, p: &Player, m: &Move) -> 
         Object {
             place: o.home,
             state: State::Player(Player {
-                hp: 100,
-                ammo: 20,
+                hp: MAX_HP,
+                ammo: MAX_AMMO,
                 score,
                 ..*p
             }),
@@ -79,7 +81,7 @@ fn flown(o: &Object, d: &Disc) -> Object
 fn aged(age: u32) -> u32
     ensures { result ≡ aged age }
 {
-    age.saturating_add(1).min(20)
+    age.saturating_add(1).min(MAX_AGE)
 }
 
 /// A disc after the tick.

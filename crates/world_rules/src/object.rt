@@ -1,5 +1,17 @@
 //! What a world is made of: objects of six kinds.
 
+/// What a player or a drone has at the start.
+pub const MAX_HP: u32 = 100;
+
+/// What a player has to fire at the start.
+pub const MAX_AMMO: u32 = 20;
+
+/// Where scores and captures stop.
+pub const MAX_SCORE: u32 = 255;
+
+/// The age from which nothing depends on it, at which a disc ends.
+pub const MAX_AGE: u32 = 20;
+
 /// Where an object is, in centimetres: 0 to 65,535 each way.
 #[derive(Clone, Copy, Debug, PartialEq, Eq)]
 pub struct Place {

@@ -5,6 +5,9 @@ ghost use Rattle.world_rules.specs.Rules.{apart, is_within, clamp, is_in_field, 
 use crate::object::Place;
 use tn_types::Move;
 
+/// How far a player goes in a tick for each unit of a move, in centimetres.
+pub const STEP: i64 = 25;
+
 // How far two numbers are apart.
 fn apart(a: u32, b: u32) -> u32
     ensures { result ≡ apart a b }
@@ -63,8 +66,8 @@ pub fn stepped(place: &Place, m: &Move) -> Place
     ensures { result ≡ stepped place.now m.now }
 {
     Place {
-        x: along(place.x, scaled(25, m.dx)),
-        y: along(place.y, scaled(25, m.dy)),
+        x: along(place.x, scaled(STEP, m.dx)),
+        y: along(place.y, scaled(STEP, m.dy)),
     }
 }
 
@@ -88,7 +91,7 @@ fn moved(x: i64, d: i8) -> i64
     requires most { x ≤ℤ pos 65535 }
     ensures { result ≡ pos (clamp (x +ℤ pos 25 *ℤ d)) }
 {
-    i64::from(clamp(x + scaled(25, d)))
+    i64::from(clamp(x + scaled(STEP, d)))
 }
 
 // Ammo after a move.

@@ -2,7 +2,7 @@
 ghost use Rattle.std.specs.Prelude.{◌≡◌, ◌++◌, ◌∷◌, [], OnOk, OnErr, length};
 
 use crate::kinds::{DRONE, FLAG, MINE};
-use crate::object::{Clock, Drone, Flag, Mine, Object, Place, Player, State};
+use crate::object::{Clock, Drone, Flag, MAX_AMMO, MAX_HP, Mine, Object, Place, Player, State};
 use crate::places::clamp;
 use std::alloc::Global;
 use std::marker::Model;
@@ -103,8 +103,8 @@ impl Spawn {
         if let Some(client) = self.owner {
             return State::Player(Player {
                 client,
-                hp: 100,
-                ammo: 20,
+                hp: MAX_HP,
+                ammo: MAX_AMMO,
                 score: 0,
             });
         }
@@ -114,7 +114,7 @@ impl Spawn {
                 age: 0,
             })
         } else if self.kind == DRONE {
-            State::Drone(Drone { number, hp: 100 })
+            State::Drone(Drone { number, hp: MAX_HP })
         } else if self.kind == FLAG {
             State::Flag(Flag { holder: None })
         } else {
