@@ -5,7 +5,7 @@ use Rattle.std.proofs.lemmas.List.Sums.{length-filter}
 use Rattle.world_rules.specs.declared.object.Object.{Object}
 use Rattle.world_sim.specs.declared.step.Old.{Old}
 use Rattle.world_sim.specs.Found.{hits_any, is_triggered_by, AreFound, IsOld}
-use Rattle.world_rules.specs.Rules.{is_flying, is_target, is_standing, is_armed, is_other_near, is_harming, is_target_near, is_enemy_near, is_blasting, is_scoring, is_hitting, is_triggered, is_of, harm, damage, hits, captures}
+use Rattle.world_rules.specs.Rules.{is_flying, is_target, is_standing, is_armed, is_other_near, is_harming, is_target_near, is_enemy_near, is_hitting, is_triggered, is_of, harm, damage, hits, captures}
 
 any_step : (v b c : Bool) (q : Object → Bool) (x : Object) (ys : List Object) → list_any q ys ≡ c → list_any q (cond v (x ∷ ys) ys) ≡ ((v && q x) || c)
 any_step true b c q x ys e = ap (λ d. q x || d) e

@@ -1,5 +1,5 @@
 -- What holds of every world.
-use Rattle.std.proofs.Common.{◌≡◌, ℕ, zero, suc, ◌<◌, ◌≤◌, ◌+◌, ◌-◌, ◌^◌, Bool, true, false, cond, List, [], ◌∷◌, ◌++◌, length, map, take, replicate, refl, sym, ap, ◌∙◌, arith, length-append, Option}
+use Rattle.std.proofs.Common.{◌≡◌, ℕ, zero, suc, ◌<◌, ◌≤◌, ◌+◌, ◌-◌, ◌^◌, Bool, true, false, cond, List, [], ◌∷◌, length, map, replicate, refl, ap, arith, length-append, Option}
 use Rattle.std.specs.Prelude.{ℤ}
 use Rattle.std.specs.List.{AllByRecursion, filter_map}
 use Rattle.std.proofs.lemmas.List.{length-map, length-take}
@@ -8,10 +8,10 @@ use Rattle.tn_types.specs.declared.moves.Move.{Move}
 use Rattle.world_sim.specs.declared.rows.Write.{Write}
 use Rattle.world_sim.specs.declared.rows.Row.{Row}
 use Rattle.world_rules.specs.Rules.{object_next, fired, Moment}
-use Rattle.world_sim.specs.Rows.{values_of, row_versions, version_next, differs}
+use Rattle.world_sim.specs.Rows.{values_of, row_versions, differs}
 use Rattle.world_rules.specs.Ranges.{ObjectFits}
 use Rattle.world_rules.proofs.Ranging.{objects_fit}
-use Rattle.world_sim.specs.RowsNext.{row_next, fresh_row, rows_next, rows_writes, IsSmallRow, WasCounted}
+use Rattle.world_sim.specs.RowsNext.{fresh_row, rows_next, rows_writes, IsSmallRow, WasCounted}
 use Rattle.world_sim.specs.Worlds.{Worlds, IsWorld, next, after, coming}
 use Rattle.world_rules.specs.Next.{discs_made, objects_next}
 

@@ -1,7 +1,6 @@
 -- The values of an object's fields with their versions, and what a tick writes: a field whose value differs from
 -- before gets the next version.
-use Rattle.std.specs.Prelude.{ℕ, ℤ, pos, suc, zero, ◌+◌, ◌≤◌, ◌<◌, ◌≡◌, List, [], ◌∷◌, ◌++◌, length, map, replicate, Bool, ◌||◌, Option, Some, None, int_lt, if◌then◌else◌}
-use Rattle.std.specs.List.{AllByRecursion}
+use Rattle.std.specs.Prelude.{ℕ, ℤ, pos, suc, ◌+◌, List, [], ◌∷◌, ◌++◌, map, Bool, ◌||◌, Option, Some, None, int_lt, if◌then◌else◌}
 use Rattle.world_rules.specs.declared.object.State.{State}
 use Rattle.world_rules.specs.declared.object.State.TheVariants.{Player, Disc, Mine, Drone, Flag, Clock}
 use Rattle.world_rules.specs.declared.object.Object.{Object}

@@ -4,6 +4,8 @@
 mod found;
 mod rows;
 mod step;
+#[cfg(test)]
+mod tests;
 mod world;
 
 pub use rows::{Row, Write};

@@ -1,8 +1,7 @@
-use Rattle.std.proofs.Common.{◌≡◌, ◌++◌, sym, ◌∙◌, ap, List, get_or, arith, refl}
+use Rattle.std.proofs.Common.{◌≡◌, ◌++◌, ◌∙◌, get_or, arith, refl}
 use Rattle.std.specs.Prelude.{pos}
-use Rattle.world_sim.specs.declared.rows.Write.{Write}
-use Rattle.world_sim.specs.Rows.{field_writes, row_writes}
-use Rattle.world_sim.proofs.RowFields.{writes_more, writes_from}
+use Rattle.world_sim.specs.Rows.{field_writes}
+use Rattle.world_sim.proofs.RowFields.{writes_more}
 use Rattle.world_sim.proofs.rows.note_row.Goals as goal
 
 pub loop-f-preserved : goal.loop-f-preserved

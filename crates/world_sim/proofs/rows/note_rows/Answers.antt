@@ -1,4 +1,4 @@
-use Rattle.std.proofs.Common.{◌≡◌, ◌++◌, sym, ◌∙◌, ap, List, get_or, arith, refl}
+use Rattle.std.proofs.Common.{◌∙◌, arith}
 use Rattle.world_sim.proofs.RowLoops.{row_writes_at}
 use Rattle.world_sim.proofs.rows.note_rows.Goals as goal
 

@@ -1,6 +1,6 @@
 use Rattle.std.proofs.Common.{◌≡◌}
-use Rattle.world_sim.specs.RowsNext.{rows_next, rows_writes}
-use Rattle.world_sim.proofs.RowLoops.{rows_from, row_writes_from}
+use Rattle.world_sim.specs.RowsNext.{rows_writes}
+use Rattle.world_sim.proofs.RowLoops.{row_writes_from}
 use Rattle.world_sim.proofs.rows.note_rows.Given as goal
 
 abbrev pub invariant-loop-i : goal.invariant-loop-i

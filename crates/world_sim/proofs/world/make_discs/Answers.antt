@@ -1,4 +1,4 @@
-use Rattle.std.proofs.Common.{◌≡◌, ◌≤◌, length, arith}
+use Rattle.std.proofs.Common.{◌≡◌, arith}
 use Rattle.world_rules.specs.Rules.{fired}
 use Rattle.world_sim.specs.Worlds.{added}
 use Rattle.world_sim.proofs.Made.{added_at, added_few}
