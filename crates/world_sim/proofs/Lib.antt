@@ -4,3 +4,4 @@ pub mod Made
 pub mod WorldLaws
 pub mod Started
 pub mod Gathered
+pub mod ForGood

@@ -9,6 +9,7 @@ use Rattle.world_sim.specs.declared.rows.Write.{Write}
 use Rattle.world_sim.specs.declared.rows.Row.{Row}
 use Rattle.world_rules.specs.Rules.{object_next, fired, Moment}
 use Rattle.world_sim.specs.Rows.{values_of, row_versions, differs}
+use Rattle.world_sim.proofs.ForGood.{next_values, first_values}
 use Rattle.world_rules.specs.Ranges.{ObjectFits}
 use Rattle.world_rules.proofs.Ranging.{objects_fit}
 use Rattle.world_sim.specs.RowsNext.{fresh_row, rows_next, rows_writes, IsSmallRow, WasCounted}
@@ -72,6 +73,7 @@ world_next w moves h = record {
   rows = length-rows_next w.rows (after w moves) (let m = more_objects w.objects moves (coming w) in omega (arith, h.rows));
   counted = counted_next w.ticks w.rows (after w moves) h.counted;
   fits = objects_fit w.objects moves (coming w) h.fits;
+  values = next_values w.rows (after w moves) (let m = more_objects w.objects moves (coming w) in omega (arith, h.rows));
 }
 
 world_by : (w : Worlds) (moves : List (Option Move)) (s t : ℕ) (os : List Object) (rows : List Row) (ws : List Write) → s ≡ w.seed → t ≡ w.ticks + 1 → os ≡ after w moves → rows ≡ rows_next w.rows (after w moves) → ws ≡ rows_writes 0 w.rows (after w moves) → IsWorld w → IsWorld (record { seed = s; ticks = t; objects = os; rows = rows; writes = ws })
@@ -83,4 +85,4 @@ world_from w moves was had os rows ws a b f g h is = world_by w moves w.seed (w.
 
 pub fresh_world : (seed : ℕ) (os all : List Object) (rows : List Row) (ws : List Write) → length os ≤ 1024 → AllByRecursion ObjectFits os → all ≡ os → rows ≡ map fresh_row os → IsWorld (record { seed = seed; ticks = 0; objects = all; rows = rows; writes = ws })
 fresh_world seed os all rows ws few fits e f =
-    rw (e, f) (record { few = few; rows = simp length-map; counted = fresh_counted 0 os; fits = fits })
+    rw (e, f) (record { few = few; rows = simp length-map; counted = fresh_counted 0 os; fits = fits; values = first_values os os (map fresh_row os) refl refl })

@@ -9,6 +9,7 @@ use Rattle.world_rules.specs.Ranges.{ObjectFits}
 use Rattle.world_rules.specs.Next.{objects_next}
 use Rattle.world_sim.specs.declared.rows.Write.{Write}
 use Rattle.world_sim.specs.declared.rows.Row.{Row}
+use Rattle.world_sim.specs.Rows.{values_of}
 use Rattle.world_sim.specs.RowsNext.{fresh_row, rows_next, rows_writes, WasCounted}
 
 pub record Worlds : Type 0 where
@@ -39,12 +40,17 @@ next w moves = record {
   writes = rows_writes 0 w.rows (after w moves);
 }
 
+-- the values of an object's fields, as its row keeps them
+abbrev pub row_values : Row → List ℤ
+row_values r = r.values.items
+
 -- what holds of every world
 pub record IsWorld (w : Worlds) : Type 0 where
   pub few : length w.objects ≤ 1024
   pub rows : length w.rows ≡ length w.objects
   pub counted : AllByRecursion (WasCounted w.ticks) w.rows
   pub fits : AllByRecursion ObjectFits w.objects
+  pub values : map row_values w.rows ≡ map values_of w.objects
 
 -- the world before its first tick
 abbrev pub first_world : ℕ → List Object → Worlds
@@ -61,4 +67,4 @@ abbrev pub block_at : Worlds → ℕ → Option ℕ
 block_at w object = option_map (λ o. o.block) (slice_get w.objects object)
 
 abbrev pub values_at : Worlds → ℕ → Option (List ℤ)
-values_at w object = option_map (λ r. r.values.items) (slice_get w.rows object)
+values_at w object = option_map values_of (slice_get w.objects object)

@@ -1,5 +1,5 @@
 //! The world and its ticks.
-ghost use Rattle.std.specs.Prelude.{◌≡◌, ◌<◌, ◌≤◌, ◌+◌, ◌-◌, ◌^◌, ◌++◌, List, length, map, take, OnOk, OnErr, [], IfOk, slice_get, Some};
+ghost use Rattle.std.specs.Prelude.{◌≡◌, ℕ, ◌<◌, ◌≤◌, ◌+◌, ◌-◌, ◌^◌, ◌++◌, List, length, map, take, OnOk, OnErr, [], IfOk, slice_get, Some};
 ghost use Rattle.std.specs.List.{filter_map, AllByRecursion};
 ghost use Rattle.world_rules.specs.Rules.{fired};
 ghost use Rattle.world_rules.specs.Next.{objects_next};
@@ -222,11 +222,13 @@ impl World {
     }
 
     /// The world makes one tick with a move or none of each client (docs/world.md). Nothing changes for want of
-    /// memory.
+    /// memory. An object keeps its number and its kind for good.
+    #[tactic(auto, using(crate::proofs::ForGood::kind_stays))]
     pub fn tick(&mut self, _alloc: Global, moves: &[Option<Move>]) -> Result<(), NoMemory>
         requires { self.old.ticks < 2 ^ 32 - 1 }
         ensures ok { OnOk result (self.new ≡ next self.old moves.now) }
         ensures err { OnErr result (self.new ≡ self.old) }
+        ensures kinds { OnOk result ((object : ℕ) → object < length self.old.objects → kind_at self.new object ≡ kind_at self.old object) }
     {
         match self.step(moves) {
             Ok(()) => Ok(()),
@@ -302,6 +304,7 @@ impl World {
     }
 
     /// The values of an object's fields, in order.
+    #[tactic(auto, using(crate::proofs::ForGood::row_tells))]
     pub fn values(&self, object: u32) -> &[i64]
         requires { object < length self.now.objects }
         ensures { Some result.now ≡ values_at self.now object }
