@@ -1,0 +1,5 @@
+pub mod Walks
+pub mod Fates
+pub mod Standing
+pub mod Writing
+pub mod Bounds
