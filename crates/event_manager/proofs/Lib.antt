@@ -3,3 +3,6 @@ pub mod Fates
 pub mod Standing
 pub mod Writing
 pub mod Bounds
+pub mod Places
+
+
