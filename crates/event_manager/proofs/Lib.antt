@@ -4,5 +4,5 @@ pub mod Standing
 pub mod Writing
 pub mod Bounds
 pub mod Places
-
-
+pub mod Runs
+pub mod Arrivals

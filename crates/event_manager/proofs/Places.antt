@@ -109,7 +109,7 @@ numbered-drop n (suc k) [] h = tt
 numbered-drop n (suc k) (None ∷ places) h = let z : suc n + k ≡ n + suc k = omega arith in subst (λ m. AreNumbered m (drop k places)) z (numbered-drop (suc n) k places h)
 numbered-drop n (suc k) (Some v ∷ places) h = let z : suc n + k ≡ n + suc k = omega arith in subst (λ m. AreNumbered m (drop k places)) z (numbered-drop (suc n) k places h.1)
 
-numbered-none : (n k : ℕ) → AreNumbered n (replicate k None)
+pub numbered-none : (n k : ℕ) → AreNumbered n (replicate k None)
 numbered-none n zero = tt
 numbered-none n (suc k) = numbered-none (suc n) k
 

@@ -7,7 +7,7 @@ use Rattle.event_manager.specs.Receiving.{first_of, run_of, delivered_of}
 use Rattle.event_manager.specs.ReceiverState.{ReceiverState, IsBounded}
 
 -- what came for count numbers from i on
-abbrev pub held_of : List EventItem → ℕ → ℕ → List (Option (List ℕ))
+unfoldable pub held_of : List EventItem → ℕ → ℕ → List (Option (List ℕ))
 held_of came i zero = []
 held_of came i (suc count) = first_of i came ∷ held_of came (suc i) count
 

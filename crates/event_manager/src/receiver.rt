@@ -47,7 +47,7 @@ impl Model for EventReceiver {
 
 impl EventReceiver {
     ghost use Rattle.event_manager.specs.Receiving.{items_onto, delivered_of, is_ahead};
-    ghost use Rattle.event_manager.specs.ReceiverState.{HasNumber, took, took_all, held_count};
+    ghost use Rattle.event_manager.specs.ReceiverState.{HasNumber, IsBounded, took, held_count};
     ghost use Rattle.event_manager.specs.ReceiverStands.{StandsFor};
     ghost use Rattle.wire_format.specs.declared.events.EventItem.{EventItem};
     ghost use Rattle.std.specs.Prelude.{false};
@@ -75,7 +75,8 @@ impl EventReceiver {
 
     /// What `take` would answer; nothing changes.
     pub fn check(&self, list: &EventList) -> Result<(), EventAhead>
-        ensures { result ≡ take_answer self.now.delivered list.now }
+        ensures answer { result ≡ take_answer self.now.delivered list.now }
+        ensures bounded { IsBounded self.now }
     {
         check_items(self.delivered, list.as_slice())
     }
