@@ -1,5 +1,5 @@
 -- What each item does to the tie between a receiver and the items that came.
-use Rattle.std.proofs.Common.{◌≡◌, ℕ, zero, suc, ◌+◌, ◌-◌, ◌<◌, ◌≤◌, Bool, true, false, not, ◌==◌, nat_lt, nat_le, List, [], ◌∷◌, ◌++◌, if◌then◌else◌, length, drop, map, Option, Some, None, refl, sym, ◌∙◌, ap, subst, arith, inl, inr, ◌⊎◌, get_or, append_assoc, append-nil, length-append, Result, Ok, Err}
+use Rattle.std.proofs.Common.{◌≡◌, ℕ, zero, suc, ◌+◌, ◌-◌, ◌<◌, ◌≤◌, Bool, true, false, ◌==◌, nat_lt, List, [], ◌∷◌, ◌++◌, if◌then◌else◌, length, drop, map, Option, Some, None, refl, sym, ◌∙◌, ap, subst, arith, inl, inr, get_or, append_assoc, append-nil, length-append, Ok, Err}
 use Rattle.std.specs.Prelude.{replicate, All, unwrap_or}
 use Rattle.std.specs.Option.{is_some}
 use Rattle.std.proofs.lemmas.Bool.Decides.{nat_tests}
@@ -8,12 +8,12 @@ use Rattle.std.proofs.lemmas.List.{length-map}
 use Rattle.std.proofs.lemmas.List.Elements.{recursion_from_All}
 use Rattle.std.specs.List.{AllByRecursion}
 use Rattle.tn_types.specs.declared.choices.Class.{Class}
-use Rattle.tn_types.specs.declared.choices.Class.TheVariants.{Guaranteed, Loose}
+use Rattle.tn_types.specs.declared.choices.Class.TheVariants.{Loose}
 use Rattle.wire_format.specs.declared.events.EventItem.{EventItem}
-use Rattle.event_manager.specs.declared.receiver.EventAhead.{EventAhead}
+use Rattle.wire_format.specs.Events.{IsEventInRange}
 use Rattle.event_manager.specs.Sending.{is_number}
 use Rattle.event_manager.specs.Receiving.{items_onto, or_else, first_of, has, run_of, payloads, guaranteed_event, by_class, news, delivered_of, is_ahead, take_answer}
-use Rattle.event_manager.specs.ReceiverState.{ReceiverState, IsBounded, held_count, lead, filled, moved_on, ran, came_at, took_number, took, took_all, IsNumber, HasNumber}
+use Rattle.event_manager.specs.ReceiverState.{ReceiverState, IsBounded, held_count, lead, filled, moved_on, ran, came_at, took_number, took, took_all, IsNumber}
 use Rattle.event_manager.specs.ReceiverStands.{held_of, IsEndOf, StandsFor}
 use Rattle.event_manager.proofs.Places.{length-lead, held_count-filled, held_count-moved_on, bounded-loose, bounded-came}
 use Rattle.event_manager.proofs.Runs.{run-below, run-is, run-same, held_of-same, first-again, first-loose, filled-held_of, lead-held_of, lead-has, lead-ends, length-held_of, drop-held_of, held_of-none}
@@ -51,14 +51,16 @@ took-loose : (item : EventItem) (r : ReceiverState) (came : List EventItem) → 
 took-loose item r came e room s =
     let same : (i : ℕ) → first_of i (item ∷ came) ≡ first_of i came = λ i. first-loose item came i e in
     let run : run_of (item ∷ came) ≡ run_of came = run-same came (item ∷ came) same in
-    let all : r.ready ++ (Loose, item.payload) ∷ [] ≡ r.ready ++ news item came = ap (λ es. r.ready ++ es) (sym (news-loose item came e)) in
-    (record {
-      bounded = bounded-loose r item.payload s.bounded room;
-      delivered = s.delivered ∙ sym run;
-      held = s.held ∙ ap (λ n. held_of came n 64) (sym run) ∙ sym (held_of-same came (item ∷ came) (run_of (item ∷ came)) 64 same);
-      none_ahead = λ i l. same i ∙ s.none_ahead i (omega (arith, run, l));
-      ready = subst (λ es. IsEndOf es (delivered_of came ++ news item came)) (sym all) (end-append r.ready (delivered_of came) (news item came) s.ready);
-    }, all)
+    let all : r.ready ++ (Loose, item.payload) ∷ [] ≡ r.ready ++ news item came = ap (λ es. r.ready ++ es) (sym (news-loose item came e)) in (
+      record {
+        bounded = bounded-loose r item.payload s.bounded room;
+        delivered = s.delivered ∙ sym run;
+        held = s.held ∙ ap (λ n. held_of came n 64) (sym run) ∙ sym (held_of-same came (item ∷ came) (run_of (item ∷ came)) 64 same);
+        none_ahead = λ i l. same i ∙ s.none_ahead i (omega (arith, run, l));
+        ready = subst (λ es. IsEndOf es (delivered_of came ++ news item came)) (sym all) (end-append r.ready (delivered_of came) (news item came) s.ready);
+      },
+      all,
+    )
 
 -- ---- an item that was delivered
 
@@ -73,14 +75,16 @@ took-again : (item : EventItem) (r : ReceiverState) (came : List EventItem) (n :
 took-again item r came n e old s =
     let same : (i : ℕ) → first_of i (item ∷ came) ≡ first_of i came = λ i. first-again item came n i e (run-below came n (omega (arith, old, s.delivered))) in
     let run : run_of (item ∷ came) ≡ run_of came = run-same came (item ∷ came) same in
-    let none : news item came ≡ [] = news-again item came n e run in
-    (record {
-      bounded = s.bounded;
-      delivered = s.delivered ∙ sym run;
-      held = s.held ∙ ap (λ k. held_of came k 64) (sym run) ∙ sym (held_of-same came (item ∷ came) (run_of (item ∷ came)) 64 same);
-      none_ahead = λ i l. same i ∙ s.none_ahead i (omega (arith, run, l));
-      ready = subst (λ es. IsEndOf r.ready (delivered_of came ++ es)) (sym none) (subst (λ es. IsEndOf r.ready es) (sym (append-nil (delivered_of came))) s.ready);
-    }, sym (ap (λ es. r.ready ++ es) none ∙ append-nil r.ready))
+    let none : news item came ≡ [] = news-again item came n e run in (
+      record {
+        bounded = s.bounded;
+        delivered = s.delivered ∙ sym run;
+        held = s.held ∙ ap (λ k. held_of came k 64) (sym run) ∙ sym (held_of-same came (item ∷ came) (run_of (item ∷ came)) 64 same);
+        none_ahead = λ i l. same i ∙ s.none_ahead i (omega (arith, run, l));
+        ready = subst (λ es. IsEndOf r.ready (delivered_of came ++ es)) (sym none) (subst (λ es. IsEndOf r.ready es) (sym (append-nil (delivered_of came))) s.ready);
+      },
+      sym (ap (λ es. r.ready ++ es) none ∙ append-nil r.ready),
+    )
 
 -- ---- a new number
 
@@ -106,21 +110,23 @@ module _ (item : EventItem) (r : ReceiverState) (came : List EventItem) (n : ℕ
   run' : run_of (item ∷ came) ≡ run_of came + length (lead (held_of (item ∷ came) (run_of came) 64))
   run' = run-is (item ∷ came) (run_of came + length (lead (held_of (item ∷ came) (run_of came) 64)))
       (λ i l. elim (cases_lt i (run_of came)) [
-          inl before ↦ has-more item came i (run-below came i before)
-        | inr after ↦ lead-has (item ∷ came) (run_of came) 64 i after l ])
+        | inl before ↦ has-more item came i (run-below came i before)
+        | inr after ↦ lead-has (item ∷ came) (run_of came) 64 i after l
+      ])
       (elim (cases_lt (length (lead (held_of (item ∷ came) (run_of came) 64))) 64) [
-          inl some ↦ lead-ends (item ∷ came) (run_of came) 64 some
-        | inr all ↦ ap is_some (none_ahead' (run_of came + length (lead (held_of (item ∷ came) (run_of came) 64))) (omega arith)) ])
+        | inl some ↦ lead-ends (item ∷ came) (run_of came) 64 some
+        | inr all ↦ ap is_some (none_ahead' (run_of came + length (lead (held_of (item ∷ came) (run_of came) 64))) (omega arith))
+      ])
 
   moved_is : moved_on (held_of (item ∷ came) (run_of came) 64) ≡ held_of (item ∷ came) (run_of (item ∷ came)) 64
   moved_is =
       let whole : length (lead (held_of (item ∷ came) (run_of came) 64)) + (64 - length (lead (held_of (item ∷ came) (run_of came) 64))) ≡ 64 = omega (arith, few) in
       let back : 64 - length (lead (held_of (item ∷ came) (run_of came) 64)) + length (lead (held_of (item ∷ came) (run_of came) 64)) ≡ 64 = omega (arith, few) in
       ap (λ ps. ps ++ replicate (length (lead (held_of (item ∷ came) (run_of came) 64))) None)
-          (ap (λ k. drop (length (lead (held_of (item ∷ came) (run_of came) 64))) (held_of (item ∷ came) (run_of came) k)) (sym whole)
-            ∙ drop-held_of (item ∷ came) (run_of came) (length (lead (held_of (item ∷ came) (run_of came) 64))) (64 - length (lead (held_of (item ∷ came) (run_of came) 64))))
+      (ap (λ k. drop (length (lead (held_of (item ∷ came) (run_of came) 64))) (held_of (item ∷ came) (run_of came) k)) (sym whole)
+      ∙ drop-held_of (item ∷ came) (run_of came) (length (lead (held_of (item ∷ came) (run_of came) 64))) (64 - length (lead (held_of (item ∷ came) (run_of came) 64))))
       ∙ held_of-none (item ∷ came) (run_of came + length (lead (held_of (item ∷ came) (run_of came) 64))) (64 - length (lead (held_of (item ∷ came) (run_of came) 64))) (length (lead (held_of (item ∷ came) (run_of came) 64)))
-          (λ j l. none_ahead' j (omega (arith, few, l)))
+      (λ j l. none_ahead' j (omega (arith, few, l)))
       ∙ ap (held_of (item ∷ came) (run_of came + length (lead (held_of (item ∷ came) (run_of came) 64)))) back
       ∙ ap (λ k. held_of (item ∷ came) k 64) (sym run')
 
@@ -135,28 +141,32 @@ module _ (item : EventItem) (r : ReceiverState) (came : List EventItem) (n : ℕ
       let P : List (Option (List ℕ)) → Type 0 = λ held. IsBounded (ran (record { delivered = r.delivered; held = held; ready = r.ready })) in
       let Q : List (Option (List ℕ)) → Type 0 = λ held. StandsFor (ran (record { delivered = r.delivered; held = held; ready = r.ready })) (item ∷ came) × ((ran (record { delivered = r.delivered; held = held; ready = r.ready })).ready ≡ r.ready ++ news item came) in
       let all : r.ready ++ map guaranteed_event (lead (held_of (item ∷ came) (run_of came) 64)) ≡ r.ready ++ news item came = ap (λ es. r.ready ++ es) news_is in
-      subst Q (sym filled_is) (record {
-        bounded = subst P filled_is (bounded-came r (n - r.delivered) item.payload s.bounded (omega (arith, new, fits)) room);
-        delivered = ap (λ k. k + length (lead (held_of (item ∷ came) (run_of came) 64))) s.delivered ∙ sym run';
-        held = moved_is;
-        none_ahead = λ i l. none_ahead' i (omega (arith, run', l));
-        ready = subst (λ es. IsEndOf es (delivered_of came ++ news item came)) (sym all) (end-append r.ready (delivered_of came) (news item came) s.ready);
-      }, all)
+      subst Q (sym filled_is) (
+        record {
+          bounded = subst P filled_is (bounded-came r (n - r.delivered) item.payload s.bounded (omega (arith, new, fits)) room);
+          delivered = ap (λ k. k + length (lead (held_of (item ∷ came) (run_of came) 64))) s.delivered ∙ sym run';
+          held = moved_is;
+          none_ahead = λ i l. none_ahead' i (omega (arith, run', l));
+          ready = subst (λ es. IsEndOf es (delivered_of came ++ news item came)) (sym all) (end-append r.ready (delivered_of came) (news item came) s.ready);
+        },
+        all,
+      )
 
 -- ---- any item
 
 near_is : (d n : ℕ) → is_ahead d (Some n) ≡ false → n < d + 64
 near_is d n h = grind (arith, nat_tests)
 
-pub took-stands : (item : EventItem) (r : ReceiverState) (came : List EventItem) → is_ahead r.delivered item.number ≡ false → HasNumber item → length r.ready + held_count r.held < 95 → StandsFor r came →
+pub took-stands : (item : EventItem) (r : ReceiverState) (came : List EventItem) → is_ahead r.delivered item.number ≡ false → IsEventInRange item → length r.ready + held_count r.held < 95 → StandsFor r came →
     StandsFor (took item r) (item ∷ came) × ((took item r).ready ≡ r.ready ++ news item came)
 took-stands item r came near fits room s = go item.number refl near fits
   where
     go : (o : Option ℕ) → item.number ≡ o → is_ahead r.delivered o ≡ false → IsNumber o → StandsFor (took_number o item.payload r) (item ∷ came) × ((took_number o item.payload r).ready ≡ r.ready ++ news item came)
     go None e a b = took-loose item r came e (omega (arith, room)) s
     go (Some n) e a b = elim (cases_lt n r.delivered) [
-        inl old ↦ (let t : nat_lt n r.delivered ≡ true = grind (arith, nat_tests) in rw t (took-again item r came n e old s))
-      | inr new ↦ (let t : nat_lt n r.delivered ≡ false = grind (arith, nat_tests) in rw t (took-new item r came n e new (near_is r.delivered n a) s b room)) ]
+      | inl old ↦ (let t : nat_lt n r.delivered ≡ true = grind (arith, nat_tests) in rw t (took-again item r came n e old s))
+      | inr new ↦ (let t : nat_lt n r.delivered ≡ false = grind (arith, nat_tests) in rw t (took-new item r came n e new (near_is r.delivered n a) s b room))
+    ]
 
 -- ---- a step's bounds
 
@@ -192,13 +202,13 @@ held_count-le (Some v ∷ places) = omega (arith, held_count-le places)
 -- none is too far ahead of d, and all have numbers below the limit
 abbrev pub AreNear : ℕ → List EventItem → Type 0
 AreNear d [] = Unit {0}
-AreNear d (item ∷ items) = (is_ahead d item.number ≡ false) × HasNumber item × AreNear d items
+AreNear d (item ∷ items) = (is_ahead d item.number ≡ false) × IsEventInRange item × AreNear d items
 
 ahead-later : (d e : ℕ) (o : Option ℕ) → d ≤ e → is_ahead d o ≡ false → is_ahead e o ≡ false
 ahead-later d e None l h = refl
 ahead-later d e (Some n) l h = grind (arith, nat_tests)
 
-answer-near : (d : ℕ) (items : List EventItem) → take_answer d items ≡ Ok tt → AllByRecursion HasNumber items → AreNear d items
+answer-near : (d : ℕ) (items : List EventItem) → take_answer d items ≡ Ok tt → AllByRecursion IsEventInRange items → AreNear d items
 answer-near d [] ok all = tt
 answer-near d (item ∷ items) ok all = go (is_ahead d item.number) refl ok (λ h. answer-near d items h all.1)
   where
@@ -206,8 +216,8 @@ answer-near d (item ∷ items) ok all = go (is_ahead d item.number) refl ok (λ 
     go true e h rest = cc
     go false e h rest = (e, all.0, rest h)
 
-pub answer-all : (d : ℕ) (items : List EventItem) → take_answer d items ≡ Ok tt → All HasNumber items → AreNear d items
-answer-all d items ok all = answer-near d items ok (recursion_from_All HasNumber items all)
+pub answer-all : (d : ℕ) (items : List EventItem) → take_answer d items ≡ Ok tt → All IsEventInRange items → AreNear d items
+answer-all d items ok all = answer-near d items ok (recursion_from_All IsEventInRange items all)
 
 -- one item of a packet that is taken
 pub near-at : (d e k : ℕ) (items : List EventItem) (x : EventItem) → d ≤ e → k < length items → AreNear d items → is_ahead e (get_or items k x).number ≡ false
@@ -225,7 +235,7 @@ took_all-stands d (item ∷ items) r came l room near s =
     (rest.0, (news item came ++ rest.1.0, rest.1.1 ∙ append_assoc (delivered_of came) (news item came) rest.1.0, rest.1.2 ∙ ap (λ es. es ++ rest.1.0) step.1 ∙ append_assoc r.ready (news item came) rest.1.0))
 
 -- a packet that is taken where no event waits
-pub packet-stands : (r new : ReceiverState) (items : List EventItem) → take_answer r.delivered items ≡ Ok tt → All HasNumber items → length items ≤ 31 → r.ready ≡ [] → new ≡ took_all items r →
+pub packet-stands : (r new : ReceiverState) (items : List EventItem) → take_answer r.delivered items ≡ Ok tt → All IsEventInRange items → length items ≤ 31 → r.ready ≡ [] → new ≡ took_all items r →
     (came : List EventItem) → StandsFor r came → StandsFor new (items_onto items came) × (delivered_of (items_onto items came) ≡ delivered_of came ++ new.ready)
 packet-stands r new items ok numbers short none e came s =
     let all = took_all-stands r.delivered items r came (omega arith) (omega (arith, short, ap length none, held_count-le r.held, s.bounded.places)) (answer-all r.delivered items ok numbers) s in

@@ -1,13 +1,12 @@
 -- Only the near events were ever written: each walk keeps that.
-use Rattle.std.proofs.Common.{◌≡◌, ◌≢◌, ℕ, zero, suc, ◌+◌, ◌-◌, ◌<◌, ◌≤◌, Bool, true, false, ◌==◌, List, [], ◌∷◌, ◌++◌, if◌then◌else◌, length, drop, refl, ap, arith, length-drop, length-append}
+use Rattle.std.proofs.Common.{◌≡◌, ◌≢◌, ℕ, zero, suc, ◌+◌, ◌-◌, ◌≤◌, Bool, true, false, List, [], ◌∷◌, ◌++◌, if◌then◌else◌, length, drop, refl, ap, arith, length-drop, length-append}
 use Rattle.circular_buffer.specs.Buffer.{keep_last}
 use Rattle.tn_types.specs.declared.choices.Verdict.{Verdict}
-use Rattle.event_manager.specs.declared.entries.Progress.{Progress}
-use Rattle.event_manager.specs.declared.entries.Progress.TheVariants.{Due, Carried, Done}
+use Rattle.event_manager.specs.declared.entries.Progress.TheVariants.{Due, Carried}
 use Rattle.event_manager.specs.declared.entries.Entry.{Entry}
 use Rattle.event_manager.specs.SenderState.{SenderState, IsBounded}
 use Rattle.event_manager.proofs.Writing.{length-marked}
-use Rattle.event_manager.specs.Entries.{settled, settled_entry, is_done, is_due_now, unfinished, marked, AreDuePast}
+use Rattle.event_manager.specs.Entries.{settled, is_done, is_due_now, unfinished, marked, AreDuePast}
 
 pub past-push : (near : ℕ) (es : List Entry) (v : List ℕ) → AreDuePast near es → AreDuePast near (es ++ record { payload = v; progress = Due } ∷ [])
 past-push zero [] v h = (refl, tt)

@@ -1,5 +1,5 @@
 -- Fates of the packets that carry an event, and the least number that passes.
-use Rattle.std.proofs.Common.{◌≡◌, ◌≢◌, ℕ, zero, suc, ◌+◌, ◌-◌, ◌<◌, ◌≤◌, max, Bool, true, false, not, ◌&&◌, ◌||◌, ◌==◌, nat_le, nat_lt, List, [], ◌∷◌, ◌++◌, if◌then◌else◌, cond, length, take, drop, map, refl, sym, ◌∙◌, ap, subst, arith, inl, inr, ◌⊎◌, length-append, append_assoc, length-drop, Option, Some, None, Ok, Err, Result, min}
+use Rattle.std.proofs.Common.{◌≡◌, ◌≢◌, ℕ, zero, suc, ◌<◌, ◌≤◌, Bool, true, false, ◌&&◌, ◌||◌, ◌==◌, nat_lt, List, [], ◌∷◌, if◌then◌else◌, refl, sym, ◌∙◌, ap, arith, inl, inr}
 use Rattle.std.proofs.lemmas.Bool.Decides.{nat_tests}
 use Rattle.std.proofs.lemmas.Bool.{cases_lt, cases_eq}
 use Rattle.tn_types.specs.declared.choices.Verdict.{Verdict}
@@ -14,8 +14,9 @@ use Rattle.event_manager.specs.SenderStands.{ProgressIs}
 -- a packet that has its verdict keeps it
 judged_other : (fate : ℕ → Fate) (seq s : ℕ) (f g : Fate) → fate seq ≡ Unjudged → fate s ≡ g → g ≢ Unjudged → judged fate seq f s ≡ g
 judged_other fate seq s f g open_ e other = elim (cases_eq s seq) [
-    inl same ↦ absurd (other (sym e ∙ ap fate same ∙ open_))
-  | inr apart ↦ (let t : (s == seq) ≡ false = grind (arith, nat_tests) in rw t e) ]
+  | inl same ↦ absurd (other (sym e ∙ ap fate same ∙ open_))
+  | inr apart ↦ (let t : (s == seq) ≡ false = grind (arith, nat_tests) in rw t e)
+]
 
 judged_same : (fate : ℕ → Fate) (seq s : ℕ) (f : Fate) → s ≡ seq → judged fate seq f s ≡ f
 judged_same fate seq s f e = let t : (s == seq) ≡ true = grind (arith, nat_tests) in rw t
@@ -72,9 +73,10 @@ progress-settled fate seq v [] (Carried q) o h = absurd h
 progress-settled fate seq v [] Done o h = cc
 progress-settled fate seq v (s ∷ ss) Done o h = received-stays fate seq (fate_for v) (s ∷ ss) o h
 progress-settled fate seq v (s ∷ ss) (Carried q) o h = elim (cases_eq q seq) [
-    inl e ↦ (let t : (q == seq) ≡ true = grind (arith, nat_tests) in rw t (at v (h.0 ∙ e)))
+  | inl e ↦ (let t : (q == seq) ≡ true = grind (arith, nat_tests) in rw t (at v (h.0 ∙ e)))
   | inr e ↦ (let t : (q == seq) ≡ false = grind (arith, nat_tests) in let u : (s == seq) ≡ false = grind (arith, nat_tests) in
-      rw t (h.0, rw u h.1, lost-stays fate seq (fate_for v) ss o h.2)) ]
+      rw t (h.0, rw u h.1, lost-stays fate seq (fate_for v) ss o h.2))
+]
   where
     at : (u : Verdict) → s ≡ seq → ProgressIs (judged fate seq (fate_for u)) (s ∷ ss) (verdict_progress u)
     at verdict.Received e = let one : judged fate seq Received s ≡ Received = judged_same fate seq s Received e in rw one
@@ -90,13 +92,15 @@ progress-due fate seq v ss Done o e h = cc
 pub least-is : (f : ℕ → Bool) (n k : ℕ) → k ≤ n → ((j : ℕ) → j < k → f j ≡ false) → (k < n → f k ≡ true) → least f n ≡ k
 least-is f zero k l below here = omega arith
 least-is f (suc n) k l below here = elim (cases_lt k (suc n)) [
-    inl in_ ↦ elim (cases_eq k n) [
-        inl e ↦ (let ih : least f n ≡ n = least-is f n k (omega arith) below (λ m. absurd (omega arith)) ∙ e in
-            let t : nat_lt n n ≡ false = grind (arith, nat_tests) in let u : f n ≡ true = ap f (sym e) ∙ here in_ in rw (ih, t, u) (sym e))
-      | inr e ↦ (let ih : least f n ≡ k = least-is f n k (omega arith) below (λ m. here in_) in
-            let t : nat_lt k n ≡ true = grind (arith, nat_tests) in rw (ih, t)) ]
+  | inl in_ ↦ elim (cases_eq k n) [
+    | inl e ↦ (let ih : least f n ≡ n = least-is f n k (omega arith) below (λ m. absurd (omega arith)) ∙ e in
+        let t : nat_lt n n ≡ false = grind (arith, nat_tests) in let u : f n ≡ true = ap f (sym e) ∙ here in_ in rw (ih, t, u) (sym e))
+    | inr e ↦ (let ih : least f n ≡ k = least-is f n k (omega arith) below (λ m. here in_) in
+        let t : nat_lt k n ≡ true = grind (arith, nat_tests) in rw (ih, t))
+  ]
   | inr past ↦ (let ih : least f n ≡ n = least-is f n n (omega arith) (λ j m. below j (omega arith)) (λ m. absurd (omega arith)) in
-        let t : nat_lt n n ≡ false = grind (arith, nat_tests) in let u : f n ≡ false = below n (omega arith) in rw (ih, t, u) (omega arith)) ]
+      let t : nat_lt n n ≡ false = grind (arith, nat_tests) in let u : f n ≡ false = below n (omega arith) in rw (ih, t, u) (omega arith))
+]
 
 pub least-le : (f : ℕ → Bool) (n : ℕ) → least f n ≤ n
 least-le f zero = omega arith
@@ -149,4 +153,3 @@ pub due-test : (fate : ℕ → Fate) (ss : List ℕ) (p : Progress) → Progress
 due-test fate ss Due h = due-is fate ss h
 due-test fate ss (Carried q) h = (carried-none fate ss q h).1
 due-test fate ss Done h = done-none fate ss (done-is fate ss h)
-

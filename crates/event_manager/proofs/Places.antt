@@ -1,13 +1,13 @@
 -- The places of a receiver, and what each step does to them.
-use Rattle.std.proofs.Common.{◌≡◌, ℕ, zero, suc, ◌+◌, ◌-◌, ◌<◌, ◌≤◌, true, false, List, [], ◌∷◌, ◌++◌, length, take, drop, map, get_or, Option, Some, None, refl, sym, ◌∙◌, ap, subst, arith, append_assoc, append-nil, length-append, length-drop}
+use Rattle.std.proofs.Common.{◌≡◌, ℕ, zero, suc, ◌+◌, ◌<◌, ◌≤◌, true, false, List, [], ◌∷◌, ◌++◌, length, drop, map, get_or, Option, Some, None, refl, sym, ◌∙◌, ap, subst, arith, append_assoc, append-nil, length-append, length-drop}
 use Rattle.std.specs.Prelude.{replicate}
 use Rattle.std.specs.Option.{is_some}
 use Rattle.std.proofs.Math.ListN.{set}
 use Rattle.std.proofs.lemmas.List.{drop-append-le, length-replicate, length-map}
 use Rattle.tn_types.specs.declared.choices.Class.{Class}
-use Rattle.tn_types.specs.declared.choices.Class.TheVariants.{Guaranteed, Loose}
+use Rattle.tn_types.specs.declared.choices.Class.TheVariants.{Loose}
 use Rattle.event_manager.specs.Receiving.{guaranteed_event}
-use Rattle.event_manager.specs.ReceiverState.{ReceiverState, IsBounded, AreNumbered, held_count, lead, filled, moved_on, ran, came_at}
+use Rattle.event_manager.specs.ReceiverState.{ReceiverState, IsBounded, AreNumbered, held_count, lead, filled, moved_on, came_at}
 
 -- ---- one place
 
@@ -129,7 +129,7 @@ bounded-loose r v b room = record { places = b.places; ready = omega (arith, roo
 pub bounded-came : (r : ReceiverState) (k : ℕ) (v : List ℕ) → IsBounded r → r.delivered + k < 16777216 → length r.ready + held_count r.held < 95 → IsBounded (came_at k v r)
 bounded-came r k v b l room =
     let ready : length (r.ready ++ map guaranteed_event (lead (filled k v r.held))) ≤ 95 =
-        omega (arith, room, length-append r.ready (map guaranteed_event (lead (filled k v r.held))), length-map (lead (filled k v r.held)) guaranteed_event, held_count-moved_on (filled k v r.held), held_count-filled k v r.held) in
+    omega (arith, room, length-append r.ready (map guaranteed_event (lead (filled k v r.held))), length-map (lead (filled k v r.held)) guaranteed_event, held_count-moved_on (filled k v r.held), held_count-filled k v r.held) in
     record {
       places = length-moved_on (filled k v r.held) ∙ length-filled k v r.held ∙ b.places;
       ready = ready;

@@ -1,11 +1,11 @@
 -- The longest run of numbers that came, and the places that stand for what came beyond it.
-use Rattle.std.proofs.Common.{◌≡◌, ℕ, zero, suc, ◌+◌, ◌-◌, ◌<◌, ◌≤◌, max, Bool, true, false, not, ◌==◌, nat_lt, List, [], ◌∷◌, ◌++◌, if◌then◌else◌, length, drop, map, Option, Some, None, refl, sym, ◌∙◌, ap, subst, arith, inl, inr, ◌⊎◌, append_assoc}
-use Rattle.std.specs.Prelude.{replicate, unwrap_or}
+use Rattle.std.proofs.Common.{◌≡◌, ℕ, zero, suc, ◌+◌, ◌<◌, ◌≤◌, Bool, true, false, not, ◌==◌, List, [], ◌∷◌, ◌++◌, if◌then◌else◌, length, drop, Option, Some, None, refl, sym, ◌∙◌, ap, arith, inl, inr}
+use Rattle.std.specs.Prelude.{replicate}
 use Rattle.std.specs.Option.{is_some}
 use Rattle.std.proofs.lemmas.Bool.Decides.{nat_tests}
 use Rattle.std.proofs.lemmas.Bool.{cases_lt, cases_eq}
 use Rattle.wire_format.specs.declared.events.EventItem.{EventItem}
-use Rattle.event_manager.specs.Sending.{is_number, least}
+use Rattle.event_manager.specs.Sending.{is_number}
 use Rattle.event_manager.specs.Receiving.{or_else, first_of, has, next_number, above, run_of, payloads}
 use Rattle.event_manager.specs.ReceiverState.{lead, filled}
 use Rattle.event_manager.specs.ReceiverStands.{held_of}
@@ -40,15 +40,17 @@ run-below came i h = not-false (has i came) (least-below (λ k. not (has k came)
 
 pub run-ends : (came : List EventItem) → has (run_of came) came ≡ false
 run-ends came = elim (cases_lt (run_of came) (above came)) [
-    inl l ↦ not-true (has (run_of came) came) (least-passes (λ k. not (has k came)) (above came) l)
-  | inr l ↦ ap is_some (has-above came (run_of came) l) ]
+  | inl l ↦ not-true (has (run_of came) came) (least-passes (λ k. not (has k came)) (above came) l)
+  | inr l ↦ ap is_some (has-above came (run_of came) l)
+]
 
 -- the run is known by what came below it and by its end
 pub run-is : (came : List EventItem) (k : ℕ) → ((i : ℕ) → i < k → has i came ≡ true) → has k came ≡ false → run_of came ≡ k
 run-is came k below end = elim (cases_lt (above came) k) [
-    inl far ↦ (let yes : has (above came) came ≡ true = below (above came) far in
-        let never : has (above came) came ≡ false = ap is_some (has-above came (above came) (omega arith)) in absurd cc)
-  | inr near ↦ least-is (λ i. not (has i came)) (above came) k near (λ i l. ap not (below i l)) (λ l. ap not end) ]
+  | inl far ↦ (let yes : has (above came) came ≡ true = below (above came) far in
+      let never : has (above came) came ≡ false = ap is_some (has-above came (above came) (omega arith)) in absurd cc)
+  | inr near ↦ least-is (λ i. not (has i came)) (above came) k near (λ i l. ap not (below i l)) (λ l. ap not end)
+]
 
 -- lists that tell the same of each number
 pub run-same : (came more : List EventItem) → ((i : ℕ) → first_of i more ≡ first_of i came) → run_of more ≡ run_of came
@@ -66,8 +68,9 @@ first-again item came n i e h = rw e (go (first_of i came) refl)
     go : (o : Option (List ℕ)) → first_of i came ≡ o → or_else o (if n == i then Some item.payload else None) ≡ o
     go (Some v) at = refl
     go None at = elim (cases_eq n i) [
-        inl same ↦ (let none : has n came ≡ false = ap (λ k. has k came) same ∙ ap is_some at in absurd cc)
-      | inr other ↦ (let t : (n == i) ≡ false = grind (arith, nat_tests) in rw t) ]
+      | inl same ↦ (let none : has n came ≡ false = ap (λ k. has k came) same ∙ ap is_some at in absurd cc)
+      | inr other ↦ (let t : (n == i) ≡ false = grind (arith, nat_tests) in rw t)
+    ]
 
 -- an unguaranteed one too
 pub first-loose : (item : EventItem) (came : List EventItem) (i : ℕ) → item.number ≡ None → first_of i (item ∷ came) ≡ first_of i came
@@ -86,6 +89,7 @@ filled-held_of item came n i zero (suc count) e at =
     go : (o : Option (List ℕ)) → filled 0 item.payload (o ∷ held_of came (suc i) count) ≡ or_else o (Some item.payload) ∷ held_of came (suc i) count
     go None = refl
     go (Some v) = refl
+
     others : (j m : ℕ) → n < j → held_of (item ∷ came) j m ≡ held_of came j m
     others j zero l = refl
     others j (suc m) l = let t : (n == j) ≡ false = grind (arith, nat_tests) in rw (e, t, or_else-none) (ap (λ ps. first_of j came ∷ ps) (others (suc j) m (omega arith)))
@@ -112,8 +116,9 @@ lead-has came i (suc count) j a b = go (first_of i came) refl (lead-has came (su
     go : (o : Option (List ℕ)) → first_of i came ≡ o → (suc i ≤ j → j < suc i + length (lead (held_of came (suc i) count)) → has j came ≡ true) → j < i + length (lead (o ∷ held_of came (suc i) count)) → has j came ≡ true
     go None at ih l = absurd (omega arith)
     go (Some v) at ih l = elim (cases_eq i j) [
-        inl same ↦ (let here : has i came ≡ true = ap is_some at in sym (ap (λ k. has k came) same) ∙ here)
-      | inr other ↦ ih (omega arith) (omega arith) ]
+      | inl same ↦ (let here : has i came ≡ true = ap is_some at in sym (ap (λ k. has k came) same) ∙ here)
+      | inr other ↦ ih (omega arith) (omega arith)
+    ]
 
 pub lead-ends : (came : List EventItem) (i count : ℕ) → length (lead (held_of came i count)) < count → has (i + length (lead (held_of came i count))) came ≡ false
 unfolding held_of

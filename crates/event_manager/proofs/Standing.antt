@@ -1,22 +1,18 @@
 -- What each call does to the tie between a sender and its log.
-use Rattle.std.proofs.Common.{◌≡◌, ℕ, zero, suc, ◌+◌, ◌-◌, ◌<◌, ◌≤◌, min, Bool, true, false, not, ◌&&◌, ◌||◌, ◌==◌, nat_lt, List, [], ◌∷◌, ◌++◌, if◌then◌else◌, length, take, drop, map, refl, sym, ◌∙◌, ap, subst, arith, inl, inr, ◌⊎◌, length-append, append_assoc, append-nil, length-drop, Some, Ok, Err, Result}
-use Rattle.std.proofs.lemmas.Bool.Decides.{nat_tests}
+use Rattle.std.proofs.Common.{◌≡◌, ℕ, zero, suc, ◌+◌, ◌-◌, ◌<◌, ◌≤◌, Bool, true, false, not, List, [], ◌∷◌, ◌++◌, length, drop, refl, sym, ◌∙◌, ap, subst, arith, inl, inr, length-append, length-drop}
 use Rattle.std.proofs.lemmas.Bool.{cases_lt, cases_eq}
-use Rattle.std.proofs.lemmas.List.{drop-append-le, length-take}
+use Rattle.std.proofs.lemmas.List.{drop-append-le}
 use Rattle.circular_buffer.specs.Buffer.{keep_last}
 use Rattle.tn_types.specs.declared.choices.Verdict.{Verdict}
 use Rattle.notify_window.specs.Log.{Fate, Unjudged}
-use Rattle.wire_format.specs.declared.events.EventItem.{EventItem}
 use Rattle.event_manager.specs.declared.entries.Progress.{Progress}
 use Rattle.event_manager.specs.declared.entries.Progress.TheVariants.{Due, Carried, Done}
 use Rattle.event_manager.specs.declared.entries.Entry.{Entry}
-use Rattle.event_manager.specs.declared.sender.PostFault.{PostFault}
-use Rattle.event_manager.specs.declared.sender.PostFault.TheVariants.{Worn, Full}
-use Rattle.event_manager.specs.Sending.{SenderEvent, Posted, PostedLoose, Wrote, posted_of, is_number, holds, carriers, all_lost, any_received, least, is_unacked, first_unacked, is_due, guaranteed_item, loose_item, items_that, due_guaranteed, loose_count, waiting_of, due_of, post_answer_of, fate_for, judged}
-use Rattle.event_manager.specs.Entries.{settled, is_done, is_due_now, unfinished, due_items, due_count, marked, AreDuePast}
-use Rattle.event_manager.specs.SenderState.{SenderState, IsBounded, due_now, post_answer}
+use Rattle.event_manager.specs.Sending.{SenderEvent, Posted, PostedLoose, posted_of, carriers, all_lost, any_received, least, is_unacked, first_unacked, fate_for, judged}
+use Rattle.event_manager.specs.Entries.{settled, is_done, unfinished, AreDuePast}
+use Rattle.event_manager.specs.SenderState.{SenderState, IsBounded}
 use Rattle.event_manager.specs.SenderStands.{ProgressIs, EntriesAre, StandsFor}
-use Rattle.event_manager.proofs.Fates.{received-stays, lost-none, progress-settled, progress-due, least-is, least-le, least-below, least-passes, carried-none, done-none, done-is, due-is, due-test}
+use Rattle.event_manager.proofs.Fates.{received-stays, lost-none, progress-settled, progress-due, least-is, least-le, least-below, least-passes, carried-none, done-is, due-is}
 
 -- ---- the first unacknowledged event
 
@@ -80,8 +76,10 @@ finish fate log i (v ∷ vs) (e ∷ es) at below h = go e.progress refl h.1 (fin
   where
     here : is_unacked fate log i ≡ true → first_unacked fate log ≡ i
     here u = least-is (is_unacked fate log) (length (posted_of log)) i (omega arith) below (λ m. u)
+
     later : Finished fate log (suc i) vs (unfinished es) → Finished fate log i (v ∷ vs) (unfinished es)
     later f = let s : first_unacked fate log - i ≡ suc (first_unacked fate log - suc i) = omega (arith, f.0) in (omega (arith, f.0), f.1, rw s f.2)
+
     go : (p : Progress) → e.progress ≡ p → ProgressIs fate (carriers i log) p → (((j : ℕ) → j < suc i → is_unacked fate log j ≡ false) → EntriesAre fate log (suc i) vs es → Finished fate log (suc i) vs (unfinished es)) → Finished fate log i (v ∷ vs) (unfinished (e ∷ es))
     go Due p k ih = let t : is_done e.progress ≡ false = ap is_done p in rw t (stop fate log i (v ∷ vs) (e ∷ es) (here (unacked-due fate log i (due-is fate (carriers i log) k))) at h)
     go (Carried q) p k ih = let t : is_done e.progress ≡ false = ap is_done p in rw t (stop fate log i (v ∷ vs) (e ∷ es) (here (ap not (carried-none fate (carriers i log) q k).0)) at h)
@@ -102,10 +100,10 @@ pub settles : (old new : SenderState) (fate : ℕ → Fate) (log : List SenderEv
     StandsFor old fate log → StandsFor new (judged fate seq (fate_for verdict)) log
 settles old new fate log seq verdict bounded p e w o s =
     let f : Finished (judged fate seq (fate_for verdict)) log (first_unacked fate log) (drop (first_unacked fate log) (posted_of log)) new.entries =
-        rw e (finish (judged fate seq (fate_for verdict)) log (first_unacked fate log) (drop (first_unacked fate log) (posted_of log)) (settled 64 seq verdict old.entries)
-          (omega (arith, length-drop (first_unacked fate log) (posted_of log), first-le fate log))
-          (λ j l. acked-stays fate log seq verdict j o (first-below fate log j l))
-          (entries-settled fate log seq verdict 64 (first_unacked fate log) _ old.entries o s.bounded.near s.entries)) in
+    rw e (finish (judged fate seq (fate_for verdict)) log (first_unacked fate log) (drop (first_unacked fate log) (posted_of log)) (settled 64 seq verdict old.entries)
+    (omega (arith, length-drop (first_unacked fate log) (posted_of log), first-le fate log))
+    (λ j l. acked-stays fate log seq verdict j o (first-below fate log j l))
+    (entries-settled fate log seq verdict 64 (first_unacked fate log) _ old.entries o s.bounded.near s.entries)) in
     record {
       bounded = bounded;
       posted = p ∙ s.posted;
@@ -132,11 +130,12 @@ unfolding first_unacked
 first-posted fate log v none =
     let n : length (posted_of log ++ v ∷ []) ≡ suc (length (posted_of log)) = omega (arith, length-append (posted_of log) (v ∷ [])) in
     rw n (least-is (is_unacked fate log) (suc (length (posted_of log))) (least (is_unacked fate log) (length (posted_of log))) (omega (arith, least-le (is_unacked fate log) (length (posted_of log))))
-      (λ j l. least-below (is_unacked fate log) (length (posted_of log)) j l)
-      (λ l. elim (cases_lt (least (is_unacked fate log) (length (posted_of log))) (length (posted_of log))) [
-          inl in_ ↦ least-passes (is_unacked fate log) (length (posted_of log)) in_
-        | inr past ↦ (let at : least (is_unacked fate log) (length (posted_of log)) ≡ length (posted_of log) = omega (arith, least-le (is_unacked fate log) (length (posted_of log))) in
-            ap (is_unacked fate log) at ∙ ap (λ ss. not (any_received fate ss)) none) ]))
+    (λ j l. least-below (is_unacked fate log) (length (posted_of log)) j l)
+    (λ l. elim (cases_lt (least (is_unacked fate log) (length (posted_of log))) (length (posted_of log))) [
+      | inl in_ ↦ least-passes (is_unacked fate log) (length (posted_of log)) in_
+      | inr past ↦ (let at : least (is_unacked fate log) (length (posted_of log)) ≡ length (posted_of log) = omega (arith, least-le (is_unacked fate log) (length (posted_of log))) in
+          ap (is_unacked fate log) at ∙ ap (λ ss. not (any_received fate ss)) none)
+    ]))
 
 pub posts : (old new : SenderState) (fate : ℕ → Fate) (log : List SenderEvent) (v : List ℕ) → IsBounded new →
     new.posted ≡ old.posted + 1 → new.entries ≡ old.entries ++ record { payload = v; progress = Due } ∷ [] → new.waiting ≡ old.waiting →

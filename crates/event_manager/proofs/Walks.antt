@@ -1,12 +1,12 @@
 -- Steps of the walks over a sender's entries.
-use Rattle.std.proofs.Common.{◌≡◌, ℕ, zero, suc, ◌+◌, ◌-◌, ◌<◌, ◌≤◌, Bool, true, false, ◌==◌, List, [], ◌∷◌, ◌++◌, if◌then◌else◌, length, take, drop, map, get_or, Option, Some, None, refl, sym, ◌∙◌, ap, arith, append_assoc, append-nil, inl, inr, ◌⊎◌}
+use Rattle.std.proofs.Common.{◌≡◌, ℕ, zero, suc, ◌+◌, ◌<◌, ◌≤◌, true, false, List, [], ◌∷◌, ◌++◌, if◌then◌else◌, length, take, drop, map, get_or, Some, None, refl, sym, ◌∙◌, ap, arith, append_assoc, append-nil, inl, inr, ◌⊎◌}
 use Rattle.std.specs.Prelude.{slice_get}
 use Rattle.std.proofs.Math.ListN.{set}
 use Rattle.std.proofs.lemmas.List.{at_drop_more, drop_all, take_all, take_at, take_more, take_more_set, drop-set-lt, take-append-drop}
 use Rattle.tn_types.specs.declared.choices.Verdict.{Verdict}
 use Rattle.wire_format.specs.declared.events.EventItem.{EventItem}
 use Rattle.event_manager.specs.declared.entries.Progress.{Progress}
-use Rattle.event_manager.specs.declared.entries.Progress.TheVariants.{Due, Carried, Done}
+use Rattle.event_manager.specs.declared.entries.Progress.TheVariants.{Carried}
 use Rattle.event_manager.specs.declared.entries.Entry.{Entry}
 use Rattle.event_manager.specs.Sending.{guaranteed_item, loose_item}
 use Rattle.event_manager.specs.Entries.{progress_after, settled_entry, settled, is_due_now, due_items, due_count, marked}
@@ -31,7 +31,7 @@ pub settled-step : (near m i seq : ℕ) (verdict : Verdict) (es whole : List Ent
     take (i + 1) (set es i (settled_entry seq verdict (get_or es i d))) ++ settled m seq verdict (drop (i + 1) (set es i (settled_entry seq verdict (get_or es i d)))) ≡ whole
 settled-step near m i seq verdict es whole d n l inv =
     let now : take i es ++ settled (suc m) seq verdict (get_or es i d ∷ drop (i + 1) es) ≡ whole =
-        sym (ap (λ k. take i es ++ settled k seq verdict (drop i es)) n ∙ at_drop_more (λ rest. take i es ++ settled (suc m) seq verdict rest) es i d l) ∙ inv in
+    sym (ap (λ k. take i es ++ settled k seq verdict (drop i es)) n ∙ at_drop_more (λ rest. take i es ++ settled (suc m) seq verdict rest) es i d l) ∙ inv in
     write_step (settled m seq verdict) es i (settled_entry seq verdict (get_or es i d)) l ∙ now
 
 -- what the code writes, read before
@@ -58,7 +58,7 @@ pub marked-write : (near m i seq count left : ℕ) (es whole : List Entry) (d : 
     take (i + 1) (set es i (carried seq (get_or es i d))) ++ marked m seq left (drop (i + 1) (set es i (carried seq (get_or es i d)))) ≡ whole
 marked-write near m i seq count left es whole d n c l due inv =
     let at : take i es ++ marked (suc m) seq (suc left) (get_or es i d ∷ drop (i + 1) es) ≡ whole =
-        sym (ap (λ k. take i es ++ marked k seq count (drop i es)) n ∙ ap (λ k. take i es ++ marked (suc m) seq k (drop i es)) c ∙ at_drop_more (λ rest. take i es ++ marked (suc m) seq (suc left) rest) es i d l) ∙ inv in
+    sym (ap (λ k. take i es ++ marked k seq count (drop i es)) n ∙ ap (λ k. take i es ++ marked (suc m) seq k (drop i es)) c ∙ at_drop_more (λ rest. take i es ++ marked (suc m) seq (suc left) rest) es i d l) ∙ inv in
     let now : take i es ++ (carried seq (get_or es i d) ∷ marked m seq left (drop (i + 1) es)) ≡ whole = rw due at at in
     write_step (marked m seq left) es i (carried seq (get_or es i d)) l ∙ now
 
@@ -67,7 +67,7 @@ pub marked-keep : (near m i seq left more : ℕ) (es whole : List Entry) (d : En
     take (i + 1) es ++ marked m seq left (drop (i + 1) es) ≡ whole
 marked-keep near m i seq left more es whole d n c l due inv =
     let at : take i es ++ marked (suc m) seq (suc more) (get_or es i d ∷ drop (i + 1) es) ≡ whole =
-        sym (ap (λ k. take i es ++ marked k seq left (drop i es)) n ∙ ap (λ k. take i es ++ marked (suc m) seq k (drop i es)) c ∙ at_drop_more (λ rest. take i es ++ marked (suc m) seq (suc more) rest) es i d l) ∙ inv in
+    sym (ap (λ k. take i es ++ marked k seq left (drop i es)) n ∙ ap (λ k. take i es ++ marked (suc m) seq k (drop i es)) c ∙ at_drop_more (λ rest. take i es ++ marked (suc m) seq (suc more) rest) es i d l) ∙ inv in
     let now : take i es ++ (get_or es i d ∷ marked m seq (suc more) (drop (i + 1) es)) ≡ whole = rw due at at in
     ap (λ k. take (i + 1) es ++ marked m seq k (drop (i + 1) es)) c ∙ keep_step (marked m seq (suc more)) es i d l ∙ now
 
@@ -110,7 +110,7 @@ pub due_items-push : (near m first i n : ℕ) (list whole : List EventItem) (es 
 due_items-push near m first i n list whole es d k l e due inv =
     let next : suc (first + i) ≡ first + (i + 1) = omega arith in
     let at : take 31 (list ++ due_items (suc m) (first + i) (get_or es i d ∷ drop (i + 1) es)) ≡ whole =
-        sym (ap (λ k. take 31 (list ++ due_items k (first + i) (drop i es))) k ∙ at_drop_more (λ rest. take 31 (list ++ due_items (suc m) (first + i) rest)) es i d l) ∙ inv in
+    sym (ap (λ k. take 31 (list ++ due_items k (first + i) (drop i es))) k ∙ at_drop_more (λ rest. take 31 (list ++ due_items (suc m) (first + i) rest)) es i d l) ∙ inv in
     let now : take 31 (list ++ (guaranteed_item (first + i) (get_or es i d).payload ∷ due_items m (suc (first + i)) (drop (i + 1) es))) ≡ whole = rw due at at in
     rw (e, append_assoc) (rw next at now)
 
@@ -120,7 +120,7 @@ pub due_items-skip : (near m first i : ℕ) (list whole : List EventItem) (es : 
 due_items-skip near m first i list whole es d k l due inv =
     let next : suc (first + i) ≡ first + (i + 1) = omega arith in
     let at : take 31 (list ++ due_items (suc m) (first + i) (get_or es i d ∷ drop (i + 1) es)) ≡ whole =
-        sym (ap (λ k. take 31 (list ++ due_items k (first + i) (drop i es))) k ∙ at_drop_more (λ rest. take 31 (list ++ due_items (suc m) (first + i) rest)) es i d l) ∙ inv in
+    sym (ap (λ k. take 31 (list ++ due_items k (first + i) (drop i es))) k ∙ at_drop_more (λ rest. take 31 (list ++ due_items (suc m) (first + i) rest)) es i d l) ∙ inv in
     let now : take 31 (list ++ due_items m (suc (first + i)) (drop (i + 1) es)) ≡ whole = rw due at at in
     rw next at now
 

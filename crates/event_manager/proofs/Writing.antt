@@ -1,18 +1,19 @@
 -- What is due, and what a packet takes of it.
-use Rattle.std.proofs.Common.{◌≡◌, ℕ, zero, suc, ◌+◌, ◌-◌, ◌<◌, ◌≤◌, min, Bool, true, false, not, ◌&&◌, ◌||◌, ◌==◌, nat_lt, List, [], ◌∷◌, ◌++◌, if◌then◌else◌, length, take, drop, map, refl, sym, ◌∙◌, ap, subst, arith, inl, inr, ◌⊎◌, zero-add, length-append, append_assoc, append-nil, length-drop, Some, Ok, Err, Result}
+use Rattle.std.proofs.Common.{◌≡◌, ℕ, zero, suc, ◌+◌, ◌-◌, ◌<◌, ◌≤◌, Bool, true, false, not, ◌&&◌, ◌||◌, ◌==◌, nat_lt, List, [], ◌∷◌, ◌++◌, if◌then◌else◌, length, take, drop, map, refl, sym, ◌∙◌, ap, subst, arith, zero-add, length-append, append_assoc, length-drop}
 use Rattle.std.proofs.lemmas.Bool.Decides.{nat_tests}
-use Rattle.std.proofs.lemmas.Bool.{cases_lt, cases_eq}
+use Rattle.std.specs.Prelude.{All}
+use Rattle.std.specs.List.{AllByRecursion}
 use Rattle.std.proofs.lemmas.List.{length-map}
+use Rattle.std.proofs.lemmas.List.Elements.{All-from_recursion}
+use Rattle.wire_format.specs.Events.{IsEventInRange}
 use Rattle.notify_window.specs.Log.{Fate, Unjudged}
 use Rattle.wire_format.specs.declared.events.EventItem.{EventItem}
 use Rattle.event_manager.specs.declared.entries.Progress.{Progress}
 use Rattle.event_manager.specs.declared.entries.Progress.TheVariants.{Due, Carried, Done}
 use Rattle.event_manager.specs.declared.entries.Entry.{Entry}
-use Rattle.event_manager.specs.declared.sender.PostFault.{PostFault}
-use Rattle.event_manager.specs.declared.sender.PostFault.TheVariants.{Worn, Full}
-use Rattle.event_manager.specs.Sending.{SenderEvent, Posted, Wrote, posted_of, is_number, is_loose, holds, carriers, all_lost, any_received, least, is_unacked, first_unacked, is_due, guaranteed_item, loose_item, items_that, due_guaranteed, loose_count, waiting_of, due_of, post_answer_of}
+use Rattle.event_manager.specs.Sending.{SenderEvent, Wrote, posted_of, is_number, is_loose, holds, carriers, all_lost, any_received, least, is_unacked, first_unacked, is_due, guaranteed_item, loose_item, items_that, due_guaranteed, loose_count, waiting_of, due_of}
 use Rattle.event_manager.specs.Entries.{is_due_now, due_items, due_count, marked}
-use Rattle.event_manager.specs.SenderState.{SenderState, IsBounded, due_now, post_answer}
+use Rattle.event_manager.specs.SenderState.{SenderState, IsBounded, due_now}
 use Rattle.event_manager.specs.SenderStands.{ProgressIs, EntriesAre, StandsFor}
 use Rattle.event_manager.proofs.Standing.{first-le}
 use Rattle.event_manager.proofs.Fates.{least-below, done-none, due-is, due-test}
@@ -162,13 +163,17 @@ entries-marked fate log (suc near) seq (suc count) i pre (v ∷ vs) (e ∷ es) o
   where
     one : (j : ℕ) → suc i ≤ j → ((i == j) || false) ≡ false
     one j l = let t : (i == j) ≡ false = grind (arith, nat_tests) in rw t
+
     taken : List EventItem
     taken = take (suc count) (due_items near (suc i) es)
+
     off : holds i (pre ++ taken) ≡ false
     off = holds-append i pre taken ∙ false_or (holds i pre) (holds i taken) (none i (omega arith)) (holds-due i (suc i) near (suc count) es (omega arith))
+
     on : (rest : List EventItem) → holds i (pre ++ guaranteed_item i e.payload ∷ rest) ≡ true
     on rest = let t : (i == i) ≡ true = grind (arith, nat_tests) in let n : holds i pre ≡ false = none i (omega arith) in
         holds-append i pre (guaranteed_item i e.payload ∷ rest) ∙ rw (n, t)
+
     go : (p : Progress) → e.progress ≡ p → ProgressIs fate (carriers i log) p →
         EntriesAre fate (Wrote seq ((pre ++ guaranteed_item i e.payload ∷ []) ++ take count (due_items near (suc i) es)) ∷ log) (suc i) vs (marked near seq count es) →
         EntriesAre fate (Wrote seq (pre ++ take (suc count) (due_items near (suc i) es)) ∷ log) (suc i) vs (marked near seq (suc count) es) →
@@ -251,15 +256,15 @@ pub notes : (old new : SenderState) (fate : ℕ → Fate) (log : List SenderEven
 notes old new fate log count seq bounded p e w few o s =
     let is : due_of fate log ≡ due_items 64 (first_unacked fate log) old.entries ++ map loose_item (waiting_of log) = ap (λ items. items ++ map loose_item (waiting_of log)) (sym (due_items-is old fate log s)) in
     let parts : take count (due_of fate log) ≡ take count (due_items 64 (first_unacked fate log) old.entries) ++ take (count - length (due_items 64 (first_unacked fate log) old.entries)) (map loose_item (waiting_of log)) =
-        ap (take count) is ∙ take-split count (due_items 64 (first_unacked fate log) old.entries) (map loose_item (waiting_of log)) in
+    ap (take count) is ∙ take-split count (due_items 64 (first_unacked fate log) old.entries) (map loose_item (waiting_of log)) in
     let same : (j : ℕ) → holds j (take count (due_of fate log)) ≡ holds j (take count (due_items 64 (first_unacked fate log) old.entries)) =
-        λ j. ap (holds j) parts ∙ holds-append j (take count (due_items 64 (first_unacked fate log) old.entries)) _ ∙ ap (λ b. holds j (take count (due_items 64 (first_unacked fate log) old.entries)) || b) (holds-loose j _ (waiting_of log)) ∙ or_false _ in
+    λ j. ap (holds j) parts ∙ holds-append j (take count (due_items 64 (first_unacked fate log) old.entries)) _ ∙ ap (λ b. holds j (take count (due_items 64 (first_unacked fate log) old.entries)) || b) (holds-loose j _ (waiting_of log)) ∙ or_false _ in
     let f : first_unacked fate (Wrote seq (take count (due_of fate log)) ∷ log) ≡ first_unacked fate log = first-wrote fate log seq _ o in
     let counted : length (due_items 64 (first_unacked fate log) old.entries) ≡ due_count 64 old.entries = length-due_items 64 (first_unacked fate log) old.entries in
     let enough : count - length (due_items 64 (first_unacked fate log) old.entries) ≤ length (waiting_of log) = left_fits count _ _ _ _ _ few (length-append (due_items 64 (old.posted - length old.entries) old.entries) (map loose_item old.waiting)) (length-due_items 64 (old.posted - length old.entries) old.entries) counted (length-map old.waiting loose_item) (ap length s.waiting) in
     let taken : loose_count (take count (due_of fate log)) ≡ count - due_count 64 old.entries =
-        ap loose_count parts ∙ loose_count-append (take count (due_items 64 (first_unacked fate log) old.entries)) _ ∙ ap (λ n. n + loose_count (take (count - length (due_items 64 (first_unacked fate log) old.entries)) (map loose_item (waiting_of log)))) (loose_count-due 64 (first_unacked fate log) count old.entries)
-        ∙ zero-add _ ∙ loose_count-loose (count - length (due_items 64 (first_unacked fate log) old.entries)) (waiting_of log) enough ∙ ap (λ n. count - n) counted in
+    ap loose_count parts ∙ loose_count-append (take count (due_items 64 (first_unacked fate log) old.entries)) _ ∙ ap (λ n. n + loose_count (take (count - length (due_items 64 (first_unacked fate log) old.entries)) (map loose_item (waiting_of log)))) (loose_count-due 64 (first_unacked fate log) count old.entries)
+    ∙ zero-add _ ∙ loose_count-loose (count - length (due_items 64 (first_unacked fate log) old.entries)) (waiting_of log) enough ∙ ap (λ n. count - n) counted in
     record {
       bounded = bounded;
       posted = p ∙ s.posted;
@@ -273,5 +278,34 @@ notes old new fate log count seq bounded p e w few o s =
   where
     left_fits : (count whole mapped now later n : ℕ) → count ≤ whole → whole ≡ now + mapped → now ≡ n → later ≡ n → mapped ≡ length old.waiting → length old.waiting ≡ length (waiting_of log) → count - later ≤ length (waiting_of log)
     left_fits count whole mapped now later n few sum a b c d = omega arith
+
     past : (i : ℕ) → length (posted_of log) ≤ i → first_unacked fate log + length (drop (first_unacked fate log) (posted_of log)) ≤ i
     past i m = omega (arith, length-drop (first_unacked fate log) (posted_of log), first-le fate log)
+
+-- ---- the numbers of what is due
+
+all-append : (xs ys : List EventItem) → AllByRecursion IsEventInRange xs → AllByRecursion IsEventInRange ys → AllByRecursion IsEventInRange (xs ++ ys)
+all-append [] ys a b = b
+all-append (x ∷ xs) ys a b = (a.0, all-append xs ys a.1 b)
+
+all-take : (n : ℕ) (xs : List EventItem) → AllByRecursion IsEventInRange xs → AllByRecursion IsEventInRange (take n xs)
+all-take zero xs a = tt
+all-take (suc n) [] a = tt
+all-take (suc n) (x ∷ xs) a = (a.0, all-take n xs a.1)
+
+all-loose : (vs : List (List ℕ)) → AllByRecursion IsEventInRange (map loose_item vs)
+all-loose [] = tt
+all-loose (v ∷ vs) = (tt, all-loose vs)
+
+all-due : (near i : ℕ) (es : List Entry) → i + length es ≤ 16777216 → AllByRecursion IsEventInRange (due_items near i es)
+all-due zero i es l = tt
+all-due (suc near) i [] l = tt
+all-due (suc near) i (e ∷ es) l = go (is_due_now e.progress) (all-due near (suc i) es (omega arith))
+  where
+    go : (b : Bool) → AllByRecursion IsEventInRange (due_items near (suc i) es) → AllByRecursion IsEventInRange (if b then guaranteed_item i e.payload ∷ due_items near (suc i) es else due_items near (suc i) es)
+    go true rest = (omega arith, rest)
+    go false rest = rest
+
+pub due_now-numbers : (s : SenderState) (n : ℕ) → IsBounded s → All IsEventInRange (take n (due_now s))
+due_now-numbers s n b = All-from_recursion IsEventInRange _ (all-take n (due_now s) (all-append (due_items 64 (s.posted - length s.entries) s.entries) (map loose_item s.waiting)
+    (all-due 64 (s.posted - length s.entries) s.entries (omega (arith, b.living, b.short, b.counted))) (all-loose s.waiting)))

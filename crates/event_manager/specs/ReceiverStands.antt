@@ -1,6 +1,6 @@
 -- The tie between a receiver and the items that came. Events that were handed out are no longer in the receiver,
 -- so what waits there is the end of what was delivered.
-use Rattle.std.specs.Prelude.{◌≡◌, ℕ, zero, suc, ◌+◌, ◌≤◌, List, [], ◌∷◌, ◌++◌, Option, Some, None}
+use Rattle.std.specs.Prelude.{◌≡◌, ℕ, zero, suc, ◌+◌, ◌≤◌, List, [], ◌∷◌, ◌++◌, Option, None}
 use Rattle.wire_format.specs.declared.events.EventItem.{EventItem}
 use Rattle.event_manager.specs.declared.TheConstants.{EVENT_WINDOW}
 use Rattle.event_manager.specs.Receiving.{first_of, run_of, delivered_of}

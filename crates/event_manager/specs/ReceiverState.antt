@@ -1,9 +1,9 @@
 -- What a receiver of events holds: how many guaranteed events it delivered, the events of the next numbers that
 -- came across a gap (one place for each number, from the first undelivered one on), and the delivered events
 -- that were not handed out yet. Each function here is what one step of the receiver does to that.
-use Rattle.std.specs.Prelude.{◌≡◌, ℕ, zero, suc, ◌+◌, ◌-◌, ◌<◌, ◌≤◌, List, [], ◌∷◌, ◌++◌, if◌then◌else◌, nat_lt, length, map, drop, replicate, Option, Some, None}
+use Rattle.std.specs.Prelude.{◌≡◌, ℕ, zero, suc, ◌+◌, ◌-◌, ◌<◌, ◌≤◌, List, [], ◌∷◌, ◌++◌, if◌then◌else◌, nat_lt, length, map, drop, replicate, Option, Some, None, IfSome}
 use Rattle.tn_types.specs.declared.choices.Class.{Class}
-use Rattle.tn_types.specs.declared.choices.Class.TheVariants.{Guaranteed, Loose}
+use Rattle.tn_types.specs.declared.choices.Class.TheVariants.{Loose}
 use Rattle.wire_format.specs.declared.events.EventItem.{EventItem}
 use Rattle.event_manager.specs.declared.TheConstants.{EVENT_WINDOW, MAX_READY, NUMBER_LIMIT}
 use Rattle.event_manager.specs.Receiving.{guaranteed_event}
@@ -71,8 +71,4 @@ took_all (item ∷ items) r = took_all items (took item r)
 
 -- a number that a datagram can carry
 abbrev pub IsNumber : Option ℕ → Type 0
-IsNumber None = Unit {0}
-IsNumber (Some n) = n < NUMBER_LIMIT
-
-abbrev pub HasNumber : EventItem → Type 0
-HasNumber item = IsNumber item.number
+IsNumber number = IfSome number (λ n. n < NUMBER_LIMIT)

@@ -1,7 +1,7 @@
 -- What a list of event items that came delivers. The items are listed newest first. An unguaranteed one is
 -- delivered as it comes. A guaranteed one adds what the longest run 0, 1, 2 of numbers that came has gained by
 -- it, each number with the first payload that came for it.
-use Rattle.std.specs.Prelude.{◌≡◌, ℕ, zero, suc, ◌+◌, ◌-◌, max, Bool, true, false, not, List, [], ◌∷◌, ◌++◌, if◌then◌else◌, map, Option, Some, None, unwrap_or, refl, nat_le, Result, Ok, Err}
+use Rattle.std.specs.Prelude.{◌≡◌, ℕ, zero, suc, ◌+◌, ◌-◌, max, Bool, false, not, List, [], ◌∷◌, ◌++◌, if◌then◌else◌, map, Option, Some, None, unwrap_or, refl, nat_le, Result, Ok, Err}
 use Rattle.std.specs.Option.{is_some}
 use Rattle.tn_types.specs.declared.choices.Class.{Class}
 use Rattle.tn_types.specs.declared.choices.Class.TheVariants.{Guaranteed, Loose}

@@ -1,6 +1,6 @@
 -- What a sender of events holds: the count of guaranteed events posted so far, those of them from the first
 -- unacknowledged one on, and the unguaranteed events that wait. `life` ends the count.
-use Rattle.std.specs.Prelude.{◌≡◌, ℕ, ◌+◌, ◌-◌, ◌≤◌, ◌==◌, List, ◌++◌, if◌then◌else◌, length, map, Result, Ok, Err}
+use Rattle.std.specs.Prelude.{ℕ, ◌-◌, ◌≤◌, ◌==◌, List, ◌++◌, if◌then◌else◌, length, map, Result, Ok, Err}
 use Rattle.notify_window.specs.declared.TheConstants.{MAX_LIFE}
 use Rattle.wire_format.specs.declared.events.EventItem.{EventItem}
 use Rattle.event_manager.specs.declared.TheConstants.{EVENT_WINDOW, MAX_UNACKNOWLEDGED, MAX_WAITING}
@@ -33,5 +33,5 @@ abbrev pub post_answer : SenderState → Result ℕ PostFault
 post_answer s =
     if s.posted == s.life then Err (Worn s.life)
     else (if length s.entries == MAX_UNACKNOWLEDGED
-      then Err (Full (s.posted - MAX_UNACKNOWLEDGED) (s.posted - 1))
-      else Ok s.posted)
+    then Err (Full (s.posted - MAX_UNACKNOWLEDGED) (s.posted - 1))
+    else Ok s.posted)

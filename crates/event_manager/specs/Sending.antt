@@ -13,9 +13,9 @@ use Rattle.event_manager.specs.declared.sender.PostFault.{PostFault}
 use Rattle.event_manager.specs.declared.sender.PostFault.TheVariants.{Worn, Full}
 
 pub data SenderEvent : Type 0 where
-  Posted : (payload : List ℕ) → SenderEvent                      -- a guaranteed event was posted
-  PostedLoose : (payload : List ℕ) → SenderEvent                 -- an unguaranteed event was posted
-  Wrote : (seq : ℕ) (items : List EventItem) → SenderEvent       -- packet seq was sent with these
+  Posted : (payload : List ℕ) → SenderEvent  -- a guaranteed event was posted
+  PostedLoose : (payload : List ℕ) → SenderEvent  -- an unguaranteed event was posted
+  Wrote : (seq : ℕ) (items : List EventItem) → SenderEvent  -- packet seq was sent with these
 
 -- the guaranteed events, by number
 abbrev pub posted_of : List SenderEvent → List (List ℕ)
@@ -107,8 +107,8 @@ abbrev pub post_answer_of : ℕ → (ℕ → Fate) → List SenderEvent → Resu
 post_answer_of life fate log =
     if length (posted_of log) == life then Err (Worn life)
     else (if length (posted_of log) == first_unacked fate log + MAX_UNACKNOWLEDGED
-      then Err (Full (first_unacked fate log) (length (posted_of log) - 1))
-      else Ok (length (posted_of log)))
+    then Err (Full (first_unacked fate log) (length (posted_of log) - 1))
+    else Ok (length (posted_of log)))
 
 abbrev pub fate_for : Verdict → Fate
 fate_for verdict.Received = Received

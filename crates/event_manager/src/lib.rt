@@ -9,6 +9,8 @@ mod entries;
 mod held;
 mod receiver;
 mod sender;
+#[cfg(test)]
+mod tests;
 
 pub use receiver::{EventAhead, EventReceiver};
 pub use sender::{EventSender, PostFault};

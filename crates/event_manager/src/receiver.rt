@@ -47,9 +47,10 @@ impl Model for EventReceiver {
 
 impl EventReceiver {
     ghost use Rattle.event_manager.specs.Receiving.{items_onto, delivered_of, is_ahead};
-    ghost use Rattle.event_manager.specs.ReceiverState.{HasNumber, IsBounded, took, held_count};
+    ghost use Rattle.event_manager.specs.ReceiverState.{IsBounded, took, held_count};
     ghost use Rattle.event_manager.specs.ReceiverStands.{StandsFor};
     ghost use Rattle.wire_format.specs.declared.events.EventItem.{EventItem};
+    ghost use Rattle.wire_format.specs.Events.{IsEventInRange};
     ghost use Rattle.std.specs.Prelude.{false};
 
     /// The receiver of a new connection.
@@ -89,7 +90,7 @@ impl EventReceiver {
     /// delivered or is held changes nothing (docs/connection.md, "Events").
     pub fn take(&mut self, list: &EventList) -> Result<(), EventAhead>
         requires none_waits { self.old.ready ≡ [] }
-        requires numbers { All HasNumber list.now }
+        requires numbers { All IsEventInRange list.now }
         ensures answer { result ≡ take_answer self.old.delivered list.now }
         ensures unchanged { OnErr result (self.new ≡ self.old) }
         ensures stands { OnOk result ((came : List EventItem) → StandsFor self.old came → StandsFor self.new (items_onto list.now came)) }
@@ -128,7 +129,7 @@ impl EventReceiver {
 
     fn take_one(&mut self, item: &EventItem)
         requires near { is_ahead self.old.delivered item.now.number ≡ false }
-        requires number { HasNumber item.now }
+        requires number { IsEventInRange item.now }
         requires room { length self.old.ready + held_count self.old.held < MAX_READY }
         ensures { self.new ≡ took item.now self.old }
     {

@@ -1,8 +1,10 @@
 //! The sender of events.
 
-ghost use Rattle.std.specs.Prelude.{◌≡◌, ℕ, ◌+◌, ◌-◌, ◌<◌, ◌≤◌, ◌==◌, List, [], ◌∷◌, ◌++◌, IfOk, OnErr, OnOk, length, take, slice_get, if◌then◌else◌, None};
+ghost use Rattle.std.specs.Prelude.{◌≡◌, ℕ, ◌+◌, ◌-◌, ◌<◌, ◌≤◌, ◌==◌, List, [], ◌∷◌, ◌++◌, IfOk, OnErr, OnOk, length, take, slice_get, if◌then◌else◌, None, All};
 
-use crate::entries::{Entry, Progress, add_waiting, due_entries, drop_waiting, forget, mark, settle_near};
+use crate::entries::{
+    Entry, Progress, add_waiting, drop_waiting, due_entries, forget, mark, settle_near,
+};
 use crate::{EVENT_WINDOW, MAX_UNACKNOWLEDGED, MAX_WAITING};
 use circular_buffer::HeapCircularBuffer;
 use notify_window::MAX_LIFE;
@@ -55,6 +57,7 @@ impl EventSender {
     ghost use Rattle.event_manager.specs.Sending.{SenderEvent, Posted, PostedLoose, Wrote, due_of, judged, fate_for, post_answer_of};
     ghost use Rattle.event_manager.specs.SenderState.{due_now, post_answer};
     ghost use Rattle.event_manager.specs.SenderStands.{StandsFor};
+    ghost use Rattle.wire_format.specs.Events.{IsEventInRange};
 
     /// The sender of a new connection, each end of which posts at most `life` guaranteed events.
     pub fn new(alloc: Global, life: u32) -> Result<EventSender, NoMemory>
@@ -120,6 +123,7 @@ impl EventSender {
     pub fn due(&self) -> EventList
         ensures list { result ≡ take 31 (due_now self.now) }
         ensures log { (fate : ℕ → Fate) (log : List SenderEvent) → StandsFor self.now fate log → result ≡ take 31 (due_of fate log) }
+        ensures numbers { All IsEventInRange result }
     {
         let first = self.posted - self.entries.len() as u32;
         let mut list = due_entries(first, &self.entries);

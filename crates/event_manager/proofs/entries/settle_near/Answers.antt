@@ -3,7 +3,6 @@ use Rattle.std.proofs.lemmas.List.{get_or_read}
 use Rattle.std.proofs.lemmas.Bool.{cases_lt}
 use Rattle.event_manager.specs.declared.entries.Progress.TheVariants.{Due}
 use Rattle.event_manager.specs.declared.entries.Entry.{Entry}
-use Rattle.event_manager.specs.Entries.{settled_entry}
 use Rattle.event_manager.proofs.Walks.{settled-step, settled-all, settled_entry-is}
 use Rattle.event_manager.proofs.entries.settle_near.Goals as goal
 
@@ -23,6 +22,7 @@ loop-i-preserved c =
 pub returns-clause-items : goal.returns-clause-items
 returns-clause-items c =
     let past : (64 - c.loop-i.i ≡ 0) ⊎ (length c.loop-i.entries.items ≤ c.loop-i.i) = elim (cases_lt c.loop-i.i 64) [
-        inl near ↦ inr (omega (arith, c.loop-i.entries.ok.0))
-      | inr far ↦ inl (omega arith) ] in
+      | inl near ↦ inr (omega (arith, c.loop-i.entries.ok.0))
+      | inr far ↦ inl (omega arith)
+    ] in
     settled-all (64 - c.loop-i.i) c.loop-i.i c.args.seq c.args.verdict c.loop-i.entries.items _ past c.loop-i.invariant.rest

@@ -1,7 +1,6 @@
-use Rattle.std.proofs.Common.{◌≡◌, ◌+◌, ◌-◌, ◌<◌, ◌≤◌, ◌∷◌, ◌++◌, ◌∙◌, length, map, ap, sym, subst, arith, Option, Some, nat_lt, false, ℕ, List}
+use Rattle.std.proofs.Common.{◌≡◌, ◌+◌, ◌-◌, ◌<◌, ◌++◌, ◌∙◌, length, map, ap, sym, subst, arith, Option, Some, ℕ, List}
 use Rattle.tn_types.specs.declared.choices.Class.{Class}
-use Rattle.std.proofs.lemmas.Bool.Decides.{nat_tests}
-use Rattle.event_manager.specs.Receiving.{guaranteed_event, is_ahead}
+use Rattle.event_manager.specs.Receiving.{guaranteed_event}
 use Rattle.event_manager.specs.ReceiverState.{ReceiverState, IsBounded, IsNumber, filled, held_count, lead, moved_on}
 use Rattle.event_manager.proofs.Places.{numbered-filled, held_count-filled, bounded-came}
 use Rattle.event_manager.proofs.receiver.EventReceiver.take_one.Goals as goal

@@ -1,9 +1,10 @@
-use Rattle.std.proofs.Common.{◌≡◌, ◌-◌, ◌++◌, List, [], length, take, map, refl, sym, ◌∙◌, ap, arith}
+use Rattle.std.proofs.Common.{◌≡◌, ◌-◌, subst, All, ◌++◌, List, length, take, map, sym, ◌∙◌, ap, arith}
 use Rattle.wire_format.specs.declared.events.EventItem.{EventItem}
+use Rattle.wire_format.specs.Events.{IsEventInRange}
 use Rattle.event_manager.specs.Sending.{loose_item}
 use Rattle.event_manager.specs.Entries.{due_items}
 use Rattle.event_manager.specs.SenderState.{SenderState, due_now}
-use Rattle.event_manager.proofs.Writing.{due_now-is, take-taken}
+use Rattle.event_manager.proofs.Writing.{due_now-is, due_now-numbers, take-taken}
 use Rattle.event_manager.proofs.sender.EventSender.due.Goals as goal
 
 list-is : (c : goal.After-add_waiting) → c.add_waiting.new.list ≡ take 31 (due_now c.args.self.now)
@@ -19,3 +20,9 @@ returns-clause-list c = list-is c
 
 pub returns-clause-log : goal.returns-clause-log
 returns-clause-log c fate log s = list-is c ∙ ap (take 31) (due_now-is c.args.self.now fate log s)
+
+pub returns-clause-numbers : goal.returns-clause-numbers
+returns-clause-numbers c =
+    let P : List EventItem → Type 0 = All IsEventInRange in
+    let Q : SenderState → Type 0 = λ s. All IsEventInRange (take 31 (due_now s)) in
+    subst P (sym (list-is c)) (subst Q c.self.view_is (due_now-numbers _ 31 c.self.invariant.bounded))
