@@ -5,3 +5,4 @@ pub mod SenderStands
 pub mod Receiving
 pub mod ReceiverState
 pub mod ReceiverStands
+pub mod Posted

@@ -7,11 +7,13 @@
 
 mod entries;
 mod held;
+mod laws;
 mod receiver;
 mod sender;
 #[cfg(test)]
 mod tests;
 
+pub use laws::{delivered_in_order, due_was_posted};
 pub use receiver::{EventAhead, EventReceiver};
 pub use sender::{EventSender, PostFault};
 
