@@ -11,12 +11,11 @@ use Rattle.tn_types.specs.declared.choices.Class.{Class}
 use Rattle.tn_types.specs.declared.choices.Class.TheVariants.{Loose}
 use Rattle.wire_format.specs.declared.events.EventItem.{EventItem}
 use Rattle.wire_format.specs.Events.{IsEventInRange}
-use Rattle.event_manager.specs.Sending.{is_number}
-use Rattle.event_manager.specs.Receiving.{items_onto, or_else, first_of, has, run_of, payloads, guaranteed_event, by_class, news, delivered_of, is_ahead, take_answer}
+use Rattle.event_manager.specs.Receiving.{items_onto, first_of, run_of, payloads, guaranteed_event, by_class, news, delivered_of, is_ahead, take_answer}
 use Rattle.event_manager.specs.ReceiverState.{ReceiverState, IsBounded, held_count, lead, filled, moved_on, ran, came_at, took_number, took, took_all, IsNumber}
 use Rattle.event_manager.specs.ReceiverStands.{held_of, IsEndOf, StandsFor}
 use Rattle.event_manager.proofs.Places.{length-lead, held_count-filled, held_count-moved_on, bounded-loose, bounded-came}
-use Rattle.event_manager.proofs.Runs.{run-below, run-is, run-same, held_of-same, first-again, first-loose, filled-held_of, lead-held_of, lead-has, lead-ends, length-held_of, drop-held_of, held_of-none}
+use Rattle.event_manager.proofs.Runs.{has-more, run-below, run-is, run-same, held_of-same, first-again, first-loose, filled-held_of, lead-held_of, lead-has, lead-ends, length-held_of, drop-held_of, held_of-none}
 
 -- ---- the end of a list
 
@@ -87,13 +86,6 @@ took-again item r came n e old s =
     )
 
 -- ---- a new number
-
-has-more : (item : EventItem) (came : List EventItem) (i : ℕ) → has i came ≡ true → has i (item ∷ came) ≡ true
-has-more item came i h = either (first_of i came) (if is_number i item.number then Some item.payload else None) h
-  where
-    either : (o other : Option (List ℕ)) → is_some o ≡ true → is_some (or_else o other) ≡ true
-    either None other h = cc
-    either (Some w) other h = refl
 
 module _ (item : EventItem) (r : ReceiverState) (came : List EventItem) (n : ℕ) (e : item.number ≡ Some n) (new : r.delivered ≤ n) (near : n < r.delivered + 64) (s : StandsFor r came) where
   filled_is : filled (n - r.delivered) item.payload r.held ≡ held_of (item ∷ came) (run_of came) 64

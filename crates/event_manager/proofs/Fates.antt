@@ -1,5 +1,5 @@
 -- Fates of the packets that carry an event, and the least number that passes.
-use Rattle.std.proofs.Common.{◌≡◌, ◌≢◌, ℕ, zero, suc, ◌<◌, ◌≤◌, Bool, true, false, ◌&&◌, ◌||◌, ◌==◌, nat_lt, List, [], ◌∷◌, if◌then◌else◌, refl, sym, ◌∙◌, ap, arith, inl, inr}
+use Rattle.std.proofs.Common.{◌≡◌, ◌≢◌, ℕ, zero, suc, ◌<◌, ◌≤◌, Bool, true, false, not, ◌&&◌, ◌||◌, ◌==◌, nat_lt, List, [], ◌∷◌, if◌then◌else◌, refl, sym, ◌∙◌, ap, arith, inl, inr}
 use Rattle.std.proofs.lemmas.Bool.Decides.{nat_tests}
 use Rattle.std.proofs.lemmas.Bool.{cases_lt, cases_eq}
 use Rattle.tn_types.specs.declared.choices.Verdict.{Verdict}
@@ -20,6 +20,14 @@ judged_other fate seq s f g open_ e other = elim (cases_eq s seq) [
 
 judged_same : (fate : ℕ → Fate) (seq s : ℕ) (f : Fate) → s ≡ seq → judged fate seq f s ≡ f
 judged_same fate seq s f e = let t : (s == seq) ≡ true = grind (arith, nat_tests) in rw t
+
+pub not-false : (b : Bool) → not b ≡ false → b ≡ true
+not-false true h = refl
+not-false false h = cc
+
+pub not-true : (b : Bool) → not b ≡ true → b ≡ false
+not-true true h = cc
+not-true false h = refl
 
 lost-is : (f : Fate) → is_lost f ≡ true → f ≡ Lost
 lost-is Unjudged h = cc

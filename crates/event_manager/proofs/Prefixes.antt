@@ -12,7 +12,7 @@ use Rattle.wire_format.specs.declared.events.EventItem.{EventItem}
 use Rattle.event_manager.specs.Sending.{SenderEvent, posted_of, is_number, is_due, guaranteed_item, loose_item, items_that, due_guaranteed, waiting_of, due_of}
 use Rattle.event_manager.specs.Receiving.{or_else, first_of, has, run_of, payloads, guaranteed_event, by_class, news, delivered_of}
 use Rattle.event_manager.specs.Posted.{IsPostedAs, ArePosted, of_guaranteed, guaranteed_of}
-use Rattle.event_manager.proofs.Runs.{run-below, run-ends, run-same, first-loose}
+use Rattle.event_manager.proofs.Runs.{has-more, run-below, run-ends, run-same, first-loose}
 
 -- ---- what is posted stays so
 
@@ -101,13 +101,6 @@ guaranteed_of-append (x ∷ xs) ys = go x.0 (guaranteed_of-append xs ys)
 guaranteed_of-all : (vs : List (List ℕ)) → guaranteed_of (map guaranteed_event vs) ≡ vs
 guaranteed_of-all [] = refl
 guaranteed_of-all (v ∷ vs) = ap (λ l. v ∷ l) (guaranteed_of-all vs)
-
-has-more : (item : EventItem) (came : List EventItem) (i : ℕ) → has i came ≡ true → has i (item ∷ came) ≡ true
-has-more item came i h = either (first_of i came) (if is_number i item.number then Some item.payload else None) h
-  where
-    either : (o other : Option (List ℕ)) → is_some o ≡ true → is_some (or_else o other) ≡ true
-    either None other h = cc
-    either (Some w) other h = refl
 
 pub run-more : (item : EventItem) (came : List EventItem) → run_of came ≤ run_of (item ∷ came)
 run-more item came = elim (cases_lt (run_of (item ∷ came)) (run_of came)) [

@@ -1,5 +1,5 @@
 -- The longest run of numbers that came, and the places that stand for what came beyond it.
-use Rattle.std.proofs.Common.{◌≡◌, ℕ, zero, suc, ◌+◌, ◌<◌, ◌≤◌, Bool, true, false, not, ◌==◌, List, [], ◌∷◌, ◌++◌, if◌then◌else◌, length, drop, Option, Some, None, refl, sym, ◌∙◌, ap, arith, inl, inr}
+use Rattle.std.proofs.Common.{◌≡◌, ℕ, zero, suc, ◌+◌, ◌<◌, ◌≤◌, true, false, not, ◌==◌, List, [], ◌∷◌, ◌++◌, if◌then◌else◌, length, drop, Option, Some, None, refl, sym, ◌∙◌, ap, arith, inl, inr}
 use Rattle.std.specs.Prelude.{replicate}
 use Rattle.std.specs.Option.{is_some}
 use Rattle.std.proofs.lemmas.Bool.Decides.{nat_tests}
@@ -9,15 +9,7 @@ use Rattle.event_manager.specs.Sending.{is_number}
 use Rattle.event_manager.specs.Receiving.{or_else, first_of, has, next_number, above, run_of, payloads}
 use Rattle.event_manager.specs.ReceiverState.{lead, filled}
 use Rattle.event_manager.specs.ReceiverStands.{held_of}
-use Rattle.event_manager.proofs.Fates.{least-is, least-below, least-passes}
-
-not-false : (b : Bool) → not b ≡ false → b ≡ true
-not-false true h = refl
-not-false false h = cc
-
-not-true : (b : Bool) → not b ≡ true → b ≡ false
-not-true true h = cc
-not-true false h = refl
+use Rattle.event_manager.proofs.Fates.{not-false, not-true, least-is, least-below, least-passes}
 
 pub or_else-none : (o : Option (List ℕ)) → or_else o None ≡ o
 or_else-none None = refl
@@ -75,6 +67,14 @@ first-again item came n i e h = rw e (go (first_of i came) refl)
 -- an unguaranteed one too
 pub first-loose : (item : EventItem) (came : List EventItem) (i : ℕ) → item.number ≡ None → first_of i (item ∷ came) ≡ first_of i came
 first-loose item came i e = rw e (or_else-none (first_of i came))
+
+-- what came stays
+pub has-more : (item : EventItem) (came : List EventItem) (i : ℕ) → has i came ≡ true → has i (item ∷ came) ≡ true
+has-more item came i h = either (first_of i came) (if is_number i item.number then Some item.payload else None) h
+  where
+    either : (o other : Option (List ℕ)) → is_some o ≡ true → is_some (or_else o other) ≡ true
+    either None other h = cc
+    either (Some w) other h = refl
 
 -- ---- the places
 

@@ -1,7 +1,7 @@
 -- What each call does to the tie between a sender and its log.
-use Rattle.std.proofs.Common.{◌≡◌, ℕ, zero, suc, ◌+◌, ◌-◌, ◌<◌, ◌≤◌, Bool, true, false, not, List, [], ◌∷◌, ◌++◌, length, drop, refl, sym, ◌∙◌, ap, subst, arith, inl, inr, length-append, length-drop}
+use Rattle.std.proofs.Common.{◌≡◌, ℕ, zero, suc, ◌+◌, ◌-◌, ◌<◌, ◌≤◌, true, false, not, List, [], ◌∷◌, ◌++◌, length, drop, refl, sym, ◌∙◌, ap, subst, arith, inl, inr, length-append, length-drop}
 use Rattle.std.proofs.lemmas.Bool.{cases_lt, cases_eq}
-use Rattle.std.proofs.lemmas.List.{drop-append-le}
+use Rattle.std.proofs.lemmas.List.{drop-drop, drop-append-le}
 use Rattle.circular_buffer.specs.Buffer.{keep_last}
 use Rattle.tn_types.specs.declared.choices.Verdict.{Verdict}
 use Rattle.notify_window.specs.Log.{Fate, Unjudged}
@@ -12,7 +12,7 @@ use Rattle.event_manager.specs.Sending.{SenderEvent, Posted, PostedLoose, posted
 use Rattle.event_manager.specs.Entries.{settled, is_done, unfinished, AreDuePast}
 use Rattle.event_manager.specs.SenderState.{SenderState, IsBounded}
 use Rattle.event_manager.specs.SenderStands.{ProgressIs, EntriesAre, StandsFor}
-use Rattle.event_manager.proofs.Fates.{received-stays, lost-none, progress-settled, progress-due, least-is, least-le, least-below, least-passes, carried-none, done-is, due-is}
+use Rattle.event_manager.proofs.Fates.{not-false, received-stays, lost-none, progress-settled, progress-due, least-is, least-le, least-below, least-passes, carried-none, done-is, due-is}
 
 -- ---- the first unacknowledged event
 
@@ -20,13 +20,9 @@ pub first-le : (fate : ℕ → Fate) (log : List SenderEvent) → first_unacked 
 unfolding first_unacked
 first-le fate log = least-le (is_unacked fate log) (length (posted_of log))
 
-first-below : (fate : ℕ → Fate) (log : List SenderEvent) (j : ℕ) → j < first_unacked fate log → is_unacked fate log j ≡ false
+pub first-below : (fate : ℕ → Fate) (log : List SenderEvent) (j : ℕ) → j < first_unacked fate log → is_unacked fate log j ≡ false
 unfolding first_unacked
 first-below fate log j l = least-below (is_unacked fate log) (length (posted_of log)) j l
-
-not-false : (b : Bool) → not b ≡ false → b ≡ true
-not-false true h = refl
-not-false false h = cc
 
 acked-stays : (fate : ℕ → Fate) (log : List SenderEvent) (seq : ℕ) (verdict : Verdict) (j : ℕ) → fate seq ≡ Unjudged → is_unacked fate log j ≡ false → is_unacked (judged fate seq (fate_for verdict)) log j ≡ false
 acked-stays fate log seq verdict j o h = ap not (received-stays fate seq (fate_for verdict) (carriers j log) o (not-false (any_received fate (carriers j log)) h))
@@ -85,15 +81,8 @@ finish fate log i (v ∷ vs) (e ∷ es) at below h = go e.progress refl h.1 (fin
     go (Carried q) p k ih = let t : is_done e.progress ≡ false = ap is_done p in rw t (stop fate log i (v ∷ vs) (e ∷ es) (here (ap not (carried-none fate (carriers i log) q k).0)) at h)
     go Done p k ih = let t : is_done e.progress ≡ true = ap is_done p in rw t (later (ih (λ j l. elim (cases_eq j i) [ inl same ↦ ap (is_unacked fate log) same ∙ ap not (done-is fate (carriers i log) k) | inr other ↦ below j (omega arith) ]) h.2))
 
-drop-drop : (n m : ℕ) (xs : List (List ℕ)) → n ≤ m → drop (m - n) (drop n xs) ≡ drop m xs
-drop-drop zero m xs l = let z : m - 0 ≡ m = omega arith in rw z
-drop-drop (suc n) zero xs l = absurd (omega arith)
-drop-drop (suc n) (suc m) [] l = drop-empty (suc m - suc n)
-  where
-    drop-empty : (k : ℕ) → drop {A = List ℕ} k [] ≡ []
-    drop-empty zero = refl
-    drop-empty (suc k) = refl
-drop-drop (suc n) (suc m) (x ∷ xs) l = let z : suc m - suc n ≡ m - n = omega arith in rw z (drop-drop n m xs (omega arith))
+drop-later : (n m : ℕ) (xs : List (List ℕ)) → n ≤ m → drop (m - n) (drop n xs) ≡ drop m xs
+drop-later n m xs l = let sum : n + (m - n) ≡ m = omega arith in drop-drop (m - n) n xs ∙ ap (λ k. drop k xs) sum
 
 pub settles : (old new : SenderState) (fate : ℕ → Fate) (log : List SenderEvent) (seq : ℕ) (verdict : Verdict) → IsBounded new →
     new.posted ≡ old.posted → new.entries ≡ unfinished (settled 64 seq verdict old.entries) → new.waiting ≡ old.waiting → fate seq ≡ Unjudged →
@@ -109,7 +98,7 @@ settles old new fate log seq verdict bounded p e w o s =
       posted = p ∙ s.posted;
       first = omega (arith, f.1, p, s.posted);
       entries = subst (λ vs. EntriesAre (judged fate seq (fate_for verdict)) log (first_unacked (judged fate seq (fate_for verdict)) log) vs new.entries)
-          (drop-drop (first_unacked fate log) (first_unacked (judged fate seq (fate_for verdict)) log) (posted_of log) f.0) f.2;
+          (drop-later (first_unacked fate log) (first_unacked (judged fate seq (fate_for verdict)) log) (posted_of log) f.0) f.2;
       unwritten = s.unwritten;
       waiting = w ∙ s.waiting;
     }

@@ -15,8 +15,8 @@ use Rattle.event_manager.specs.Sending.{SenderEvent, Wrote, posted_of, is_number
 use Rattle.event_manager.specs.Entries.{is_due_now, due_items, due_count, marked}
 use Rattle.event_manager.specs.SenderState.{SenderState, IsBounded, due_now}
 use Rattle.event_manager.specs.SenderStands.{ProgressIs, EntriesAre, StandsFor}
-use Rattle.event_manager.proofs.Standing.{first-le}
-use Rattle.event_manager.proofs.Fates.{least-below, done-none, due-is, due-test}
+use Rattle.event_manager.proofs.Standing.{first-le, first-below}
+use Rattle.event_manager.proofs.Fates.{not-false, done-none, due-is, due-test}
 
 -- ---- what is due
 
@@ -46,14 +46,6 @@ due-entries fate log (suc n) i (v ∷ vs) (e ∷ es) at h =
 and_false : (b : Bool) → (b && false) ≡ false
 and_false true = refl
 and_false false = refl
-
-not-false : (b : Bool) → not b ≡ false → b ≡ true
-not-false true h = refl
-not-false false h = cc
-
-first-below : (fate : ℕ → Fate) (log : List SenderEvent) (j : ℕ) → j < first_unacked fate log → is_unacked fate log j ≡ false
-unfolding first_unacked
-first-below fate log j l = least-below (is_unacked fate log) (length (posted_of log)) j l
 
 due_items-is : (s : SenderState) (fate : ℕ → Fate) (log : List SenderEvent) → StandsFor s fate log → due_items 64 (first_unacked fate log) s.entries ≡ due_guaranteed fate log
 unfolding due_guaranteed

@@ -44,7 +44,7 @@ fn is_done(progress: Progress) -> bool
 /// The due events of the window as items, as many as a packet takes. The first entry has number `first`.
 pub fn due_entries(first: u32, entries: &VecDeque<Entry>) -> EventList
     requires { first + length entries.now.items < 2 ^ 32 }
-    ensures { result ≡ take 31 (due_items EVENT_WINDOW first entries.now.items) }
+    ensures { result ≡ take MAX_EVENTS (due_items EVENT_WINDOW first entries.now.items) }
 {
     let mut list = EventList::new();
     let near = entries.len().min(EVENT_WINDOW);
@@ -65,7 +65,7 @@ pub fn due_entries(first: u32, entries: &VecDeque<Entry>) -> EventList
 
 /// Appends waiting events, the oldest first, as long as there is room.
 pub fn add_waiting(list: &mut EventList, waiting: &HeapCircularBuffer<Payload>)
-    ensures { list.new ≡ take 31 (list.old ++ map loose_item waiting.now.items) }
+    ensures { list.new ≡ take MAX_EVENTS (list.old ++ map loose_item waiting.now.items) }
 {
     let taken = waiting.len().min(MAX_EVENTS - list.len());
     for i in 0..taken {

@@ -16,6 +16,7 @@ mod tests;
 pub use laws::{delivered_in_order, due_was_posted};
 pub use receiver::{EventAhead, EventReceiver};
 pub use sender::{EventSender, PostFault};
+use wire_format::MAX_EVENTS;
 
 /// How far a due event may be from the first unacknowledged one, and a held one from the first undelivered.
 pub const EVENT_WINDOW: usize = 64;
@@ -27,7 +28,7 @@ pub const MAX_UNACKNOWLEDGED: usize = 256;
 pub const MAX_WAITING: usize = 64;
 
 /// The most delivered events that one packet leaves waiting: what is held, and the packet's own.
-pub const MAX_READY: usize = 95;
+pub const MAX_READY: usize = EVENT_WINDOW + MAX_EVENTS;
 
 /// Above all numbers of events: a number has 24 bits.
 pub const NUMBER_LIMIT: u32 = 1 << 24;

@@ -12,7 +12,7 @@ use std::alloc::Global;
 use std::collections::VecDeque;
 use std::marker::Model;
 use tn_types::{NoMemory, Payload, Verdict};
-use wire_format::EventList;
+use wire_format::{EventList, MAX_EVENTS};
 
 /// Why a guaranteed event was not taken. Nothing changed.
 #[derive(Clone, Copy, Debug, PartialEq, Eq)]
@@ -121,8 +121,8 @@ impl EventSender {
     /// What the next packet may carry, in sending order: the first 31 at most of the due guaranteed events by
     /// rising number and then the waiting unguaranteed ones, the oldest first.
     pub fn due(&self) -> EventList
-        ensures list { result ≡ take 31 (due_now self.now) }
-        ensures log { (fate : ℕ → Fate) (log : List SenderEvent) → StandsFor self.now fate log → result ≡ take 31 (due_of fate log) }
+        ensures list { result ≡ take MAX_EVENTS (due_now self.now) }
+        ensures log { (fate : ℕ → Fate) (log : List SenderEvent) → StandsFor self.now fate log → result ≡ take MAX_EVENTS (due_of fate log) }
         ensures numbers { All IsEventInRange result }
     {
         let first = self.posted - self.entries.len() as u32;
