@@ -33,7 +33,9 @@ use Rattle.pair_core.specs.History.{Step, Post, ClientPost, Pack, ClientPack, Do
 use Rattle.pair_core.specs.Laws.{IsPayload, StepFits, posted_at}
 use Rattle.pair_core.proofs.Lists.{all-append, all-map, all-at}
 use Rattle.pair_core.proofs.Fits.{EndFits, start-fits, posted-fits, loose-fits, packed-fits, pinged-fits, took-fits, data_head-fits, ping_head-fits, events-fit}
-use Rattle.pair_core.proofs.Posted.{ArePosted, posted-push, posted-events, posted-onto}
+use Rattle.event_manager.specs.Posted.{ArePosted}
+use Rattle.event_manager.proofs.Prefixes.{posted-push}
+use Rattle.pair_core.proofs.Posted.{posted-events, posted-onto}
 
 -- bytes that spell a packet of the server whose guaranteed events are these
 pub record IsDown (vs : List (List ℕ)) (bytes : List ℕ) : Type 0 where

@@ -35,8 +35,3 @@ all-map P Q f (x ∷ xs) h = (f x h.0, all-map P Q f xs h.1)
 pub slice_get-at : {A : Type 0} (before : List A) (v : A) (after : List A) → slice_get (before ++ v ∷ after) (length before) ≡ Some v
 slice_get-at [] v after = refl
 slice_get-at (u ∷ before) v after = slice_get-at before v after
-
-pub slice_get-push : {A : Type 0} (vs : List A) (n : ℕ) (v w : A) → slice_get vs n ≡ Some v → slice_get (vs ++ w ∷ []) n ≡ Some v
-slice_get-push [] n v w e = cc
-slice_get-push (u ∷ vs) zero v w e = e
-slice_get-push (u ∷ vs) (suc n) v w e = slice_get-push vs n v w e

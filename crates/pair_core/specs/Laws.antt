@@ -5,6 +5,7 @@ use Rattle.tn_types.specs.Bytes.{AreBytes}
 use Rattle.tn_types.specs.declared.choices.Class.{Class}
 use Rattle.tn_types.specs.declared.choices.Class.TheVariants.{Guaranteed, Loose}
 use Rattle.event_manager.specs.Sending.{posted_of}
+use Rattle.event_manager.specs.Posted.{guaranteed_of}
 use Rattle.stream_manager.specs.declared.config.Config.{Config}
 use Rattle.stream_manager.specs.End.{EndEvent, sender_log, delivered_at}
 use Rattle.stream_manager.specs.Server.{ServerEvent, server_end}
@@ -13,15 +14,6 @@ use Rattle.pair_core.specs.History.{Step, Post, ClientPost, Pack, ClientPack, Do
 
 abbrev pub IsPrefixOf : {A : Type 0} → List A → List A → Type 0
 IsPrefixOf {A} xs ys = (rest : List A) × (xs ++ rest ≡ ys)
-
--- the guaranteed ones of some events
-abbrev pub if_guaranteed : Class → List ℕ → List (List ℕ)
-if_guaranteed Guaranteed v = v ∷ []
-if_guaranteed Loose v = []
-
-abbrev pub guaranteed_of : List (Class × List ℕ) → List (List ℕ)
-guaranteed_of [] = []
-guaranteed_of (e ∷ es) = if_guaranteed e.0 e.1 ++ guaranteed_of es
 
 -- the guaranteed events that were posted at an end, the oldest first
 abbrev pub posted_at : List EndEvent → List (List ℕ)

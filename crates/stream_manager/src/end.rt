@@ -11,7 +11,7 @@ ghost use Rattle.std.specs.Int.{bit_at};
 ghost use Rattle.notify_window.specs.Log.{arrival_of, fate_of_bit};
 ghost use Rattle.event_manager.specs.Sending.{fate_for};
 ghost use Rattle.event_manager.specs.Receiving.{take_answer, run_of};
-ghost use Rattle.event_manager.specs.ReceiverState.{HasNumber};
+
 ghost use Rattle.wire_format.specs.Events.{event_size, IsEventInRange};
 ghost use Rattle.wire_format.specs.declared.events.EventItem.{EventItem as OneEvent};
 ghost use Rattle.stream_manager.specs.End.{fitting};
@@ -232,7 +232,7 @@ impl End {
         requires fits { head.now.seq < 2 ^ 24 }
         requires none_waits { self.old.receiver.ready ≡ [] }
         requires near { take_answer self.old.receiver.delivered events.now ≡ Ok tt }
-        requires numbers { All HasNumber events.now }
+        requires numbers { All IsEventInRange events.now }
         ensures stands { (log : List EndEvent) → StandsFor self.old log → StandsFor self.new (Took (record { ping = ping; head = head.now; events = events.now }) ∷ log) }
         ensures handed { (log : List EndEvent) → StandsFor self.old log → delivered_at (Took (record { ping = ping; head = head.now; events = events.now }) ∷ log) ≡ delivered_at log ++ self.new.receiver.ready }
         ensures config { self.new.config ≡ self.old.config }
@@ -253,7 +253,7 @@ impl End {
     pub(crate) fn arrive(&mut self, ping: bool, head: &Header, events: &EventList) -> Result<(), EndFault>
         requires fits { head.now.seq < 2 ^ 24 }
         requires none_waits { self.old.receiver.ready ≡ [] }
-        requires numbers { All HasNumber events.now }
+        requires numbers { All IsEventInRange events.now }
         ensures answer { (log : List EndEvent) → StandsFor self.old log → result ≡ arrival_answer self.old.config.client log (record { ping = ping; head = head.now; events = events.now }) }
         ensures stands { OnOk result ((log : List EndEvent) → StandsFor self.old log → StandsFor self.new (Took (record { ping = ping; head = head.now; events = events.now }) ∷ log)) }
         ensures handed { OnOk result ((log : List EndEvent) → StandsFor self.old log → delivered_at (Took (record { ping = ping; head = head.now; events = events.now }) ∷ log) ≡ delivered_at log ++ self.new.receiver.ready) }
