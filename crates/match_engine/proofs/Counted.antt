@@ -8,6 +8,7 @@ use Rattle.notify_window.specs.declared.SendState.{SendState}
 use Rattle.notify_window.specs.declared.SendState.TheVariants.{Held, Worn, Room}
 use Rattle.match_script.specs.declared.types.BodyLine.{BodyLine}
 use Rattle.match_script.specs.declared.types.BodyLine.TheVariants as script
+use Rattle.stream_manager.specs.Kinds.{plain_kinds}
 use Rattle.stream_manager.specs.declared.config.Config.{Config}
 use Rattle.stream_manager.specs.Server as server_log
 use Rattle.bit_stream.specs.Bits.{datagram}
@@ -43,9 +44,9 @@ server-packs : (k : Config) (log : List ServerEvent) → length (server_datagram
 server-packs k log = go (server_state k log)
   where
     go : (state : SendState) → length (server_datagrams (pair_history.onto (server_log.pack_event k log state) log)) ≤ suc (length (server_datagrams log))
-    go Held = omega (arith, length-append (server_datagrams log) (datagram (server (down.Ping (server_ping k log))) ∷ []))
+    go Held = omega (arith, length-append (server_datagrams log) (datagram (server plain_kinds (down.Ping (server_ping k log))) ∷ []))
     go Worn = omega arith
-    go Room = omega (arith, length-append (server_datagrams log) (datagram (server (down.Body (data_body k log))) ∷ []))
+    go Room = omega (arith, length-append (server_datagrams log) (datagram (server plain_kinds (down.Body (data_body k log))) ∷ []))
 
 client-packs : (k : Config) (log : List ClientEvent) → length (client_datagrams (pair_history.onto (client_log.packing k log) log)) ≤ suc (length (client_datagrams log))
 client-packs k log = go (client_state k log)

@@ -8,6 +8,7 @@ use Rattle.wire_format.specs.Server.{server}
 use Rattle.wire_format.specs.Client.{client}
 use Rattle.notify_window.specs.declared.SendState.{SendState}
 use Rattle.notify_window.specs.declared.SendState.TheVariants.{Held, Worn, Room}
+use Rattle.stream_manager.specs.Kinds.{plain_kinds}
 use Rattle.stream_manager.specs.declared.config.Config.{Config}
 use Rattle.stream_manager.specs.Server as server_log
 use Rattle.stream_manager.specs.Server.{server_state, server_datagrams, data_body, server_ping}
@@ -40,14 +41,14 @@ module _ (k : Config) (steps : List Step) (c place : ℕ) (t : Told) where
       go : (state : SendState) → Data place ≡ made state k.life (length (server_datagrams (history k steps).server)) → l ≡ server_datagrams (onto (server_log.pack_event k (history k steps).server state) (history k steps).server) → t ≡ pack_told k steps c state
       go Held e sent = absurd cc
       go Worn e sent = absurd cc
-      go Room e sent = f (datagram (server (server_packet.Body (data_body k (history k steps).server)))) (at-end (server_datagrams (history k steps).server) l (datagram (server (server_packet.Body (data_body k (history k steps).server)))) place (ap place-of e) sent) ∙ ap (λ n. told_as.Packed false c n false (datagram (server (server_packet.Body (data_body k (history k steps).server))))) (ap place-of e)
+      go Room e sent = f (datagram (server plain_kinds (server_packet.Body (data_body k (history k steps).server)))) (at-end (server_datagrams (history k steps).server) l (datagram (server plain_kinds (server_packet.Body (data_body k (history k steps).server)))) place (ap place-of e) sent) ∙ ap (λ n. told_as.Packed false c n false (datagram (server plain_kinds (server_packet.Body (data_body k (history k steps).server))))) (ap place-of e)
 
   pub server_pinged : (l : List (List ℕ)) → Ping place ≡ pack_answer k steps → l ≡ server_datagrams (history k (Pack ∷ steps)).server
       → ((bytes : List ℕ) → slice_get l place ≡ Some bytes → t ≡ told_as.Packed false c place true bytes) → t ≡ pack_told k steps c (server_state k (history k steps).server)
   server_pinged l e sent f = go (server_state k (history k steps).server) e sent
     where
       go : (state : SendState) → Ping place ≡ made state k.life (length (server_datagrams (history k steps).server)) → l ≡ server_datagrams (onto (server_log.pack_event k (history k steps).server state) (history k steps).server) → t ≡ pack_told k steps c state
-      go Held e sent = f (datagram (server (server_packet.Ping (server_ping k (history k steps).server)))) (at-end (server_datagrams (history k steps).server) l (datagram (server (server_packet.Ping (server_ping k (history k steps).server)))) place (ap place-of e) sent) ∙ ap (λ n. told_as.Packed false c n true (datagram (server (server_packet.Ping (server_ping k (history k steps).server))))) (ap place-of e)
+      go Held e sent = f (datagram (server plain_kinds (server_packet.Ping (server_ping k (history k steps).server)))) (at-end (server_datagrams (history k steps).server) l (datagram (server plain_kinds (server_packet.Ping (server_ping k (history k steps).server)))) place (ap place-of e) sent) ∙ ap (λ n. told_as.Packed false c n true (datagram (server plain_kinds (server_packet.Ping (server_ping k (history k steps).server))))) (ap place-of e)
       go Worn e sent = absurd cc
       go Room e sent = absurd cc
 

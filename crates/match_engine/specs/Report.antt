@@ -15,6 +15,7 @@ use Rattle.match_script.specs.declared.types.BodyLine.{BodyLine}
 use Rattle.match_script.specs.declared.types.BodyLine.TheVariants as script
 use Rattle.match_script.specs.declared.types.Head.{Head}
 use Rattle.match_script.specs.declared.types.Script.{Script}
+use Rattle.stream_manager.specs.Kinds.{plain_kinds}
 use Rattle.stream_manager.specs.declared.config.Config.{Config}
 use Rattle.stream_manager.specs.End.{dropped_of}
 use Rattle.stream_manager.specs.Server.{server_end, server_state, server_datagrams, posted_at_server, data_body, server_ping}
@@ -42,9 +43,9 @@ post_told k steps c Guaranteed = told_as.Post false c (posted_at_server k (histo
 post_told k steps c Loose = told_as.PostLoose false c (dropped_of (server_end (history k steps).server))
 
 abbrev pub pack_told : Config → List Step → ℕ → SendState → Told
-pack_told k steps c Held = told_as.Packed false c (length (server_datagrams (history k steps).server)) true (datagram (server (server_packet.Ping (server_ping k (history k steps).server))))
+pack_told k steps c Held = told_as.Packed false c (length (server_datagrams (history k steps).server)) true (datagram (server plain_kinds (server_packet.Ping (server_ping k (history k steps).server))))
 pack_told k steps c Worn = told_as.PackWorn false c k.life
-pack_told k steps c Room = told_as.Packed false c (length (server_datagrams (history k steps).server)) false (datagram (server (server_packet.Body (data_body k (history k steps).server))))
+pack_told k steps c Room = told_as.Packed false c (length (server_datagrams (history k steps).server)) false (datagram (server plain_kinds (server_packet.Body (data_body k (history k steps).server))))
 
 abbrev pub client_pack_told : Config → List Step → ℕ → SendState → Told
 client_pack_told k steps c Held = told_as.Packed true c (length (client_datagrams (history k steps).client)) true (datagram (client (client_packet.Ping (client_ping k (history k steps).client))))

@@ -24,6 +24,7 @@ use Rattle.stream_manager.specs.declared.fault.EndFault.{EndFault}
 use Rattle.stream_manager.specs.declared.fault.ArriveFault.{ArriveFault}
 use Rattle.stream_manager.specs.declared.fault.ClientFault.{ClientFault}
 use Rattle.stream_manager.specs.Limits.{IsConfig}
+use Rattle.stream_manager.specs.Kinds.{plain_kinds}
 use Rattle.stream_manager.specs.End.{Seen, EndEvent, sender_log, came_of, fates, window_log, arrival_answer}
 use Rattle.stream_manager.specs.Server as server_log
 use Rattle.stream_manager.specs.Server.{ServerEvent, server_end, server_datagrams, seen_up, server_state, posted_at_server, data_body, server_ping, took_at_server, server_answer, packet_answer}
@@ -40,8 +41,8 @@ use Rattle.pair_core.proofs.Posted.{posted-events, posted-onto}
 -- bytes that spell a packet of the server whose guaranteed events are these
 pub record IsDown (vs : List (List ℕ)) (bytes : List ℕ) : Type 0 where
   pub packet : ServerPacket
-  pub fits : IsServer packet
-  pub reads : server_of bytes ≡ Ok packet
+  pub fits : IsServer plain_kinds packet
+  pub reads : server_of plain_kinds bytes ≡ Ok packet
   pub posted : ArePosted vs (seen_down packet).events
 
 pub record IsUp (vs : List (List ℕ)) (bytes : List ℕ) : Type 0 where
@@ -106,8 +107,8 @@ module _ (c : Config) (limits : IsConfig c) where
   short : c.life < 2 ^ 24
   short = omega (arith, limits.life)
 
-  is-down : (vs : List (List ℕ)) (p : ServerPacket) → IsServer p → ArePosted vs (seen_down p).events → IsDown vs (datagram (server p))
-  is-down vs p fits posted = record { packet = p; fits = fits; reads = whole_again server_at server IsServer a_server p fits; posted = posted }
+  is-down : (vs : List (List ℕ)) (p : ServerPacket) → IsServer plain_kinds p → ArePosted vs (seen_down p).events → IsDown vs (datagram (server plain_kinds p))
+  is-down vs p fits posted = record { packet = p; fits = fits; reads = whole_again (server_at plain_kinds) (server plain_kinds) (IsServer plain_kinds) (a_server plain_kinds) p fits; posted = posted }
 
   is-up : (vs : List (List ℕ)) (p : ClientPacket) → IsClient p → ArePosted vs (seen_up p).events → IsUp vs (datagram (client p))
   is-up vs p fits posted = record { packet = p; fits = fits; reads = whole_again client_at client IsClient a_client p fits; posted = posted }
@@ -139,6 +140,7 @@ module _ (c : Config) (limits : IsConfig c) where
               control = tt;
               blocks = record { few = omega arith; each = tt };
               events = events-fit c.life _ (server_end s) short h.server;
+              ghosts = record { few = omega arith; each = tt };
             })
             (posted-events _ (server_end s)), tt);
         up = h.up;
@@ -179,7 +181,7 @@ module _ (c : Config) (limits : IsConfig c) where
 
   -- ---- arrivals
 
-  seq-down : (p : ServerPacket) → IsServer p → (seen_down p).head.seq < 2 ^ 24
+  seq-down : (p : ServerPacket) → IsServer plain_kinds p → (seen_down p).head.seq < 2 ^ 24
   seq-down (down.Ping head) fits = fits.seq
   seq-down (down.Body body) fits = fits.head.seq
 
@@ -187,7 +189,7 @@ module _ (c : Config) (limits : IsConfig c) where
   seq-up (up.Ping head) fits = fits.seq
   seq-up (up.Body body) fits = fits.head.seq
 
-  took-down : (s : List ServerEvent) (t : List ClientEvent) (p : ServerPacket) (a : Result (Unit {0}) EndFault) → IsServer p → ArePosted (posted_at (server_end s)) (seen_down p).events → Carried c s t → Carried c s (took_at_client t (client_log.with_packet p a))
+  took-down : (s : List ServerEvent) (t : List ClientEvent) (p : ServerPacket) (a : Result (Unit {0}) EndFault) → IsServer plain_kinds p → ArePosted (posted_at (server_end s)) (seen_down p).events → Carried c s t → Carried c s (took_at_client t (client_log.with_packet p a))
   took-down s t p (Err e) fits posted h = h
   took-down s t p (Ok u) fits posted h = record {
     server = h.server;

@@ -1,11 +1,10 @@
 -- What one end's common part stands for after a call.
-use Rattle.std.proofs.Common.{◌≡◌, ◌≢◌, ℕ, zero, suc, ◌+◌, ◌-◌, ◌<◌, ◌≤◌, ◌^◌, Bool, true, false, ◌==◌, nat_le, nat_lt, List, [], ◌∷◌, if◌then◌else◌, length, take, Result, Ok, Err, refl, sym, ◌∙◌, ap, subst, arith, inl, inr, ◌⊎◌}
+use Rattle.std.proofs.Common.{◌≡◌, ℕ, ◌+◌, ◌<◌, ◌^◌, true, false, ◌==◌, nat_lt, List, ◌∷◌, if◌then◌else◌, take, Result, Ok, Err, refl, sym, ◌∙◌, ap, subst, arith, inl, inr}
 use Rattle.std.specs.Prelude.{OnOk, OnErr}
-use Rattle.std.specs.Int.{bit_at}
 use Rattle.std.proofs.lemmas.Bool.Decides.{nat_tests}
 use Rattle.std.proofs.lemmas.Bool.{cases_lt, cases_eq}
 use Rattle.notify_window.specs.State.{WindowState}
-use Rattle.notify_window.specs.Log.{WindowEvent, Sent, Came, Told, sent_of, judged_of, Fate, Unjudged, fate_of, fate_of_bit}
+use Rattle.notify_window.specs.Log.{WindowEvent, Sent, Came, sent_of, judged_of, Fate, Unjudged, fate_of}
 use Rattle.notify_window.proofs.Verdicts.{fate-above, fate-told_judged, fate-told_above}
 use Rattle.event_manager.specs.Sending.{SenderEvent, judged, due_of}
 use Rattle.event_manager.specs.SenderState.{SenderState}
@@ -15,7 +14,7 @@ use Rattle.event_manager.specs.ReceiverStands.{StandsFor as ReceiverStandsFor}
 use Rattle.wire_format.specs.declared.events.EventItem.{EventItem}
 use Rattle.event_manager.specs.Sending as sending
 use Rattle.notify_window.specs.Stands.{StandsFor as WindowStandsFor}
-use Rattle.tn_types.specs.declared.choices.Class.TheVariants.{Guaranteed, Loose}
+use Rattle.tn_types.specs.declared.choices.Class.TheVariants.{Guaranteed}
 use Rattle.stream_manager.specs.End.{Seen, EndEvent, Posted, Packed, Took, window_log, sender_log, fates, data_head, came_of}
 use Rattle.stream_manager.specs.EndStands.{EndState, StandsFor}
 

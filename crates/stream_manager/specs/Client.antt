@@ -1,6 +1,6 @@
 -- What happened at the client's end of a connection, the newest first, and what follows from it: what a post, a pack and
 -- an arrival do and answer.
-use Rattle.std.specs.Prelude.{ℕ, ◌+◌, ◌-◌, ◌*◌, Bool, true, false, List, [], ◌∷◌, ◌++◌, Option, Some, None, Result, Ok, Err}
+use Rattle.std.specs.Prelude.{ℕ, ◌-◌, ◌*◌, false, List, [], ◌∷◌, ◌++◌, Option, Some, None, Result, Ok, Err}
 use Rattle.tn_types.specs.declared.choices.Class.{Class}
 use Rattle.bit_stream.specs.Bits.{datagram}
 use Rattle.wire_format.specs.declared.fault.BitsFault.{BitsFault}
@@ -19,6 +19,7 @@ use Rattle.event_manager.specs.declared.sender.PostFault.{PostFault}
 use Rattle.event_manager.specs.Sending.{post_answer_of}
 use Rattle.stream_manager.specs.declared.config.Config.{Config}
 use Rattle.stream_manager.specs.declared.fault.EndFault.{EndFault}
+use Rattle.stream_manager.specs.Kinds.{plain_kinds}
 use Rattle.stream_manager.specs.Faults.{client_fault}
 use Rattle.stream_manager.specs.declared.fault.ClientFault.{ClientFault}
 use Rattle.stream_manager.specs.declared.fault.ClientFault.TheVariants as refused
@@ -99,7 +100,7 @@ packet_answer c log (Err e) = Err (refused.Bits e)
 
 -- what bytes that come meet: the first refusal whose condition holds, else the packet that they spell
 abbrev pub client_answer : Config → List ClientEvent → List ℕ → Result ServerPacket ClientFault
-client_answer c log bytes = packet_answer c log (server_of bytes)
+client_answer c log bytes = packet_answer c log (server_of plain_kinds bytes)
 
 abbrev pub took_at_client : List ClientEvent → Result ServerPacket ClientFault → List ClientEvent
 took_at_client log (Ok p) = Took p ∷ log

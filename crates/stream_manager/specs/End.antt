@@ -1,7 +1,7 @@
 -- What the two ends of a connection have in common, as a list of what happened at one of them, the newest first: its
 -- window, its events on their way out, and those that came in. An end's packets are seen by their header and their
 -- events; what else a packet holds belongs to one end alone.
-use Rattle.std.specs.Prelude.{ℕ, slice_get, length, Option, None, ◌+◌, ◌-◌, ◌==◌, ◌&&◌, not, Bool, true, false, nat_le, nat_lt, List, [], ◌∷◌, if◌then◌else◌, take, Result, Ok, Err}
+use Rattle.std.specs.Prelude.{ℕ, slice_get, length, Option, None, ◌+◌, ◌-◌, ◌==◌, ◌&&◌, not, Bool, false, nat_le, nat_lt, List, [], ◌∷◌, if◌then◌else◌, take, Result, Ok, Err}
 use Rattle.tn_types.specs.declared.choices.Class.{Class}
 use Rattle.tn_types.specs.declared.choices.Class.TheVariants.{Guaranteed, Loose}
 use Rattle.notify_window.specs.Log.{WindowEvent, Sent, Came, Told, sent_of, horizon_of, mask_of, Fate, fate_of}

@@ -1,5 +1,5 @@
 -- The tie between one end's common part and what happened at it.
-use Rattle.std.specs.Prelude.{◌≡◌, ℕ, ◌<◌, ◌^◌, List}
+use Rattle.std.specs.Prelude.{◌≡◌, ◌<◌, ◌^◌, List}
 use Rattle.notify_window.specs.State.{WindowState}
 use Rattle.notify_window.specs.Stands.{StandsFor as WindowStandsFor}
 use Rattle.event_manager.specs.SenderState.{SenderState}

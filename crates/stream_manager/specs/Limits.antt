@@ -1,5 +1,5 @@
 -- What a connection is made with, and the ranges in which each part of it lies.
-use Rattle.std.specs.Prelude.{ℕ, ◌<◌, ◌≤◌}
+use Rattle.std.specs.Prelude.{◌<◌, ◌≤◌}
 use Rattle.notify_window.specs.declared.TheConstants.{MAX_LIFE}
 use Rattle.stream_manager.specs.declared.config.Config.{Config}
 use Rattle.stream_manager.specs.declared.config.TheConstants.{MAX_CLIENTS, MIN_SIZE, MAX_SIZE}

@@ -1,20 +1,17 @@
 -- What happened at the server's end of a connection, the newest first, and what follows from it: what a post, a pack and
 -- an arrival do and answer.
-use Rattle.std.specs.Prelude.{ℕ, ◌+◌, ◌-◌, ◌*◌, Bool, true, false, List, [], ◌∷◌, ◌++◌, Option, Some, None, Result, Ok, Err, if◌then◌else◌, is_some}
-use Rattle.std.specs.Result.{is_ok}
+use Rattle.std.specs.Prelude.{ℕ, ◌-◌, ◌*◌, true, false, List, [], ◌∷◌, ◌++◌, Option, Some, None, Result, Ok, Err}
 use Rattle.tn_types.specs.declared.choices.Class.{Class}
-use Rattle.tn_types.specs.declared.choices.Class.TheVariants.{Guaranteed, Loose}
 use Rattle.bit_stream.specs.Bits.{datagram}
 use Rattle.wire_format.specs.declared.fault.BitsFault.{BitsFault}
 use Rattle.wire_format.specs.declared.header.Header.{Header}
-use Rattle.wire_format.specs.declared.events.EventItem.{EventItem}
 use Rattle.wire_format.specs.declared.server.ServerBody.{ServerBody}
 use Rattle.wire_format.specs.declared.server.ServerPacket.TheVariants as down
 use Rattle.wire_format.specs.declared.client.ClientPacket.{ClientPacket}
 use Rattle.wire_format.specs.declared.client.ClientPacket.TheVariants as up
 use Rattle.wire_format.specs.declared.widths.TheConstants.{SERVER_FIXED_BITS}
 use Rattle.wire_format.specs.Server.{server}
-use Rattle.wire_format.specs.Client.{client_head, client_of}
+use Rattle.wire_format.specs.Client.{client_of}
 use Rattle.notify_window.specs.declared.SendState.{SendState}
 use Rattle.notify_window.specs.declared.SendState.TheVariants.{Held, Worn, Room}
 use Rattle.notify_window.specs.Log.{send_state_of}
@@ -22,6 +19,7 @@ use Rattle.event_manager.specs.declared.sender.PostFault.{PostFault}
 use Rattle.event_manager.specs.Sending.{post_answer_of}
 use Rattle.stream_manager.specs.declared.config.Config.{Config}
 use Rattle.stream_manager.specs.declared.fault.EndFault.{EndFault}
+use Rattle.stream_manager.specs.Kinds.{plain_kinds}
 use Rattle.stream_manager.specs.Faults.{server_fault}
 use Rattle.stream_manager.specs.declared.fault.ArriveFault.{ArriveFault}
 use Rattle.stream_manager.specs.declared.fault.ArriveFault.TheVariants as refused
@@ -71,6 +69,7 @@ data_body c log = record {
   control = None;
   blocks = [];
   events = events_for (6 * c.size - SERVER_FIXED_BITS) (server_end log);
+  ghosts = [];
 }
 
 abbrev pub server_ping : Config → List ServerEvent → Header
@@ -89,8 +88,8 @@ packing c log = pack_event c log (server_state c log)
 abbrev pub server_datagrams : List ServerEvent → List (List ℕ)
 server_datagrams [] = []
 server_datagrams (Posted class payload ∷ log) = server_datagrams log
-server_datagrams (Packed p ∷ log) = server_datagrams log ++ datagram (server (down.Body p)) ∷ []
-server_datagrams (Pinged head ∷ log) = server_datagrams log ++ datagram (server (down.Ping head)) ∷ []
+server_datagrams (Packed p ∷ log) = server_datagrams log ++ datagram (server plain_kinds (down.Body p)) ∷ []
+server_datagrams (Pinged head ∷ log) = server_datagrams log ++ datagram (server plain_kinds (down.Ping head)) ∷ []
 server_datagrams (Took p ∷ log) = server_datagrams log
 
 -- ---- arriving

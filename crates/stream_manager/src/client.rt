@@ -2,6 +2,7 @@
 ghost use Rattle.std.specs.Prelude.{◌≡◌, ℕ, ◌*◌, ◌<◌, ◌≤◌, List, [], ◌∷◌, ◌++◌, IfOk, IfErr, OnOk, OnErr, Ok, Err, length, slice_get, drop};
 ghost use Rattle.notify_window.specs.State.{send_state};
 ghost use Rattle.bit_stream.specs.Bits.{datagram};
+ghost use Rattle.stream_manager.specs.Kinds.{plain_kinds};
 ghost use Rattle.tn_types.specs.declared.choices.Class.TheVariants.{Guaranteed, Loose};
 ghost use Rattle.wire_format.specs.declared.client.ClientPacket.TheVariants as up;
 ghost use Rattle.wire_format.specs.Client.{client, client_size, IsClientInRange};
@@ -9,10 +10,12 @@ ghost use Rattle.wire_format.specs.Client.{client, client_size, IsClientInRange}
 use crate::config::Config;
 use crate::end::End;
 use crate::fault::ClientFault;
+use crate::kinds::plain_table;
 use arrayvec::ArrayVec;
 use bit_stream::BitWriter;
 use event_manager::PostFault;
 use notify_window::SendState;
+use quantised_fields::KindTable;
 use std::alloc::Global;
 use std::marker::Model;
 use tn_types::{Class, NoMemory, Payload};
@@ -27,14 +30,19 @@ use wire_format::{
 #[derive(Drop)]
 pub struct Client {
     common: End,
+    kinds: KindTable,
 }
 
 impl Model for Client {
+    ghost use Rattle.std.specs.Prelude.{◌≡◌};
+    ghost use Rattle.stream_manager.specs.Kinds.{plain_kinds};
     ghost use Rattle.stream_manager.specs.Stands.{ClientState};
 
     ghost Value = { ClientState };
 
     ghost view = { λ c. record { common = c.common } };
+
+    ghost invariant = { λ c. c.kinds ≡ plain_kinds };
 }
 
 impl Client {
@@ -54,7 +62,10 @@ impl Client {
         ensures empty { IfOk result (λ c. c.common.receiver.ready ≡ []) }
     {
         let common = End::new(alloc, config)?;
-        Ok(Client { common })
+        Ok(Client {
+            common,
+            kinds: plain_table(),
+        })
     }
 
     /// What the connection was made with.
@@ -137,7 +148,7 @@ impl Client {
         ensures unchanged { OnErr result (self.new ≡ self.old) }
         ensures config { self.new.common.config ≡ self.old.common.config }
     {
-        let packet = match decode_server(bytes) {
+        let packet = match decode_server(bytes, &self.kinds) {
             Ok(packet) => packet,
             Err(fault) => return Err(ClientFault::Bits(fault)),
         };
@@ -146,7 +157,7 @@ impl Client {
 
     /// Takes a packet that was read, or refuses it.
     fn take(&mut self, packet: &ServerPacket) -> Result<(), ClientFault>
-        requires fits { IsServer packet.now }
+        requires fits { IsServer plain_kinds packet.now }
         requires none_waits { self.old.common.receiver.ready ≡ [] }
         ensures answer { (log : List ClientEvent) → ClientStandsFor self.old log → result ≡ without_packet (with_packet packet.now (arrival_answer self.old.common.config.client (client_end log) (seen_down packet.now))) }
         ensures stands { OnOk result ((log : List ClientEvent) → ClientStandsFor self.old log → ClientStandsFor self.new (Took packet.now ∷ log)) }

@@ -15,7 +15,7 @@ ghost use Rattle.event_manager.specs.Receiving.{take_answer, run_of};
 ghost use Rattle.wire_format.specs.Events.{event_size, IsEventInRange};
 ghost use Rattle.wire_format.specs.declared.events.EventItem.{EventItem as OneEvent};
 ghost use Rattle.stream_manager.specs.End.{fitting};
-ghost use Rattle.wire_format.specs.Header.{IsHeader};
+ghost use Rattle.wire_format.specs.Header.{IsHeaderInRange};
 ghost use Rattle.tn_types.specs.declared.choices.Class.TheVariants.{Guaranteed, Loose};
 
 use crate::config::Config;
@@ -111,7 +111,7 @@ impl End {
     fn data_head(&self) -> Header
         requires { send_state self.now.window ≡ SendState.Room }
         ensures head { (log : List EndEvent) → StandsFor self.now log → result ≡ data_head self.now.config.client log }
-        ensures fits { IsHeader result }
+        ensures fits { IsHeaderInRange result }
     {
         let (horizon, mask) = self.window.ack();
         Header {
@@ -126,7 +126,7 @@ impl End {
     fn ping_head(&self) -> Header
         requires { send_state self.now.window ≡ SendState.Held }
         ensures head { (log : List EndEvent) → StandsFor self.now log → result ≡ ping_head self.now.config.client log }
-        ensures fits { IsHeader result }
+        ensures fits { IsHeaderInRange result }
     {
         let (horizon, mask) = self.window.ack();
         Header {
@@ -170,7 +170,7 @@ impl End {
         requires { send_state self.old.window ≡ SendState.Room }
         ensures head { (log : List EndEvent) → StandsFor self.old log → result.0 ≡ data_head self.old.config.client log }
         ensures events { (log : List EndEvent) → StandsFor self.old log → result.1 ≡ events_for room log }
-        ensures head_fits { IsHeader result.0 }
+        ensures head_fits { IsHeaderInRange result.0 }
         ensures events_fit { AllByRecursion IsEventInRange result.1 }
         ensures few { sum_by event_size result.1 ≤ room }
         ensures stands { (log : List EndEvent) → StandsFor self.old log → StandsFor self.new (Packed (data_seen self.old.config.client room log) ∷ log) }
@@ -187,7 +187,7 @@ impl End {
     pub(crate) fn pinged(&self) -> Header
         requires { send_state self.now.window ≡ SendState.Held }
         ensures head { (log : List EndEvent) → StandsFor self.now log → result ≡ ping_head self.now.config.client log }
-        ensures fits { IsHeader result }
+        ensures fits { IsHeaderInRange result }
         ensures stands { (log : List EndEvent) → StandsFor self.now log → StandsFor self.now (Pinged (record { ping = true; head = ping_head self.now.config.client log; events = [] }) ∷ log) }
     {
         self.ping_head()

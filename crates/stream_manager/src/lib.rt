@@ -5,6 +5,7 @@ mod client;
 mod config;
 mod end;
 mod fault;
+mod kinds;
 mod server;
 
 pub use client::Client;

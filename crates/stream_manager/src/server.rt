@@ -2,6 +2,7 @@
 ghost use Rattle.std.specs.Prelude.{◌≡◌, ℕ, ◌*◌, ◌<◌, ◌≤◌, List, [], ◌∷◌, ◌++◌, IfOk, IfErr, OnOk, OnErr, Ok, Err, length, slice_get, drop};
 ghost use Rattle.notify_window.specs.State.{send_state};
 ghost use Rattle.bit_stream.specs.Bits.{datagram};
+ghost use Rattle.stream_manager.specs.Kinds.{plain_kinds};
 ghost use Rattle.tn_types.specs.declared.choices.Class.TheVariants.{Guaranteed, Loose};
 ghost use Rattle.wire_format.specs.declared.server.ServerPacket.TheVariants as down;
 ghost use Rattle.wire_format.specs.Server.{server, server_size, IsServerInRange};
@@ -9,15 +10,17 @@ ghost use Rattle.wire_format.specs.Server.{server, server_size, IsServerInRange}
 use crate::config::Config;
 use crate::end::End;
 use crate::fault::ArriveFault;
+use crate::kinds::plain_table;
 use arrayvec::ArrayVec;
 use bit_stream::BitWriter;
 use event_manager::PostFault;
 use notify_window::SendState;
+use quantised_fields::KindTable;
 use std::alloc::Global;
 use std::marker::Model;
 use tn_types::{Class, NoMemory, Payload};
 use wire_format::{
-    BlockList, ClientPacket, EventList, SERVER_FIXED_BITS, ServerBody, ServerPacket, decode_client, encode_server,
+    BlockList, ClientPacket, EventList, GhostList, SERVER_FIXED_BITS, ServerBody, ServerPacket, decode_client, encode_server,
     server_bits,
 };
 
@@ -27,14 +30,19 @@ use wire_format::{
 #[derive(Drop)]
 pub struct Conn {
     common: End,
+    kinds: KindTable,
 }
 
 impl Model for Conn {
+    ghost use Rattle.std.specs.Prelude.{◌≡◌};
+    ghost use Rattle.stream_manager.specs.Kinds.{plain_kinds};
     ghost use Rattle.stream_manager.specs.Stands.{ConnState};
 
     ghost Value = { ConnState };
 
     ghost view = { λ c. record { common = c.common } };
+
+    ghost invariant = { λ c. c.kinds ≡ plain_kinds };
 }
 
 impl Conn {
@@ -52,7 +60,10 @@ impl Conn {
         ensures empty { IfOk result (λ c. c.common.receiver.ready ≡ []) }
     {
         let common = End::new(alloc, config)?;
-        Ok(Conn { common })
+        Ok(Conn {
+            common,
+            kinds: plain_table(),
+        })
     }
 
     /// What the connection was made with.
@@ -96,7 +107,7 @@ impl Conn {
     /// Makes the next data packet, and gives its bytes.
     pub fn seal(&mut self) -> ArrayVec<u8, 1200>
         requires { send_state self.old.common.window ≡ SendState.Room }
-        ensures bytes { (log : List ServerEvent) → ConnStandsFor self.old log → result.items ≡ datagram (server (down.Body (data_body self.old.common.config log))) }
+        ensures bytes { (log : List ServerEvent) → ConnStandsFor self.old log → result.items ≡ datagram (server plain_kinds (down.Body (data_body self.old.common.config log))) }
         ensures stands { (log : List ServerEvent) → ConnStandsFor self.old log → ConnStandsFor self.new (Packed (data_body self.old.common.config log) ∷ log) }
         ensures config { self.new.common.config ≡ self.old.common.config }
         ensures ready { self.new.common.receiver ≡ self.old.common.receiver }
@@ -109,20 +120,21 @@ impl Conn {
             control: None,
             blocks: BlockList::new(),
             events,
+            ghosts: GhostList::new(),
         });
-        spelled(&packet, size)
+        spelled(&packet, &self.kinds, size)
     }
 
     /// Makes a ping, and gives its bytes.
     pub fn ping(&mut self) -> ArrayVec<u8, 1200>
         requires { send_state self.old.common.window ≡ SendState.Held }
-        ensures bytes { (log : List ServerEvent) → ConnStandsFor self.old log → result.items ≡ datagram (server (down.Ping (server_ping self.old.common.config log))) }
+        ensures bytes { (log : List ServerEvent) → ConnStandsFor self.old log → result.items ≡ datagram (server plain_kinds (down.Ping (server_ping self.old.common.config log))) }
         ensures stands { (log : List ServerEvent) → ConnStandsFor self.old log → ConnStandsFor self.new (Pinged (server_ping self.old.common.config log) ∷ log) }
         ensures config { self.new.common.config ≡ self.old.common.config }
         ensures ready { self.new.common.receiver ≡ self.old.common.receiver }
     {
         let packet = ServerPacket::Ping(self.common.pinged());
-        spelled(&packet, self.common.config().size)
+        spelled(&packet, &self.kinds, self.common.config().size)
     }
 
     /// Takes bytes that came from the client, at most 65,536, or refuses them by the first refusal that holds; nothing
@@ -184,14 +196,14 @@ impl Conn {
 }
 
 /// The datagram of a packet, in as many bytes as it takes, at most `size`.
-fn spelled(packet: &ServerPacket, size: u32) -> ArrayVec<u8, 1200>
-    requires fits { IsServerInRange packet.now }
-    requires room { server_size packet.now ≤ 8 * size }
+fn spelled(packet: &ServerPacket, kinds: &KindTable, size: u32) -> ArrayVec<u8, 1200>
+    requires fits { IsServerInRange kinds.now packet.now }
+    requires room { server_size kinds.now packet.now ≤ 8 * size }
     requires size { size ≤ 1200 }
-    ensures { result.items ≡ datagram (server packet.now) }
+    ensures { result.items ≡ datagram (server kinds.now packet.now) }
 {
-    let _bits = server_bits(packet);
+    let _bits = server_bits(packet, kinds);
     let mut out = BitWriter::new(size);
-    encode_server(packet, &mut out);
+    encode_server(packet, kinds, &mut out);
     out.finish()
 }

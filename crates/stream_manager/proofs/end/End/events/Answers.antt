@@ -1,8 +1,6 @@
-use Rattle.std.proofs.Common.{◌≡◌, ◌≤◌, ◌∙◌, ℕ, List, take, length, sym, subst, ap, arith, length-take}
-use Rattle.std.specs.Prelude.{sum_by}
-use Rattle.std.specs.List.{AllByRecursion}
+use Rattle.std.proofs.Common.{◌≡◌, ◌≤◌, ◌∙◌, List, take, length, sym, subst, ap, arith, length-take}
 use Rattle.wire_format.specs.declared.events.EventItem.{EventItem}
-use Rattle.wire_format.specs.Events.{event_size, IsEventInRange}
+use Rattle.wire_format.specs.Events.{IsEventInRange}
 use Rattle.event_manager.specs.SenderState.{due_now}
 use Rattle.stream_manager.specs.End.{fates, sender_log, fitting}
 use Rattle.stream_manager.specs.EndStands.{EndState, StandsFor}

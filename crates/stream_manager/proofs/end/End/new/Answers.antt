@@ -1,5 +1,4 @@
 use Rattle.std.proofs.Common.{[], arith}
-use Rattle.stream_manager.specs.EndStands.{EndState, StandsFor}
 use Rattle.stream_manager.specs.End.{fates}
 use Rattle.stream_manager.proofs.end.End.new.Goals as goal
 

@@ -1,15 +1,14 @@
-use Rattle.std.proofs.Common.{◌≡◌, ◌≤◌, ◌<◌, ◌+◌, ◌∙◌, ◌∷◌, [], List, ℕ, sym, subst, ap, arith, refl, Ok}
-use Rattle.notify_window.specs.Log.{Came, Told, judged_of, arrival_of}
+use Rattle.std.proofs.Common.{◌≡◌, ◌+◌, ◌∙◌, ◌∷◌, sym, subst, ap, arith, refl, Ok}
+use Rattle.notify_window.specs.Log.{Came, arrival_of}
 use Rattle.notify_window.specs.declared.Arrival.TheVariants.{Fresh}
 use Rattle.notify_window.specs.Stands.{StandsFor as WindowStandsFor}
-use Rattle.wire_format.specs.declared.events.EventItem.{EventItem}
 use Rattle.event_manager.specs.Sending.{fate_for}
 use Rattle.event_manager.specs.Receiving.{take_answer}
 use Rattle.event_manager.specs.ReceiverStands.{StandsFor as ReceiverStandsFor}
 use Rattle.event_manager.specs.SenderStands.{StandsFor as SenderStandsFor}
-use Rattle.stream_manager.specs.End.{Seen, EndEvent, Took, window_log, sender_log, fates, came_of}
+use Rattle.stream_manager.specs.End.{Seen, Took, window_log, sender_log, fates, came_of}
 use Rattle.stream_manager.specs.EndStands.{EndState, StandsFor}
-use Rattle.stream_manager.proofs.Ends.{took_stands, upto, upto-first, upto-more, upto-all, upto-next, same_fates, when_ok}
+use Rattle.stream_manager.proofs.Ends.{took_stands, upto-first, upto-more, upto-all, upto-next, same_fates, when_ok}
 use Rattle.stream_manager.proofs.end.End.take.Goals as goal
 
 pub verdicts-init : goal.verdicts-init

@@ -1,4 +1,4 @@
-use Rattle.std.proofs.Common.{List, [], ◌+◌, ◌≡◌}
+use Rattle.std.proofs.Common.{List, ◌+◌, ◌≡◌}
 use Rattle.event_manager.specs.SenderStands.{StandsFor as SenderStandsFor}
 use Rattle.stream_manager.specs.End.{EndEvent, sender_log}
 use Rattle.stream_manager.specs.EndStands.{StandsFor}

@@ -1,10 +1,10 @@
-use Rattle.std.proofs.Common.{◌≡◌, ◌∙◌, List, ◌++◌, sym, subst, Result, Ok}
+use Rattle.std.proofs.Common.{◌≡◌, ◌∙◌, ◌++◌, sym, subst, Result, Ok}
 use Rattle.wire_format.specs.Client.{client_of}
 use Rattle.wire_format.specs.declared.fault.BitsFault.{BitsFault}
 use Rattle.wire_format.specs.declared.client.ClientPacket.{ClientPacket}
 use Rattle.stream_manager.specs.End.{delivered_at, arrival_answer}
-use Rattle.stream_manager.specs.Server.{ServerEvent, server_end, seen_up, packet_answer, took_at_server}
-use Rattle.stream_manager.specs.Stands.{ConnState, ConnStandsFor}
+use Rattle.stream_manager.specs.Server.{server_end, seen_up, packet_answer, took_at_server}
+use Rattle.stream_manager.specs.Stands.{ConnStandsFor}
 use Rattle.stream_manager.proofs.Arrivals.{server_stands, server_handed}
 use Rattle.stream_manager.proofs.server.Conn.arrive.Goals as goal
 
