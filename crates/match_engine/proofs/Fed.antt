@@ -1,15 +1,14 @@
 -- What a match stands for after a line.
-use Rattle.std.proofs.Common.{◌≡◌, ◌≢◌, ℕ, suc, ◌+◌, ◌<◌, ◌≤◌, Bool, true, false, ◌==◌, List, [], ◌∷◌, if◌then◌else◌, length, get_or, set, refl, sym, ◌∙◌, ap, subst, arith, inl, inr, ◌⊎◌, length-set, get_or-set_same, get_or-set_other}
+use Rattle.std.proofs.Common.{◌≡◌, ◌≢◌, ℕ, ◌+◌, ◌<◌, ◌≤◌, true, false, ◌==◌, List, ◌∷◌, length, get_or, set, refl, sym, ◌∙◌, ap, subst, arith, inl, inr, length-set, get_or-set_same, get_or-set_other}
 use Rattle.std.specs.Prelude.{Result, Ok, Err, IfOk, OnOk}
 use Rattle.std.proofs.lemmas.Bool.Decides.{nat_tests}
 use Rattle.std.proofs.lemmas.Bool.{cases_eq}
 use Rattle.match_script.specs.declared.types.BodyLine.{BodyLine}
 use Rattle.match_script.specs.declared.types.BodyLine.TheVariants as script
 use Rattle.match_script.specs.Ranges.{LineFits}
-use Rattle.stream_manager.specs.declared.config.Config.{Config}
-use Rattle.pair_core.specs.History.{Step, history}
+use Rattle.pair_core.specs.History.{Step}
 use Rattle.pair_core.specs.Stands.{PairState, StandsFor as PairStandsFor}
-use Rattle.match_engine.specs.Journal.{client_of, own, onto, steps_of, journal, config_of}
+use Rattle.match_engine.specs.Journal.{client_of, onto, journal, config_of}
 use Rattle.match_engine.specs.Stands.{MatchState, StandsFor, IsQuiet}
 use Rattle.match_engine.proofs.Counted.{few-down, few-up, few-steps}
 

@@ -1,15 +1,13 @@
 -- The lines of a script make steps whose payloads are in range, so what is delivered is a front of what was posted.
-use Rattle.std.proofs.Common.{◌≡◌, ℕ, zero, suc, ◌+◌, ◌<◌, ◌≤◌, Bool, true, false, ◌==◌, List, [], ◌∷◌, ◌++◌, if◌then◌else◌, length, take, reverse, get_or, refl, sym, ◌∙◌, ap, subst, arith}
+use Rattle.std.proofs.Common.{ℕ, zero, suc, ◌<◌, Bool, true, false, ◌==◌, List, [], ◌∷◌, ◌++◌, if◌then◌else◌, take, reverse, sym, subst, arith}
 use Rattle.std.specs.List.{AllByRecursion, All}
 use Rattle.std.proofs.lemmas.Grind.{reverse_onto}
-use Rattle.tn_types.specs.declared.choices.Class.TheVariants.{Guaranteed}
 use Rattle.match_script.specs.declared.types.BodyLine.{BodyLine}
 use Rattle.match_script.specs.declared.types.BodyLine.TheVariants as script
 use Rattle.match_script.specs.declared.types.Head.{Head}
-use Rattle.match_script.specs.declared.types.Script.{Script}
-use Rattle.match_script.specs.Ranges.{LineFits, HeadFits, HasRanges}
+use Rattle.match_script.specs.Ranges.{LineFits, HeadFits}
 use Rattle.stream_manager.specs.Limits.{IsConfig}
-use Rattle.pair_core.specs.Laws.{StepFits, DeliversDown, DeliversUp}
+use Rattle.pair_core.specs.Laws.{StepFits}
 use Rattle.pair_core.proofs.InOrder.{delivers_down, delivers_up}
 use Rattle.match_engine.specs.Journal.{client_of, own, onto, steps_of, journal, config_of}
 use Rattle.match_engine.specs.Laws.{after, EventsInOrder}

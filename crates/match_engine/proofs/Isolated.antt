@@ -1,12 +1,12 @@
 -- The `pack c` lines of a report come from the lines of c alone.
-use Rattle.std.proofs.Common.{◌≡◌, ℕ, Bool, true, false, ◌==◌, List, [], ◌∷◌, ◌++◌, if◌then◌else◌, refl, sym, ◌∙◌, ap, subst, arith}
+use Rattle.std.proofs.Common.{◌≡◌, ℕ, Bool, true, false, ◌==◌, List, [], ◌∷◌, ◌++◌, if◌then◌else◌, refl, ◌∙◌, ap, arith}
 use Rattle.std.proofs.lemmas.Bool.Decides.{nat_tests}
 use Rattle.std.proofs.lemmas.List.{append-nil}
 use Rattle.match_script.specs.declared.types.BodyLine.{BodyLine}
 use Rattle.match_script.specs.declared.types.BodyLine.TheVariants.{Post, Pack, ClientPack, Down, Up, Show}
 use Rattle.match_script.specs.declared.types.Head.{Head}
 use Rattle.match_report.specs.Text.{report_line}
-use Rattle.match_engine.specs.Journal.{client_of, own, steps_of, journal, config_of}
+use Rattle.match_engine.specs.Journal.{client_of, own, journal, config_of}
 use Rattle.match_engine.specs.Report.{told, line_text, told_lines}
 use Rattle.match_engine.specs.Laws.{is_pack, packs_in, pack_lines}
 

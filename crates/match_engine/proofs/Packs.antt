@@ -1,5 +1,5 @@
 -- What a pack tells: the datagram that it made stands last of those that were sent.
-use Rattle.std.proofs.Common.{◌≡◌, ℕ, true, false, List, [], ◌∷◌, ◌++◌, length, Some, refl, sym, ◌∙◌, ap, subst}
+use Rattle.std.proofs.Common.{◌≡◌, ℕ, true, false, List, [], ◌∷◌, ◌++◌, length, Some, ◌∙◌, ap}
 use Rattle.std.specs.Prelude.{slice_get}
 use Rattle.bit_stream.specs.Bits.{datagram}
 use Rattle.wire_format.specs.declared.server.ServerPacket.TheVariants as server_packet
@@ -19,7 +19,6 @@ use Rattle.pair_core.specs.declared.fault.Made.TheVariants.{Data, Ping}
 use Rattle.pair_core.specs.declared.fault.Made.TheVariants as made_as
 use Rattle.pair_core.specs.History.{Step, Pack, ClientPack, history, onto}
 use Rattle.pair_core.specs.Answers.{made, pack_answer, client_pack_answer}
-use Rattle.pair_core.specs.Stands.{StandsFor, PairState}
 use Rattle.pair_core.proofs.Lists.{slice_get-at}
 use Rattle.match_report.specs.declared.told.Told.{Told}
 use Rattle.match_report.specs.declared.told.Told.TheVariants as told_as

@@ -4,11 +4,11 @@ use Rattle.std.specs.Prelude.{IfSome, OnOk, OnErr, Bool, true, false}
 use Rattle.std.specs.Result.{is_err}
 use Rattle.std.specs.declared.option.Option.{Option}
 use Rattle.std.specs.declared.option.Option.TheVariants.{Some, None}
-use Rattle.std.proofs.lemmas.List.{append-nil, take_all, take_at, drop_at, drop_more, take-append-le, take-append-drop, length-drop, length-take}
+use Rattle.std.proofs.lemmas.List.{append-nil, take_all, take_at, drop_at, drop_more, take-append-le, take-append-drop}
 use Rattle.std.proofs.lemmas.List.Concat.{flat_map-append}
 use Rattle.std.specs.List.{flat_map}
 use Rattle.tn_outside.specs.declared.failed.Failed.{Failed}
-use Rattle.tn_outside.specs.Streams.{Took, ReadTakes, WriteAdds}
+use Rattle.tn_outside.specs.Streams.{ReadTakes, WriteAdds}
 use Rattle.match_engine.specs.Outside.{Drained, Taken, Adds, AddsFront}
 
 take_both : (d k : ℕ) (xs : List ℕ) → take (d + k) xs ≡ take d xs ++ take k (drop d xs)

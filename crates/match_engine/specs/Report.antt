@@ -1,6 +1,6 @@
 -- The report of a script: one line for each line of its body. What a line tells is a function of the journal of the
 -- client that it names, and of nothing else.
-use Rattle.std.specs.Prelude.{ℕ, Bool, true, false, ◌==◌, if◌then◌else◌, List, [], ◌∷◌, ◌++◌, length, map, drop, reverse, Option, Some, None, Result, Ok, Err}
+use Rattle.std.specs.Prelude.{ℕ, true, false, List, [], ◌∷◌, ◌++◌, length, map, drop, reverse, None, Result, Ok, Err}
 use Rattle.std.specs.List.{flat_map}
 use Rattle.tn_types.specs.declared.choices.Class.{Class}
 use Rattle.tn_types.specs.declared.choices.Class.TheVariants.{Guaranteed, Loose}
@@ -19,7 +19,7 @@ use Rattle.stream_manager.specs.Kinds.{plain_kinds}
 use Rattle.stream_manager.specs.declared.config.Config.{Config}
 use Rattle.stream_manager.specs.End.{dropped_of}
 use Rattle.stream_manager.specs.Server.{server_end, server_state, server_datagrams, posted_at_server, data_body, server_ping}
-use Rattle.stream_manager.specs.Client.{client_end, client_state, client_datagrams, client_body, client_ping}
+use Rattle.stream_manager.specs.Client.{client_state, client_datagrams, client_body, client_ping}
 use Rattle.pair_core.specs.declared.fault.DownFault.{DownFault}
 use Rattle.pair_core.specs.declared.fault.DownFault.TheVariants as down
 use Rattle.pair_core.specs.declared.fault.UpFault.{UpFault}
@@ -31,7 +31,7 @@ use Rattle.match_report.specs.declared.told.EventTold.{EventTold}
 use Rattle.match_report.specs.declared.told.Told.{Told}
 use Rattle.match_report.specs.declared.told.Told.TheVariants as told_as
 use Rattle.match_report.specs.Text.{report_line}
-use Rattle.match_engine.specs.Journal.{client_of, own, steps_of, journal, config_of}
+use Rattle.match_engine.specs.Journal.{client_of, journal, config_of}
 
 -- ---- what a line tells, after these steps of its client
 

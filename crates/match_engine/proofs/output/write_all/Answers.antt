@@ -1,6 +1,5 @@
-use Rattle.std.proofs.Common.{◌≡◌, ◌≤◌, ◌+◌, length, take, drop, Result, Ok, List, ℕ, subst, arith, length-drop, ap}
+use Rattle.std.proofs.Common.{length, drop, Ok, arith, length-drop, ap}
 use Rattle.tn_outside.specs.Streams.{WriteAdds}
-use Rattle.match_engine.specs.Outside.{Adds}
 use Rattle.match_engine.proofs.Streams.{adds_more}
 use Rattle.match_engine.proofs.output.write_all.Goals as goal
 

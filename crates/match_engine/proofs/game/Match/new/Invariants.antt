@@ -1,4 +1,4 @@
-use Rattle.std.proofs.Common.{◌≡◌, ◌<◌, ℕ, List, [], length}
+use Rattle.std.proofs.Common.{◌≡◌, ◌<◌, ℕ, [], length}
 use Rattle.std.specs.Prelude.{slice_index_or}
 use Rattle.pair_core.specs.Stands.{PairState, StandsFor as PairStandsFor}
 use Rattle.match_engine.specs.Journal.{config_of}
