@@ -1,0 +1,5 @@
+pub mod Sending
+pub mod ProgressWords
+pub mod SenderState
+pub mod SenderStands
+pub mod Holding

@@ -1,0 +1,14 @@
+//! Datablocks: bytes that every client is to hold, on their way to one client. The rules stand in
+//! docs/connection.md, "Blocks".
+#![tactic(auto)]
+
+mod progress;
+mod receiver;
+mod sender;
+#[cfg(test)]
+mod tests;
+mod words;
+
+pub use progress::{BLOCK_WINDOW, MAX_SCRIPT_BLOCKS, Progress};
+pub use receiver::{BlockFault, BlockReceiver};
+pub use sender::{BlockSender, DueBlocks};

@@ -1,0 +1,158 @@
+//! The client's side: the blocks that it holds, whose bytes never change.
+ghost use Rattle.std.specs.Prelude.{◌≡◌, ℕ, List, [], ◌∷◌, ◌<◌, Some, length, is_some, IfOk, OnOk, OnErr, if◌then◌else◌};
+ghost use Rattle.std.specs.List.{All};
+ghost use Rattle.datablocks.specs.Holding.{block_at, differs_then};
+ghost use Rattle.std.specs.Int.{bit_at};
+
+use crate::progress::MAX_SCRIPT_BLOCKS;
+use crate::words::with_bit;
+use std::alloc::{AllocError, Global};
+use std::marker::Model;
+use tn_types::{BlockBytes, NoMemory};
+use wire_format::{BlockItem, BlockList};
+
+/// A block came with other bytes than those that are held of it.
+#[derive(Clone, Copy, Debug, PartialEq, Eq)]
+pub enum BlockFault {
+    BlockDiffers { number: u8 },
+}
+
+/// The blocks that a client holds. Only `new` takes memory.
+#[derive(Drop)]
+pub struct BlockReceiver {
+    blocks: Vec<Option<BlockBytes>>,
+    held: u64,
+}
+
+impl Model for BlockReceiver {
+    ghost use Rattle.std.specs.Prelude.{List, ℕ, Option};
+    ghost use Rattle.datablocks.specs.Holding.{IsHolding};
+
+    ghost Value = { List (Option (List ℕ)) };
+
+    ghost view = { λ r. r.blocks.items };
+
+    ghost invariant = { λ r. IsHolding r.blocks.items r.held };
+}
+
+impl BlockReceiver {
+    ghost use Rattle.datablocks.specs.Holding.{block_at, held_bit, held_of, take_answer, after_take, check_answer, differs, after_all, StandsFor};
+    ghost use Rattle.wire_format.specs.declared.blocks.BlockItem.{BlockItem};
+
+    /// No block is held.
+    pub fn new(alloc: Global) -> Result<BlockReceiver, NoMemory>
+        ensures { IfOk result (λ r. StandsFor r []) }
+    {
+        match places(alloc) {
+            Ok(blocks) => Ok(BlockReceiver { blocks, held: 0 }),
+            Err(_) => Err(NoMemory),
+        }
+    }
+
+    /// Whether a block is held.
+    pub fn has(&self, number: u8) -> bool
+        requires { number < MAX_SCRIPT_BLOCKS }
+        ensures value { result ≡ is_some (block_at self.now number) }
+        ensures log { (log : List BlockItem) → StandsFor self.now log → result ≡ is_some (held_of number log) }
+    {
+        self.blocks[usize::from(number)].is_some()
+    }
+
+    /// Bit b is set where block b is held.
+    pub fn held(&self) -> u64
+        ensures value { (b : ℕ) → b < MAX_SCRIPT_BLOCKS → bit_at result b ≡ held_bit (block_at self.now b) }
+        ensures log { (log : List BlockItem) → StandsFor self.now log → (b : ℕ) → b < MAX_SCRIPT_BLOCKS → bit_at result b ≡ held_bit (held_of b log) }
+    {
+        self.held
+    }
+
+    /// Takes a block of a packet. `BlockDiffers` comes exactly where its number is held with other bytes, and
+    /// nothing changes then; so no block's bytes ever change (docs/connection.md, "Blocks").
+    pub fn take(&mut self, item: &BlockItem) -> Result<(), BlockFault>
+        requires { item.now.number < MAX_SCRIPT_BLOCKS }
+        ensures answer { result ≡ take_answer self.old item.now }
+        ensures taken { OnOk result (self.new ≡ after_take self.old item.now) }
+        ensures kept { (b : ℕ) (bytes : List ℕ) → block_at self.old b ≡ Some bytes → block_at self.new b ≡ Some bytes }
+        ensures refused { OnErr result (self.new ≡ self.old) }
+        ensures log { (log : List BlockItem) → StandsFor self.old log → OnOk result (StandsFor self.new (item.now ∷ log)) }
+    {
+        let number = usize::from(item.number);
+        if self.differs(item) {
+            return Err(BlockFault::BlockDiffers {
+                number: item.number,
+            });
+        }
+        self.blocks[number] = Some(item.bytes.copy());
+        self.held = with_bit(self.held, number);
+        Ok(())
+    }
+
+    /// The first refusal that taking these blocks in order would meet. A block of the list counts as held for the
+    /// later ones.
+    #[tactic(auto, using(crate::proofs::Taking::check_goes_on, crate::proofs::Taking::check_stops, crate::proofs::Taking::check_ends, crate::proofs::Taking::all_taken))]
+    pub fn check(&self, list: &BlockList) -> Result<(), BlockFault>
+        requires { All (λ item. item.number < MAX_SCRIPT_BLOCKS) list.now }
+        ensures { result ≡ check_answer self.now list.now }
+    {
+        let items = list.as_slice();
+        for (i, item) in items.iter().enumerate() {
+            let (before, _) = items.split_at(i);
+            if self.differs_after(before, item) {
+                return Err(BlockFault::BlockDiffers {
+                    number: item.number,
+                });
+            }
+        }
+        Ok(())
+    }
+
+    // Whether the block is held with other bytes.
+    fn differs(&self, item: &BlockItem) -> bool
+        requires { item.now.number < MAX_SCRIPT_BLOCKS }
+        ensures value { result ≡ differs (block_at self.now item.now.number) item.now.bytes }
+        ensures places { length self.now ≡ MAX_SCRIPT_BLOCKS }
+    {
+        match &self.blocks[usize::from(item.number)] {
+            Some(bytes) => bytes.as_slice() != item.bytes.as_slice(),
+            None => false,
+        }
+    }
+
+    // The same once the blocks before were taken.
+    #[tactic(auto, using(crate::proofs::Taking::differs_more))]
+    fn differs_after(&self, before: &[BlockItem], item: &BlockItem) -> bool
+        requires before { All (λ item. item.number < MAX_SCRIPT_BLOCKS) before.now }
+        requires number { item.now.number < MAX_SCRIPT_BLOCKS }
+        ensures { result ≡ differs (block_at (after_all self.now before.now) item.now.number) item.now.bytes }
+    {
+        let mut differs = self.differs(item);
+        for earlier in before {
+            differs = differs_then(differs, earlier, item);
+        }
+        differs
+    }
+}
+
+// Whether other bytes than the item's are held, once an earlier item was taken.
+fn differs_then(before: bool, earlier: &BlockItem, item: &BlockItem) -> bool
+    ensures { result ≡ differs_then before earlier.now item.now }
+{
+    if earlier.number == item.number {
+        earlier.bytes.as_slice() != item.bytes.as_slice()
+    } else {
+        before
+    }
+}
+
+// A place for each block.
+#[tactic(auto, using(crate::proofs::Taking::none_more))]
+fn places(alloc: Global) -> Result<Vec<Option<BlockBytes>>, AllocError>
+    ensures places { IfOk result (λ places. length places.items ≡ MAX_SCRIPT_BLOCKS) }
+    ensures none { IfOk result (λ places. (b : ℕ) → block_at places.items b ≡ None) }
+{
+    let mut places = Vec::with_capacity(alloc, MAX_SCRIPT_BLOCKS)?;
+    for _ in 0..MAX_SCRIPT_BLOCKS {
+        places.push(None)?;
+    }
+    Ok(places)
+}

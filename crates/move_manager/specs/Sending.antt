@@ -1,0 +1,54 @@
+-- Moves at the client. All that was sampled is one list, of which the server told that it has some first part; what
+-- waits is the rest, and a packet carries all of it. A log has what happened, the newest first.
+use Rattle.std.specs.Prelude.{ℕ, ◌≡◌, ◌+◌, ◌≤◌, ◌==◌, nat_lt, max, List, [], ◌∷◌, ◌++◌, length, drop, if◌then◌else◌, Result, Ok, Err}
+use Rattle.tn_types.specs.declared.moves.Move.{Move}
+use Rattle.move_manager.specs.declared.faults.MoveFault.{MoveFault}
+use Rattle.move_manager.specs.declared.faults.MoveFault.TheVariants.{Worn, Full}
+use Rattle.move_manager.specs.declared.faults.MoveAhead.{MoveAhead}
+
+pub data Event : Type 0 where
+  Sampled : Move → Event
+  Acked : (count : ℕ) → Event
+
+-- the moves sampled so far, the oldest first: move n stands at place n
+abbrev pub sampled_of : List Event → List Move
+sampled_of [] = []
+sampled_of (Sampled m ∷ log) = sampled_of log ++ m ∷ []
+sampled_of (Acked count ∷ log) = sampled_of log
+
+-- how many of them the server told that it has, at the most
+abbrev pub acked_of : List Event → ℕ
+acked_of [] = 0
+acked_of (Sampled m ∷ log) = acked_of log
+acked_of (Acked count ∷ log) = max (acked_of log) count
+
+-- the moves in a packet, with the number of the first
+pub record Packet : Type 0 where
+  pub first : ℕ
+  pub moves : List Move
+
+-- what a packet carries: all from the first that the server may lack
+abbrev pub packet_of : List Event → Packet
+packet_of log = record { first = acked_of log; moves = drop (acked_of log) (sampled_of log) }
+
+-- what a sender shows: the number of its first waiting move, and all that wait
+pub record Sender : Type 0 where
+  pub life : ℕ
+  pub first : ℕ
+  pub waiting : List Move
+
+pub record StandsFor (s : Sender) (log : List Event) : Type 0 where
+  pub first : s.first ≡ acked_of log
+  pub within : s.first ≤ length (sampled_of log)
+  pub waiting : s.waiting ≡ drop (acked_of log) (sampled_of log)
+
+abbrev pub sample_answer : Sender → Result ℕ MoveFault
+sample_answer s =
+    if s.first + length s.waiting == s.life then Err (Worn s.life)
+    else if length s.waiting == 32 then Err (Full s.first (s.first + 31))
+    else Ok (s.first + length s.waiting)
+
+abbrev pub acked_answer : ℕ → Sender → Result (Unit {0}) MoveAhead
+acked_answer count s =
+    if nat_lt (s.first + length s.waiting) count then Err (record { count = count; sampled = s.first + length s.waiting })
+    else Ok tt

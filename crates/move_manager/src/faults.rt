@@ -1,0 +1,28 @@
+//! Why a move, or what a packet says of moves, is refused.
+
+/// Why a move is not sampled.
+#[derive(Clone, Copy, Debug, PartialEq, Eq)]
+pub enum MoveFault {
+    /// As many moves were sampled as a connection has in its life.
+    Worn { life: u32 },
+    /// The server has not told yet that it has these: the first and the last of 32.
+    Full { first: u32, last: u32 },
+}
+
+/// The server told of more moves than were sampled.
+#[derive(Clone, Copy, Debug, PartialEq, Eq)]
+pub struct MoveAhead {
+    /// What it told.
+    pub count: u32,
+    /// Moves sampled so far.
+    pub sampled: u32,
+}
+
+/// A packet begins with a move behind the next one.
+#[derive(Clone, Copy, Debug, PartialEq, Eq)]
+pub struct MoveGap {
+    /// The packet's first move.
+    pub first: u32,
+    /// Moves accepted so far, which is the number of the next one.
+    pub accepted: u32,
+}

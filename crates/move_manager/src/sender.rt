@@ -1,0 +1,126 @@
+//! The client's side: moves wait until the server tells that it has them.
+ghost use Rattle.std.specs.Prelude.{◌≡◌, ℕ, List, [], ◌∷◌, ◌++◌, ◌+◌, ◌-◌, ◌≤◌, length, drop, max, OnOk, OnErr};
+
+use crate::faults::{MoveAhead, MoveFault};
+use notify_window::MAX_LIFE;
+use std::marker::Model;
+use tn_types::Move;
+use wire_format::{MAX_MOVES, MoveList};
+
+/// Moves that may wait at a client until the server has them: as many as a packet carries.
+pub const MAX_WAITING_MOVES: usize = MAX_MOVES;
+
+/// The moves of a client that the server may lack. Each packet carries all of them, so a lost packet costs nothing.
+/// No call takes memory.
+#[derive(Drop)]
+pub struct MoveSender {
+    life: u32,
+    first: u32,
+    waiting: MoveList,
+}
+
+impl Model for MoveSender {
+    ghost use Rattle.std.specs.Prelude.{◌≤◌, ◌+◌, length};
+    ghost use Rattle.move_manager.specs.Sending.{Sender};
+
+    ghost Value = { Sender };
+
+    ghost view = { λ s. record { life = s.life; first = s.first; waiting = s.waiting } };
+
+    ghost invariant = { λ s. (s.first + length s.waiting ≤ s.life) × (s.life ≤ 16777215) };
+}
+
+impl MoveSender {
+    ghost use Rattle.move_manager.specs.Sending.{Event, Sampled, Acked, sampled_of, acked_of, sample_answer, acked_answer, StandsFor};
+
+    /// No move yet. `life` is 1 to 16,777,215.
+    pub fn new(life: u32) -> MoveSender
+        requires least { 1 ≤ life }
+        requires most { life ≤ MAX_LIFE }
+        ensures value { result ≡ record { life = life; first = 0; waiting = [] } }
+        ensures log { StandsFor result [] }
+    {
+        MoveSender {
+            life,
+            first: 0,
+            waiting: MoveList::new(),
+        }
+    }
+
+    /// Takes a move of the player and gives its number. `Worn` comes exactly where `life` moves were sampled, else
+    /// `Full` exactly where 32 wait; nothing changes then (docs/connection.md, "Moves").
+    #[tactic(auto, using(crate::proofs::Logs::sampled_more, crate::proofs::Logs::count_sampled))]
+    pub fn sample(&mut self, m: Move) -> Result<u32, MoveFault>
+        ensures answer { result ≡ sample_answer self.old }
+        ensures sampled { OnOk result (self.new ≡ record self.old { waiting = self.old.waiting ++ m ∷ [] }) }
+        ensures refused { OnErr result (self.new ≡ self.old) }
+        ensures log { (log : List Event) → StandsFor self.old log → OnOk result (StandsFor self.new (Sampled m ∷ log)) }
+    {
+        let number = self.first + self.waiting.len() as u32;
+        if number == self.life {
+            return Err(MoveFault::Worn { life: self.life });
+        }
+        if self.waiting.is_full() {
+            return Err(MoveFault::Full {
+                first: self.first,
+                last: number - 1,
+            });
+        }
+        self.waiting.push(m);
+        Ok(number)
+    }
+
+    /// The server told that it has the first `count` moves. A lower count than before changes nothing;
+    /// `MoveAhead` comes exactly where the count is above the moves sampled, and nothing changes then.
+    #[tactic(auto, using(crate::proofs::Logs::acked_more, crate::proofs::Logs::count_sampled))]
+    pub fn acked(&mut self, count: u32) -> Result<(), MoveAhead>
+        ensures answer { result ≡ acked_answer count self.old }
+        ensures acked { OnOk result (self.new ≡ record self.old { first = max self.old.first count; waiting = drop (count - self.old.first) self.old.waiting }) }
+        ensures refused { OnErr result (self.new ≡ self.old) }
+        ensures log { (log : List Event) → StandsFor self.old log → OnOk result (StandsFor self.new (Acked count ∷ log)) }
+    {
+        let sampled = self.first + self.waiting.len() as u32;
+        if count > sampled {
+            return Err(MoveAhead { count, sampled });
+        }
+        if count > self.first {
+            let (_, rest) = self
+                .waiting
+                .as_slice()
+                .split_at((count - self.first) as usize);
+            self.waiting = listed(rest);
+            self.first = count;
+        }
+        Ok(())
+    }
+
+    /// The number of the first move that the server may lack, and all moves from it on: what a packet carries.
+    pub fn pending(&self) -> (u32, MoveList)
+        ensures value { result ≡ (self.now.first, self.now.waiting) }
+        ensures log { (log : List Event) → StandsFor self.now log → result ≡ (acked_of log, drop (acked_of log) (sampled_of log)) }
+    {
+        (self.first, listed(self.waiting.as_slice()))
+    }
+
+    /// How many moves were sampled so far.
+    #[tactic(auto, using(crate::proofs::Logs::count_sampled))]
+    pub fn sampled(&self) -> u32
+        ensures value { result ≡ self.now.first + length self.now.waiting }
+        ensures within { result ≤ self.now.life }
+        ensures log { (log : List Event) → StandsFor self.now log → result ≡ length (sampled_of log) }
+    {
+        self.first + self.waiting.len() as u32
+    }
+}
+
+// These moves as a list.
+fn listed(moves: &[Move]) -> MoveList
+    requires { length moves.now ≤ MAX_WAITING_MOVES }
+    ensures { result ≡ moves.now }
+{
+    let mut list = MoveList::new();
+    for m in moves {
+        list.push(*m);
+    }
+    list
+}
