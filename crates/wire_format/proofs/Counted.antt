@@ -10,7 +10,7 @@ abbrev pub with_front : {A : Type 0} → List A → Result (List A × Unread) Bi
 with_front front read = read >>= λ x. Ok (front ++ x.0, x.1)
 
 module _ {A : Type 0} where
-  regroup : (front : List A) (x : A) (read : Result (List A × Unread) BitsFault) → with_front front (read >>= λ y. Ok (x ∷ y.0, y.1)) ≡ with_front (front ++ x ∷ []) read
+  pub regroup : (front : List A) (x : A) (read : Result (List A × Unread) BitsFault) → with_front front (read >>= λ y. Ok (x ∷ y.0, y.1)) ≡ with_front (front ++ x ∷ []) read
   regroup front x (Ok y) = ap (λ (xs : List A). Ok (xs, y.1)) (simp append_assoc)
   regroup front x (Err f) = refl
 

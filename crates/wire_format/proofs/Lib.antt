@@ -9,3 +9,5 @@ pub mod MoveFormat
 pub mod ServerFormat
 pub mod ClientFormat
 pub mod Steps
+pub mod GhostFormat
+pub mod Levels

@@ -5,6 +5,7 @@ use Rattle.std.specs.List.{flat_map}
 use Rattle.std.proofs.lemmas.List.Sums.{sum_by-cons}
 use Rattle.bit_stream.specs.Bits.{number}
 use Rattle.bit_stream.proofs.Numbers.{length-number}
+use Rattle.quantised_fields.specs.declared.kind.Kind.{Kind}
 use Rattle.tn_types.specs.declared.moves.Move.{Move}
 use Rattle.wire_format.specs.declared.widths.TheConstants.{SLOT_WIDTH}
 use Rattle.wire_format.specs.declared.blocks.BlockItem.{BlockItem}
@@ -21,8 +22,10 @@ use Rattle.wire_format.specs.Header.{header}
 use Rattle.wire_format.specs.Blocks.{block, block_size}
 use Rattle.wire_format.specs.Events.{event, event_size}
 use Rattle.wire_format.specs.Moves.{the_move}
+use Rattle.wire_format.specs.Ghosts.{ghost_item, ghost_size}
 use Rattle.wire_format.specs.Server.{server, server_rest, server_size}
 use Rattle.wire_format.specs.Client.{client, client_rest, client_size}
+use Rattle.wire_format.proofs.Levels.{length-ghost}
 use Rattle.wire_format.proofs.Lengths.{length-octets}
 
 abbrev none : List Bool
@@ -49,8 +52,8 @@ length-block b = grind (arith, length-append, length-number, length-octets)
 pub length-move : (m : Move) → length (the_move m) ≡ 10
 length-move m = grind (arith, length-append, length-number)
 
-pub length-server_rest : (p : ServerBody) → length (server_rest p) ≡ 41 + length (optional SLOT_WIDTH p.control) + length (flat_map block p.blocks) + length (flat_map event p.events)
-length-server_rest p = grind (arith, length-append, length-number)
+pub length-server_rest : (kinds : List Kind) (p : ServerBody) → length (server_rest kinds p) ≡ 41 + length (optional SLOT_WIDTH p.control) + length (flat_map block p.blocks) + length (flat_map event p.events) + length (flat_map (ghost_item kinds) p.ghosts)
+length-server_rest kinds p = grind (arith, length-append, length-number)
 
 length-optional : (width : ℕ) (o : Option ℕ) → length (optional width o) ≡ 1 + (if is_some o then width else 0)
 length-optional width None = grind (arith, length-append, length-number)
@@ -61,13 +64,13 @@ length-moves [] = refl
 length-moves (m ∷ ms) = omega (arith, length-append (the_move m) (flat_map the_move ms), length-move m, length-moves ms)
 
 -- behind the header
-pub length-server_data : (p : ServerBody) → length (server (Body p)) ≡ 86 + length (server_rest p)
-length-server_data p = omega (arith, length-append (number 2 0) (header p.head ++ server_rest p), length-number 2 0, length-append (header p.head) (server_rest p), length-header p.head)
+pub length-server_data : (kinds : List Kind) (p : ServerBody) → length (server kinds (Body p)) ≡ 86 + length (server_rest kinds p)
+length-server_data kinds p = omega (arith, length-append (number 2 0) (header p.head ++ server_rest kinds p), length-number 2 0, length-append (header p.head) (server_rest kinds p), length-header p.head)
 
-pub length-server : (p : ServerPacket) → length (server p) ≡ server_size p
-length-server (Ping h) = omega (arith, length-append (number 2 1) (header h ++ none), length-number 2 1, length-append (header h) none, length-header h)
-length-server (Body p) =
-    omega (arith, length-server_data p, length-server_rest p, length-optional SLOT_WIDTH p.control, length-items block block_size p.blocks length-block, length-items event event_size p.events length-event)
+pub length-server : (kinds : List Kind) (p : ServerPacket) → length (server kinds p) ≡ server_size kinds p
+length-server kinds (Ping h) = omega (arith, length-append (number 2 1) (header h ++ none), length-number 2 1, length-append (header h) none, length-header h)
+length-server kinds (Body p) =
+    omega (arith, length-server_data kinds p, length-server_rest kinds p, length-optional SLOT_WIDTH p.control, length-items block block_size p.blocks length-block, length-items event event_size p.events length-event, length-items (ghost_item kinds) (ghost_size kinds) p.ghosts (length-ghost kinds))
 
 pub length-client_rest : (p : ClientBody) → length (client_rest p) ≡ 35 + length (flat_map the_move p.moves) + length (flat_map event p.events)
 length-client_rest p = grind (arith, length-append, length-number)

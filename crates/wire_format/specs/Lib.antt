@@ -8,3 +8,4 @@ pub mod Moves
 pub mod Server
 pub mod Client
 pub mod Sizes
+pub mod Ghosts

@@ -30,11 +30,15 @@ short_as_fault (Err e) = Err (record { place = e.place; cause = causes.Short })
 unfoldable pub part_at : ℕ → Unread → Result (ℕ × Unread) BitsFault
 part_at width s = short_as_fault (number_at width s)
 
--- a number from least to most; another one is a fault where it begins
-unfoldable pub within_at : BitsCause → ℕ → ℕ → ℕ → Unread → Result (ℕ × Unread) BitsFault
-within_at cause least most width s = do
+-- a number that passes a test; another one is a fault where it begins
+unfoldable pub such_at : BitsCause → (ℕ → Bool) → ℕ → Unread → Result (ℕ × Unread) BitsFault
+such_at cause test width s = do
   n ← part_at width s
-  if nat_le least n.0 && nat_le n.0 most then Ok n else Err (record { place = s.place; cause = cause })
+  if test n.0 then Ok n else Err (record { place = s.place; cause = cause })
+
+-- a number from least to most
+abbrev pub within_at : BitsCause → ℕ → ℕ → ℕ → Unread → Result (ℕ × Unread) BitsFault
+within_at cause least most width s = such_at cause (λ n. nat_le least n && nat_le n most) width s
 
 -- ---- a number behind a flag
 

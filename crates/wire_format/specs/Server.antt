@@ -1,11 +1,12 @@
--- A packet of the server: how it is spelled, and how it is read. A ping is a header alone.
+-- A packet of the server under a table of kinds: how it is spelled, and how it is read. A ping is a
+-- header alone.
 use Rattle.std.specs.Prelude.{ℕ, ◌+◌, ◌-◌, ◌<◌, ◌^◌, ◌==◌, if◌then◌else◌, is_some, sum_by, List, [], ◌∷◌, ◌++◌, Bool, Result, Ok, IfSome}
 use Rattle.std.specs.List.{AllByRecursion}
 use Rattle.bit_stream.specs.Bits.{number}
 use Rattle.bit_stream.specs.Reading.{Unread}
-use Rattle.wire_format.specs.declared.widths.TheConstants.{KIND_WIDTH, DATA, PING, NUMBER_WIDTH, SLOT_WIDTH, BLOCK_COUNT_WIDTH, EVENT_COUNT_WIDTH, GHOST_COUNT_WIDTH, MAX_BLOCKS, MAX_EVENTS, HEADER_BITS, SERVER_FIXED_BITS}
+use Rattle.wire_format.specs.declared.widths.TheConstants.{KIND_WIDTH, DATA, PING, NUMBER_WIDTH, SLOT_WIDTH, BLOCK_COUNT_WIDTH, EVENT_COUNT_WIDTH, GHOST_COUNT_WIDTH, MAX_BLOCKS, MAX_EVENTS, MAX_GHOSTS, HEADER_BITS, SERVER_FIXED_BITS}
 use Rattle.wire_format.specs.declared.fault.BitsFault.{BitsFault}
-use Rattle.wire_format.specs.declared.fault.BitsCause.TheVariants.{KindBits, CountBits}
+use Rattle.wire_format.specs.declared.fault.BitsCause.TheVariants.{KindBits}
 use Rattle.wire_format.specs.declared.header.Header.{Header}
 use Rattle.wire_format.specs.declared.server.ServerBody.{ServerBody}
 use Rattle.wire_format.specs.declared.server.ServerPacket.{ServerPacket}
@@ -13,21 +14,23 @@ use Rattle.wire_format.specs.declared.server.ServerPacket.TheVariants.{Ping, Bod
 use Rattle.wire_format.specs.Reading.{◌>>=◌, spelled, part_at, within_at, optional, optional_at, listed, listed_at, AreListed, whole_of}
 use Rattle.wire_format.specs.Header.{header, header_at, IsHeader, IsHeaderInRange}
 use Rattle.wire_format.specs.Blocks.{block, block_at, block_size, IsBlock, IsBlockInRange}
+use Rattle.quantised_fields.specs.declared.kind.Kind.{Kind}
+use Rattle.wire_format.specs.Ghosts.{ghost_item, ghost_at, ghost_size, IsGhost, IsGhostInRange}
 use Rattle.wire_format.specs.Events.{event, event_at, event_size, IsEvent, IsEventInRange}
 
 -- ---- what stands behind the header of a data packet
 
-abbrev pub server_rest : ServerBody → List Bool
-server_rest p = spelled (number NUMBER_WIDTH p.accepted ∷ optional SLOT_WIDTH p.control ∷ listed BLOCK_COUNT_WIDTH block p.blocks ∷ listed EVENT_COUNT_WIDTH event p.events ∷ number GHOST_COUNT_WIDTH 0 ∷ [])
+abbrev pub server_rest : List Kind → ServerBody → List Bool
+server_rest kinds p = spelled (number NUMBER_WIDTH p.accepted ∷ optional SLOT_WIDTH p.control ∷ listed BLOCK_COUNT_WIDTH block p.blocks ∷ listed EVENT_COUNT_WIDTH event p.events ∷ listed GHOST_COUNT_WIDTH (ghost_item kinds) p.ghosts ∷ [])
 
-unfoldable pub server_body_at : Header → Unread → Result (ServerBody × Unread) BitsFault
-server_body_at head s = do
+unfoldable pub server_body_at : List Kind → Header → Unread → Result (ServerBody × Unread) BitsFault
+server_body_at kinds head s = do
   accepted ← part_at NUMBER_WIDTH s
   control ← optional_at SLOT_WIDTH accepted.1
   blocks ← listed_at MAX_BLOCKS BLOCK_COUNT_WIDTH block_at control.1
   events ← listed_at MAX_EVENTS EVENT_COUNT_WIDTH event_at blocks.1
-  ghosts ← within_at CountBits 0 0 GHOST_COUNT_WIDTH events.1
-  Ok (record { head = head; accepted = accepted.0; control = control.0; blocks = blocks.0; events = events.0 }, ghosts.1)
+  ghosts ← listed_at MAX_GHOSTS GHOST_COUNT_WIDTH (ghost_at kinds) events.1
+  Ok (record { head = head; accepted = accepted.0; control = control.0; blocks = blocks.0; events = events.0; ghosts = ghosts.0 }, ghosts.1)
 
 -- ---- the packet
 
@@ -39,54 +42,56 @@ abbrev pub server_head : ServerPacket → Header
 server_head (Ping head) = head
 server_head (Body p) = p.head
 
-abbrev pub behind_header : ServerPacket → List Bool
-behind_header (Ping head) = []
-behind_header (Body p) = server_rest p
+abbrev pub behind_header : List Kind → ServerPacket → List Bool
+behind_header kinds (Ping head) = []
+behind_header kinds (Body p) = server_rest kinds p
 
-abbrev pub server : ServerPacket → List Bool
-server p = number KIND_WIDTH (server_kind p) ++ (header (server_head p) ++ behind_header p)
+abbrev pub server : List Kind → ServerPacket → List Bool
+server kinds p = number KIND_WIDTH (server_kind p) ++ (header (server_head p) ++ behind_header kinds p)
 
-abbrev pub server_of_kind : ℕ → Header → Unread → Result (ServerPacket × Unread) BitsFault
-server_of_kind kind head s = if kind == PING then Ok (Ping head, s) else (do
-  body ← server_body_at head s
+abbrev pub server_of_kind : List Kind → ℕ → Header → Unread → Result (ServerPacket × Unread) BitsFault
+server_of_kind kinds kind head s = if kind == PING then Ok (Ping head, s) else (do
+  body ← server_body_at kinds head s
   Ok (Body body.0, body.1))
 
-unfoldable pub server_at : Unread → Result (ServerPacket × Unread) BitsFault
-server_at s = do
+unfoldable pub server_at : List Kind → Unread → Result (ServerPacket × Unread) BitsFault
+server_at kinds s = do
   kind ← within_at KindBits DATA PING KIND_WIDTH s
   head ← header_at kind.1
-  server_of_kind kind.0 head.0 head.1
+  server_of_kind kinds kind.0 head.0 head.1
 
 -- the packet that these bytes are, or the first fault
-abbrev pub server_of : List ℕ → Result ServerPacket BitsFault
-server_of bytes = whole_of server_at bytes
+abbrev pub server_of : List Kind → List ℕ → Result ServerPacket BitsFault
+server_of kinds bytes = whole_of (server_at kinds) bytes
 
 -- ---- what has a spelling
 
 -- each number fits its part
-pub record IsServerBodyInRange (p : ServerBody) : Type 0 where
+pub record IsServerBodyInRange (kinds : List Kind) (p : ServerBody) : Type 0 where
   pub head : IsHeaderInRange p.head
   pub accepted : p.accepted < 2 ^ NUMBER_WIDTH
   pub blocks : AllByRecursion IsBlockInRange p.blocks
   pub events : AllByRecursion IsEventInRange p.events
+  pub ghosts : AllByRecursion (IsGhostInRange kinds) p.ghosts
 
-abbrev pub IsServerInRange : ServerPacket → Type 0
-IsServerInRange (Ping head) = IsHeaderInRange head
-IsServerInRange (Body p) = IsServerBodyInRange p
+abbrev pub IsServerInRange : List Kind → ServerPacket → Type 0
+IsServerInRange kinds (Ping head) = IsHeaderInRange head
+IsServerInRange kinds (Body p) = IsServerBodyInRange kinds p
 
-pub record IsServerBody (p : ServerBody) : Type 0 where
+pub record IsServerBody (kinds : List Kind) (p : ServerBody) : Type 0 where
   pub head : IsHeader p.head
   pub accepted : p.accepted < 2 ^ NUMBER_WIDTH
   pub control : IfSome p.control (λ slot. slot < 2 ^ SLOT_WIDTH)
   pub blocks : AreListed MAX_BLOCKS IsBlock p.blocks
   pub events : AreListed MAX_EVENTS IsEvent p.events
+  pub ghosts : AreListed MAX_GHOSTS (IsGhost kinds) p.ghosts
 
-abbrev pub IsServer : ServerPacket → Type 0
-IsServer (Ping head) = IsHeader head
-IsServer (Body p) = IsServerBody p
+abbrev pub IsServer : List Kind → ServerPacket → Type 0
+IsServer kinds (Ping head) = IsHeader head
+IsServer kinds (Body p) = IsServerBody kinds p
 
 -- ---- how many bits it has
 
-abbrev pub server_size : ServerPacket → ℕ
-server_size (Ping head) = HEADER_BITS
-server_size (Body p) = SERVER_FIXED_BITS - SLOT_WIDTH + (if is_some p.control then SLOT_WIDTH else 0) + sum_by block_size p.blocks + sum_by event_size p.events
+abbrev pub server_size : List Kind → ServerPacket → ℕ
+server_size kinds (Ping head) = HEADER_BITS
+server_size kinds (Body p) = SERVER_FIXED_BITS - SLOT_WIDTH + (if is_some p.control then SLOT_WIDTH else 0) + sum_by block_size p.blocks + sum_by event_size p.events + sum_by (ghost_size kinds) p.ghosts

@@ -1,6 +1,8 @@
 -- The size of an item or a packet is the number of its bits, so that the shares of a packet can be
 -- reckoned without spelling it.
-use Rattle.std.specs.Prelude.{◌≡◌, length}
+use Rattle.std.specs.Prelude.{◌≡◌, List, length}
+use Rattle.quantised_fields.specs.declared.kind.Kind.{Kind}
+use Rattle.wire_format.specs.declared.ghosts.GhostItem.{GhostItem}
 use Rattle.tn_types.specs.declared.moves.Move.{Move}
 use Rattle.wire_format.specs.declared.widths.TheConstants.{MOVE_BITS}
 use Rattle.wire_format.specs.declared.blocks.BlockItem.{BlockItem}
@@ -10,6 +12,7 @@ use Rattle.wire_format.specs.declared.client.ClientPacket.{ClientPacket}
 use Rattle.wire_format.specs.Blocks.{block, block_size}
 use Rattle.wire_format.specs.Events.{event, event_size}
 use Rattle.wire_format.specs.Moves.{the_move}
+use Rattle.wire_format.specs.Ghosts.{ghost_item, ghost_size}
 use Rattle.wire_format.specs.Server.{server, server_size}
 use Rattle.wire_format.specs.Client.{client, client_size}
 
@@ -17,5 +20,6 @@ pub record SizesAreBits : Type 0 where
   pub of_block : (b : BlockItem) → length (block b) ≡ block_size b
   pub of_event : (e : EventItem) → length (event e) ≡ event_size e
   pub of_move : (m : Move) → length (the_move m) ≡ MOVE_BITS
-  pub of_server : (p : ServerPacket) → length (server p) ≡ server_size p
+  pub of_ghost : (kinds : List Kind) (g : GhostItem) → length (ghost_item kinds g) ≡ ghost_size kinds g
+  pub of_server : (kinds : List Kind) (p : ServerPacket) → length (server kinds p) ≡ server_size kinds p
   pub of_client : (p : ClientPacket) → length (client p) ≡ client_size p

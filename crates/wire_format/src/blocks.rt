@@ -64,26 +64,28 @@ pub fn block_bits(item: &BlockItem) -> u32
 }
 
 impl Item for BlockItem {
+    type Context = ();
+
     ghost use Rattle.wire_format.specs.Blocks.{block, block_at, IsBlockInRange, IsBlock};
 
-    ghost spelling = { block };
+    ghost spelling = { λ _. block };
 
-    ghost reading = { block_at };
+    ghost reading = { λ _. block_at };
 
-    ghost in_range = { IsBlockInRange };
+    ghost in_range = { λ _. IsBlockInRange };
 
-    ghost is_item = { IsBlock };
+    ghost is_item = { λ _. IsBlock };
 
-    fn read(reader: &mut BitReader<'_>) -> Result<Self, BitsFault> {
+    fn read(reader: &mut BitReader<'_>, _context: &()) -> Result<Self, BitsFault> {
         read_block(reader)
     }
 
-    fn bits(&self) -> u32 {
+    fn bits(&self, _context: &()) -> u32 {
         block_bits(self)
     }
 
     #[tactic(auto, using(crate::proofs::Lengths::lengths))]
-    fn put(&self, out: &mut BitWriter) {
+    fn put(&self, _context: &(), out: &mut BitWriter) {
         out.put(u32::from(self.number), BLOCK_NUMBER_WIDTH);
         let bytes = self.bytes.as_slice();
         out.put(bytes.len() as u32, BLOCK_LENGTH_WIDTH);

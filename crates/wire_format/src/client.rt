@@ -41,8 +41,8 @@ fn read_client_body(reader: &mut BitReader<'_>, head: Header) -> Result<ClientBo
     ensures { Gives result reader.new (client_body_at head reader.old) }
 {
     let first = part(reader, NUMBER_WIDTH)?;
-    let moves = read_list(reader, MAX_MOVES as u32, MOVE_COUNT_WIDTH)?;
-    let events = read_list(reader, MAX_EVENTS as u32, EVENT_COUNT_WIDTH)?;
+    let moves = read_list(reader, &(), MAX_MOVES as u32, MOVE_COUNT_WIDTH)?;
+    let events = read_list(reader, &(), MAX_EVENTS as u32, EVENT_COUNT_WIDTH)?;
     Ok(ClientBody {
         head,
         first,
@@ -86,8 +86,8 @@ fn client_rest_bits(body: &ClientBody) -> u32
     ensures value { result ≡ length (client_rest body.now) }
     ensures few { result ≤ MAX_PACKET_BITS }
 {
-    let moves = list_bits(&body.moves);
-    let events = list_bits(&body.events);
+    let moves = list_bits(&(), &body.moves);
+    let events = list_bits(&(), &body.events);
     NUMBER_WIDTH + MOVE_COUNT_WIDTH + EVENT_COUNT_WIDTH + moves + events
 }
 
@@ -114,8 +114,8 @@ fn put_client_rest(out: &mut BitWriter, body: &ClientBody)
     ensures size { out.new.size ≡ out.old.size }
 {
     out.put(body.first, NUMBER_WIDTH);
-    put_list(out, &body.moves, MOVE_COUNT_WIDTH);
-    put_list(out, &body.events, EVENT_COUNT_WIDTH);
+    put_list(out, &(), &body.moves, MOVE_COUNT_WIDTH);
+    put_list(out, &(), &body.events, EVENT_COUNT_WIDTH);
 }
 
 /// Writes a packet in its one spelling. The caller sees to it that each number fits its part and all

@@ -63,26 +63,28 @@ pub fn event_bits(item: &EventItem) -> u32
 }
 
 impl Item for EventItem {
+    type Context = ();
+
     ghost use Rattle.wire_format.specs.Events.{event, event_at, IsEventInRange, IsEvent};
 
-    ghost spelling = { event };
+    ghost spelling = { λ _. event };
 
-    ghost reading = { event_at };
+    ghost reading = { λ _. event_at };
 
-    ghost in_range = { IsEventInRange };
+    ghost in_range = { λ _. IsEventInRange };
 
-    ghost is_item = { IsEvent };
+    ghost is_item = { λ _. IsEvent };
 
-    fn read(reader: &mut BitReader<'_>) -> Result<Self, BitsFault> {
+    fn read(reader: &mut BitReader<'_>, _context: &()) -> Result<Self, BitsFault> {
         read_event(reader)
     }
 
-    fn bits(&self) -> u32 {
+    fn bits(&self, _context: &()) -> u32 {
         event_bits(self)
     }
 
     #[tactic(auto, using(crate::proofs::Lengths::lengths))]
-    fn put(&self, out: &mut BitWriter) {
+    fn put(&self, _context: &(), out: &mut BitWriter) {
         put_optional(out, self.number, NUMBER_WIDTH);
         let bytes = self.payload.as_slice();
         out.put(bytes.len() as u32, EVENT_LENGTH_WIDTH);

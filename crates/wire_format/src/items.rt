@@ -13,48 +13,52 @@ use bit_stream::{BitReader, BitWriter, MAX_WIDTH};
 
 /// An item of a list in a packet.
 pub(crate) trait Item: Default + Drop {
+    /// What the item's parts depend on: the table of kinds for a ghost, nothing for the others.
+    type Context;
+
     /// The item's bits.
-    ghost spelling: { Self → List Bool };
+    ghost spelling: { Self.Context → Self → List Bool };
 
     /// How an item is read.
-    ghost reading: { Unread → Result (Self × Unread) BitsFault };
+    ghost reading: { Self.Context → Unread → Result (Self × Unread) BitsFault };
 
     /// Each number of the item fits its part.
-    ghost in_range: { Self → Type 0 };
+    ghost in_range: { Self.Context → Self → Type 0 };
 
     /// The item has a spelling that is read again.
-    ghost is_item: { Self → Type 0 };
+    ghost is_item: { Self.Context → Self → Type 0 };
 
     /// Reads an item, or gives its first fault.
-    fn read(reader: &mut BitReader<'_>) -> Result<Self, BitsFault>
-        ensures { Gives result reader.new (reading reader.old) };
+    fn read(reader: &mut BitReader<'_>, context: &Self::Context) -> Result<Self, BitsFault>
+        ensures { Gives result reader.new (reading context.now reader.old) };
 
     /// The bits of the item.
-    fn bits(&self) -> u32
-        ensures value { result ≡ length (spelling self.now) }
+    fn bits(&self, context: &Self::Context) -> u32
+        ensures value { result ≡ length (spelling context.now self.now) }
         ensures few { result ≤ MAX_ITEM_BITS };
 
     /// Writes the item in its one spelling.
-    fn put(&self, out: &mut BitWriter)
-        requires fits { in_range self.now }
-        requires room { length out.old.bits + length (spelling self.now) ≤ 8 * out.old.size }
-        ensures is_item { is_item self.now }
-        ensures bits { out.new.bits ≡ out.old.bits ++ spelling self.now }
-        ensures len { length out.new.bits ≡ length out.old.bits + length (spelling self.now) }
+    fn put(&self, context: &Self::Context, out: &mut BitWriter)
+        requires fits { in_range context.now self.now }
+        requires room { length out.old.bits + length (spelling context.now self.now) ≤ 8 * out.old.size }
+        ensures is_item { is_item context.now self.now }
+        ensures bits { out.new.bits ≡ out.old.bits ++ spelling context.now self.now }
+        ensures len { length out.new.bits ≡ length out.old.bits + length (spelling context.now self.now) }
         ensures size { out.new.size ≡ out.old.size };
 }
 
 /// As many items as were counted.
 fn read_counted<T: Item, const N: usize>(
     reader: &mut BitReader<'_>,
+    context: &T::Context,
     count: u32,
 ) -> Result<ItemList<T, N>, BitsFault>
     requires { count ≤ N }
-    ensures { Gives result reader.new (counted_at T.reading count reader.old) }
+    ensures { Gives result reader.new (counted_at (T.reading context.now) count reader.old) }
 {
     let mut list = ItemList::new();
     for _ in 0..count {
-        let item = T::read(reader)?;
+        let item = T::read(reader, context)?;
         list.push(item);
     }
     Ok(list)
@@ -64,28 +68,29 @@ fn read_counted<T: Item, const N: usize>(
 #[tactic(auto, unfolding(crate::specs::Reading::listed_at))]
 pub(crate) fn read_list<T: Item, const N: usize>(
     reader: &mut BitReader<'_>,
+    context: &T::Context,
     most: u32,
     width: u32,
 ) -> Result<ItemList<T, N>, BitsFault>
     requires width { width ≤ MAX_WIDTH }
     requires most { most ≤ N }
-    ensures { Gives result reader.new (listed_at most width T.reading reader.old) }
+    ensures { Gives result reader.new (listed_at most width (T.reading context.now) reader.old) }
 {
     let count = within(reader, BitsCause::CountBits, 0, most, width)?;
-    read_counted(reader, count)
+    read_counted(reader, context, count)
 }
 
 /// Writes items one after the other.
-fn put_each<T: Item>(out: &mut BitWriter, items: &[T])
-    requires fits { AllByRecursion T.in_range items.now }
-    requires room { length out.old.bits + length (flat_map T.spelling items.now) ≤ 8 * out.old.size }
-    ensures are_items { AllByRecursion T.is_item items.now }
-    ensures bits { out.new.bits ≡ out.old.bits ++ flat_map T.spelling items.now }
-    ensures len { length out.new.bits ≡ length out.old.bits + length (flat_map T.spelling items.now) }
+fn put_each<T: Item>(out: &mut BitWriter, context: &T::Context, items: &[T])
+    requires fits { AllByRecursion (T.in_range context.now) items.now }
+    requires room { length out.old.bits + length (flat_map (T.spelling context.now) items.now) ≤ 8 * out.old.size }
+    ensures are_items { AllByRecursion (T.is_item context.now) items.now }
+    ensures bits { out.new.bits ≡ out.old.bits ++ flat_map (T.spelling context.now) items.now }
+    ensures len { length out.new.bits ≡ length out.old.bits + length (flat_map (T.spelling context.now) items.now) }
     ensures size { out.new.size ≡ out.old.size }
 {
     for item in items {
-        item.put(out);
+        item.put(context, out);
     }
 }
 
@@ -93,33 +98,34 @@ fn put_each<T: Item>(out: &mut BitWriter, items: &[T])
 #[tactic(auto, using(crate::proofs::Lengths::lengths))]
 pub(crate) fn put_list<T: Item, const N: usize>(
     out: &mut BitWriter,
+    context: &T::Context,
     list: &ItemList<T, N>,
     width: u32,
 )
     requires width { width ≤ MAX_WIDTH }
     requires count { N < 2 ^ width }
-    requires fits { AllByRecursion T.in_range list.now }
-    requires room { length out.old.bits + length (listed width T.spelling list.now) ≤ 8 * out.old.size }
-    ensures are_items { AllByRecursion T.is_item list.now }
+    requires fits { AllByRecursion (T.in_range context.now) list.now }
+    requires room { length out.old.bits + length (listed width (T.spelling context.now) list.now) ≤ 8 * out.old.size }
+    ensures are_items { AllByRecursion (T.is_item context.now) list.now }
     ensures few { length list.now ≤ N }
-    ensures bits { out.new.bits ≡ out.old.bits ++ listed width T.spelling list.now }
-    ensures len { length out.new.bits ≡ length out.old.bits + length (listed width T.spelling list.now) }
+    ensures bits { out.new.bits ≡ out.old.bits ++ listed width (T.spelling context.now) list.now }
+    ensures len { length out.new.bits ≡ length out.old.bits + length (listed width (T.spelling context.now) list.now) }
     ensures size { out.new.size ≡ out.old.size }
 {
     let items = list.as_slice();
     out.put(items.len() as u32, width);
-    put_each(out, items);
+    put_each(out, context, items);
 }
 
 /// The bits of the items, without their count.
-pub(crate) fn list_bits<T: Item, const N: usize>(list: &ItemList<T, N>) -> u32
+pub(crate) fn list_bits<T: Item, const N: usize>(context: &T::Context, list: &ItemList<T, N>) -> u32
     requires { N ≤ MAX_ITEMS }
-    ensures value { result ≡ length (flat_map T.spelling list.now) }
+    ensures value { result ≡ length (flat_map (T.spelling context.now) list.now) }
     ensures few { result ≤ MAX_ITEM_BITS * N }
 {
     let mut bits = 0;
     for item in list.as_slice() {
-        bits += item.bits();
+        bits += item.bits(context);
     }
     bits
 }

@@ -9,6 +9,7 @@ mod blocks;
 mod client;
 mod events;
 mod fault;
+mod ghosts;
 mod header;
 mod items;
 mod laws;
@@ -24,6 +25,7 @@ pub use blocks::{BlockItem, BlockList, block_bits};
 pub use client::{ClientBody, ClientPacket, client_bits, decode_client, encode_client};
 pub use events::{EventItem, EventList, event_bits};
 pub use fault::{BitsCause, BitsFault};
+pub use ghosts::{GhostItem, GhostList, Levels, ghost_bits};
 pub use header::Header;
 pub use laws::sizes_are_bits;
 pub use lists::ItemList;
@@ -31,5 +33,6 @@ pub use moves::MoveList;
 pub use server::{ServerBody, ServerPacket, decode_server, encode_server, server_bits};
 pub use widths::{
     CLIENT_FIXED_BITS, HEADER_BITS, MAX_BLOCK_BITS, MAX_BLOCK_BYTES, MAX_BLOCKS, MAX_EVENT_BITS,
-    MAX_EVENT_BYTES, MAX_EVENTS, MAX_MOVES, MOVE_BITS, SERVER_FIXED_BITS,
+    MAX_EVENT_BYTES, MAX_EVENTS, MAX_FIELDS, MAX_GHOST_BITS, MAX_GHOSTS, MAX_MOVES, MOVE_BITS,
+    SERVER_FIXED_BITS,
 };

@@ -62,26 +62,28 @@ fn read_move(reader: &mut BitReader<'_>) -> Result<Move, BitsFault>
 }
 
 impl Item for Move {
+    type Context = ();
+
     ghost use Rattle.wire_format.specs.Moves.{the_move, move_at, AnyMove};
 
-    ghost spelling = { the_move };
+    ghost spelling = { λ _. the_move };
 
-    ghost reading = { move_at };
+    ghost reading = { λ _. move_at };
 
-    ghost in_range = { AnyMove };
+    ghost in_range = { λ _. AnyMove };
 
-    ghost is_item = { AnyMove };
+    ghost is_item = { λ _. AnyMove };
 
-    fn read(reader: &mut BitReader<'_>) -> Result<Self, BitsFault> {
+    fn read(reader: &mut BitReader<'_>, _context: &()) -> Result<Self, BitsFault> {
         read_move(reader)
     }
 
-    fn bits(&self) -> u32 {
+    fn bits(&self, _context: &()) -> u32 {
         MOVE_BITS
     }
 
     #[tactic(auto, using(crate::proofs::Lengths::lengths))]
-    fn put(&self, out: &mut BitWriter) {
+    fn put(&self, _context: &(), out: &mut BitWriter) {
         out.put(raise(self.dx), STEP_WIDTH);
         out.put(raise(self.dy), STEP_WIDTH);
         out.put(u32::from(self.fire), FLAG_WIDTH);

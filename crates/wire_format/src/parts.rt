@@ -27,7 +27,7 @@ pub(crate) fn part(reader: &mut BitReader<'_>, width: u32) -> Result<u32, BitsFa
 }
 
 /// A number of `width` bits from `least` to `most`; another one is a fault where it begins.
-#[tactic(auto, unfolding(crate::specs::Reading::within_at))]
+#[tactic(auto, unfolding(crate::specs::Reading::such_at))]
 pub(crate) fn within(
     reader: &mut BitReader<'_>,
     cause: BitsCause,

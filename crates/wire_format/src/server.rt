@@ -7,14 +7,16 @@ ghost use Rattle.wire_format.specs.Server.{server, server_at, server_of, server_
 use crate::blocks::BlockList;
 use crate::events::EventList;
 use crate::fault::{BitsCause, BitsFault};
+use crate::ghosts::GhostList;
 use crate::header::{Header, put_header, read_header};
 use crate::items::{list_bits, put_list, read_list};
 use crate::parts::{optional_bits, optional_byte, part, put_optional, widened, within};
 use crate::widths::{
     BLOCK_COUNT_WIDTH, DATA, EVENT_COUNT_WIDTH, GHOST_COUNT_WIDTH, HEADER_BITS, KIND_WIDTH,
-    MAX_BLOCKS, MAX_EVENTS, MAX_PACKET_BITS, NUMBER_WIDTH, PING, SLOT_WIDTH,
+    MAX_BLOCKS, MAX_EVENTS, MAX_GHOSTS, MAX_PACKET_BITS, NUMBER_WIDTH, PING, SLOT_WIDTH,
 };
 use bit_stream::{BitReader, BitWriter, MAX_READ_BYTES};
+use quantised_fields::KindTable;
 
 /// A packet of the server.
 #[derive(Drop)]
@@ -34,48 +36,54 @@ pub struct ServerBody {
     pub control: Option<u8>,
     pub blocks: BlockList,
     pub events: EventList,
+    pub ghosts: GhostList,
 }
 
 /// Reads what stands behind a data packet's header, or gives its first fault.
 #[tactic(auto, unfolding(crate::specs::Server::server_body_at))]
-fn read_server_body(reader: &mut BitReader<'_>, head: Header) -> Result<ServerBody, BitsFault>
-    ensures { Gives result reader.new (server_body_at head reader.old) }
+fn read_server_body(
+    reader: &mut BitReader<'_>,
+    kinds: &KindTable,
+    head: Header,
+) -> Result<ServerBody, BitsFault>
+    ensures { Gives result reader.new (server_body_at kinds.now head reader.old) }
 {
     let accepted = part(reader, NUMBER_WIDTH)?;
     let control = optional_byte(reader)?;
-    let blocks = read_list(reader, MAX_BLOCKS as u32, BLOCK_COUNT_WIDTH)?;
-    let events = read_list(reader, MAX_EVENTS as u32, EVENT_COUNT_WIDTH)?;
-    within(reader, BitsCause::CountBits, 0, 0, GHOST_COUNT_WIDTH)?;
+    let blocks = read_list(reader, &(), MAX_BLOCKS as u32, BLOCK_COUNT_WIDTH)?;
+    let events = read_list(reader, &(), MAX_EVENTS as u32, EVENT_COUNT_WIDTH)?;
+    let ghosts = read_list(reader, kinds, MAX_GHOSTS as u32, GHOST_COUNT_WIDTH)?;
     Ok(ServerBody {
         head,
         accepted,
         control,
         blocks,
         events,
+        ghosts,
     })
 }
 
 /// Reads a packet, or gives its first fault.
 #[tactic(auto, unfolding(crate::specs::Server::server_at))]
-fn read_server(reader: &mut BitReader<'_>) -> Result<ServerPacket, BitsFault>
-    ensures { Gives result reader.new (server_at reader.old) }
+fn read_server(reader: &mut BitReader<'_>, kinds: &KindTable) -> Result<ServerPacket, BitsFault>
+    ensures { Gives result reader.new (server_at kinds.now reader.old) }
 {
     let kind = within(reader, BitsCause::KindBits, DATA, PING, KIND_WIDTH)?;
     let head = read_header(reader)?;
     if kind == PING {
         return Ok(ServerPacket::Ping(head));
     }
-    let body = read_server_body(reader, head)?;
+    let body = read_server_body(reader, kinds, head)?;
     Ok(ServerPacket::Body(body))
 }
 
 /// The whole of these bytes.
-fn read_whole(bytes: &[u8]) -> Result<ServerPacket, BitsFault>
+fn read_whole(bytes: &[u8], kinds: &KindTable) -> Result<ServerPacket, BitsFault>
     requires { length bytes.now ≤ MAX_READ_BYTES }
-    ensures { result ≡ server_of bytes.now }
+    ensures { result ≡ server_of kinds.now bytes.now }
 {
     let mut reader = BitReader::new(bytes);
-    let packet = read_server(&mut reader)?;
+    let packet = read_server(&mut reader, kinds)?;
     match reader.end() {
         Ok(()) => Ok(packet),
         Err(padding) => Err(BitsFault {
@@ -86,54 +94,55 @@ fn read_whole(bytes: &[u8]) -> Result<ServerPacket, BitsFault>
 }
 
 /// The bits of what stands behind the header.
-fn server_rest_bits(body: &ServerBody) -> u32
-    ensures value { result ≡ length (server_rest body.now) }
+fn server_rest_bits(body: &ServerBody, kinds: &KindTable) -> u32
+    ensures value { result ≡ length (server_rest kinds.now body.now) }
     ensures few { result ≤ MAX_PACKET_BITS }
 {
     let control = optional_bits(widened(body.control), SLOT_WIDTH);
-    let blocks = list_bits(&body.blocks);
-    let events = list_bits(&body.events);
+    let blocks = list_bits(&(), &body.blocks);
+    let events = list_bits(&(), &body.events);
+    let ghosts = list_bits(kinds, &body.ghosts);
     let counts = BLOCK_COUNT_WIDTH + EVENT_COUNT_WIDTH + GHOST_COUNT_WIDTH;
-    NUMBER_WIDTH + counts + control + blocks + events
+    NUMBER_WIDTH + counts + control + blocks + events + ghosts
 }
 
 /// The bits of a packet: those of the header, and in a data packet [`SERVER_FIXED_BITS`], less 8
 /// where no control slot is set, and the bits of all items.
-pub fn server_bits(packet: &ServerPacket) -> u32
-    ensures value { result ≡ length (server packet.now) }
-    ensures size { result ≡ server_size packet.now }
+pub fn server_bits(packet: &ServerPacket, kinds: &KindTable) -> u32
+    ensures value { result ≡ length (server kinds.now packet.now) }
+    ensures size { result ≡ server_size kinds.now packet.now }
 {
     match packet {
         ServerPacket::Ping(_) => HEADER_BITS,
-        ServerPacket::Body(body) => HEADER_BITS + server_rest_bits(body),
+        ServerPacket::Body(body) => HEADER_BITS + server_rest_bits(body, kinds),
     }
 }
 
 /// Writes what stands behind the header.
 #[tactic(auto, using(crate::proofs::Lengths::lengths))]
-fn put_server_rest(out: &mut BitWriter, body: &ServerBody)
-    requires fits { IsServerBodyInRange body.now }
+fn put_server_rest(out: &mut BitWriter, kinds: &KindTable, body: &ServerBody)
+    requires fits { IsServerBodyInRange kinds.now body.now }
     requires head { IsHeader body.now.head }
-    requires room { length out.old.bits + length (server_rest body.now) ≤ 8 * out.old.size }
-    ensures spelled { IsServerBody body.now }
-    ensures bits { out.new.bits ≡ out.old.bits ++ server_rest body.now }
+    requires room { length out.old.bits + length (server_rest kinds.now body.now) ≤ 8 * out.old.size }
+    ensures spelled { IsServerBody kinds.now body.now }
+    ensures bits { out.new.bits ≡ out.old.bits ++ server_rest kinds.now body.now }
     ensures size { out.new.size ≡ out.old.size }
 {
     out.put(body.accepted, NUMBER_WIDTH);
     put_optional(out, widened(body.control), SLOT_WIDTH);
-    put_list(out, &body.blocks, BLOCK_COUNT_WIDTH);
-    put_list(out, &body.events, EVENT_COUNT_WIDTH);
-    out.put(0, GHOST_COUNT_WIDTH);
+    put_list(out, &(), &body.blocks, BLOCK_COUNT_WIDTH);
+    put_list(out, &(), &body.events, EVENT_COUNT_WIDTH);
+    put_list(out, kinds, &body.ghosts, GHOST_COUNT_WIDTH);
 }
 
-/// Writes a packet in its one spelling. The caller sees to it that each number fits its part and all
+/// Writes a packet in its one spelling under a table of kinds. The caller sees to it that each number fits its part and all
 /// of [`server_bits`] fit the room.
 #[tactic(auto, using(crate::proofs::Lengths::lengths))]
-pub fn encode_server(packet: &ServerPacket, out: &mut BitWriter)
-    requires fits { IsServerInRange packet.now }
-    requires room { length out.old.bits + length (server packet.now) ≤ 8 * out.old.size }
-    ensures spelled { IsServer packet.now }
-    ensures bits { out.new.bits ≡ out.old.bits ++ server packet.now }
+pub fn encode_server(packet: &ServerPacket, kinds: &KindTable, out: &mut BitWriter)
+    requires fits { IsServerInRange kinds.now packet.now }
+    requires room { length out.old.bits + length (server kinds.now packet.now) ≤ 8 * out.old.size }
+    ensures spelled { IsServer kinds.now packet.now }
+    ensures bits { out.new.bits ≡ out.old.bits ++ server kinds.now packet.now }
     ensures size { out.new.size ≡ out.old.size }
 {
     match packet {
@@ -144,21 +153,21 @@ pub fn encode_server(packet: &ServerPacket, out: &mut BitWriter)
         ServerPacket::Body(body) => {
             out.put(DATA, KIND_WIDTH);
             put_header(out, &body.head);
-            put_server_rest(out, body);
+            put_server_rest(out, kinds, body);
         }
     }
 }
 
-/// The packet that these bytes spell, at most 65,536 of them, or the first fault in reading order
+/// The packet that these bytes spell under a table of kinds, at most 65,536 of them, or the first fault in reading order
 /// with the bit at which the faulty part begins (docs/formats.md, "Datagrams").
-pub fn decode_server(bytes: &[u8]) -> Result<ServerPacket, BitsFault>
+pub fn decode_server(bytes: &[u8], kinds: &KindTable) -> Result<ServerPacket, BitsFault>
     requires { length bytes.now ≤ MAX_READ_BYTES }
     // What is read is spelled so, and it alone.
-    ensures found { IfOk result (λ p. IsServer p × (bytes.now ≡ datagram (server p))) }
+    ensures found { IfOk result (λ p. IsServer kinds.now p × (bytes.now ≡ datagram (server kinds.now p))) }
     // What is spelled so is read.
-    ensures only { (p : ServerPacket) → IsServer p → bytes.now ≡ datagram (server p) → result ≡ Ok p }
+    ensures only { (p : ServerPacket) → IsServer kinds.now p → bytes.now ≡ datagram (server kinds.now p) → result ≡ Ok p }
     // Which fault it is.
-    ensures exact { result ≡ server_of bytes.now }
+    ensures exact { result ≡ server_of kinds.now bytes.now }
 {
-    read_whole(bytes)
+    read_whole(bytes, kinds)
 }

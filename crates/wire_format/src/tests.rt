@@ -1,9 +1,10 @@
 use crate::{
     BitsCause, BitsFault, BlockItem, BlockList, ClientBody, ClientPacket, EventItem, EventList,
-    Header, MoveList, ServerBody, ServerPacket, client_bits, decode_client, decode_server,
-    encode_client, encode_server, server_bits,
+    GhostItem, GhostList, Header, MoveList, ServerBody, ServerPacket, client_bits, decode_client,
+    decode_server, encode_client, encode_server, server_bits,
 };
 use bit_stream::BitWriter;
+use quantised_fields::{FieldSpec, Kind, KindTable};
 use std::test::Fail;
 use tn_types::{BlockBytes, Move, Payload};
 
@@ -15,6 +16,17 @@ const FIRST_EVENT: [u8; 22] = [
 /// A first packet of the server with block 0 of the byte "a".
 const FIRST_BLOCK: [u8; 19] = [
     0x40, 0, 0, 0, 0, 0, 0, 0, 0, 0, 0, 0, 0, 0x80, 0, 0x82, 0x30, 0, 0,
+];
+
+/// Creates slot 0: a player with datablock 0 at (1000, 1000), all else at its greatest or least.
+const CREATE: [u8; 25] = [
+    0x80, 0, 0, 0x40, 0, 0, 0x40, 0, 0, 0, 0, 0, 0, 0, 0, 1, 0, 1, 0x80, 0x3e, 0x80, 0x3e, 0xf0,
+    0xff, 0,
+];
+
+/// Updates field 0 of slot 0, a clock: it becomes 1.
+const UPDATE: [u8; 22] = [
+    0xc0, 0, 0, 0x80, 0, 0, 0xc0, 0, 0, 0, 0, 0, 0, 0, 0, 1, 0, 0x56, 2, 0, 0, 0,
 ];
 
 /// A packet of a client that acknowledges packets 1, 3 and 4 of the server.
@@ -36,8 +48,34 @@ const FIRST: Header = Header {
     mask: 0,
 };
 
+/// The six kinds of a match.
+fn six_kinds() -> Option<KindTable> {
+    let widths: [&[(i64, u32)]; 6] = [
+        &[(65535, 16), (65535, 16), (100, 7), (20, 5), (255, 8)],
+        &[(65535, 16), (65535, 16)],
+        &[(65535, 16), (65535, 16), (1, 1)],
+        &[(65535, 12), (65535, 12), (100, 5)],
+        &[(65535, 16), (65535, 16), (16, 5)],
+        &[(16_777_215, 24), (255, 8), (255, 8)],
+    ];
+    let mut kinds: [Kind; 6] = Default::default();
+    for (kind, fields) in kinds.iter_mut().zip(widths) {
+        for (hi, bits) in fields {
+            if !kind.fields.is_full() {
+                kind.fields.push(FieldSpec {
+                    lo: 0,
+                    hi: *hi,
+                    bits: *bits,
+                });
+            }
+        }
+    }
+    KindTable::new(&kinds).ok()
+}
+
 #[test]
 fn first_event(rt: HostRuntime) -> Result<(), Fail> {
+    let kinds = six_kinds().ok_or("no table")?;
     let mut events = EventList::new();
     events.push(EventItem {
         number: Some(0),
@@ -49,12 +87,13 @@ fn first_event(rt: HostRuntime) -> Result<(), Fail> {
         control: None,
         blocks: BlockList::new(),
         events,
+        ghosts: GhostList::new(),
     });
-    assert_eq!(rt; server_bits(&packet), 174);
+    assert_eq!(rt; server_bits(&packet, &kinds), 174);
     let mut out = BitWriter::new(128);
-    encode_server(&packet, &mut out);
+    encode_server(&packet, &kinds, &mut out);
     assert_eq!(rt; out.finish().as_slice(), FIRST_EVENT.as_slice());
-    match decode_server(&FIRST_EVENT).ok().ok_or("refused")? {
+    match decode_server(&FIRST_EVENT, &kinds).ok().ok_or("refused")? {
         ServerPacket::Body(body) => {
             assert_eq!(rt; body.head, FIRST);
             assert_eq!(rt; body.events.len(), 1);
@@ -69,6 +108,7 @@ fn first_event(rt: HostRuntime) -> Result<(), Fail> {
 
 #[test]
 fn first_block(rt: HostRuntime) -> Result<(), Fail> {
+    let kinds = six_kinds().ok_or("no table")?;
     let mut blocks = BlockList::new();
     blocks.push(BlockItem {
         number: 0,
@@ -80,17 +120,19 @@ fn first_block(rt: HostRuntime) -> Result<(), Fail> {
         control: None,
         blocks,
         events: EventList::new(),
+        ghosts: GhostList::new(),
     });
-    assert_eq!(rt; server_bits(&packet), 148);
+    assert_eq!(rt; server_bits(&packet, &kinds), 148);
     let mut out = BitWriter::new(128);
-    encode_server(&packet, &mut out);
+    encode_server(&packet, &kinds, &mut out);
     assert_eq!(rt; out.finish().as_slice(), FIRST_BLOCK.as_slice());
     Ok(())
 }
 
 #[test]
 fn pings_and_acknowledgements(rt: HostRuntime) -> Result<(), Fail> {
-    match decode_server(&PING).ok().ok_or("refused")? {
+    let kinds = six_kinds().ok_or("no table")?;
+    match decode_server(&PING, &kinds).ok().ok_or("refused")? {
         ServerPacket::Ping(head) => assert_eq!(rt; head.seq, 32),
         ServerPacket::Body(_) => return Err(Fail::from("data")),
     }
@@ -140,6 +182,53 @@ fn moves_are_written(rt: HostRuntime) -> Result<(), Fail> {
     Ok(())
 }
 
+/// The levels 1000, 1000, 127, 31 and 0: of x, y, hp, ammo and score.
+#[test]
+fn created_player(rt: HostRuntime) -> Result<(), Fail> {
+    let kinds = six_kinds().ok_or("no table")?;
+    let packet = decode_server(&CREATE, &kinds).ok().ok_or("refused")?;
+    assert_eq!(rt; server_bits(&packet, &kinds), 200);
+    let ServerPacket::Body(body) = packet else {
+        return Err(Fail::from("a ping"));
+    };
+    match body.ghosts.get(0).ok_or("no ghost")? {
+        GhostItem::Create {
+            slot,
+            kind,
+            block,
+            levels,
+        } => {
+            assert_eq!(rt; (*slot, *kind, *block), (0, 0, 0));
+            assert_eq!(rt; levels.as_slice(), [1000, 1000, 127, 31, 0].as_slice());
+        }
+        _ => return Err(Fail::from("no create")),
+    }
+    Ok(())
+}
+
+#[test]
+fn updated_clock(rt: HostRuntime) -> Result<(), Fail> {
+    let kinds = six_kinds().ok_or("no table")?;
+    let packet = decode_server(&UPDATE, &kinds).ok().ok_or("refused")?;
+    assert_eq!(rt; server_bits(&packet, &kinds), 169);
+    let ServerPacket::Body(body) = packet else {
+        return Err(Fail::from("a ping"));
+    };
+    match body.ghosts.get(0).ok_or("no ghost")? {
+        GhostItem::Update {
+            slot,
+            kind,
+            mask,
+            levels,
+        } => {
+            assert_eq!(rt; (*slot, *kind, *mask), (0, 5, 1));
+            assert_eq!(rt; levels.as_slice(), [1].as_slice());
+        }
+        _ => return Err(Fail::from("no update")),
+    }
+    Ok(())
+}
+
 #[test]
 fn malformed_datagrams(rt: HostRuntime) {
     let clear = [0; 16];
@@ -158,4 +247,37 @@ fn malformed_datagrams(rt: HostRuntime) {
         let answer = decode_client(bytes).err();
         assert_eq!(rt; answer, Some(BitsFault { place, cause }));
     }
+}
+
+#[test]
+fn malformed_ghosts(rt: HostRuntime) -> Result<(), Fail> {
+    let kinds = six_kinds().ok_or("no table")?;
+    let block_of_41 = [0x40, 0, 0, 0, 0, 0, 0, 0, 0, 0, 0, 0, 0, 0x80, 0, 0x52];
+    let event_of_25 = [0x40, 0, 0, 0, 0, 0, 0, 0, 0, 0, 0, 0, 0, 0, 8, 0x32];
+    let ghosts_129 = [0x40, 0, 0, 0, 0, 0, 0, 0, 0, 0, 0, 0, 0, 0, 0, 0x81];
+    let op_3 = [0x40, 0, 0, 0, 0, 0, 0, 0, 0, 0, 0, 0, 0, 0, 0, 1, 0, 3];
+    let kind_6 = [
+        0x40, 0, 0, 0, 0, 0, 0, 0, 0, 0, 0, 0, 0, 0, 0, 1, 0, 0x19, 0,
+    ];
+    let no_field = [
+        0x40, 0, 0, 0, 0, 0, 0, 0, 0, 0, 0, 0, 0, 0, 0, 1, 0, 0x16, 0,
+    ];
+    let cut_level = [
+        0x40, 0, 0, 0, 0, 0, 0, 0, 0, 0, 0, 0, 0, 0, 0, 1, 0, 0x56, 2, 0, 0,
+    ];
+    let cases: [(&[u8], u32, BitsCause); 7] = [
+        (&block_of_41, 121, BitsCause::LengthBits),
+        (&event_of_25, 121, BitsCause::LengthBits),
+        (&ghosts_129, 120, BitsCause::CountBits),
+        (&op_3, 136, BitsCause::OpBits),
+        (&kind_6, 138, BitsCause::UnknownKind),
+        (&no_field, 142, BitsCause::EmptyMask),
+        (&cut_level, 145, BitsCause::Short),
+    ];
+    for (bytes, place, cause) in cases {
+        assert!(rt; bytes.len() <= 32);
+        let answer = decode_server(bytes, &kinds).err();
+        assert_eq!(rt; answer, Some(BitsFault { place, cause }));
+    }
+    Ok(())
 }

@@ -33,6 +33,16 @@ pub(crate) const EVENT_COUNT_WIDTH: u32 = 5;
 pub(crate) const EVENT_LENGTH_WIDTH: u32 = 5;
 
 pub(crate) const GHOST_COUNT_WIDTH: u32 = 8;
+/// What a ghost item does to its slot.
+pub(crate) const OP_WIDTH: u32 = 2;
+
+pub(crate) const KILL: u32 = 0;
+
+pub(crate) const CREATE: u32 = 1;
+
+pub(crate) const UPDATE: u32 = 2;
+/// The number of a kind in the table of kinds.
+pub(crate) const KIND_NUMBER_WIDTH: u32 = 4;
 
 pub(crate) const MOVE_COUNT_WIDTH: u32 = 6;
 /// A step of a move each way, raised by 8.
@@ -44,6 +54,10 @@ pub const MAX_BLOCKS: usize = 15;
 pub const MAX_EVENTS: usize = 31;
 /// The most moves of a packet.
 pub const MAX_MOVES: usize = 32;
+/// The most ghosts of a packet.
+pub const MAX_GHOSTS: usize = 128;
+/// The most fields of a kind, and so the most levels of a ghost.
+pub const MAX_FIELDS: usize = 16;
 /// The most bytes of a block.
 pub const MAX_BLOCK_BYTES: usize = 40;
 /// The most bytes of an event.
@@ -61,6 +75,12 @@ pub const MOVE_BITS: u32 = 10;
 pub const MAX_BLOCK_BITS: u32 = 332;
 /// The most bits of an event.
 pub const MAX_EVENT_BITS: u32 = 222;
+/// The most bits of a ghost.
+pub const MAX_GHOST_BITS: u32 = 222;
+/// The most bits that the fields of a kind take together.
+pub(crate) const MAX_KIND_BITS: u32 = 192;
+/// The most bits of a field.
+pub(crate) const MAX_FIELD_BITS: u32 = 24;
 
 /// The bits of the header behind the kind.
 pub(crate) const HEAD_WIDTH: u32 = 84;

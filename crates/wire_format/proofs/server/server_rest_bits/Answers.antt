@@ -7,4 +7,4 @@ use Rattle.wire_format.proofs.server.server_rest_bits.Goals as goal
 pub returns-clause-value : goal.returns-clause-value
 returns-clause-value c =
     let control : c.optional_bits-control.result ≡ length (optional SLOT_WIDTH c.args.body.now.control) = c.optional_bits-control.ensures.value ∙ ap (λ (o : Option ℕ). length (optional SLOT_WIDTH o)) c.widened.ensures.same in
-    omega (arith, length-server_rest c.args.body.now, control)
+    omega (arith, length-server_rest c.args.kinds.now c.args.body.now, control)

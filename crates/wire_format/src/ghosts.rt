@@ -1,0 +1,382 @@
+//! Ghosts of a packet: what it says of the objects in the client's scope, by slot.
+ghost use Rattle.std.specs.Prelude.{◌≡◌, ◌<◌, ◌≤◌, ◌+◌, ◌*◌, ◌^◌, ◌++◌, All, length, map, sum, take};
+ghost use Rattle.bit_stream.specs.Bits.{number};
+ghost use Rattle.bit_stream.specs.Reading.{Gives};
+ghost use Rattle.wire_format.specs.Ghosts.{ghost_item, ghost_at, ghost_size, create_rest, update_rest, kind_at, mask_at, create_at, update_at, levels, levels_at, widths, chosen, AreLevels};
+
+use crate::fault::{BitsCause, BitsFault};
+use crate::items::Item;
+use crate::lists::ItemList;
+use crate::parts::{part, within};
+use crate::widths::{
+    BLOCK_NUMBER_WIDTH, CREATE, KILL, KIND_NUMBER_WIDTH, MAX_FIELD_BITS, MAX_FIELDS,
+    MAX_GHOST_BITS, MAX_GHOSTS, MAX_KIND_BITS, OP_WIDTH, SLOT_WIDTH, UPDATE,
+};
+use bit_stream::{BitReader, BitWriter, MAX_WIDTH};
+use quantised_fields::{FieldSpec, KindTable};
+
+/// The levels of a ghost by rising field, at most 16.
+pub type Levels = ItemList<u32, MAX_FIELDS>;
+
+/// The widths of the fields of a kind, or of some of them.
+type Widths = ItemList<u32, MAX_FIELDS>;
+
+/// What a packet says of the ghost in a slot.
+#[derive(Drop)]
+pub enum GhostItem {
+    /// The object left the client's scope.
+    Kill {
+        slot: u8,
+    },
+    /// An object came into scope: its kind, its datablock and the levels of all fields.
+    Create {
+        slot: u8,
+        kind: u8,
+        block: u8,
+        levels: Levels,
+    },
+    /// New levels of the fields in the mask, bit f for field f.
+    Update {
+        slot: u8,
+        kind: u8,
+        mask: u32,
+        levels: Levels,
+    },
+}
+
+impl Default for GhostItem {
+    fn default() -> Self {
+        GhostItem::Kill { slot: 0 }
+    }
+}
+
+/// The ghosts of a packet, at most 128.
+pub type GhostList = ItemList<GhostItem, MAX_GHOSTS>;
+
+/// The widths of these fields.
+fn field_widths(fields: &[FieldSpec]) -> Widths
+    requires { length fields.now ≤ MAX_FIELDS }
+    ensures { result ≡ map (λ f. f.bits) fields.now }
+{
+    let mut widths = Widths::new();
+    for field in fields {
+        widths.push(field.bits);
+    }
+    widths
+}
+
+/// The widths of the fields of a kind; none where the table has no such kind.
+fn kind_widths(kinds: &KindTable, kind: u8) -> Widths
+    ensures value { result ≡ widths kinds.now kind }
+    ensures few { length kinds.now ≤ 16 }
+    ensures narrow { All (λ w. w ≤ MAX_FIELD_BITS) result }
+    ensures sum { sum result ≤ MAX_KIND_BITS }
+{
+    match kinds.kind(kind) {
+        None => Widths::new(),
+        Some(kind) => field_widths(kind.fields.as_slice()),
+    }
+}
+
+/// Those of the widths whose bit is set in a mask.
+fn chosen_widths(widths: &[u32], mask: u32) -> Widths
+    requires few { length widths.now ≤ MAX_FIELDS }
+    requires narrow { All (λ w. w ≤ MAX_FIELD_BITS) widths.now }
+    ensures value { result ≡ chosen mask widths.now }
+    ensures narrow { All (λ w. w ≤ MAX_FIELD_BITS) result }
+    ensures sum { sum result ≤ sum widths.now }
+{
+    let mut chosen = Widths::new();
+    let mut mask = mask;
+    for width in widths {
+        if mask % 2 == 1 {
+            chosen.push(*width);
+        }
+        mask /= 2;
+    }
+    chosen
+}
+
+/// The number of a kind of the table.
+#[tactic(auto, unfolding(crate::specs::Reading::such_at))]
+fn read_kind(reader: &mut BitReader<'_>, kinds: &KindTable) -> Result<u8, BitsFault>
+    ensures read { Gives result reader.new (kind_at kinds.now reader.old) }
+{
+    let place = reader.place();
+    let kind = part(reader, KIND_NUMBER_WIDTH)? as u8;
+    if kinds.kind(kind).is_some() {
+        Ok(kind)
+    } else {
+        Err(BitsFault {
+            place,
+            cause: BitsCause::UnknownKind,
+        })
+    }
+}
+
+/// A mask of so many fields, at least one of them set.
+#[tactic(auto, unfolding(crate::specs::Reading::such_at))]
+fn read_mask(reader: &mut BitReader<'_>, width: u32) -> Result<u32, BitsFault>
+    requires { width ≤ MAX_WIDTH }
+    ensures read { Gives result reader.new (mask_at width reader.old) }
+{
+    let place = reader.place();
+    let mask = part(reader, width)?;
+    if mask > 0 {
+        Ok(mask)
+    } else {
+        Err(BitsFault {
+            place,
+            cause: BitsCause::EmptyMask,
+        })
+    }
+}
+
+/// A level for each width.
+fn read_levels(reader: &mut BitReader<'_>, widths: &[u32]) -> Result<Levels, BitsFault>
+    requires few { length widths.now ≤ MAX_FIELDS }
+    requires narrow { All (λ w. w ≤ MAX_FIELD_BITS) widths.now }
+    ensures { Gives result reader.new (levels_at widths.now reader.old) }
+{
+    let mut levels = Levels::new();
+    for width in widths {
+        let level = part(reader, *width)?;
+        levels.push(level);
+    }
+    Ok(levels)
+}
+
+/// Reads what stands behind the op of a create, or gives its first fault.
+#[tactic(auto, unfolding(crate::specs::Ghosts::create_at))]
+fn read_create(
+    reader: &mut BitReader<'_>,
+    kinds: &KindTable,
+    slot: u8,
+) -> Result<GhostItem, BitsFault>
+    ensures { Gives result reader.new (create_at kinds.now slot reader.old) }
+{
+    let kind = read_kind(reader, kinds)?;
+    let block = part(reader, BLOCK_NUMBER_WIDTH)?;
+    let widths = kind_widths(kinds, kind);
+    let levels = read_levels(reader, widths.as_slice())?;
+    Ok(GhostItem::Create {
+        slot,
+        kind,
+        block: block as u8,
+        levels,
+    })
+}
+
+/// Reads what stands behind the op of an update, or gives its first fault.
+#[tactic(auto, unfolding(crate::specs::Ghosts::update_at, crate::specs::Ghosts::updated_at))]
+fn read_update(
+    reader: &mut BitReader<'_>,
+    kinds: &KindTable,
+    slot: u8,
+) -> Result<GhostItem, BitsFault>
+    ensures { Gives result reader.new (update_at kinds.now slot reader.old) }
+{
+    let kind = read_kind(reader, kinds)?;
+    let widths = kind_widths(kinds, kind);
+    let mask = read_mask(reader, widths.len() as u32)?;
+    let chosen = chosen_widths(widths.as_slice(), mask);
+    let levels = read_levels(reader, chosen.as_slice())?;
+    Ok(GhostItem::Update {
+        slot,
+        kind,
+        mask,
+        levels,
+    })
+}
+
+/// Reads a ghost, or gives its first fault.
+#[tactic(auto, unfolding(crate::specs::Ghosts::ghost_at))]
+fn read_ghost(reader: &mut BitReader<'_>, kinds: &KindTable) -> Result<GhostItem, BitsFault>
+    ensures { Gives result reader.new (ghost_at kinds.now reader.old) }
+{
+    let slot = part(reader, SLOT_WIDTH)? as u8;
+    let op = within(reader, BitsCause::OpBits, KILL, UPDATE, OP_WIDTH)?;
+    if op == KILL {
+        return Ok(GhostItem::Kill { slot });
+    }
+    if op == CREATE {
+        return read_create(reader, kinds, slot);
+    }
+    read_update(reader, kinds, slot)
+}
+
+/// The bits of so many levels of these widths.
+fn levels_bits(widths: &[u32], count: usize) -> u32
+    requires { sum widths.now ≤ MAX_KIND_BITS }
+    ensures value { result ≡ sum (take count widths.now) }
+    ensures few { result ≤ MAX_KIND_BITS }
+{
+    let (front, _) = widths.split_at(count.min(widths.len()));
+    front.iter().sum()
+}
+
+/// The bits of a ghost: at most 222.
+pub fn ghost_bits(item: &GhostItem, kinds: &KindTable) -> u32
+    ensures value { result ≡ length (ghost_item kinds.now item.now) }
+    ensures size { result ≡ ghost_size kinds.now item.now }
+    ensures few { result ≤ MAX_GHOST_BITS }
+{
+    match item {
+        GhostItem::Kill { .. } => SLOT_WIDTH + OP_WIDTH,
+        GhostItem::Create { kind, levels, .. } => {
+            let widths = kind_widths(kinds, *kind);
+            let fixed = SLOT_WIDTH + OP_WIDTH + KIND_NUMBER_WIDTH + BLOCK_NUMBER_WIDTH;
+            fixed + levels_bits(widths.as_slice(), levels.len())
+        }
+        GhostItem::Update {
+            kind,
+            mask,
+            levels,
+            ..
+        } => {
+            let widths = kind_widths(kinds, *kind);
+            let chosen = chosen_widths(widths.as_slice(), *mask);
+            let fixed = SLOT_WIDTH + OP_WIDTH + KIND_NUMBER_WIDTH + widths.len() as u32;
+            fixed + levels_bits(chosen.as_slice(), levels.len())
+        }
+    }
+}
+
+/// `count` bits that are the number `word`, and behind them the `width` bits of `value`.
+fn joined(word: u32, count: u32, value: u32, width: u32) -> u32
+    requires below { word < 2 ^ count }
+    requires few { count + width ≤ MAX_WIDTH }
+    requires fits { value < 2 ^ width }
+    ensures bits { number (count + width) result ≡ number count word ++ number width value }
+    ensures below { result < 2 ^ (count + width) }
+{
+    (u64::from(word) + (u64::from(value) << count)) as u32
+}
+
+/// Makes room for `width` bits behind the `count` bits of a word: writes the word where they don't
+/// fit, and gives the word and the bits that are left.
+fn with_room(out: &mut BitWriter, word: u32, count: u32, width: u32) -> (u32, u32)
+    requires below { word < 2 ^ count }
+    requires few { count ≤ MAX_WIDTH }
+    requires narrow { width ≤ MAX_WIDTH }
+    requires room { length out.old.bits + count ≤ 8 * out.old.size }
+    ensures bits { out.new.bits ++ number result.1 result.0 ≡ out.old.bits ++ number count word }
+    ensures len { length out.new.bits + result.1 ≡ length out.old.bits + count }
+    ensures size { out.new.size ≡ out.old.size }
+    ensures below { result.0 < 2 ^ result.1 }
+    ensures few { result.1 + width ≤ MAX_WIDTH }
+{
+    if count + width > MAX_WIDTH {
+        out.put(word, count);
+        return (0, 0);
+    }
+    (word, count)
+}
+
+/// Writes a level for each width, as many together as a number of 32 bits holds.
+fn put_levels(out: &mut BitWriter, widths: &[u32], values: &[u32])
+    requires narrow { All (λ w. w ≤ MAX_FIELD_BITS) widths.now }
+    requires fits { AreLevels widths.now values.now }
+    requires room { length out.old.bits + length (levels widths.now values.now) ≤ 8 * out.old.size }
+    ensures bits { out.new.bits ≡ out.old.bits ++ levels widths.now values.now }
+    ensures len { length out.new.bits ≡ length out.old.bits + length (levels widths.now values.now) }
+    ensures size { out.new.size ≡ out.old.size }
+{
+    let mut word = 0;
+    let mut count = 0;
+    for (i, width) in widths.iter().enumerate() {
+        let (held, used) = with_room(out, word, count, *width);
+        word = joined(held, used, values[i], *width);
+        count = used + *width;
+    }
+    out.put(word, count);
+}
+
+/// Writes what stands behind the op of a create.
+#[tactic(auto, using(crate::proofs::Lengths::lengths))]
+fn put_create(out: &mut BitWriter, kinds: &KindTable, kind: u8, block: u8, values: &[u32])
+    requires kind { kind < length kinds.now }
+    requires block { block < 2 ^ BLOCK_NUMBER_WIDTH }
+    requires fits { AreLevels (widths kinds.now kind) values.now }
+    requires room { length out.old.bits + length (create_rest kinds.now kind block values.now) ≤ 8 * out.old.size }
+    ensures kind { kind < 2 ^ KIND_NUMBER_WIDTH }
+    ensures bits { out.new.bits ≡ out.old.bits ++ create_rest kinds.now kind block values.now }
+    ensures len { length out.new.bits ≡ length out.old.bits + length (create_rest kinds.now kind block values.now) }
+    ensures size { out.new.size ≡ out.old.size }
+{
+    let widths = kind_widths(kinds, kind);
+    out.put(u32::from(kind), KIND_NUMBER_WIDTH);
+    out.put(u32::from(block), BLOCK_NUMBER_WIDTH);
+    put_levels(out, widths.as_slice(), values);
+}
+
+/// Writes what stands behind the op of an update.
+#[tactic(auto, using(crate::proofs::Lengths::lengths))]
+fn put_update(out: &mut BitWriter, kinds: &KindTable, kind: u8, mask: u32, values: &[u32])
+    requires kind { kind < length kinds.now }
+    requires mask { mask < 2 ^ length (widths kinds.now kind) }
+    requires fits { AreLevels (chosen mask (widths kinds.now kind)) values.now }
+    requires room { length out.old.bits + length (update_rest kinds.now kind mask values.now) ≤ 8 * out.old.size }
+    ensures kind { kind < 2 ^ KIND_NUMBER_WIDTH }
+    ensures bits { out.new.bits ≡ out.old.bits ++ update_rest kinds.now kind mask values.now }
+    ensures len { length out.new.bits ≡ length out.old.bits + length (update_rest kinds.now kind mask values.now) }
+    ensures size { out.new.size ≡ out.old.size }
+{
+    let widths = kind_widths(kinds, kind);
+    let chosen = chosen_widths(widths.as_slice(), mask);
+    out.put(u32::from(kind), KIND_NUMBER_WIDTH);
+    out.put(mask, widths.len() as u32);
+    put_levels(out, chosen.as_slice(), values);
+}
+
+impl Item for GhostItem {
+    type Context = KindTable;
+
+    ghost use Rattle.wire_format.specs.Ghosts.{ghost_item, ghost_at, IsGhostInRange, IsGhost};
+
+    ghost spelling = { ghost_item };
+
+    ghost reading = { ghost_at };
+
+    ghost in_range = { IsGhostInRange };
+
+    ghost is_item = { IsGhost };
+
+    fn read(reader: &mut BitReader<'_>, kinds: &KindTable) -> Result<Self, BitsFault> {
+        read_ghost(reader, kinds)
+    }
+
+    fn bits(&self, kinds: &KindTable) -> u32 {
+        ghost_bits(self, kinds)
+    }
+
+    #[tactic(auto, using(crate::proofs::Lengths::lengths))]
+    fn put(&self, kinds: &KindTable, out: &mut BitWriter) {
+        match self {
+            GhostItem::Kill { slot } => {
+                out.put(u32::from(*slot), SLOT_WIDTH);
+                out.put(KILL, OP_WIDTH);
+            }
+            GhostItem::Create {
+                slot,
+                kind,
+                block,
+                levels,
+            } => {
+                out.put(u32::from(*slot), SLOT_WIDTH);
+                out.put(CREATE, OP_WIDTH);
+                put_create(out, kinds, *kind, *block, levels.as_slice());
+            }
+            GhostItem::Update {
+                slot,
+                kind,
+                mask,
+                levels,
+            } => {
+                out.put(u32::from(*slot), SLOT_WIDTH);
+                out.put(UPDATE, OP_WIDTH);
+                put_update(out, kinds, *kind, *mask, levels.as_slice());
+            }
+        }
+    }
+}
