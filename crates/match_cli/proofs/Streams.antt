@@ -31,4 +31,3 @@ drained (Some o) (Some m) new bytes buf some t r =
 pub too_long : (old new : Option (List ℕ)) (bytes : List ℕ) (n : ℕ) → Taken old new bytes → n < length bytes → IfSome old (λ b. n < length b)
 too_long None new bytes n t h = tt
 too_long (Some o) new bytes n t h = omega (arith, ap length t.2, length-append bytes t.0, h)
-

@@ -2,11 +2,10 @@
 #![tactic(auto)]
 
 mod input;
-mod top;
-mod words;
-
 #[cfg(test)]
 mod tests;
+mod top;
+mod words;
 
 use std::io::Error;
 use std::process::ExitCode;

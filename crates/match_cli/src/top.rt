@@ -36,7 +36,12 @@ pub enum Status {
 }
 
 /// Each answer with its cause.
-fn answered<S: Source, K: Sink>(alloc: Global, words: &Vec<String>, source: &mut S, sink: &mut K) -> Status
+fn answered<S: Source, K: Sink>(
+    alloc: Global,
+    words: &Vec<String>,
+    source: &mut S,
+    sink: &mut K,
+) -> Status
     // The whole report of the text that the source held was written, and the source was read to its end.
     ensures done { result ≡ Status.Done → IfSome (S.held source.old) (λ text. IfSome (K.written sink.old) (λ before.
         (script : OneScript) × (script_of text ≡ Ok script) × (K.written sink.new ≡ Some (before ++ report script)) × (S.held source.new ≡ Some []))) }
@@ -75,7 +80,12 @@ fn answered<S: Source, K: Sink>(alloc: Global, words: &Vec<String>, source: &mut
 }
 
 /// Serves the command `run`: reads a script from the source and writes its report to the sink, one line a write.
-pub fn top<S: Source, K: Sink>(alloc: Global, words: &Vec<String>, source: &mut S, sink: &mut K) -> Status
+pub fn top<S: Source, K: Sink>(
+    alloc: Global,
+    words: &Vec<String>,
+    source: &mut S,
+    sink: &mut K,
+) -> Status
     // The whole report of the text that the source held was written, and the source was read to its end.
     ensures done { result ≡ Status.Done → IfSome (S.held source.old) (λ text. IfSome (K.written sink.old) (λ before.
         (script : OneScript) × (script_of text ≡ Ok script) × (K.written sink.new ≡ Some (before ++ report script)) × (S.held source.new ≡ Some []))) }

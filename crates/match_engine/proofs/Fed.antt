@@ -35,14 +35,16 @@ fed m new line past lt s now quiet = record {
   clients = length-set m.pairs (client_of line) new ∙ s.clients;
   done = omega (arith, s.done);
   pairs = λ c d l. elim (cases_eq c (client_of line)) [
-      inl same ↦ subst (λ n. PairStandsFor (get_or (set m.pairs (client_of line) new) n d) (config_of m.head n) (journal n (line ∷ past))) (sym same)
+    | inl same ↦ subst (λ n. PairStandsFor (get_or (set m.pairs (client_of line) new) n d) (config_of m.head n) (journal n (line ∷ past))) (sym same)
         (subst (λ (p : PairState). PairStandsFor p (config_of m.head (client_of line)) (journal (client_of line) (line ∷ past))) (sym (get_or-set_same m.pairs (client_of line) new d (omega (arith, s.clients))))
-          (subst (λ (steps : List Step). PairStandsFor new (config_of m.head (client_of line)) steps) (sym (mine line past)) now))
+        (subst (λ (steps : List Step). PairStandsFor new (config_of m.head (client_of line)) steps) (sym (mine line past)) now))
     | inr other ↦ subst (λ (p : PairState). PairStandsFor p (config_of m.head c) (journal c (line ∷ past))) (sym (get_or-set_other m.pairs (client_of line) c new d other))
-        (subst (λ (steps : List Step). PairStandsFor (get_or m.pairs c d) (config_of m.head c) steps) (sym (theirs c line past other)) (s.pairs c d l)) ];
+        (subst (λ (steps : List Step). PairStandsFor (get_or m.pairs c d) (config_of m.head c) steps) (sym (theirs c line past other)) (s.pairs c d l))
+  ];
   quiet = λ c d l. elim (cases_eq c (client_of line)) [
-      inl same ↦ subst (λ n. IsQuiet (get_or (set m.pairs (client_of line) new) n d)) (sym same) (subst IsQuiet (sym (get_or-set_same m.pairs (client_of line) new d (omega (arith, s.clients)))) quiet)
-    | inr other ↦ subst IsQuiet (sym (get_or-set_other m.pairs (client_of line) c new d other)) (s.quiet c d l) ];
+    | inl same ↦ subst (λ n. IsQuiet (get_or (set m.pairs (client_of line) new) n d)) (sym same) (subst IsQuiet (sym (get_or-set_same m.pairs (client_of line) new d (omega (arith, s.clients)))) quiet)
+    | inr other ↦ subst IsQuiet (sym (get_or-set_other m.pairs (client_of line) c new d other)) (s.quiet c d l)
+  ];
 }
 
 -- the datagrams of a connection are no more than the lines

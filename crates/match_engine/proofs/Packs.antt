@@ -68,4 +68,3 @@ module _ (k : Config) (steps : List Step) (c place : ℕ) (t : Told) where
       go Held e sent = f (datagram (client (client_packet.Ping (client_ping k (history k steps).client)))) (at-end (client_datagrams (history k steps).client) l (datagram (client (client_packet.Ping (client_ping k (history k steps).client)))) place (ap place-of e) sent) ∙ ap (λ n. told_as.Packed true c n true (datagram (client (client_packet.Ping (client_ping k (history k steps).client))))) (ap place-of e)
       go Worn e sent = absurd cc
       go Room e sent = absurd cc
-

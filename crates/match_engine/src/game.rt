@@ -39,7 +39,11 @@ fn client_of(line: &BodyLine) -> u8
     ensures { result ≡ client_named line.now }
 {
     match line {
-        BodyLine::Post { client, class: _, payload: _ } => *client,
+        BodyLine::Post {
+            client,
+            class: _,
+            payload: _,
+        } => *client,
         BodyLine::Pack { client } => *client,
         BodyLine::ClientPack { client } => *client,
         BodyLine::Down { client, k: _ } => *client,

@@ -6,12 +6,10 @@ ghost use Rattle.match_engine.specs.Laws.{Isolation, EventsInOrder};
 /// and of `client`, `life` and `size` (docs/proofs.md, "Isolation").
 pub fn isolation()
     ensures { Isolation }
-{
-}
+{}
 
 /// At every line the guaranteed events that each end delivered are the first ones that the other end posted
 /// (docs/proofs.md, "Delivered prefixes").
 pub fn events_in_order()
     ensures { EventsInOrder }
-{
-}
+{}

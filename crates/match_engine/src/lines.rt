@@ -116,7 +116,13 @@ fn pack(alloc: Global, pair: &mut Pair, client: u8) -> Result<Told, NoMemory>
             client,
             life,
         }),
-        Made::Data { place } => Ok(packed(false, client, place, false, pair.server_datagram(place))),
+        Made::Data { place } => Ok(packed(
+            false,
+            client,
+            place,
+            false,
+            pair.server_datagram(place),
+        )),
         Made::Ping { place } => Ok(packed(false, client, place, true, pair.server_datagram(place))),
     }
 }
@@ -202,7 +208,11 @@ pub(crate) fn line_on(alloc: Global, pair: &mut Pair, line: &BodyLine) -> Result
     ensures quiet { OnOk result (IsQuiet pair.new) }
 {
     match line {
-        BodyLine::Post { client, class, payload } => Ok(post(pair, *client, *class, payload.copy())),
+        BodyLine::Post {
+            client,
+            class,
+            payload,
+        } => Ok(post(pair, *client, *class, payload.copy())),
         BodyLine::Pack { client } => pack(alloc, pair, *client),
         BodyLine::ClientPack { client } => client_pack(alloc, pair, *client),
         BodyLine::Down { client, k } => Ok(down(pair, *client, *k)),

@@ -27,7 +27,13 @@ pub enum RunFault {
 }
 
 /// Does one line and writes its line of the report. `text` is only a place for it.
-fn tell<K: Sink>(alloc: Global, game: &mut Match, line: &BodyLine, text: &mut Vec<u8>, sink: &mut K) -> Result<(), RunFault>
+fn tell<K: Sink>(
+    alloc: Global,
+    game: &mut Match,
+    line: &BodyLine,
+    text: &mut Vec<u8>,
+    sink: &mut K,
+) -> Result<(), RunFault>
     requires stands { (past : List OneLine) × StandsFor game.old past }
     requires fits { LineFits game.old.head.clients line.now }
     requires few { game.old.done < MAX_LINES }

@@ -114,7 +114,11 @@ fn put_posted(text: &mut String, number: &Result<u32, PostFault>) -> Result<(), 
     }
 }
 
-fn put_dropped(text: &mut String, alloc: Global, dropped: &Option<Payload>) -> Result<(), AllocError>
+fn put_dropped(
+    text: &mut String,
+    alloc: Global,
+    dropped: &Option<Payload>,
+) -> Result<(), AllocError>
     ensures { OnOk result (string_bytes text.new ≡ string_bytes text.old ++ dropped_text dropped.now) }
 {
     match dropped {
@@ -149,7 +153,12 @@ fn put_server_refusal(text: &mut String, fault: &ArriveFault) -> Result<(), Allo
         ArriveFault::WrongClient { client } => put(text, "client ", u32::from(*client)),
         ArriveFault::Old { seq, horizon } => put_two(text, "old ", *seq, *horizon),
         ArriveFault::AckAhead { horizon, last } => put_two(text, "ackahead ", *horizon, *last),
-        ArriveFault::EventAhead { number, delivered } => put_two(text, "eventahead ", *number, *delivered),
+        ArriveFault::EventAhead { number, delivered } => put_two(
+            text,
+            "eventahead ",
+            *number,
+            *delivered,
+        ),
     }
 }
 
@@ -161,7 +170,12 @@ fn put_client_refusal(text: &mut String, fault: &ClientFault) -> Result<(), Allo
         ClientFault::WrongClient { client } => put(text, "client ", u32::from(*client)),
         ClientFault::Old { seq, horizon } => put_two(text, "old ", *seq, *horizon),
         ClientFault::AckAhead { horizon, last } => put_two(text, "ackahead ", *horizon, *last),
-        ClientFault::EventAhead { number, delivered } => put_two(text, "eventahead ", *number, *delivered),
+        ClientFault::EventAhead { number, delivered } => put_two(
+            text,
+            "eventahead ",
+            *number,
+            *delivered,
+        ),
     }
 }
 
@@ -177,7 +191,13 @@ fn put_arrival(text: &mut String, way: Way, client: u8, k: u32) -> Result<(), Al
     text.push_str(" ")
 }
 
-fn put_came(text: &mut String, alloc: Global, way: Way, moves: u32, events: &[EventTold]) -> Result<(), AllocError>
+fn put_came(
+    text: &mut String,
+    alloc: Global,
+    way: Way,
+    moves: u32,
+    events: &[EventTold],
+) -> Result<(), AllocError>
     ensures { OnOk result (string_bytes text.new ≡ string_bytes text.old ++ came_text way moves events.now) }
 {
     match way {
@@ -197,13 +217,23 @@ fn put_told(text: &mut String, alloc: Global, told: &Told) -> Result<(), AllocEr
             text.push_str(" ")?;
             put_posted(text, number)
         }
-        Told::PostLoose { up, client, dropped } => {
+        Told::PostLoose {
+            up,
+            client,
+            dropped,
+        } => {
             text.push_str(end_word(*up))?;
             put(text, "post ", u32::from(*client))?;
             text.push_str(" ")?;
             put_dropped(text, alloc, dropped)
         }
-        Told::Packed { up, client, place, ping, bytes } => {
+        Told::Packed {
+            up,
+            client,
+            place,
+            ping,
+            bytes,
+        } => {
             text.push_str(end_word(*up))?;
             put_two(text, "pack ", u32::from(*client), *place)?;
             text.push_str(ping_word(*ping))?;
@@ -214,16 +244,32 @@ fn put_told(text: &mut String, alloc: Global, told: &Told) -> Result<(), AllocEr
             put(text, "pack ", u32::from(*client))?;
             put(text, " worn ", *life)
         }
-        Told::Came { way, client, k, moves, events } => {
+        Told::Came {
+            way,
+            client,
+            k,
+            moves,
+            events,
+        } => {
             put_arrival(text, *way, *client, *k)?;
             text.push_str("ok")?;
             put_came(text, alloc, *way, *moves, events.as_slice())
         }
-        Told::NotSent { way, client, k, sent } => {
+        Told::NotSent {
+            way,
+            client,
+            k,
+            sent,
+        } => {
             put_arrival(text, *way, *client, *k)?;
             put(text, "notsent ", *sent)
         }
-        Told::ServerRefused { way, client, k, fault } => {
+        Told::ServerRefused {
+            way,
+            client,
+            k,
+            fault,
+        } => {
             put_arrival(text, *way, *client, *k)?;
             put_server_refusal(text, fault)
         }
@@ -231,7 +277,14 @@ fn put_told(text: &mut String, alloc: Global, told: &Told) -> Result<(), AllocEr
             put_arrival(text, Way::Down, *client, *k)?;
             put_client_refusal(text, fault)
         }
-        Told::Show { client, events, sampled, accepted, taken, control } => {
+        Told::Show {
+            client,
+            events,
+            sampled,
+            accepted,
+            taken,
+            control,
+        } => {
             put(text, "show ", u32::from(*client))?;
             put(text, " events ", *events)?;
             put(text, " sampled ", *sampled)?;

@@ -85,23 +85,68 @@ impl Events {
 #[derive(Drop)]
 pub enum Told {
     /// A guaranteed event was posted at the server, or `up` at the client, or was refused.
-    Post { up: bool, client: u8, number: Result<u32, PostFault> },
+    Post {
+        up: bool,
+        client: u8,
+        number: Result<u32, PostFault>,
+    },
     /// An unguaranteed event was posted at the server, or `up` at the client, where the oldest waiting one may have been
     /// dropped.
-    PostLoose { up: bool, client: u8, dropped: Option<Payload> },
+    PostLoose {
+        up: bool,
+        client: u8,
+        dropped: Option<Payload>,
+    },
     /// The server, or `up` the client, made its datagram number `place` (from 0).
-    Packed { up: bool, client: u8, place: u32, ping: bool, bytes: RawBytes },
+    Packed {
+        up: bool,
+        client: u8,
+        place: u32,
+        ping: bool,
+        bytes: RawBytes,
+    },
     /// A pack made nothing: as many data packets as the connection's life were sent.
-    PackWorn { up: bool, client: u8, life: u32 },
+    PackWorn {
+        up: bool,
+        client: u8,
+        life: u32,
+    },
     /// Datagram `k` came and was taken (`k` is 0 for raw bytes), with so many moves newly accepted and these events handed out.
-    Came { way: Way, client: u8, k: u32, moves: u32, events: Events },
+    Came {
+        way: Way,
+        client: u8,
+        k: u32,
+        moves: u32,
+        events: Events,
+    },
     /// Datagram `k` was never sent that way; `sent` were.
-    NotSent { way: Way, client: u8, k: u32, sent: u32 },
+    NotSent {
+        way: Way,
+        client: u8,
+        k: u32,
+        sent: u32,
+    },
     /// The server refused datagram `k`.
-    ServerRefused { way: Way, client: u8, k: u32, fault: ArriveFault },
+    ServerRefused {
+        way: Way,
+        client: u8,
+        k: u32,
+        fault: ArriveFault,
+    },
     /// The client refused datagram `k`.
-    ClientRefused { client: u8, k: u32, fault: ClientFault },
+    ClientRefused {
+        client: u8,
+        k: u32,
+        fault: ClientFault,
+    },
     /// The guaranteed events delivered to a client, its moves that were sampled, accepted and taken by ticks, and its
     /// control slot.
-    Show { client: u8, events: u32, sampled: u32, accepted: u32, taken: u32, control: Option<u8> },
+    Show {
+        client: u8,
+        events: u32,
+        sampled: u32,
+        accepted: u32,
+        taken: u32,
+        control: Option<u8>,
+    },
 }

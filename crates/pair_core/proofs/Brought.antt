@@ -35,7 +35,7 @@ pub down_stands : (p : PairState) (new : ClientState) (c : Config) (steps : List
 down_stands p new c steps k bytes there config gets s =
     let sent : slice_get (server_datagrams (history c steps).server) k ≡ Some bytes = ap (λ (l : List (List ℕ)). slice_get l k) (sym s.down) ∙ there in
     let now : ClientStandsFor new (client_gets c (Some bytes) (history c steps).client) =
-        subst (λ (x : Config). ClientStandsFor new (took_at_client (history c steps).client (client_answer x (history c steps).client bytes))) s.client_config (gets (history c steps).client s.client) in
+    subst (λ (x : Config). ClientStandsFor new (took_at_client (history c steps).client (client_answer x (history c steps).client bytes))) s.client_config (gets (history c steps).client s.client) in
     record {
       conn_config = s.conn_config;
       client_config = config ∙ s.client_config;
@@ -51,7 +51,7 @@ pub up_stands : (p : PairState) (new : ConnState) (c : Config) (steps : List Ste
 up_stands p new c steps k bytes there config gets s =
     let sent : slice_get (client_datagrams (history c steps).client) k ≡ Some bytes = ap (λ (l : List (List ℕ)). slice_get l k) (sym s.up) ∙ there in
     let now : ConnStandsFor new (server_gets c (Some bytes) (history c steps).server) =
-        subst (λ (x : Config). ConnStandsFor new (took_at_server (history c steps).server (server_answer x (history c steps).server bytes))) s.conn_config (gets (history c steps).server s.conn) in
+    subst (λ (x : Config). ConnStandsFor new (took_at_server (history c steps).server (server_answer x (history c steps).server bytes))) s.conn_config (gets (history c steps).server s.conn) in
     record {
       conn_config = config ∙ s.conn_config;
       client_config = s.client_config;

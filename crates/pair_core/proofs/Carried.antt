@@ -118,13 +118,14 @@ module _ (c : Config) (limits : IsConfig c) where
     where
       vs : List (List ℕ)
       vs = posted_at (server_end s)
+
       go : (state : SendState) → server_state c s ≡ state → Carried c (onto (server_log.pack_event c s state) s) t
       go Worn e = h
       go Held e = record {
         server = pinged-fits c.life (server_end s) _ h.server;
         client = h.client;
         down = all-append (IsDown (posted_at (server_end s))) (server_datagrams s) _ h.down
-          (is-down (posted_at (server_end s)) (down.Ping (server_ping c s)) (ping_head-fits c.life c.client (server_end s) short limits.client e h.server) tt, tt);
+            (is-down (posted_at (server_end s)) (down.Ping (server_ping c s)) (ping_head-fits c.life c.client (server_end s) short limits.client e h.server) tt, tt);
         up = h.up;
         came_down = h.came_down;
         came_up = h.came_up;
@@ -132,17 +133,19 @@ module _ (c : Config) (limits : IsConfig c) where
       go Room e = record {
         server = packed-fits c.life (server_end s) _ e h.server;
         client = h.client;
-        down = all-append (IsDown (posted_at (server_end s))) (server_datagrams s) _ h.down
-          (is-down (posted_at (server_end s)) (down.Body (data_body c s))
-            (record {
-              head = data_head-fits c.life c.client (server_end s) short limits.client e h.server;
-              accepted = omega arith;
-              control = tt;
-              blocks = record { few = omega arith; each = tt };
-              events = events-fit c.life _ (server_end s) short h.server;
-              ghosts = record { few = omega arith; each = tt };
-            })
-            (posted-events _ (server_end s)), tt);
+        down = all-append (IsDown (posted_at (server_end s))) (server_datagrams s) _ h.down (
+          is-down (posted_at (server_end s)) (down.Body (data_body c s))
+              (record {
+                head = data_head-fits c.life c.client (server_end s) short limits.client e h.server;
+                accepted = omega arith;
+                control = tt;
+                blocks = record { few = omega arith; each = tt };
+                events = events-fit c.life _ (server_end s) short h.server;
+                ghosts = record { few = omega arith; each = tt };
+              })
+              (posted-events _ (server_end s)),
+          tt,
+        );
         up = h.up;
         came_down = h.came_down;
         came_up = h.came_up;
@@ -158,7 +161,7 @@ module _ (c : Config) (limits : IsConfig c) where
         client = pinged-fits c.life (client_end t) _ h.client;
         down = h.down;
         up = all-append (IsUp (posted_at (client_end t))) (client_datagrams t) _ h.up
-          (is-up (posted_at (client_end t)) (up.Ping (client_ping c t)) (ping_head-fits c.life c.client (client_end t) short limits.client e h.client) tt, tt);
+            (is-up (posted_at (client_end t)) (up.Ping (client_ping c t)) (ping_head-fits c.life c.client (client_end t) short limits.client e h.client) tt, tt);
         came_down = h.came_down;
         came_up = h.came_up;
       }
@@ -166,15 +169,17 @@ module _ (c : Config) (limits : IsConfig c) where
         server = h.server;
         client = packed-fits c.life (client_end t) _ e h.client;
         down = h.down;
-        up = all-append (IsUp (posted_at (client_end t))) (client_datagrams t) _ h.up
-          (is-up (posted_at (client_end t)) (up.Body (client_body c t))
-            (record {
-              head = data_head-fits c.life c.client (client_end t) short limits.client e h.client;
-              first = omega arith;
-              moves = record { few = omega arith; each = tt };
-              events = events-fit c.life _ (client_end t) short h.client;
-            })
-            (posted-events _ (client_end t)), tt);
+        up = all-append (IsUp (posted_at (client_end t))) (client_datagrams t) _ h.up (
+          is-up (posted_at (client_end t)) (up.Body (client_body c t))
+              (record {
+                head = data_head-fits c.life c.client (client_end t) short limits.client e h.client;
+                first = omega arith;
+                moves = record { few = omega arith; each = tt };
+                events = events-fit c.life _ (client_end t) short h.client;
+              })
+              (posted-events _ (client_end t)),
+          tt,
+        );
         came_down = h.came_down;
         came_up = h.came_up;
       }
@@ -216,14 +221,14 @@ module _ (c : Config) (limits : IsConfig c) where
   gets-down s t k (Some bytes) e h =
       let d : IsDown (posted_at (server_end s)) bytes = all-at (IsDown (posted_at (server_end s))) (server_datagrams s) k bytes h.down e in
       subst (λ (r : Result ServerPacket BitsFault). Carried c s (took_at_client t (client_log.packet_answer c t r))) (sym d.reads)
-        (took-down s t d.packet (arrival_answer c.client (client_end t) (seen_down d.packet)) d.fits d.posted h)
+      (took-down s t d.packet (arrival_answer c.client (client_end t) (seen_down d.packet)) d.fits d.posted h)
 
   gets-up : (s : List ServerEvent) (t : List ClientEvent) (k : ℕ) (o : Option (List ℕ)) → slice_get (client_datagrams t) k ≡ o → Carried c s t → Carried c (server_gets c o s) t
   gets-up s t k None e h = h
   gets-up s t k (Some bytes) e h =
       let d : IsUp (posted_at (client_end t)) bytes = all-at (IsUp (posted_at (client_end t))) (client_datagrams t) k bytes h.up e in
       subst (λ (r : Result ClientPacket BitsFault). Carried c (took_at_server s (server_log.packet_answer c s r)) t) (sym d.reads)
-        (took-up s t d.packet (arrival_answer c.client (server_end s) (seen_up d.packet)) d.fits d.posted h)
+      (took-up s t d.packet (arrival_answer c.client (server_end s) (seen_up d.packet)) d.fits d.posted h)
 
   -- ---- all steps
 

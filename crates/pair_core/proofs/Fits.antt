@@ -128,8 +128,8 @@ due-are_events : (life : ℕ) (log : List EndEvent) → life < 2 ^ 24 → EndFit
 unfolding due_guaranteed
 due-are_events life log short h =
     all-append IsEvent (due_guaranteed (fates log) (sender_log log)) (map loose_item (waiting_of (sender_log log)))
-      (guaranteed-are_events (is_due (fates log) (sender_log log)) 0 (posted_of (sender_log log)) (omega (arith, h.posted)) h.payloads)
-      (loose-are_events (waiting_of (sender_log log)) h.waiting)
+    (guaranteed-are_events (is_due (fates log) (sender_log log)) 0 (posted_of (sender_log log)) (omega (arith, h.posted)) h.payloads)
+    (loose-are_events (waiting_of (sender_log log)) h.waiting)
 
 fitting-all : (P : EventItem → Type 0) (room : ℕ) (es : List EventItem) → AllByRecursion P es → AllByRecursion P (fitting room es)
 fitting-all P room [] h = tt

@@ -24,6 +24,7 @@ module _ {A : Type 0} (P : A → Type 0) where
     where
       same : (y x : A) → Some y ≡ Some x → y ≡ x
       same y x e = cc
+
       subst-at : (y x : A) → y ≡ x → P y → P x
       subst-at y x e p = subst P e p
   all-at (y ∷ xs) (suc k) x h e = all-at xs k x h.1 e

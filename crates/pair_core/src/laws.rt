@@ -12,5 +12,4 @@ ghost use Rattle.pair_core.specs.Laws.{StepFits, DeliversDown, DeliversUp};
 pub fn delivers_in_order()
     ensures down { (c : Config) (steps : List Step) → IsConfig c → AllByRecursion StepFits steps → DeliversDown c steps }
     ensures up { (c : Config) (steps : List Step) → IsConfig c → AllByRecursion StepFits steps → DeliversUp c steps }
-{
-}
+{}

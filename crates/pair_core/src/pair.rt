@@ -4,9 +4,9 @@ ghost use Rattle.std.specs.Option.{option_copied};
 ghost use Rattle.tn_types.specs.declared.choices.Class.TheVariants.{Guaranteed, Loose};
 ghost use Rattle.stream_manager.specs.declared.config.Config.{Config as OneConfig};
 
-use crate::{MAX_DATAGRAM_BYTES, MAX_DATAGRAMS};
 use crate::datagrams::Datagrams;
 use crate::fault::{DownFault, Made, UpFault};
+use crate::{MAX_DATAGRAM_BYTES, MAX_DATAGRAMS};
 use event_manager::PostFault;
 use notify_window::SendState;
 use std::alloc::Global;

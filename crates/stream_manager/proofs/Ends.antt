@@ -61,7 +61,7 @@ pub posted_ok : {T E : Type 0} (e : EndState) (s : SenderState) (payload : List 
     → OnOk r ((log : List EndEvent) → StandsFor e log → StandsFor (record { config = e.config; window = e.window; sender = s; receiver = e.receiver }) (Posted Guaranteed payload ∷ log))
 posted_ok e s payload r life adds =
     map_ok r (λ (f : (fate : ℕ → Fate) (log : List SenderEvent) → SenderStandsFor e.sender fate log → SenderStandsFor s fate (sending.Posted payload ∷ log)). λ (log : List EndEvent) (stands : StandsFor e log).
-      with_sender e s (Posted Guaranteed payload) log refl life refl (f (fates log) (sender_log log) stands.sender) stands) adds
+    with_sender e s (Posted Guaranteed payload) log refl life refl (f (fates log) (sender_log log) stands.sender) stands) adds
 
 pub same_sender : {T E : Type 0} (e : EndState) (s : SenderState) (r : Result T E) → OnErr r (s ≡ e.sender) → OnErr r (record { config = e.config; window = e.window; sender = s; receiver = e.receiver } ≡ e)
 same_sender e s (Ok x) same = tt
@@ -113,18 +113,21 @@ same_fates e f g log h s = subst (λ fate. SenderStandsFor e fate log) (λ i. λ
 
 pub upto-first : (p : Seen) (log : List EndEvent) (k : ℕ) → k ≡ judged_of (window_log log) + 1 → (s : ℕ) → fates log s ≡ upto p log k s
 upto-first p log k e s = elim (cases_lt s k) [
-    inl l ↦ (let t : nat_lt s k ≡ true = grind (arith, nat_tests) in rw t (sym (fate-told_judged s p.head.horizon p.head.mask (Came p.ping p.head.seq ∷ window_log log) (omega arith))))
-  | inr l ↦ (let t : nat_lt s k ≡ false = grind (arith, nat_tests) in rw t) ]
+  | inl l ↦ (let t : nat_lt s k ≡ true = grind (arith, nat_tests) in rw t (sym (fate-told_judged s p.head.horizon p.head.mask (Came p.ping p.head.seq ∷ window_log log) (omega arith))))
+  | inr l ↦ (let t : nat_lt s k ≡ false = grind (arith, nat_tests) in rw t)
+]
 
 pub upto-more : (p : Seen) (log : List EndEvent) (k n : ℕ) (f : Fate) → n ≡ k + 1 → fates (Took p ∷ log) k ≡ f → (s : ℕ) → judged (upto p log k) k f s ≡ upto p log n s
 upto-more p log k n f e is s = elim (cases_eq s k) [
-    inl at ↦ (let t : (s == k) ≡ true = grind (arith, nat_tests) in let u : nat_lt s n ≡ true = grind (arith, nat_tests) in rw (t, u) (sym (ap (fates (Took p ∷ log)) at ∙ is)))
-  | inr apart ↦ (let t : (s == k) ≡ false = grind (arith, nat_tests) in let u : nat_lt s n ≡ nat_lt s k = grind (arith, nat_tests) in rw (t, u)) ]
+  | inl at ↦ (let t : (s == k) ≡ true = grind (arith, nat_tests) in let u : nat_lt s n ≡ true = grind (arith, nat_tests) in rw (t, u) (sym (ap (fates (Took p ∷ log)) at ∙ is)))
+  | inr apart ↦ (let t : (s == k) ≡ false = grind (arith, nat_tests) in let u : nat_lt s n ≡ nat_lt s k = grind (arith, nat_tests) in rw (t, u))
+]
 
 pub upto-all : (p : Seen) (log : List EndEvent) (k : ℕ) → judged_of (window_log log) < k → p.head.horizon < k → (s : ℕ) → upto p log k s ≡ fates (Took p ∷ log) s
 upto-all p log k a b s = elim (cases_lt s k) [
-    inl l ↦ (let t : nat_lt s k ≡ true = grind (arith, nat_tests) in rw t)
-  | inr l ↦ (let t : nat_lt s k ≡ false = grind (arith, nat_tests) in rw t (sym (fate-told_above s p.head.horizon p.head.mask (Came p.ping p.head.seq ∷ window_log log) (omega arith)))) ]
+  | inl l ↦ (let t : nat_lt s k ≡ true = grind (arith, nat_tests) in rw t)
+  | inr l ↦ (let t : nat_lt s k ≡ false = grind (arith, nat_tests) in rw t (sym (fate-told_above s p.head.horizon p.head.mask (Came p.ping p.head.seq ∷ window_log log) (omega arith))))
+]
 
 pub upto-next : (p : Seen) (log : List EndEvent) (k : ℕ) → judged_of (window_log log) < k → upto p log k k ≡ Unjudged
 upto-next p log k a = let t : nat_lt k k ≡ false = grind (arith, nat_tests) in rw t (fate-above k (window_log log) a)

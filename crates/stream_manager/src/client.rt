@@ -20,8 +20,8 @@ use std::alloc::Global;
 use std::marker::Model;
 use tn_types::{Class, NoMemory, Payload};
 use wire_format::{
-    CLIENT_FIXED_BITS, ClientBody, ClientPacket, EventList, MoveList, ServerPacket, decode_server, encode_client,
-    client_bits,
+    CLIENT_FIXED_BITS, ClientBody, ClientPacket, EventList, MoveList, ServerPacket, client_bits,
+    decode_server, encode_client,
 };
 
 /// A client's end of its connection to the server.

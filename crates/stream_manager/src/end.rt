@@ -11,7 +11,6 @@ ghost use Rattle.std.specs.Int.{bit_at};
 ghost use Rattle.notify_window.specs.Log.{arrival_of, fate_of_bit};
 ghost use Rattle.event_manager.specs.Sending.{fate_for};
 ghost use Rattle.event_manager.specs.Receiving.{take_answer, run_of};
-
 ghost use Rattle.wire_format.specs.Events.{event_size, IsEventInRange};
 ghost use Rattle.wire_format.specs.declared.events.EventItem.{EventItem as OneEvent};
 ghost use Rattle.stream_manager.specs.End.{fitting};
@@ -221,7 +220,10 @@ impl End {
         }
         match self.receiver.check(events) {
             Ok(()) => Ok(()),
-            Err(EventAhead { number, delivered }) => Err(EndFault::EventAhead { number, delivered }),
+            Err(EventAhead { number, delivered }) => Err(EndFault::EventAhead {
+                number,
+                delivered,
+            }),
         }
     }
 
@@ -250,7 +252,12 @@ impl End {
     }
 
     /// Takes a packet with this header and these events, or refuses it by the first refusal that holds.
-    pub(crate) fn arrive(&mut self, ping: bool, head: &Header, events: &EventList) -> Result<(), EndFault>
+    pub(crate) fn arrive(
+        &mut self,
+        ping: bool,
+        head: &Header,
+        events: &EventList,
+    ) -> Result<(), EndFault>
         requires fits { head.now.seq < 2 ^ 24 }
         requires none_waits { self.old.receiver.ready ≡ [] }
         requires numbers { All IsEventInRange events.now }

@@ -52,7 +52,10 @@ impl EndFault {
             EndFault::WrongClient { client } => ArriveFault::WrongClient { client },
             EndFault::Old { seq, horizon } => ArriveFault::Old { seq, horizon },
             EndFault::AckAhead { horizon, last } => ArriveFault::AckAhead { horizon, last },
-            EndFault::EventAhead { number, delivered } => ArriveFault::EventAhead { number, delivered },
+            EndFault::EventAhead { number, delivered } => ArriveFault::EventAhead {
+                number,
+                delivered,
+            },
         }
     }
 
@@ -64,7 +67,10 @@ impl EndFault {
             EndFault::WrongClient { client } => ClientFault::WrongClient { client },
             EndFault::Old { seq, horizon } => ClientFault::Old { seq, horizon },
             EndFault::AckAhead { horizon, last } => ClientFault::AckAhead { horizon, last },
-            EndFault::EventAhead { number, delivered } => ClientFault::EventAhead { number, delivered },
+            EndFault::EventAhead { number, delivered } => ClientFault::EventAhead {
+                number,
+                delivered,
+            },
         }
     }
 }

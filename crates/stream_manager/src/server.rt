@@ -20,8 +20,8 @@ use std::alloc::Global;
 use std::marker::Model;
 use tn_types::{Class, NoMemory, Payload};
 use wire_format::{
-    BlockList, ClientPacket, EventList, GhostList, SERVER_FIXED_BITS, ServerBody, ServerPacket, decode_client, encode_server,
-    server_bits,
+    BlockList, ClientPacket, EventList, GhostList, SERVER_FIXED_BITS, ServerBody, ServerPacket,
+    decode_client, encode_server, server_bits,
 };
 
 /// The server's end of the connection to one client.

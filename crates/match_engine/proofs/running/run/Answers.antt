@@ -38,15 +38,15 @@ lines-preserved g c =
     let past = reverse (take c.lines.line-index c.as_slice-line-items.result.now) in
     let head = c.args.script.now.head in
     let next : reverse (take (c.lines.line-index + 1) c.as_slice-line-items.result.now) ≡ c.line-item.result ∷ reverse (take c.lines.line-index c.as_slice-line-items.result.now) =
-        reverse_next items i line c.lines-test.true ∙ ap (λ (x : BodyLine). x ∷ past) (sym c.line-item.is) in
+    reverse_next items i line c.lines-test.true ∙ ap (λ (x : BodyLine). x ∷ past) (sym c.line-item.is) in
     let adds = c.in_ok-tell.ensures.written past c.lines.invariant.stands in
     let adds-here : Adds (g.K.Sink.written c.lines.sink) (g.K.Sink.written c.tell.new.sink) (line_text c.args.script.now.head past line) =
-        subst (λ (h : Head). Adds (g.K.Sink.written c.lines.sink) (g.K.Sink.written c.tell.new.sink) (line_text h past line)) c.lines.invariant.head adds in
+    subst (λ (h : Head). Adds (g.K.Sink.written c.lines.sink) (g.K.Sink.written c.tell.new.sink) (line_text h past line)) c.lines.invariant.head adds in
     record {
       stands = rw next (c.in_ok-tell.ensures.stands past c.lines.invariant.stands);
       head = c.in_ok-tell.ensures.head ∙ c.lines.invariant.head;
       written = adds_then (g.K.Sink.written c.args.sink.now) (g.K.Sink.written c.lines.sink) (g.K.Sink.written c.tell.new.sink) (report_so_far head past) (line_text head past line) _
-        c.lines.invariant.written adds-here (ap (report_so_far head) next ∙ one_line_more head past line);
+          c.lines.invariant.written adds-here (ap (report_so_far head) next ∙ one_line_more head past line);
       later = omega arith;
     }
 
@@ -59,9 +59,9 @@ returns-in_err-tell-clause-front g c =
     let head = c.args.script.now.head in
     let whole = split_at_line head items i line c.lines-test.true c.line-item.is in
     let here : AddsFront (g.K.Sink.written c.lines.sink) (g.K.Sink.written c.tell.new.sink) (line_text c.args.script.now.head past line) =
-        subst (λ (h : Head). AddsFront (g.K.Sink.written c.lines.sink) (g.K.Sink.written c.tell.new.sink) (line_text h past line)) c.lines.invariant.head (c.in_err-tell.ensures.front past c.lines.invariant.stands) in
+    subst (λ (h : Head). AddsFront (g.K.Sink.written c.lines.sink) (g.K.Sink.written c.tell.new.sink) (line_text h past line)) c.lines.invariant.head (c.in_err-tell.ensures.front past c.lines.invariant.stands) in
     rw (p.1) (front_more (g.K.Sink.written c.args.sink.now) (g.K.Sink.written c.lines.sink) (g.K.Sink.written c.tell.new.sink) (report_so_far head past) (line_text head past line) whole.0 _ c.lines.invariant.written here
-      (ap (λ (b : List BodyLine). report_so_far head (reverse b)) (sym c.as_slice-line-items.ensures) ∙ whole.1))
+    (ap (λ (b : List BodyLine). report_so_far head (reverse b)) (sym c.as_slice-line-items.ensures) ∙ whole.1))
 
 pub returns-clause-report : goal.returns-clause-report
 unfolding report

@@ -56,11 +56,11 @@ returns-clause-told c =
     let line = c.args.line.now in
     let fits : LineFits m.head.clients c.args.line.now = subst (λ (x : MatchState). LineFits x.head.clients c.args.line.now) (sym c.self.view_is) c.requires.fits in
     subst (λ (x : MatchState). IfOk c.line_on.result (λ t. (past : List BodyLine) → StandsFor x past → t ≡ told (config_of x.head (client_of c.args.line.now)) (journal (client_of c.args.line.now) past) c.args.line.now)) c.self.view_is
-      (map_if_ok c.line_on.result
-        (λ (t : Told). (k : Config) (steps : List Step) → PairStandsFor c.index_mut-pair.result.now k steps → t ≡ told k steps c.args.line.now)
-        (λ (t : Told). (past : List BodyLine) → StandsFor m past → t ≡ told (config_of m.head (client_of c.args.line.now)) (journal (client_of c.args.line.now) past) c.args.line.now)
-        (λ t f past s. f (config_of m.head (client_of c.args.line.now)) (journal (client_of c.args.line.now) past) (stands m c.index_mut-pair.result.now c.client_of-client.result c.args.line.now past c.client_of-client.ensures c.index_mut-pair.ensures.value s fits))
-        c.line_on.ensures.told)
+    (map_if_ok c.line_on.result
+    (λ (t : Told). (k : Config) (steps : List Step) → PairStandsFor c.index_mut-pair.result.now k steps → t ≡ told k steps c.args.line.now)
+    (λ (t : Told). (past : List BodyLine) → StandsFor m past → t ≡ told (config_of m.head (client_of c.args.line.now)) (journal (client_of c.args.line.now) past) c.args.line.now)
+    (λ t f past s. f (config_of m.head (client_of c.args.line.now)) (journal (client_of c.args.line.now) past) (stands m c.index_mut-pair.result.now c.client_of-client.result c.args.line.now past c.client_of-client.ensures c.index_mut-pair.ensures.value s fits))
+    c.line_on.ensures.told)
 
 pub returns-clause-stands : goal.returns-clause-stands
 returns-clause-stands c =
@@ -68,10 +68,10 @@ returns-clause-stands c =
     let fits : LineFits m.head.clients c.args.line.now = subst (λ (x : MatchState). LineFits x.head.clients c.args.line.now) (sym c.self.view_is) c.requires.fits in
     let new : MatchState = record { head = m.head; pairs = set m.pairs c.client_of-client.result c.line_on.new.pair; done = m.done + 1 } in
     subst (λ (x : MatchState). OnOk c.line_on.result ((past : List BodyLine) → StandsFor x past → StandsFor new (c.args.line.now ∷ past))) c.self.view_is
-      (both_ok c.line_on.result
-        ((k : Config) (steps : List Step) → PairStandsFor c.index_mut-pair.result.now k steps → PairStandsFor c.line_on.new.pair k (onto c.args.line.now steps))
-        (IsQuiet c.line_on.new.pair)
-        ((past : List BodyLine) → StandsFor m past → StandsFor new (c.args.line.now ∷ past))
-        (λ f quiet past s. after m c.index_mut-pair.result.now c.client_of-client.result c.args.line.now past c.client_of-client.ensures c.index_mut-pair.ensures.value s fits c.line_on.new.pair
-          (f (config_of m.head (client_of c.args.line.now)) (journal (client_of c.args.line.now) past) (stands m c.index_mut-pair.result.now c.client_of-client.result c.args.line.now past c.client_of-client.ensures c.index_mut-pair.ensures.value s fits)) quiet)
-        c.line_on.ensures.stands c.line_on.ensures.quiet)
+    (both_ok c.line_on.result
+    ((k : Config) (steps : List Step) → PairStandsFor c.index_mut-pair.result.now k steps → PairStandsFor c.line_on.new.pair k (onto c.args.line.now steps))
+    (IsQuiet c.line_on.new.pair)
+    ((past : List BodyLine) → StandsFor m past → StandsFor new (c.args.line.now ∷ past))
+    (λ f quiet past s. after m c.index_mut-pair.result.now c.client_of-client.result c.args.line.now past c.client_of-client.ensures c.index_mut-pair.ensures.value s fits c.line_on.new.pair
+    (f (config_of m.head (client_of c.args.line.now)) (journal (client_of c.args.line.now) past) (stands m c.index_mut-pair.result.now c.client_of-client.result c.args.line.now past c.client_of-client.ensures c.index_mut-pair.ensures.value s fits)) quiet)
+    c.line_on.ensures.stands c.line_on.ensures.quiet)

@@ -15,5 +15,5 @@ returns-clause-stands c cfg steps s =
     let stands : StandsFor p cfg steps = subst (λ (x : PairState). StandsFor x cfg steps) (sym c.self.view_is) s in
     let there : slice_get p.down c.args.k ≡ Some c.in-Some.datagram.now = sym c.get.ensures ∙ ap option_copied c.in-Some.is in
     let gets : (log : List ClientEvent) → ClientStandsFor p.client log → ClientStandsFor c.arrive.new.self (took_at_client log (client_answer p.client.common.config log c.in-Some.datagram.now)) =
-        λ log t. subst (λ (b : List ℕ). ClientStandsFor c.arrive.new.self (took_at_client log (client_answer p.client.common.config log b))) c.as_slice.ensures.value (c.arrive.ensures.stands log t) in
+    λ log t. subst (λ (b : List ℕ). ClientStandsFor c.arrive.new.self (took_at_client log (client_answer p.client.common.config log b))) c.as_slice.ensures.value (c.arrive.ensures.stands log t) in
     down_stands p c.arrive.new.self cfg steps c.args.k c.in-Some.datagram.now there c.arrive.ensures.config gets stands

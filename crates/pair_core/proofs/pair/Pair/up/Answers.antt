@@ -15,5 +15,5 @@ returns-clause-stands c cfg steps s =
     let stands : StandsFor p cfg steps = subst (λ (x : PairState). StandsFor x cfg steps) (sym c.self.view_is) s in
     let there : slice_get p.up c.args.k ≡ Some c.in-Some.datagram.now = sym c.get.ensures ∙ ap option_copied c.in-Some.is in
     let gets : (log : List ServerEvent) → ConnStandsFor p.conn log → ConnStandsFor c.arrive.new.self (took_at_server log (server_answer p.conn.common.config log c.in-Some.datagram.now)) =
-        λ log t. subst (λ (b : List ℕ). ConnStandsFor c.arrive.new.self (took_at_server log (server_answer p.conn.common.config log b))) c.as_slice.ensures.value (c.arrive.ensures.stands log t) in
+    λ log t. subst (λ (b : List ℕ). ConnStandsFor c.arrive.new.self (took_at_server log (server_answer p.conn.common.config log b))) c.as_slice.ensures.value (c.arrive.ensures.stands log t) in
     up_stands p c.arrive.new.self cfg steps c.args.k c.in-Some.datagram.now there c.arrive.ensures.config gets stands

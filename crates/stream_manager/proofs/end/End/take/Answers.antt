@@ -38,9 +38,9 @@ verdicts-preserved c = record {
       let fresh : arrival_of c.args.ping c.args.head.now.seq e.window.horizon ≡ Fresh = subst (λ (x : EndState). arrival_of c.args.ping c.args.head.now.seq x.window.horizon ≡ Fresh) (sym c.self.view_is) c.requires.fresh in
       let came : WindowStandsFor c.receive.new.self (Came c.args.ping c.args.head.now.seq ∷ window_log log) = c.receive.ensures.fresh (c.receive.ensures.answer ∙ fresh) _ stands.window in
       let verdict : fates (Took p ∷ log) (c.in-Ok.notices.first + c.verdicts.i) ≡ fate_for c.verdict_at-verdict.result =
-          c.in-Ok.ensures.verdicts _ came c.verdicts.i c.verdicts-test.true ∙ sym c.verdict_at-verdict.ensures in
+      c.in-Ok.ensures.verdicts _ came c.verdicts.i c.verdicts-test.true ∙ sym c.verdict_at-verdict.ensures in
       same_fates _ _ _ _ (upto-more p log (c.in-Ok.notices.first + c.verdicts.i) _ _ (omega arith) verdict)
-        (c.settle.ensures.stands _ _ (c.verdicts.invariant.sender log s) (upto-next p log (c.in-Ok.notices.first + c.verdicts.i) (omega (arith, came.judged, c.in-Ok.ensures.first))));
+      (c.settle.ensures.stands _ _ (c.verdicts.invariant.sender log s) (upto-next p log (c.in-Ok.notices.first + c.verdicts.i) (omega (arith, came.judged, c.in-Ok.ensures.first))));
 }
 
 pub invariant_of-self : goal.invariant_of-self
@@ -54,10 +54,12 @@ invariant_of-self c =
     let receiver : ReceiverStandsFor c.take.new.self (came_of (Took p ∷ log)) = when_ok c.take.result (c.take.ensures.answer ∙ near) c.take.ensures.stands (came_of log) stands.receiver in
     let now = c.in-Ok.ensures.stands _ came in
     let sender : SenderStandsFor c.verdicts.self-inside.sender (fates (Took p ∷ log)) (sender_log log) =
-        same_fates _ _ _ _ (upto-all p log (c.in-Ok.notices.first + c.verdicts.i) (omega (arith, came.judged, c.in-Ok.ensures.first)) (omega (arith, came.judged, c.in-Ok.ensures.first, c.in-Ok.ensures.count)))
-          (c.verdicts.invariant.sender log (subst (λ (x : EndState). StandsFor x log) c.self.view_is stands)) in
-    (Took p ∷ log, rw (c.verdicts.invariant.config, c.verdicts.invariant.window, c.verdicts.invariant.receiver)
-      (took_stands e c.notices.new.self c.verdicts.self-inside.sender c.take.new.self p (c.notices.ensures.life ∙ c.receive.ensures.life) c.verdicts.invariant.life c.requires.fits log now sender receiver stands))
+    same_fates _ _ _ _ (upto-all p log (c.in-Ok.notices.first + c.verdicts.i) (omega (arith, came.judged, c.in-Ok.ensures.first)) (omega (arith, came.judged, c.in-Ok.ensures.first, c.in-Ok.ensures.count)))
+    (c.verdicts.invariant.sender log (subst (λ (x : EndState). StandsFor x log) c.self.view_is stands)) in (
+      Took p ∷ log,
+      rw (c.verdicts.invariant.config, c.verdicts.invariant.window, c.verdicts.invariant.receiver)
+          (took_stands e c.notices.new.self c.verdicts.self-inside.sender c.take.new.self p (c.notices.ensures.life ∙ c.receive.ensures.life) c.verdicts.invariant.life c.requires.fits log now sender receiver stands),
+    )
 
 pub returns-clause-stands : goal.returns-clause-stands
 returns-clause-stands c log s =
@@ -70,10 +72,10 @@ returns-clause-stands c log s =
     let receiver : ReceiverStandsFor c.take.new.self (came_of (Took p ∷ log)) = when_ok c.take.result (c.take.ensures.answer ∙ near) c.take.ensures.stands (came_of log) stands.receiver in
     let now = c.in-Ok.ensures.stands _ came in
     let sender : SenderStandsFor c.verdicts.self-inside.sender (fates (Took p ∷ log)) (sender_log log) =
-        same_fates _ _ _ _ (upto-all p log (c.in-Ok.notices.first + c.verdicts.i) (omega (arith, came.judged, c.in-Ok.ensures.first)) (omega (arith, came.judged, c.in-Ok.ensures.first, c.in-Ok.ensures.count)))
-          (c.verdicts.invariant.sender log s) in
+    same_fates _ _ _ _ (upto-all p log (c.in-Ok.notices.first + c.verdicts.i) (omega (arith, came.judged, c.in-Ok.ensures.first)) (omega (arith, came.judged, c.in-Ok.ensures.first, c.in-Ok.ensures.count)))
+    (c.verdicts.invariant.sender log s) in
     rw (c.verdicts.invariant.config, c.verdicts.invariant.window, c.verdicts.invariant.receiver)
-      (took_stands e c.notices.new.self c.verdicts.self-inside.sender c.take.new.self p (c.notices.ensures.life ∙ c.receive.ensures.life) c.verdicts.invariant.life c.requires.fits log now sender receiver stands)
+    (took_stands e c.notices.new.self c.verdicts.self-inside.sender c.take.new.self p (c.notices.ensures.life ∙ c.receive.ensures.life) c.verdicts.invariant.life c.requires.fits log now sender receiver stands)
 
 pub returns-clause-config : goal.returns-clause-config
 returns-clause-config c = c.verdicts.invariant.config ∙ ap (λ (e : EndState). e.config) c.self.view_is
