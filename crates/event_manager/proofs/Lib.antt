@@ -1,0 +1,9 @@
+pub mod Walks
+pub mod Fates
+pub mod Standing
+pub mod Writing
+pub mod Bounds
+pub mod Places
+pub mod Runs
+pub mod Arrivals
+pub mod Prefixes

@@ -1,0 +1,153 @@
+//! The sender of events.
+
+ghost use Rattle.std.specs.Prelude.{◌≡◌, ℕ, ◌+◌, ◌-◌, ◌<◌, ◌≤◌, ◌==◌, List, [], ◌∷◌, ◌++◌, IfOk, OnErr, OnOk, length, take, slice_get, if◌then◌else◌, None, All};
+
+use crate::entries::{
+    Entry, Progress, add_waiting, drop_waiting, due_entries, forget, mark, settle_near,
+};
+use crate::{EVENT_WINDOW, MAX_UNACKNOWLEDGED, MAX_WAITING};
+use circular_buffer::HeapCircularBuffer;
+use notify_window::MAX_LIFE;
+use std::alloc::Global;
+use std::collections::VecDeque;
+use std::marker::Model;
+use tn_types::{NoMemory, Payload, Verdict};
+use wire_format::{EventList, MAX_EVENTS};
+
+/// Why a guaranteed event was not taken. Nothing changed.
+#[derive(Clone, Copy, Debug, PartialEq, Eq)]
+pub enum PostFault {
+    /// `life` events were posted.
+    Worn { life: u32 },
+    /// 256 events are unacknowledged, from `first` to `last`.
+    Full { first: u32, last: u32 },
+}
+
+/// The events of one end on their way out.
+///
+/// A clause sees `SenderState`, and what it means by the log of what the sender did and by the fates of the
+/// packets.
+#[derive(Drop)]
+pub struct EventSender {
+    posted: u32,
+    life: u32,
+    entries: VecDeque<Entry>,
+    waiting: HeapCircularBuffer<Payload>,
+}
+
+impl Model for EventSender {
+    ghost use Rattle.std.specs.Prelude.{◌≡◌, ◌≤◌};
+    ghost use Rattle.std.specs.VecDeque.{deque_capacity};
+    ghost use Rattle.event_manager.specs.declared.TheConstants.{MAX_UNACKNOWLEDGED, MAX_WAITING};
+    ghost use Rattle.event_manager.specs.SenderState.{SenderState, IsBounded};
+
+    ghost Value = { SenderState };
+
+    ghost view = { λ s. record { posted = s.posted; life = s.life; entries = s.entries.items; waiting = s.waiting.items } };
+
+    ghost invariant = { λ s. record {
+      bounded : IsBounded (record { posted = s.posted; life = s.life; entries = s.entries.items; waiting = s.waiting.items });
+      place : MAX_UNACKNOWLEDGED ≤ deque_capacity s.entries;
+      queue : s.waiting.capacity ≡ MAX_WAITING;
+    } };
+}
+
+impl EventSender {
+    ghost use Rattle.notify_window.specs.Log.{Fate, Unjudged};
+    ghost use Rattle.event_manager.specs.Sending.{SenderEvent, Posted, PostedLoose, Wrote, due_of, judged, fate_for, post_answer_of};
+    ghost use Rattle.event_manager.specs.SenderState.{due_now, post_answer};
+    ghost use Rattle.event_manager.specs.SenderStands.{StandsFor};
+    ghost use Rattle.wire_format.specs.Events.{IsEventInRange};
+
+    /// The sender of a new connection, each end of which posts at most `life` guaranteed events.
+    pub fn new(alloc: Global, life: u32) -> Result<EventSender, NoMemory>
+        requires { life ≤ MAX_LIFE }
+        ensures stands { IfOk result (λ s. (fate : ℕ → Fate) → StandsFor s fate []) }
+        ensures life { IfOk result (λ s. s.life ≡ life) }
+    {
+        let Ok(entries) = VecDeque::with_capacity(alloc, MAX_UNACKNOWLEDGED) else {
+            return Err(NoMemory);
+        };
+        let Ok(waiting) = HeapCircularBuffer::with_capacity(alloc, MAX_WAITING) else {
+            return Err(NoMemory);
+        };
+        Ok(EventSender {
+            posted: 0,
+            life,
+            entries,
+            waiting,
+        })
+    }
+
+    /// Posts a guaranteed event, and gives its number, from 0 on.
+    ///
+    /// `Worn` comes exactly where `life` events were posted, else `Full` exactly where 256 are unacknowledged;
+    /// nothing changes then.
+    pub fn post(&mut self, payload: Payload) -> Result<u32, PostFault>
+        ensures answer { result ≡ post_answer self.old }
+        ensures log_answer { (fate : ℕ → Fate) (log : List SenderEvent) → StandsFor self.old fate log → result ≡ post_answer_of self.old.life fate log }
+        ensures stands { OnOk result ((fate : ℕ → Fate) (log : List SenderEvent) → StandsFor self.old fate log → StandsFor self.new fate (Posted payload ∷ log)) }
+        ensures unchanged { OnErr result (self.new ≡ self.old) }
+        ensures life { self.new.life ≡ self.old.life }
+    {
+        if self.posted == self.life {
+            return Err(PostFault::Worn { life: self.life });
+        }
+        if self.entries.len() == MAX_UNACKNOWLEDGED {
+            return Err(PostFault::Full {
+                first: self.posted - MAX_UNACKNOWLEDGED as u32,
+                last: self.posted - 1,
+            });
+        }
+        let number = self.posted;
+        self.posted += 1;
+        self.entries.push_back_reserved(Entry {
+            payload,
+            progress: Progress::Due,
+        });
+        Ok(number)
+    }
+
+    /// Posts an unguaranteed event. It never refuses: where 64 wait, the oldest of them is dropped and given
+    /// back, and else `None` comes.
+    pub fn post_loose(&mut self, payload: Payload) -> Option<Payload>
+        ensures dropped { result ≡ (if length self.old.waiting == MAX_WAITING then slice_get self.old.waiting 0 else None) }
+        ensures stands { (fate : ℕ → Fate) (log : List SenderEvent) → StandsFor self.old fate log → StandsFor self.new fate (PostedLoose payload ∷ log) }
+        ensures life { self.new.life ≡ self.old.life }
+    {
+        self.waiting.push_back(payload)
+    }
+
+    /// What the next packet may carry, in sending order: the first 31 at most of the due guaranteed events by
+    /// rising number and then the waiting unguaranteed ones, the oldest first.
+    pub fn due(&self) -> EventList
+        ensures list { result ≡ take MAX_EVENTS (due_now self.now) }
+        ensures log { (fate : ℕ → Fate) (log : List SenderEvent) → StandsFor self.now fate log → result ≡ take MAX_EVENTS (due_of fate log) }
+        ensures numbers { All IsEventInRange result }
+    {
+        let first = self.posted - self.entries.len() as u32;
+        let mut list = due_entries(first, &self.entries);
+        add_waiting(&mut list, &self.waiting);
+        list
+    }
+
+    /// Notes that the first `count` of the due events were written in packet `seq`, which is unjudged.
+    pub fn note(&mut self, count: u32, seq: u32)
+        requires { count ≤ length (due_now self.old) }
+        ensures stands { (fate : ℕ → Fate) (log : List SenderEvent) → StandsFor self.old fate log → fate seq ≡ Unjudged → StandsFor self.new fate (Wrote seq (take count (due_of fate log)) ∷ log) }
+        ensures life { self.new.life ≡ self.old.life }
+    {
+        let left = mark(&mut self.entries, seq, count);
+        drop_waiting(&mut self.waiting, left);
+    }
+
+    /// Takes the verdict of packet `seq`, which was unjudged: the guaranteed events that it carries are done,
+    /// or due again.
+    pub fn settle(&mut self, seq: u32, verdict: Verdict)
+        ensures stands { (fate : ℕ → Fate) (log : List SenderEvent) → StandsFor self.old fate log → fate seq ≡ Unjudged → StandsFor self.new (judged fate seq (fate_for verdict)) log }
+        ensures life { self.new.life ≡ self.old.life }
+    {
+        settle_near(&mut self.entries, seq, verdict);
+        forget(&mut self.entries);
+    }
+}

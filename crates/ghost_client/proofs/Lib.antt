@@ -1,0 +1,6 @@
+pub mod Merged
+pub mod After
+pub mod Range
+pub mod Packet
+pub mod OfKind
+pub mod Decoded

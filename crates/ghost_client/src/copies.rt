@@ -1,0 +1,234 @@
+//! The copies of one client.
+
+ghost use Rattle.std.specs.Prelude.{◌≡◌, ◌<◌, ◌≤◌, ◌↔◌, ℕ, List, [], length, IfOk, IfSome, OnOk, OnErr, IsNone, MatchOption, Some, None, false, slice_index_or, ⊤, slice_set, if◌then◌else◌, ◌==◌};
+ghost use Rattle.std.specs.Option.{option_copied};
+ghost use Rattle.std.specs.Result.{result_err};
+ghost use Rattle.std.specs.List.{AllByRecursion};
+ghost use Rattle.wire_format.specs.declared.ghosts.GhostItem.{GhostItem};
+ghost use Rattle.wire_format.specs.Ghosts.{IsGhostInRange};
+ghost use Rattle.ghost_client.specs.Fields.{slot_of, has_bit};
+ghost use Rattle.ghost_client.specs.Copies.{copy_of};
+ghost use Rattle.ghost_client.specs.State.{copy_in, after, applied, field_value, value_of, IsInRange, FitsCopy};
+ghost use Rattle.ghost_client.specs.Faults.{fault_of, first_fault};
+ghost use Rattle.ghost_client.specs.StandsFor.{StandsFor, taken};
+
+use crate::copy::GhostCopy;
+use crate::fault::GhostFault;
+use crate::levels::{copied, is_held, merge};
+use quantised_fields::{KindTable, shown};
+use std::alloc::{AllocError, Global};
+use std::marker::Model;
+use tn_types::NoMemory;
+use wire_format::{GhostItem, GhostList};
+
+const SLOTS: usize = 256;
+
+/// The copies of one client, by slot.
+#[derive(Drop)]
+pub struct Copies {
+    kinds: KindTable,
+    slots: Vec<Option<GhostCopy>>,
+}
+
+impl Model for Copies {
+    ghost use Rattle.std.specs.Prelude.{◌≡◌, length};
+    ghost use Rattle.ghost_client.specs.State.{State, AreInRange};
+
+    ghost Value = { State };
+
+    ghost view = { λ c. record { kinds = c.kinds; slots = c.slots.items } };
+
+    ghost invariant = { λ c. (length c.slots.items ≡ 256) × AreInRange c.kinds c.slots.items };
+}
+
+impl Copies {
+    /// No copies. Nothing after this takes memory.
+    pub fn new(alloc: Global, kinds: &KindTable) -> Result<Copies, NoMemory>
+        ensures kinds { IfOk result (λ c. c.kinds ≡ kinds.now) }
+        ensures empty { IfOk result (λ c. StandsFor c []) }
+    {
+        match empty_slots(alloc) {
+            Ok(slots) => Ok(Copies {
+                kinds: kinds.copy(),
+                slots,
+            }),
+            Err(_) => Err(NoMemory),
+        }
+    }
+
+    /// The copy in the slot; None exactly where it is empty.
+    pub fn get(&self, slot: u8) -> Option<&GhostCopy>
+        ensures value { option_copied result ≡ copy_in self.now.slots slot }
+        ensures told { (items : List GhostItem) → StandsFor self.now items → option_copied result ≡ copy_of items slot }
+        ensures range { IfSome result (λ copy. IsInRange self.now.kinds copy.now) }
+    {
+        self.slots[slot as usize].as_ref()
+    }
+
+    /// What the first item with a fault meets where `take` is given this list; `held` has bit b set for each
+    /// held datablock b.
+    pub fn check(&self, list: &GhostList, held: u64) -> Result<(), GhostFault>
+        requires { AllByRecursion (IsGhostInRange self.now.kinds) list.now }
+        ensures { result_err result ≡ first_fault self.now.slots held [] list.now }
+    {
+        let mut named = none_named();
+        for item in list.as_slice() {
+            let slot = slot_named(item);
+            if named[slot as usize] {
+                return Err(GhostFault::Twice { slot });
+            }
+            if let Some(fault) = self.fault(item, held) {
+                return Err(fault);
+            }
+            named[slot as usize] = true;
+        }
+        Ok(())
+    }
+
+    // The fault of an item by the copy of its slot.
+    fn fault(&self, item: &GhostItem, held: u64) -> Option<GhostFault>
+        requires { IsGhostInRange self.now.kinds item.now }
+        ensures { result ≡ fault_of (copy_in self.now.slots (slot_of item.now)) held item.now }
+    {
+        match item {
+            GhostItem::Kill { slot } => match self.get(*slot) {
+                Some(_) => None,
+                None => Some(GhostFault::Unknown { slot: *slot }),
+            },
+            GhostItem::Create { slot, block, .. } => match self.get(*slot) {
+                Some(_) => Some(GhostFault::Taken { slot: *slot }),
+                None => block_fault(*slot, *block, held),
+            },
+            GhostItem::Update { slot, kind, .. } => match self.get(*slot) {
+                Some(copy) => kind_fault(*slot, *kind, copy.kind),
+                None => Some(GhostFault::Unknown { slot: *slot }),
+            },
+        }
+    }
+
+    /// Takes the ghosts of a packet, or refuses them whole by the first fault.
+    pub fn take(&mut self, list: &GhostList, held: u64) -> Result<(), GhostFault>
+        requires { AllByRecursion (IsGhostInRange self.old.kinds) list.now }
+        ensures fault { result_err result ≡ first_fault self.old.slots held [] list.now }
+        ensures unchanged { OnErr result (self.new ≡ self.old) }
+        ensures kinds { self.new.kinds ≡ self.old.kinds }
+        ensures taken { OnOk result ((items : List GhostItem) → StandsFor self.old items → StandsFor self.new (taken list.now items)) }
+    {
+        self.check(list, held)?;
+        for item in list.as_slice() {
+            self.apply(item);
+        }
+        Ok(())
+    }
+
+    // Does what an item says to its slot.
+    fn apply(&mut self, item: &GhostItem)
+        requires range { IsGhostInRange self.old.kinds item.now }
+        requires fits { FitsCopy item.now (copy_in self.old.slots (slot_of item.now)) }
+        ensures applied { self.new ≡ record self.old { slots = applied self.old.slots item.now } }
+        ensures len { length self.old.slots ≡ SLOTS }
+        ensures slot { slot_of item.now < SLOTS }
+    {
+        let slot = slot_named(item) as usize;
+        let old = self.slots[slot].take();
+        self.slots[slot] = copy_after(item, old);
+    }
+
+    /// The value of the field of the copy in the slot; None exactly where the slot or the field isn't there.
+    pub fn value(&self, slot: u8, field: u8) -> Option<i64>
+        ensures value { result ≡ value_of self.now slot field }
+        ensures none { IsNone result ↔ MatchOption (copy_in self.now.slots slot) ⊤ (λ copy. length copy.levels ≤ field) }
+    {
+        shown_field(&self.kinds, self.get(slot)?, field)
+    }
+}
+
+// The value of the field of the copy.
+fn shown_field(kinds: &KindTable, copy: &GhostCopy, field: u8) -> Option<i64>
+    requires { IsInRange kinds.now copy.now }
+    ensures value { result ≡ field_value kinds.now field copy.now }
+    ensures none { IsNone result ↔ (length copy.now.levels ≤ field) }
+{
+    let kind = kinds.kind(copy.kind)?;
+    let spec = kind.fields.as_slice().get(field as usize)?;
+    let level = copy.levels.get(field as usize)?;
+    Some(shown(spec, *level))
+}
+
+// No slot is named yet.
+fn none_named() -> [bool; SLOTS]
+    ensures len { length result ≡ SLOTS }
+    ensures none { (slot : ℕ) → slot < SLOTS → slice_index_or result slot false ≡ false }
+{
+    [false; SLOTS]
+}
+
+// No copy in any slot.
+fn empty_slots(alloc: Global) -> Result<Vec<Option<GhostCopy>>, AllocError>
+    ensures len { IfOk result (λ slots. length slots.items ≡ SLOTS) }
+    ensures empty { IfOk result (λ slots. (slot : ℕ) → copy_in slots.items slot ≡ None) }
+{
+    let mut slots = Vec::with_capacity(alloc, SLOTS)?;
+    while slots.len() < SLOTS {
+        slots.push(None)?;
+    }
+    Ok(slots)
+}
+
+// The slot that the item names.
+fn slot_named(item: &GhostItem) -> u8
+    ensures { result ≡ slot_of item.now }
+{
+    match item {
+        GhostItem::Kill { slot } => *slot,
+        GhostItem::Create { slot, .. } => *slot,
+        GhostItem::Update { slot, .. } => *slot,
+    }
+}
+
+// What the item makes of the copy of its slot.
+fn copy_after(item: &GhostItem, old: Option<GhostCopy>) -> Option<GhostCopy>
+    ensures { result ≡ after item.now old }
+{
+    match item {
+        GhostItem::Kill { .. } => None,
+        GhostItem::Create {
+            kind,
+            block,
+            levels,
+            ..
+        } => Some(GhostCopy {
+            kind: *kind,
+            block: *block,
+            levels: copied(levels),
+        }),
+        GhostItem::Update { mask, levels, .. } => {
+            let copy = old?;
+            let levels = merge(copy.levels.as_slice(), *mask, levels.as_slice());
+            Some(GhostCopy { levels, ..copy })
+        }
+    }
+}
+
+// The fault of a create on an empty slot.
+fn block_fault(slot: u8, block: u8, held: u64) -> Option<GhostFault>
+    requires { block < 64 }
+    ensures { result ≡ (if has_bit held block then None else Some (GhostFault.BlockMissing slot block)) }
+{
+    if is_held(held, block) {
+        None
+    } else {
+        Some(GhostFault::BlockMissing { slot, block })
+    }
+}
+
+// The fault of an update of a copy of kind `held`.
+fn kind_fault(slot: u8, kind: u8, held: u8) -> Option<GhostFault>
+    ensures { result ≡ (if held == kind then None else Some (GhostFault.KindDiffers slot held)) }
+{
+    if held == kind {
+        None
+    } else {
+        Some(GhostFault::KindDiffers { slot, held })
+    }
+}

@@ -1,0 +1,10 @@
+pub mod Edits
+pub mod Places
+pub mod Lookups
+pub mod Calls
+pub mod Show
+pub mod Grant
+pub mod Granted
+pub mod Told
+pub mod Near
+pub mod Control

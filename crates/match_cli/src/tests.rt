@@ -1,0 +1,353 @@
+//! Whole calls: scripts with the reports that were worked out for them, and what is left behind by each fault.
+ghost use Rattle.std.specs.Prelude.{◌<◌};
+
+use crate::input::LIMIT;
+use crate::top::{Status, top};
+use match_script::ScriptFault;
+use std::alloc::AllocError;
+use std::test::Fail;
+use tn_outside::{MemSink, MemSource, SteadySource};
+
+const HEADER: &str = "tribes 1
+match 1 1 100 128 1000
+go
+";
+
+/// More bytes than a script or a line of its report here has.
+const ALL: usize = 4096;
+
+/// Scripts and their reports.
+const ROWS: [(&str, &str, &str); 7] = [
+    ("empty_body", HEADER, ""),
+    (
+        "first_event",
+        "tribes 1
+match 1 1 100 128 1000
+go
+post 0 g 6869
+pack 0
+down 0 0
+show 0
+",
+        "post 0 g 0
+pack 0 0 data 400000000000000000000000000008010000045a1a00
+down 0 0 ok g:6869
+show 0 events 1 sampled 0 accepted 0 taken 0 control - ghosts 0
+",
+    ),
+    (
+        "repeated_datagram_is_old",
+        "tribes 1
+match 1 1 100 128 1000
+go
+post 0 g 6869
+pack 0
+down 0 0
+down 0 0
+down 0 0
+",
+        "post 0 g 0
+pack 0 0 data 400000000000000000000000000008010000045a1a00
+down 0 0 ok g:6869
+down 0 0 old 1 1
+down 0 0 old 1 1
+",
+    ),
+    (
+        "lost_event_comes_again",
+        "tribes 1
+match 1 1 100 128 1000
+go
+post 0 g 61
+pack 0
+post 0 g 62
+pack 0
+post 0 g 63
+pack 0
+down 0 1
+down 0 2
+cpack 0
+up 0 0
+pack 0
+down 0 3
+",
+        "post 0 g 0
+pack 0 0 data 400000000000000000000000000008010000421800
+post 0 g 1
+pack 0 1 data 800000000000000000000000000008030000821800
+post 0 g 2
+pack 0 2 data c00000000000000000000000000008050000c21800
+down 0 1 ok
+down 0 2 ok
+cpack 0 0 data 400000c00000c0000000000000000000
+up 0 0 ok 0
+pack 0 3 data 000100400000400000000000000008010000421800
+down 0 3 ok g:61 g:62 g:63
+",
+    ),
+    (
+        "late_datagram_is_lost_for_good",
+        "tribes 1
+match 1 1 100 128 1000
+go
+post 0 g 61
+pack 0
+pack 0
+down 0 1
+down 0 0
+cpack 0
+up 0 0
+pack 0
+down 0 2
+",
+        "post 0 g 0
+pack 0 0 data 400000000000000000000000000008010000421800
+pack 0 1 data 80000000000000000000000000000000
+down 0 1 ok
+down 0 0 old 1 2
+cpack 0 0 data 40000080000040000000000000000000
+up 0 0 ok 0
+pack 0 2 data c00000400000400000000000000008010000421800
+down 0 2 ok g:61
+",
+    ),
+    (
+        "not_sent",
+        "tribes 1
+match 1 1 100 128 1000
+go
+down 0 0
+",
+        "down 0 0 notsent 0
+",
+    ),
+    (
+        "counters_wear_out",
+        "tribes 1
+match 1 1 2 128 1000
+go
+post 0 g -
+post 0 g -
+post 0 g -
+pack 0
+pack 0
+pack 0
+",
+        "post 0 g 0
+post 0 g 1
+post 0 worn 2
+pack 0 0 data 400000000000000000000000000010010000c00000000000
+pack 0 1 data 80000000000000000000000000000000
+pack 0 worn 2
+",
+    ),
+];
+
+/// The report of 33 packs of which the last makes a ping, and of a datagram that comes after it.
+const FULL_WINDOW: &str = "pack 0 0 data 40000000000000000000000000000000
+pack 0 1 data 80000000000000000000000000000000
+pack 0 2 data c0000000000000000000000000000000
+pack 0 3 data 00010000000000000000000000000000
+pack 0 4 data 40010000000000000000000000000000
+pack 0 5 data 80010000000000000000000000000000
+pack 0 6 data c0010000000000000000000000000000
+pack 0 7 data 00020000000000000000000000000000
+pack 0 8 data 40020000000000000000000000000000
+pack 0 9 data 80020000000000000000000000000000
+pack 0 10 data c0020000000000000000000000000000
+pack 0 11 data 00030000000000000000000000000000
+pack 0 12 data 40030000000000000000000000000000
+pack 0 13 data 80030000000000000000000000000000
+pack 0 14 data c0030000000000000000000000000000
+pack 0 15 data 00040000000000000000000000000000
+pack 0 16 data 40040000000000000000000000000000
+pack 0 17 data 80040000000000000000000000000000
+pack 0 18 data c0040000000000000000000000000000
+pack 0 19 data 00050000000000000000000000000000
+pack 0 20 data 40050000000000000000000000000000
+pack 0 21 data 80050000000000000000000000000000
+pack 0 22 data c0050000000000000000000000000000
+pack 0 23 data 00060000000000000000000000000000
+pack 0 24 data 40060000000000000000000000000000
+pack 0 25 data 80060000000000000000000000000000
+pack 0 26 data c0060000000000000000000000000000
+pack 0 27 data 00070000000000000000000000000000
+pack 0 28 data 40070000000000000000000000000000
+pack 0 29 data 80070000000000000000000000000000
+pack 0 30 data c0070000000000000000000000000000
+pack 0 31 data 00080000000000000000000000000000
+pack 0 32 ping 0108000000000000000000
+down 0 32 ok
+cpack 0 0 data 40000000080000000000000000000000
+up 0 0 ok 0
+pack 0 33 data 40080040000040000000000000000000
+down 0 0 old 1 32
+";
+
+/// What a call with these words answers, and what it writes. The source gives and the sink takes at most `most` bytes a
+/// call, and the calls with these numbers fail.
+fn served(
+    rt: &HostRuntime,
+    words: &[&str],
+    text: &[u8],
+    most: usize,
+    failing_reads: &[u64],
+    failing_writes: &[u64],
+) -> Result<(Status, Vec<u8>), Fail>
+    requires { 0 < most }
+{
+    let mut all = Vec::new(rt.alloc());
+    for word in words {
+        all.push(String::from_str(rt.alloc(), word)?)?;
+    }
+    let mut source = MemSource {
+        inner: SteadySource { rest: text, most },
+        failing: failing_reads,
+        calls: 0,
+        faults: 0,
+    };
+    let mut sink = MemSink {
+        bytes: Vec::new(rt.alloc()),
+        most,
+        failing: failing_writes,
+        calls: 0,
+        faults: 0,
+    };
+    let status = top(rt.alloc(), &all, &mut source, &mut sink);
+    let MemSink {
+        bytes,
+        most: _,
+        failing: _,
+        calls: _,
+        faults: _,
+    } = sink;
+    Ok((status, bytes))
+}
+
+/// What the command `run` answers and writes where nothing fails.
+fn run_on(rt: &HostRuntime, text: &str) -> Result<(Status, Vec<u8>), Fail> {
+    served(rt, &["run"], text.as_bytes(), ALL, &[], &[])
+}
+
+/// The text with a line added so many times.
+fn with_lines(text: String, count: u32, line: &str) -> Result<String, AllocError> {
+    let mut text = text;
+    for _ in 0..count {
+        text.push_str(line)?;
+    }
+    Ok(text)
+}
+
+#[test]
+fn reports(rt: HostRuntime) -> Result<(), Fail> {
+    for (name, script, report) in ROWS {
+        let (status, bytes) = run_on(&rt, script)?;
+        assert_eq!(rt; status, Status::Done, "{name}");
+        assert_eq!(rt; bytes.as_slice(), report.as_bytes(), "{name}");
+    }
+    Ok(())
+}
+
+#[test]
+fn full_window(rt: HostRuntime) -> Result<(), Fail> {
+    let header = String::from_str(rt.alloc(), HEADER)?;
+    let packs = with_lines(header, 33, "pack 0\n")?;
+    let script = with_lines(packs, 1, "down 0 32\ncpack 0\nup 0 0\npack 0\ndown 0 0\n")?;
+    let (status, bytes) = run_on(&rt, script.as_str())?;
+    assert_eq!(rt; status, Status::Done);
+    assert_eq!(rt; bytes.as_slice(), FULL_WINDOW.as_bytes());
+    Ok(())
+}
+
+#[test]
+fn too_many_events(rt: HostRuntime) -> Result<(), Fail> {
+    let header = String::from_str(rt.alloc(), "tribes 1\nmatch 1 1 1000 128 1000\ngo\n")?;
+    let script = with_lines(header, 257, "post 0 g -\n")?;
+    let (status, bytes) = run_on(&rt, script.as_str())?;
+    assert_eq!(rt; status, Status::Done);
+    assert!(rt; bytes.as_slice().starts_with(b"post 0 g 0\npost 0 g 1\n"));
+    assert!(rt;
+        bytes
+            .as_slice()
+            .ends_with(b"post 0 g 255\npost 0 full 0 255\n")
+    );
+    Ok(())
+}
+
+#[test]
+fn faulty_scripts(rt: HostRuntime) -> Result<(), Fail> {
+    for (script, line, fault) in [
+        ("tribes 1", 2, ScriptFault::BadHeader),
+        (
+            "tribes 1\nmatch 1 1 100 128 1000\ngo\npak 0\n",
+            4,
+            ScriptFault::UnknownWord,
+        ),
+        (
+            "tribes 1\nmatch 1 1 100 128 1000\ngo\npack\n",
+            4,
+            ScriptFault::UnknownWord,
+        ),
+        (
+            "tribes 1\nmatch 1 1 100 128 1000\ngo\npack 0\npack 1\n",
+            5,
+            ScriptFault::OutOfRange,
+        ),
+    ] {
+        let (status, bytes) = run_on(&rt, script)?;
+        assert_eq!(rt; status, Status::Script(line, fault), "{script}");
+        assert_eq!(rt; bytes.len(), 0, "{script}");
+    }
+    Ok(())
+}
+
+#[test]
+fn failing_calls(rt: HostRuntime) -> Result<(), Fail> {
+    let (_, script, _) = ROWS[1];
+    let text = script.as_bytes();
+    let (status, bytes) = served(&rt, &["run"], text, 10, &[1], &[])?;
+    assert_eq!(rt; status, Status::ReadFault);
+    assert_eq!(rt; bytes.len(), 0);
+    let (status, bytes) = served(&rt, &["run"], text, ALL, &[], &[0])?;
+    assert_eq!(rt; status, Status::WriteFault);
+    assert_eq!(rt; bytes.len(), 0);
+    let (status, bytes) = served(&rt, &["run"], text, ALL, &[], &[2])?;
+    assert_eq!(rt; status, Status::WriteFault);
+    let two = b"post 0 g 0\npack 0 0 data 400000000000000000000000000008010000045a1a00\n";
+    assert_eq!(rt; bytes.as_slice(), two.as_slice());
+    Ok(())
+}
+
+#[test]
+fn short_calls(rt: HostRuntime) -> Result<(), Fail> {
+    let (_, script, report) = ROWS[1];
+    let (status, bytes) = served(&rt, &["run"], script.as_bytes(), 1, &[], &[])?;
+    assert_eq!(rt; status, Status::Done);
+    assert_eq!(rt; bytes.as_slice(), report.as_bytes());
+    let (status, bytes) = served(&rt, &["run"], script.as_bytes(), 7, &[], &[])?;
+    assert_eq!(rt; status, Status::Done);
+    assert_eq!(rt; bytes.as_slice(), report.as_bytes());
+    Ok(())
+}
+
+#[test]
+fn other_words(rt: HostRuntime) -> Result<(), Fail> {
+    let (status, _) = served(&rt, &[], HEADER.as_bytes(), ALL, &[], &[])?;
+    assert_eq!(rt; status, Status::Usage(0));
+    let (status, _) = served(&rt, &["walk"], HEADER.as_bytes(), ALL, &[], &[])?;
+    assert_eq!(rt; status, Status::Usage(0));
+    let (status, _) = served(&rt, &["run", "x"], HEADER.as_bytes(), ALL, &[], &[])?;
+    assert_eq!(rt; status, Status::Usage(1));
+    Ok(())
+}
+
+#[test]
+fn long_texts(rt: HostRuntime) -> Result<(), Fail> {
+    let text = vec![in rt.alloc(); b'\n'; LIMIT + 1]?;
+    let (status, bytes) = served(&rt, &["run"], text.as_slice(), ALL, &[], &[])?;
+    assert_eq!(rt; status, Status::TooLong);
+    assert_eq!(rt; bytes.len(), 0);
+    let (status, _) = served(&rt, &["run"], &text[..LIMIT], ALL, &[], &[])?;
+    assert_eq!(rt; status, Status::Script(1, ScriptFault::BadHeader));
+    Ok(())
+}

@@ -1,0 +1,62 @@
+-- The lines of a script make steps whose payloads are in range, so what is delivered is a front of what was posted.
+use Rattle.std.proofs.Common.{ℕ, zero, suc, ◌<◌, Bool, true, false, ◌==◌, List, [], ◌∷◌, ◌++◌, if◌then◌else◌, take, reverse, sym, subst, arith}
+use Rattle.std.specs.List.{AllByRecursion, All}
+use Rattle.std.proofs.lemmas.Grind.{reverse_onto}
+use Rattle.match_script.specs.declared.types.BodyLine.{BodyLine}
+use Rattle.match_script.specs.declared.types.BodyLine.TheVariants as script
+use Rattle.match_script.specs.declared.types.Head.{Head}
+use Rattle.match_script.specs.Ranges.{LineFits, HeadFits}
+use Rattle.stream_manager.specs.Limits.{IsConfig}
+use Rattle.pair_core.specs.Laws.{StepFits}
+use Rattle.pair_core.proofs.InOrder.{delivers_down, delivers_up}
+use Rattle.match_engine.specs.Journal.{client_of, own, onto, steps_of, journal, config_of}
+use Rattle.match_engine.specs.Laws.{after, EventsInOrder}
+
+step-fits : (clients : ℕ) (line : BodyLine) (lines : List BodyLine) → LineFits clients line → AllByRecursion StepFits (steps_of lines) → AllByRecursion StepFits (onto line (steps_of lines))
+step-fits clients (script.Post c class payload) lines h rest = (h.2, rest)
+step-fits clients (script.Pack c) lines h rest = (tt, rest)
+step-fits clients (script.ClientPack c) lines h rest = (tt, rest)
+step-fits clients (script.Down c k) lines h rest = (tt, rest)
+step-fits clients (script.Up c k) lines h rest = (tt, rest)
+step-fits clients (script.Show c) lines h rest = rest
+
+pub journal-fits : (clients c : ℕ) (lines : List BodyLine) → AllByRecursion (LineFits clients) lines → AllByRecursion StepFits (journal c lines)
+journal-fits clients c [] h = tt
+journal-fits clients c (line ∷ lines) h = go (client_of line == c) (journal-fits clients c lines h.1)
+  where
+    go : (b : Bool) → AllByRecursion StepFits (journal c lines) → AllByRecursion StepFits (steps_of (if b then line ∷ own c lines else own c lines))
+    go true rest = step-fits clients line (own c lines) h.0 rest
+    go false rest = rest
+
+module _ {A : Type 0} (P : A → Type 0) where
+  pub all-by_recursion : (xs : List A) → All P xs → AllByRecursion P xs
+  all-by_recursion [] h = tt
+  all-by_recursion (x ∷ xs) h = (h 0 x (omega arith), all-by_recursion xs (λ i d l. h (suc i) d (omega arith)))
+
+  all-append : (xs ys : List A) → AllByRecursion P xs → AllByRecursion P ys → AllByRecursion P (xs ++ ys)
+  all-append [] ys h k = k
+  all-append (x ∷ xs) ys h k = (h.0, all-append xs ys h.1 k)
+
+  all-take : (n : ℕ) (xs : List A) → AllByRecursion P xs → AllByRecursion P (take n xs)
+  all-take zero xs h = tt
+  all-take (suc n) [] h = tt
+  all-take (suc n) (x ∷ xs) h = (h.0, all-take n xs h.1)
+
+  all-reverse : (xs : List A) → AllByRecursion P xs → AllByRecursion P (reverse xs)
+  all-reverse [] h = tt
+  all-reverse (x ∷ xs) h = subst (λ (l : List A). AllByRecursion P l) (sym (reverse_onto xs x [])) (all-append (reverse xs) (x ∷ []) (all-reverse xs h.1) (h.0, tt))
+
+pub config-fits : (head : Head) (c : ℕ) → HeadFits head → c < head.clients → IsConfig (config_of head c)
+config-fits head c h l = record {
+  client = omega (arith, h.clients);
+  some_life = h.life_least;
+  life = h.life;
+  least = h.size_least;
+  size = h.size;
+}
+
+pub in_order : EventsInOrder
+in_order s c n h l =
+    let limits = config-fits s.head c h.head l in
+    let fit = journal-fits s.head.clients c (after n s) (all-reverse (LineFits s.head.clients) (take n s.body) (all-take (LineFits s.head.clients) n s.body (all-by_recursion (LineFits s.head.clients) s.body h.lines))) in
+    (delivers_down (config_of s.head c) (journal c (after n s)) limits fit, delivers_up (config_of s.head c) (journal c (after n s)) limits fit)

@@ -1,0 +1,7 @@
+pub mod Streams
+pub mod Isolated
+pub mod InOrder
+pub mod Counted
+pub mod Packs
+pub mod Fed
+pub mod Written

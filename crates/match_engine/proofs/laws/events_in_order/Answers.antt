@@ -1,0 +1,5 @@
+use Rattle.match_engine.proofs.InOrder.{in_order}
+use Rattle.match_engine.proofs.laws.events_in_order.Goals as goal
+
+pub returns : goal.returns
+returns c = in_order

@@ -1,0 +1,17 @@
+use Rattle.std.proofs.Common.{◌≡◌, ◌≤◌, ◌++◌, List, length, map}
+use Rattle.stream_manager.specs.declared.config.Config.{Config}
+use Rattle.pair_core.specs.History.{Step}
+use Rattle.pair_core.specs.Stands.{StandsFor}
+use Rattle.match_engine.specs.Report.{event_told}
+use Rattle.match_engine.proofs.lines.client_events.Given as goal
+
+abbrev pub invariant-out : goal.invariant-out
+invariant-out l = record {
+  events : l.events ++ map event_told l.pair.client.common.receiver.ready ≡ map event_told l.fn.pair.client.common.receiver.ready;
+  few : length l.fn.pair.client.common.receiver.ready ≤ 95;
+  stands : (k : Config) (steps : List Step) → StandsFor l.fn.pair k steps → StandsFor l.pair k steps;
+  other : l.pair.conn ≡ l.fn.pair.conn;
+}
+
+abbrev pub decreases-out : goal.decreases-out
+decreases-out l = length l.pair.client.common.receiver.ready

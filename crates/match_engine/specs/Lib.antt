@@ -1,0 +1,5 @@
+pub mod Journal
+pub mod Report
+pub mod Laws
+pub mod Stands
+pub mod Outside

@@ -1,0 +1,21 @@
+//! Writing whole pieces.
+ghost use Rattle.std.specs.Prelude.{◌≡◌, ◌≤◌, length, OnOk, OnErr};
+ghost use Rattle.tn_outside.specs.Causes.{HasCause};
+ghost use Rattle.match_engine.specs.Outside.{Adds, AddsFront};
+
+use tn_outside::{Failed, Sink};
+
+/// Writes a whole piece. After an error a front of it was written.
+pub(crate) fn write_all<K: Sink>(sink: &mut K, piece: &[u8]) -> Result<(), Failed>
+    ensures ok { OnOk result (Adds (K.written sink.old) (K.written sink.new) piece.now) }
+    ensures err { OnErr result (AddsFront (K.written sink.old) (K.written sink.new) piece.now) }
+    ensures cause { HasCause (K.faults sink.old) (K.faults sink.new) result }
+{
+    let mut done = 0;
+    while done < piece.len() {
+        let (_, rest) = piece.split_at(done);
+        let count = sink.write(rest)?;
+        done += count;
+    }
+    Ok(())
+}

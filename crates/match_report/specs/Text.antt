@@ -1,0 +1,122 @@
+-- The text of a report, word for word. Numbers are decimal, bytes are pairs of hexadecimal digits in lower case or `-`
+-- for no byte, and each line ends with a newline.
+use Rattle.std.specs.Prelude.{ℕ, List, [], ◌∷◌, ◌++◌, length, ◌==◌, Bool, true, false, if◌then◌else◌, codes, Result, Ok, Err, Option, Some, None}
+use Rattle.std.specs.List.{flat_map}
+use Rattle.std.specs.Fmt.{decimal}
+use Rattle.hex.specs.Hex.{encode_lower}
+use Rattle.tn_types.specs.declared.choices.Class.{Class}
+use Rattle.tn_types.specs.declared.choices.Class.TheVariants.{Guaranteed, Loose}
+use Rattle.wire_format.specs.declared.fault.BitsFault.{BitsFault}
+use Rattle.wire_format.specs.declared.fault.BitsCause.{BitsCause}
+use Rattle.wire_format.specs.declared.fault.BitsCause.TheVariants.{Short, Padding, KindBits, OpBits, CountBits, LengthBits, UnknownKind, EmptyMask, ZeroSeq}
+use Rattle.event_manager.specs.declared.sender.PostFault.{PostFault}
+use Rattle.event_manager.specs.declared.sender.PostFault.TheVariants.{Worn, Full}
+use Rattle.stream_manager.specs.declared.fault.ArriveFault.{ArriveFault}
+use Rattle.stream_manager.specs.declared.fault.ArriveFault.TheVariants as server
+use Rattle.stream_manager.specs.declared.fault.ClientFault.{ClientFault}
+use Rattle.stream_manager.specs.declared.fault.ClientFault.TheVariants as client
+use Rattle.match_report.specs.declared.told.Way.{Way}
+use Rattle.match_report.specs.declared.told.Way.TheVariants.{Down, Up, Raw}
+use Rattle.match_report.specs.declared.told.EventTold.{EventTold}
+use Rattle.match_report.specs.declared.told.Told.{Told}
+use Rattle.match_report.specs.declared.told.Told.TheVariants.{Post, PostLoose, Packed, PackWorn, Came, NotSent, ServerRefused, ClientRefused, Show}
+
+-- ---- words
+
+abbrev pub hex_text : List ℕ → List ℕ
+hex_text bytes = if length bytes == 0 then codes "-" else encode_lower bytes
+
+-- `c` in front of what a client does
+abbrev pub end_word : Bool → List ℕ
+end_word true = codes "c"
+end_word false = codes ""
+
+abbrev pub ping_word : Bool → List ℕ
+ping_word true = codes " ping "
+ping_word false = codes " data "
+
+abbrev pub class_word : Class → List ℕ
+class_word Guaranteed = codes "g"
+class_word Loose = codes "u"
+
+abbrev pub event_word : EventTold → List ℕ
+event_word event = codes " " ++ class_word event.class ++ codes ":" ++ hex_text event.payload
+
+abbrev pub control_word : Option ℕ → List ℕ
+control_word None = codes "-"
+control_word (Some slot) = decimal slot
+
+-- ---- refusals
+
+abbrev pub posted_text : Result ℕ PostFault → List ℕ
+posted_text (Ok number) = codes "g " ++ decimal number
+posted_text (Err (Worn life)) = codes "worn " ++ decimal life
+posted_text (Err (Full first last)) = codes "full " ++ decimal first ++ codes " " ++ decimal last
+
+abbrev pub dropped_text : Option (List ℕ) → List ℕ
+dropped_text None = codes "u"
+dropped_text (Some payload) = codes "u dropped " ++ hex_text payload
+
+abbrev pub cause_word : BitsCause → List ℕ
+cause_word Short = codes "Short"
+cause_word Padding = codes "Padding"
+cause_word KindBits = codes "KindBits"
+cause_word OpBits = codes "OpBits"
+cause_word CountBits = codes "CountBits"
+cause_word LengthBits = codes "LengthBits"
+cause_word UnknownKind = codes "UnknownKind"
+cause_word EmptyMask = codes "EmptyMask"
+cause_word ZeroSeq = codes "ZeroSeq"
+
+-- a word and two numbers
+abbrev pub two_numbers : List ℕ → ℕ → ℕ → List ℕ
+two_numbers word first second = word ++ decimal first ++ codes " " ++ decimal second
+
+abbrev pub bits_text : BitsFault → List ℕ
+bits_text fault = codes "bits " ++ decimal fault.place ++ codes " " ++ cause_word fault.cause
+
+abbrev pub server_refusal : ArriveFault → List ℕ
+server_refusal (server.Bits fault) = bits_text fault
+server_refusal (server.WrongClient named) = codes "client " ++ decimal named
+server_refusal (server.Old seq horizon) = two_numbers (codes "old ") seq horizon
+server_refusal (server.AckAhead horizon last) = two_numbers (codes "ackahead ") horizon last
+server_refusal (server.EventAhead number delivered) = two_numbers (codes "eventahead ") number delivered
+
+abbrev pub client_refusal : ClientFault → List ℕ
+client_refusal (client.Bits fault) = bits_text fault
+client_refusal (client.WrongClient named) = codes "client " ++ decimal named
+client_refusal (client.Old seq horizon) = two_numbers (codes "old ") seq horizon
+client_refusal (client.AckAhead horizon last) = two_numbers (codes "ackahead ") horizon last
+client_refusal (client.EventAhead number delivered) = two_numbers (codes "eventahead ") number delivered
+
+-- ---- lines
+
+-- how a line of a delivery begins
+abbrev pub arrival_words : Way → ℕ → ℕ → List ℕ
+arrival_words Down c k = two_numbers (codes "down ") c k ++ codes " "
+arrival_words Up c k = two_numbers (codes "up ") c k ++ codes " "
+arrival_words Raw c k = codes "raw " ++ decimal c ++ codes " "
+
+-- behind the word `ok`
+abbrev pub came_text : Way → ℕ → List EventTold → List ℕ
+came_text Down moves events = flat_map event_word events
+came_text Up moves events = codes " " ++ decimal moves ++ flat_map event_word events
+came_text Raw moves events = codes " " ++ decimal moves ++ flat_map event_word events
+
+abbrev pub told_text : Told → List ℕ
+told_text (Post up c number) = end_word up ++ codes "post " ++ decimal c ++ codes " " ++ posted_text number
+told_text (PostLoose up c dropped) = end_word up ++ codes "post " ++ decimal c ++ codes " " ++ dropped_text dropped
+told_text (Packed up c place ping bytes) =
+    end_word up ++ two_numbers (codes "pack ") c place ++ ping_word ping ++ hex_text bytes
+told_text (PackWorn up c life) = end_word up ++ codes "pack " ++ decimal c ++ codes " worn " ++ decimal life
+told_text (Came way c k moves events) = arrival_words way c k ++ codes "ok" ++ came_text way moves events
+told_text (NotSent way c k sent) = arrival_words way c k ++ codes "notsent " ++ decimal sent
+told_text (ServerRefused way c k fault) = arrival_words way c k ++ server_refusal fault
+told_text (ClientRefused c k fault) = arrival_words Down c k ++ client_refusal fault
+told_text (Show c events sampled accepted taken control) =
+    codes "show " ++ decimal c ++ codes " events " ++ decimal events ++ codes " sampled " ++ decimal sampled ++ codes " accepted " ++ decimal accepted
+    ++ codes " taken " ++ decimal taken ++ codes " control " ++ control_word control ++ codes " ghosts 0"
+
+-- a line of the report, with its newline
+abbrev pub report_line : Told → List ℕ
+report_line told = told_text told ++ 10 ∷ []

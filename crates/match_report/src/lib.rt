@@ -1,0 +1,8 @@
+//! What a line of a match did, and its line of the report.
+#![tactic(auto)]
+
+mod line;
+mod told;
+
+pub use line::put_line;
+pub use told::{EventTold, Events, Told, Way};

@@ -1,0 +1,152 @@
+//! What a line of a script did.
+ghost use Rattle.std.specs.Prelude.{◌≡◌, ◌<◌, ◌≤◌, [], ◌∷◌, ◌++◌, length};
+
+use arrayvec::ArrayVec;
+use event_manager::PostFault;
+use std::marker::Model;
+use stream_manager::{ArriveFault, ClientFault};
+use tn_types::{Class, Payload, RawBytes};
+
+/// How a datagram came.
+#[derive(Clone, Copy, Debug, PartialEq, Eq)]
+pub enum Way {
+    /// From the server to a client.
+    Down,
+    /// From a client to the server.
+    Up,
+    /// Bytes that the script hands to the server.
+    Raw,
+}
+
+/// An event that a delivery handed out.
+#[derive(Drop)]
+pub struct EventTold {
+    pub class: Class,
+    pub payload: Payload,
+}
+
+impl Default for EventTold {
+    /// An unguaranteed event of no byte.
+    fn default() -> Self {
+        EventTold {
+            class: Class::Loose,
+            payload: Payload::new(),
+        }
+    }
+}
+
+/// The events that one delivery handed out, in order: at most 95.
+#[derive(Drop)]
+pub struct Events {
+    items: ArrayVec<EventTold, 95>,
+}
+
+impl Model for Events {
+    ghost use Rattle.std.specs.Prelude.{List, ◌≤◌, length};
+    ghost use Rattle.match_report.specs.declared.told.EventTold.{EventTold};
+
+    ghost Value = { List EventTold };
+
+    ghost view = { λ l. l.items.items };
+
+    ghost invariant = { λ l. length l.items.items ≤ 95 };
+}
+
+impl Events {
+    ghost use Rattle.std.specs.Prelude.{◌≡◌, ◌<◌, ◌≤◌, [], ◌∷◌, ◌++◌, length};
+
+    /// No event.
+    pub fn new() -> Self
+        ensures { result ≡ [] }
+    {
+        Events {
+            items: ArrayVec::new(),
+        }
+    }
+
+    /// Appends an event.
+    pub fn push(&mut self, event: EventTold)
+        requires { length self.old < 95 }
+        ensures { self.new ≡ self.old ++ event ∷ [] }
+    {
+        self.items.push(event);
+    }
+
+    /// The events, lent.
+    pub fn as_slice(&self) -> &[EventTold]
+        ensures value { result.now ≡ self.now }
+        ensures fits { length result.now ≤ 95 }
+    {
+        self.items.as_slice()
+    }
+}
+
+/// What a line of a script did: what its line of the report tells.
+#[derive(Drop)]
+pub enum Told {
+    /// A guaranteed event was posted at the server, or `up` at the client, or was refused.
+    Post {
+        up: bool,
+        client: u8,
+        number: Result<u32, PostFault>,
+    },
+    /// An unguaranteed event was posted at the server, or `up` at the client, where the oldest waiting one may have been
+    /// dropped.
+    PostLoose {
+        up: bool,
+        client: u8,
+        dropped: Option<Payload>,
+    },
+    /// The server, or `up` the client, made its datagram number `place` (from 0).
+    Packed {
+        up: bool,
+        client: u8,
+        place: u32,
+        ping: bool,
+        bytes: RawBytes,
+    },
+    /// A pack made nothing: as many data packets as the connection's life were sent.
+    PackWorn {
+        up: bool,
+        client: u8,
+        life: u32,
+    },
+    /// Datagram `k` came and was taken (`k` is 0 for raw bytes), with so many moves newly accepted and these events handed out.
+    Came {
+        way: Way,
+        client: u8,
+        k: u32,
+        moves: u32,
+        events: Events,
+    },
+    /// Datagram `k` was never sent that way; `sent` were.
+    NotSent {
+        way: Way,
+        client: u8,
+        k: u32,
+        sent: u32,
+    },
+    /// The server refused datagram `k`.
+    ServerRefused {
+        way: Way,
+        client: u8,
+        k: u32,
+        fault: ArriveFault,
+    },
+    /// The client refused datagram `k`.
+    ClientRefused {
+        client: u8,
+        k: u32,
+        fault: ClientFault,
+    },
+    /// The guaranteed events delivered to a client, its moves that were sampled, accepted and taken by ticks, and its
+    /// control slot.
+    Show {
+        client: u8,
+        events: u32,
+        sampled: u32,
+        accepted: u32,
+        taken: u32,
+        control: Option<u8>,
+    },
+}

@@ -1,0 +1,6 @@
+pub mod Brought
+pub mod Lists
+pub mod Fits
+pub mod Posted
+pub mod Carried
+pub mod InOrder

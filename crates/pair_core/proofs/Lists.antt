@@ -1,0 +1,38 @@
+-- Facts of all items of a list, and items by their place.
+use Rattle.std.proofs.Common.{◌≡◌, ℕ, zero, suc, ◌+◌, ◌<◌, ◌≤◌, List, [], ◌∷◌, ◌++◌, length, take, drop, map, Option, Some, None, refl, sym, ap, ◌∙◌, arith, subst}
+use Rattle.std.specs.Prelude.{slice_get}
+use Rattle.std.specs.List.{AllByRecursion}
+
+module _ {A : Type 0} (P : A → Type 0) where
+  pub all-append : (xs ys : List A) → AllByRecursion P xs → AllByRecursion P ys → AllByRecursion P (xs ++ ys)
+  all-append [] ys h k = k
+  all-append (x ∷ xs) ys h k = (h.0, all-append xs ys h.1 k)
+
+  pub all-take : (n : ℕ) (xs : List A) → AllByRecursion P xs → AllByRecursion P (take n xs)
+  all-take zero xs h = tt
+  all-take (suc n) [] h = tt
+  all-take (suc n) (x ∷ xs) h = (h.0, all-take n xs h.1)
+
+  pub all-drop : (n : ℕ) (xs : List A) → AllByRecursion P xs → AllByRecursion P (drop n xs)
+  all-drop zero xs h = h
+  all-drop (suc n) [] h = tt
+  all-drop (suc n) (x ∷ xs) h = all-drop n xs h.1
+
+  pub all-at : (xs : List A) (k : ℕ) (x : A) → AllByRecursion P xs → slice_get xs k ≡ Some x → P x
+  all-at [] k x h e = cc
+  all-at (y ∷ xs) zero x h e = subst-at y x (same y x e) h.0
+    where
+      same : (y x : A) → Some y ≡ Some x → y ≡ x
+      same y x e = cc
+
+      subst-at : (y x : A) → y ≡ x → P y → P x
+      subst-at y x e p = subst P e p
+  all-at (y ∷ xs) (suc k) x h e = all-at xs k x h.1 e
+
+pub all-map : {A : Type 0} (P Q : A → Type 0) → ((x : A) → P x → Q x) → (xs : List A) → AllByRecursion P xs → AllByRecursion Q xs
+all-map P Q f [] h = tt
+all-map P Q f (x ∷ xs) h = (f x h.0, all-map P Q f xs h.1)
+
+pub slice_get-at : {A : Type 0} (before : List A) (v : A) (after : List A) → slice_get (before ++ v ∷ after) (length before) ≡ Some v
+slice_get-at [] v after = refl
+slice_get-at (u ∷ before) v after = slice_get-at before v after

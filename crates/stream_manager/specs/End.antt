@@ -1,0 +1,107 @@
+-- What the two ends of a connection have in common, as a list of what happened at one of them, the newest first: its
+-- window, its events on their way out, and those that came in. An end's packets are seen by their header and their
+-- events; what else a packet holds belongs to one end alone.
+use Rattle.std.specs.Prelude.{ℕ, slice_get, length, Option, None, ◌+◌, ◌-◌, ◌==◌, ◌&&◌, not, Bool, false, nat_le, nat_lt, List, [], ◌∷◌, if◌then◌else◌, take, Result, Ok, Err}
+use Rattle.tn_types.specs.declared.choices.Class.{Class}
+use Rattle.tn_types.specs.declared.choices.Class.TheVariants.{Guaranteed, Loose}
+use Rattle.notify_window.specs.Log.{WindowEvent, Sent, Came, Told, sent_of, horizon_of, mask_of, Fate, fate_of}
+use Rattle.wire_format.specs.declared.header.Header.{Header}
+use Rattle.wire_format.specs.declared.events.EventItem.{EventItem}
+use Rattle.wire_format.specs.declared.widths.TheConstants.{MAX_EVENTS}
+use Rattle.wire_format.specs.Events.{event_size}
+use Rattle.event_manager.specs.declared.TheConstants.{MAX_WAITING}
+use Rattle.stream_manager.specs.declared.fault.EndFault.{EndFault}
+use Rattle.stream_manager.specs.declared.fault.EndFault.TheVariants.{WrongClient, Old, AckAhead}
+use Rattle.stream_manager.specs.declared.fault.EndFault.TheVariants as refused
+use Rattle.event_manager.specs.declared.receiver.EventAhead.{EventAhead}
+use Rattle.event_manager.specs.Receiving.{items_onto, delivered_of, run_of, take_answer}
+use Rattle.event_manager.specs.Sending as sending
+use Rattle.event_manager.specs.Sending.{SenderEvent, due_of, waiting_of}
+
+-- a packet as both ends see it
+pub record Seen : Type 0 where
+  pub ping : Bool
+  pub head : Header
+  pub events : List EventItem
+
+pub data EndEvent : Type 0 where
+  Posted : (class : Class) (payload : List ℕ) → EndEvent  -- an event was posted
+  Packed : Seen → EndEvent  -- a data packet was sent
+  Pinged : Seen → EndEvent  -- a ping was sent
+  Took : Seen → EndEvent  -- a packet came and was not refused
+
+-- what the window saw of it: of a packet that came, first that it came and then what it told
+abbrev pub window_log : List EndEvent → List WindowEvent
+window_log [] = []
+window_log (Posted class payload ∷ log) = window_log log
+window_log (Packed p ∷ log) = Sent ∷ window_log log
+window_log (Pinged p ∷ log) = window_log log
+window_log (Took p ∷ log) = Told p.head.horizon p.head.mask ∷ Came p.ping p.head.seq ∷ window_log log
+
+abbrev pub posting : Class → List ℕ → SenderEvent
+posting Guaranteed payload = sending.Posted payload
+posting Loose payload = sending.PostedLoose payload
+
+-- what the sender of events did
+abbrev pub sender_log : List EndEvent → List SenderEvent
+sender_log [] = []
+sender_log (Posted class payload ∷ log) = posting class payload ∷ sender_log log
+sender_log (Packed p ∷ log) = sending.Wrote p.head.seq p.events ∷ sender_log log
+sender_log (Pinged p ∷ log) = sender_log log
+sender_log (Took p ∷ log) = sender_log log
+
+-- what became of each packet
+abbrev pub fates : List EndEvent → ℕ → Fate
+fates log s = fate_of s (window_log log)
+
+-- what a post of an unguaranteed event drops: the oldest that waits, where too many wait
+abbrev pub dropped_of : List EndEvent → Option (List ℕ)
+dropped_of log = if length (waiting_of (sender_log log)) == MAX_WAITING then slice_get (waiting_of (sender_log log)) 0 else None
+
+-- the header of the next packet with this number
+abbrev pub head_of : ℕ → ℕ → List EndEvent → Header
+head_of client seq log = record { client = client; seq = seq; horizon = horizon_of (window_log log); mask = mask_of (window_log log) }
+
+-- a data packet has the next number, a ping the last one that was sent
+abbrev pub data_head : ℕ → List EndEvent → Header
+data_head client log = head_of client (sent_of (window_log log) + 1) log
+
+abbrev pub ping_head : ℕ → List EndEvent → Header
+ping_head client log = head_of client (sent_of (window_log log)) log
+
+-- the longest front of these events that has at most so many bits
+abbrev pub fitting : ℕ → List EventItem → List EventItem
+fitting room [] = []
+fitting room (e ∷ es) = if nat_le (event_size e) room then e ∷ fitting (room - event_size e) es else []
+
+-- the events of the next data packet, where so many bits are left for them
+abbrev pub events_for : ℕ → List EndEvent → List EventItem
+events_for room log = fitting room (take MAX_EVENTS (due_of (fates log) (sender_log log)))
+
+-- the next data packet as both ends see it
+abbrev pub data_seen : ℕ → ℕ → List EndEvent → Seen
+data_seen client room log = record { ping = false; head = data_head client log; events = events_for room log }
+
+-- the items that came, the newest first
+abbrev pub came_of : List EndEvent → List EventItem
+came_of [] = []
+came_of (Posted class payload ∷ log) = came_of log
+came_of (Packed p ∷ log) = came_of log
+came_of (Pinged p ∷ log) = came_of log
+came_of (Took p ∷ log) = items_onto p.events (came_of log)
+
+-- what was delivered, the oldest first: handed out, or waiting to be
+abbrev pub delivered_at : List EndEvent → List (Class × List ℕ)
+delivered_at log = delivered_of (came_of log)
+
+-- what a packet that comes meets: the first refusal whose condition holds
+abbrev pub ahead_answer : Result (Unit {0}) EventAhead → Result (Unit {0}) EndFault
+ahead_answer (Ok u) = Ok tt
+ahead_answer (Err e) = Err (refused.EventAhead e.number e.delivered)
+
+abbrev pub arrival_answer : ℕ → List EndEvent → Seen → Result (Unit {0}) EndFault
+arrival_answer client log p =
+    if not (p.head.client == client) then Err (WrongClient p.head.client)
+    else if not p.ping && nat_le p.head.seq (horizon_of (window_log log)) then Err (Old p.head.seq (horizon_of (window_log log)))
+    else if nat_lt (sent_of (window_log log)) p.head.horizon then Err (AckAhead p.head.horizon (sent_of (window_log log)))
+    else ahead_answer (take_answer (run_of (came_of log)) p.events)

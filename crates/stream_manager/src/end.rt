@@ -1,0 +1,327 @@
+//! What the two ends of a connection have in common.
+
+ghost use Rattle.std.specs.Prelude.{◌≡◌, ℕ, ◌+◌, ◌-◌, ◌<◌, ◌≤◌, ◌^◌, List, [], ◌∷◌, ◌++◌, IfOk, OnOk, OnErr, length, take};
+ghost use Rattle.notify_window.specs.State.{send_state};
+ghost use Rattle.notify_window.specs.Log.{send_state_of};
+ghost use Rattle.event_manager.specs.SenderState.{due_now};
+ghost use Rattle.event_manager.specs.Sending.{due_of};
+ghost use Rattle.std.specs.Prelude.{sum_by, false, true, All, slice_get, drop};
+ghost use Rattle.std.specs.List.{AllByRecursion};
+ghost use Rattle.std.specs.Int.{bit_at};
+ghost use Rattle.notify_window.specs.Log.{arrival_of, fate_of_bit};
+ghost use Rattle.event_manager.specs.Sending.{fate_for};
+ghost use Rattle.event_manager.specs.Receiving.{take_answer, run_of};
+ghost use Rattle.wire_format.specs.Events.{event_size, IsEventInRange};
+ghost use Rattle.wire_format.specs.declared.events.EventItem.{EventItem as OneEvent};
+ghost use Rattle.stream_manager.specs.End.{fitting};
+ghost use Rattle.wire_format.specs.Header.{IsHeaderInRange};
+ghost use Rattle.tn_types.specs.declared.choices.Class.TheVariants.{Guaranteed, Loose};
+
+use crate::config::Config;
+use crate::fault::EndFault;
+use event_manager::{EventAhead, EventReceiver, EventSender, PostFault};
+use notify_window::{Arrival, Notices, SendState, Window};
+use std::alloc::Global;
+use std::marker::Model;
+use tn_types::{Class, NoMemory, Payload, Verdict};
+use wire_format::{EventItem, EventList, Header, event_bits};
+
+/// A window, the events on their way out, and those that came in.
+#[derive(Drop)]
+pub(crate) struct End {
+    config: Config,
+    window: Window,
+    sender: EventSender,
+    receiver: EventReceiver,
+}
+
+impl Model for End {
+    ghost use Rattle.std.specs.Prelude.{List};
+    ghost use Rattle.stream_manager.specs.End.{EndEvent};
+    ghost use Rattle.stream_manager.specs.EndStands.{EndState, StandsFor};
+
+    ghost Value = { EndState };
+
+    ghost view = { λ e. record { config = e.config; window = e.window; sender = e.sender; receiver = e.receiver } };
+
+    ghost invariant = { λ e. (log : List EndEvent) × StandsFor (record { config = e.config; window = e.window; sender = e.sender; receiver = e.receiver }) log };
+}
+
+impl End {
+    ghost use Rattle.stream_manager.specs.Limits.{IsConfig};
+    ghost use Rattle.stream_manager.specs.End.{EndEvent, Posted, Packed, Pinged, Took, window_log, sender_log, fates, data_head, ping_head, events_for, data_seen, arrival_answer, dropped_of, came_of, delivered_at};
+    ghost use Rattle.stream_manager.specs.EndStands.{StandsFor};
+
+    /// The end of a new connection.
+    pub(crate) fn new(alloc: Global, config: Config) -> Result<End, NoMemory>
+        requires { IsConfig config }
+        ensures stands { IfOk result (λ e. StandsFor e []) }
+        ensures config { IfOk result (λ e. e.config ≡ config) }
+        ensures empty { IfOk result (λ e. e.receiver.ready ≡ []) }
+    {
+        let sender = EventSender::new(alloc, config.life)?;
+        let receiver = EventReceiver::new(alloc)?;
+        Ok(End {
+            config,
+            window: Window::new(config.life),
+            sender,
+            receiver,
+        })
+    }
+
+    /// What the connection was made with.
+    pub(crate) fn config(&self) -> &Config
+        ensures value { result.now ≡ self.now.config }
+        ensures fits { IsConfig result.now }
+    {
+        &self.config
+    }
+
+    /// Posts a guaranteed event.
+    pub(crate) fn post(&mut self, payload: Payload) -> Result<u32, PostFault>
+        ensures answer { (log : List EndEvent) → StandsFor self.old log → result ≡ Rattle.event_manager.specs.Sending.post_answer_of self.old.config.life (fates log) (sender_log log) }
+        ensures stands { OnOk result ((log : List EndEvent) → StandsFor self.old log → StandsFor self.new (Posted Guaranteed payload ∷ log)) }
+        ensures unchanged { OnErr result (self.new ≡ self.old) }
+        ensures config { self.new.config ≡ self.old.config }
+        ensures ready { self.new.receiver ≡ self.old.receiver }
+    {
+        self.sender.post(payload)
+    }
+
+    /// Posts an unguaranteed event, and gives back the oldest waiting one where too many wait.
+    pub(crate) fn post_loose(&mut self, payload: Payload) -> Option<Payload>
+        ensures dropped { (log : List EndEvent) → StandsFor self.old log → result ≡ dropped_of log }
+        ensures stands { (log : List EndEvent) → StandsFor self.old log → StandsFor self.new (Posted Loose payload ∷ log) }
+        ensures config { self.new.config ≡ self.old.config }
+        ensures ready { self.new.receiver ≡ self.old.receiver }
+    {
+        self.sender.post_loose(payload)
+    }
+
+    /// What a pack makes now.
+    pub(crate) fn state(&self) -> SendState
+        ensures state { result ≡ send_state self.now.window }
+        ensures log { (log : List EndEvent) → StandsFor self.now log → result ≡ send_state_of self.now.config.life (window_log log) }
+    {
+        self.window.can_send()
+    }
+
+    /// The header of the next data packet.
+    fn data_head(&self) -> Header
+        requires { send_state self.now.window ≡ SendState.Room }
+        ensures head { (log : List EndEvent) → StandsFor self.now log → result ≡ data_head self.now.config.client log }
+        ensures fits { IsHeaderInRange result }
+    {
+        let (horizon, mask) = self.window.ack();
+        Header {
+            client: self.config.client,
+            seq: self.window.last_sent() + 1,
+            horizon,
+            mask,
+        }
+    }
+
+    /// The header of a ping.
+    fn ping_head(&self) -> Header
+        requires { send_state self.now.window ≡ SendState.Held }
+        ensures head { (log : List EndEvent) → StandsFor self.now log → result ≡ ping_head self.now.config.client log }
+        ensures fits { IsHeaderInRange result }
+    {
+        let (horizon, mask) = self.window.ack();
+        Header {
+            client: self.config.client,
+            seq: self.window.last_sent(),
+            horizon,
+            mask,
+        }
+    }
+
+    /// The events of the next data packet, where `room` bits are left for them: the longest front of the due ones that
+    /// fits, at most 31.
+    fn events(&self, room: u32) -> EventList
+        ensures events { (log : List EndEvent) → StandsFor self.now log → result ≡ events_for room log }
+        ensures fits { AllByRecursion IsEventInRange result }
+        ensures few { sum_by event_size result ≤ room }
+        ensures due { result ≡ take (length result) (due_now self.now.sender) }
+        ensures count { length result ≤ length (due_now self.now.sender) }
+        ensures front { (log : List EndEvent) → StandsFor self.now log → events_for room log ≡ take (length result) (due_of (fates log) (sender_log log)) }
+    {
+        let mut events = self.sender.due();
+        let count = fitting_count(events.as_slice(), room);
+        events.truncate(count);
+        events
+    }
+
+    /// Counts a data packet with the first `count` of the due events.
+    fn packed(&mut self, count: u32)
+        requires room { send_state self.old.window ≡ SendState.Room }
+        requires due { count ≤ length (due_now self.old.sender) }
+        ensures stands { (log : List EndEvent) → StandsFor self.old log → StandsFor self.new (Packed (record { ping = false; head = data_head self.old.config.client log; events = take count (due_of (fates log) (sender_log log)) }) ∷ log) }
+        ensures config { self.new.config ≡ self.old.config }
+        ensures ready { self.new.receiver ≡ self.old.receiver }
+    {
+        let seq = self.window.send();
+        self.sender.note(count, seq);
+    }
+
+    /// Counts the next data packet, in which `room` bits are left for events, and gives its header and its events.
+    pub(crate) fn pack(&mut self, room: u32) -> (Header, EventList)
+        requires { send_state self.old.window ≡ SendState.Room }
+        ensures head { (log : List EndEvent) → StandsFor self.old log → result.0 ≡ data_head self.old.config.client log }
+        ensures events { (log : List EndEvent) → StandsFor self.old log → result.1 ≡ events_for room log }
+        ensures head_fits { IsHeaderInRange result.0 }
+        ensures events_fit { AllByRecursion IsEventInRange result.1 }
+        ensures few { sum_by event_size result.1 ≤ room }
+        ensures stands { (log : List EndEvent) → StandsFor self.old log → StandsFor self.new (Packed (data_seen self.old.config.client room log) ∷ log) }
+        ensures config { self.new.config ≡ self.old.config }
+        ensures ready { self.new.receiver ≡ self.old.receiver }
+    {
+        let head = self.data_head();
+        let events = self.events(room);
+        self.packed(events.len() as u32);
+        (head, events)
+    }
+
+    /// Counts nothing: what a ping leaves is what was there.
+    pub(crate) fn pinged(&self) -> Header
+        requires { send_state self.now.window ≡ SendState.Held }
+        ensures head { (log : List EndEvent) → StandsFor self.now log → result ≡ ping_head self.now.config.client log }
+        ensures fits { IsHeaderInRange result }
+        ensures stands { (log : List EndEvent) → StandsFor self.now log → StandsFor self.now (Pinged (record { ping = true; head = ping_head self.now.config.client log; events = [] }) ∷ log) }
+    {
+        self.ping_head()
+    }
+
+    /// The first refusal that holds of a packet with this header and these events; nothing changes.
+    fn check(&self, ping: bool, head: &Header, events: &EventList) -> Result<(), EndFault>
+        ensures answer { (log : List EndEvent) → StandsFor self.now log → result ≡ arrival_answer self.now.config.client log (record { ping = ping; head = head.now; events = events.now }) }
+        ensures fresh { OnOk result (arrival_of ping head.now.seq self.now.window.horizon ≡ Arrival.Fresh) }
+        ensures known { OnOk result (head.now.horizon ≤ self.now.window.sent) }
+        ensures near { OnOk result (take_answer self.now.receiver.delivered events.now ≡ Ok tt) }
+    {
+        if head.client != self.config.client {
+            return Err(EndFault::WrongClient {
+                client: head.client,
+            });
+        }
+        let (horizon, _) = self.window.ack();
+        if !ping && head.seq <= horizon {
+            return Err(EndFault::Old {
+                seq: head.seq,
+                horizon,
+            });
+        }
+        let last = self.window.last_sent();
+        if head.horizon > last {
+            return Err(EndFault::AckAhead {
+                horizon: head.horizon,
+                last,
+            });
+        }
+        match self.receiver.check(events) {
+            Ok(()) => Ok(()),
+            Err(EventAhead { number, delivered }) => Err(EndFault::EventAhead {
+                number,
+                delivered,
+            }),
+        }
+    }
+
+    /// Takes a packet with this header and these events, and gives the verdicts that it brings. No event may wait.
+    fn take(&mut self, ping: bool, head: &Header, events: &EventList) -> Notices
+        requires fresh { arrival_of ping head.now.seq self.old.window.horizon ≡ Arrival.Fresh }
+        requires known { head.now.horizon ≤ self.old.window.sent }
+        requires fits { head.now.seq < 2 ^ 24 }
+        requires none_waits { self.old.receiver.ready ≡ [] }
+        requires near { take_answer self.old.receiver.delivered events.now ≡ Ok tt }
+        requires numbers { All IsEventInRange events.now }
+        ensures stands { (log : List EndEvent) → StandsFor self.old log → StandsFor self.new (Took (record { ping = ping; head = head.now; events = events.now }) ∷ log) }
+        ensures handed { (log : List EndEvent) → StandsFor self.old log → delivered_at (Took (record { ping = ping; head = head.now; events = events.now }) ∷ log) ≡ delivered_at log ++ self.new.receiver.ready }
+        ensures config { self.new.config ≡ self.old.config }
+    {
+        let _ = self.receiver.take(events);
+        let _ = self.window.receive(ping, head.seq);
+        let Ok(notices) = self.window.notices(head.horizon, head.mask) else {
+            unreachable!()
+        };
+        'verdicts: for i in 0..notices.count {
+            let verdict = verdict_at(notices.bits, i);
+            self.sender.settle(notices.first + i, verdict);
+        }
+        notices
+    }
+
+    /// Takes a packet with this header and these events, or refuses it by the first refusal that holds.
+    pub(crate) fn arrive(
+        &mut self,
+        ping: bool,
+        head: &Header,
+        events: &EventList,
+    ) -> Result<(), EndFault>
+        requires fits { head.now.seq < 2 ^ 24 }
+        requires none_waits { self.old.receiver.ready ≡ [] }
+        requires numbers { All IsEventInRange events.now }
+        ensures answer { (log : List EndEvent) → StandsFor self.old log → result ≡ arrival_answer self.old.config.client log (record { ping = ping; head = head.now; events = events.now }) }
+        ensures stands { OnOk result ((log : List EndEvent) → StandsFor self.old log → StandsFor self.new (Took (record { ping = ping; head = head.now; events = events.now }) ∷ log)) }
+        ensures handed { OnOk result ((log : List EndEvent) → StandsFor self.old log → delivered_at (Took (record { ping = ping; head = head.now; events = events.now }) ∷ log) ≡ delivered_at log ++ self.new.receiver.ready) }
+        ensures unchanged { OnErr result (self.new ≡ self.old) }
+        ensures config { self.new.config ≡ self.old.config }
+    {
+        self.check(ping, head, events)?;
+        let _ = self.take(ping, head, events);
+        Ok(())
+    }
+
+    /// How many guaranteed events were delivered.
+    pub(crate) fn delivered(&self) -> u32
+        ensures { (log : List EndEvent) → StandsFor self.now log → result ≡ run_of (came_of log) }
+    {
+        self.receiver.delivered()
+    }
+
+    /// How many events wait to be handed out, at most 95.
+    pub(crate) fn waiting(&self) -> u32
+        ensures count { result ≡ length self.now.receiver.ready }
+        ensures few { result ≤ 95 }
+    {
+        self.receiver.waiting()
+    }
+
+    /// Hands out the oldest event that waits; `None` exactly where none does.
+    pub(crate) fn pop_event(&mut self) -> Option<(Class, Payload)>
+        ensures first { result ≡ slice_get self.old.receiver.ready 0 }
+        ensures rest { self.new.receiver.ready ≡ drop 1 self.old.receiver.ready }
+        ensures stands { (log : List EndEvent) → StandsFor self.old log → StandsFor self.new log }
+        ensures config { self.new.config ≡ self.old.config }
+    {
+        self.receiver.pop()
+    }
+}
+
+/// The verdict that bit `i` tells.
+fn verdict_at(bits: u32, i: u32) -> Verdict
+    requires { i < 32 }
+    ensures { fate_for result ≡ fate_of_bit (bit_at bits i) }
+{
+    if (bits >> i) & 1 == 1 {
+        Verdict::Received
+    } else {
+        Verdict::Lost
+    }
+}
+
+/// How many of these events have at most `room` bits together, from the first on.
+fn fitting_count(events: &[EventItem], room: u32) -> usize
+    ensures fitting { fitting room events.now ≡ take result events.now }
+    ensures few { result ≤ length events.now }
+{
+    let mut left = room;
+    'fit: for (i, event) in events.iter().enumerate() {
+        let bits = event_bits(event);
+        if bits > left {
+            return i;
+        }
+        left -= bits;
+    }
+    events.len()
+}
