@@ -99,7 +99,7 @@ fn disc_flies(rt: HostRuntime) -> Result<(), Fail> {
         ..PLAYER
     };
     let setup = arena(rt.alloc(), PLAYER, clock).ok().ok_or("no memory")?;
-    let world = ticked(rt.alloc(), &setup, &[Some(FIRE)], 2)
+    let world = ticked(rt.alloc(), &setup, &[Some(FIRE)], 1)
         .ok()
         .ok_or("no memory")?;
     assert_eq!(rt; world.objects(), 3);
