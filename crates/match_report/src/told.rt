@@ -21,9 +21,7 @@ pub enum Way {
 /// An event that a delivery handed out.
 #[derive(Drop)]
 pub struct EventTold {
-    /// Guaranteed or not.
     pub class: Class,
-    /// Its bytes.
     pub payload: Payload,
 }
 

@@ -37,13 +37,9 @@ pub enum ClientFault {
 /// Why a packet was refused at either end, the first of these that holds.
 #[derive(Clone, Copy, Debug, PartialEq, Eq)]
 pub enum EndFault {
-    /// The packet names another client.
     WrongClient { client: u8 },
-    /// A data packet whose number the end has passed.
     Old { seq: u32, horizon: u32 },
-    /// It acknowledges a packet that was never sent.
     AckAhead { horizon: u32, last: u32 },
-    /// A guaranteed event too far ahead of those delivered.
     EventAhead { number: u32, delivered: u32 },
 }
 
