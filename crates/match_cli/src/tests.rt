@@ -186,13 +186,13 @@ down 0 0 old 1 32
 
 /// What a call with these words answers, and what it writes. The source gives and the sink takes at most `most` bytes a
 /// call, and the calls with these numbers fail.
-fn served(
+fn served<'a>(
     rt: &HostRuntime,
     words: &[&str],
-    text: &[u8],
+    text: &'a [u8],
     most: usize,
-    failing_reads: &[u64],
-    failing_writes: &[u64],
+    failing_reads: &'a [u64],
+    failing_writes: &'a [u64],
 ) -> Result<(Status, Vec<u8>), Fail>
     requires { 0 < most }
 {
