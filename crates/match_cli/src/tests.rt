@@ -1,7 +1,6 @@
 //! Whole calls: scripts with the reports that were worked out for them, and what is left behind by each fault.
 ghost use Rattle.std.specs.Prelude.{◌<◌};
 
-use crate::input::LIMIT;
 use crate::top::{Status, top};
 use match_script::ScriptFault;
 use std::alloc::AllocError;
@@ -343,11 +342,12 @@ fn other_words(rt: HostRuntime) -> Result<(), Fail> {
 
 #[test]
 fn long_texts(rt: HostRuntime) -> Result<(), Fail> {
-    let text = vec![in rt.alloc(); b'\n'; LIMIT + 1]?;
-    let (status, bytes) = served(&rt, &["run"], text.as_slice(), ALL, &[], &[])?;
+    let text = with_lines(String::from_str(rt.alloc(), "")?, 1_048_577, "\n")?;
+    let (status, bytes) = run_on(&rt, text.as_str())?;
     assert_eq!(rt; status, Status::TooLong);
     assert_eq!(rt; bytes.len(), 0);
-    let (status, _) = served(&rt, &["run"], &text[..LIMIT], ALL, &[], &[])?;
+    let text = with_lines(String::from_str(rt.alloc(), "")?, 1_048_576, "\n")?;
+    let (status, _) = run_on(&rt, text.as_str())?;
     assert_eq!(rt; status, Status::Script(1, ScriptFault::BadHeader));
     Ok(())
 }
