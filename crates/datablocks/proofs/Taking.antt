@@ -7,7 +7,8 @@ use Rattle.std.proofs.lemmas.List.{take_more, drop_all, get_or-set_same, get_or-
 use Rattle.std.proofs.lemmas.List.Elements.{All-take, All-get_or, All-nil, All-push}
 use Rattle.wire_format.specs.declared.blocks.BlockItem.{BlockItem}
 use Rattle.datablocks.specs.declared.receiver.BlockFault.TheVariants.{BlockDiffers}
-use Rattle.datablocks.specs.Holding.{block_at, differs, differs_then, after_take, after_all, check_answer}
+use Rattle.std.specs.Int.{bit_at}
+use Rattle.datablocks.specs.Holding.{block_at, held_bit, differs, differs_then, after_take, after_all, check_answer}
 
 abbrev IsNumbered : BlockItem → Type 0
 IsNumbered item = item.number < 64
@@ -37,6 +38,21 @@ differs_more blocks items i earlier item before size all l e h =
     let small : earlier.number < 64 = subst IsNumbered (sym e) (All-get_or IsNumbered items i earlier l all) in
     let same = at_set (after_all blocks (take i items)) earlier item (length-after_all blocks (take i items) ∙ size) small in
     ap (λ b. differs_then b earlier item) h ∙ sym same ∙ ap (λ bs. differs (block_at bs item.number) item.bytes) (sym (after_more blocks items i earlier l e))
+
+-- a word that tells of one more block
+pub held_more : (blocks : List (Option (List ℕ))) (items : List BlockItem) (i : ℕ) (item : BlockItem) (held next place : ℕ) → length blocks ≡ 64 → All (λ (x : BlockItem). x.number < 64) items → i < length items → item ≡ get_or items i item → place ≡ item.number
+    → ((b : ℕ) → b < 64 → bit_at held b ≡ held_bit (block_at (after_all blocks (take i items)) b))
+    → bit_at next place ≡ 1 → ((b : ℕ) → (b ≡ place → ⊥) → bit_at next b ≡ bit_at held b)
+    → (b : ℕ) → b < 64 → bit_at next b ≡ held_bit (block_at (after_all blocks (take (i + 1) items)) b)
+held_more blocks items i item held next place size all l e at before one others b low =
+    let small : item.number < 64 = subst IsNumbered (sym e) (All-get_or IsNumbered items i item l all) in
+    let bs : List (Option (List ℕ)) = after_all blocks (take i items) in
+    let there : item.number < length bs = omega (arith, length-after_all blocks (take i items)) in
+    let goal : bit_at next b ≡ held_bit (block_at (after_take bs item) b) = elim (cases_eq b item.number) [
+      | inl same ↦ ap (bit_at next) (same ∙ sym at) ∙ one ∙ ap held_bit (sym (ap (block_at (after_take bs item)) same ∙ get_or-set_same bs item.number (Some item.bytes) None there))
+      | inr other ↦ others b (λ e. other (e ∙ at)) ∙ before b low ∙ ap held_bit (sym (get_or-set_other bs item.number b (Some item.bytes) None other))
+    ] in
+    goal ∙ ap (λ (bs : List (Option (List ℕ))). held_bit (block_at bs b)) (sym (after_more blocks items i item l e))
 
 drop_more : (items : List BlockItem) (i : ℕ) (item : BlockItem) → i < length items → item ≡ get_or items i item → drop i items ≡ item ∷ drop (i + 1) items
 drop_more items i item l e = rw add-one (drop-cons items i item l ∙ ap (λ t. t ∷ drop (suc i) items) (sym e))

@@ -66,6 +66,18 @@ impl BlockReceiver {
         self.held
     }
 
+    /// Bit b is set where block b is held once these blocks were taken; nothing changes.
+    pub fn held_after(&self, list: &BlockList) -> u64
+        requires { All (λ item. item.number < MAX_SCRIPT_BLOCKS) list.now }
+        ensures { (b : ℕ) → b < MAX_SCRIPT_BLOCKS → bit_at result b ≡ held_bit (block_at (after_all self.now list.now) b) }
+    {
+        let mut held = self.held;
+        'items: for item in list.as_slice() {
+            held = with_bit(held, usize::from(item.number));
+        }
+        held
+    }
+
     /// Takes a block of a packet. `BlockDiffers` comes exactly where its number is held with other bytes, and
     /// nothing changes then; so no block's bytes ever change (docs/connection.md, "Blocks").
     pub fn take(&mut self, item: &BlockItem) -> Result<(), BlockFault>

@@ -1,6 +1,7 @@
 //! The server's side: each block is sent until a packet that carries it is received.
 ghost use Rattle.std.specs.Prelude.{◌≡◌, ℕ, List, [], ◌∷◌, ◌<◌, ◌≤◌, true, length, slice_get, Some, IfOk, map, if◌then◌else◌};
 ghost use Rattle.std.specs.List.{slice_set};
+ghost use Rattle.std.specs.Option.{option_copied};
 ghost use Rattle.std.specs.Int.{bit_at};
 ghost use Rattle.notify_window.specs.Log.{Fate, Unjudged};
 
@@ -74,6 +75,7 @@ impl BlockSender {
     pub fn due(&self) -> DueBlocks
         ensures value { result ≡ due_now self.now }
         ensures log { (fate : ℕ → Fate) (log : List SenderEvent) → StandsFor self.now fate log → result ≡ due_of fate log (length self.now.blocks) }
+        ensures few { length self.now.blocks ≤ MAX_SCRIPT_BLOCKS }
     {
         let end = (self.first + BLOCK_WINDOW).min(self.blocks.len());
         due_between(&self.progress, self.first, end)
@@ -108,6 +110,13 @@ impl BlockSender {
         ensures log { (fate : ℕ → Fate) (log : List SenderEvent) → StandsFor self.now fate log → (b : ℕ) → b < MAX_SCRIPT_BLOCKS → bit_at result b ≡ (if any_received fate (carriers b log) then 1 else 0) }
     {
         self.received
+    }
+
+    /// The bytes of a block; `None` exactly where `new` was given none of this number.
+    pub fn get(&self, number: u8) -> Option<&BlockBytes>
+        ensures { option_copied result ≡ slice_get self.now.blocks number }
+    {
+        self.blocks.get(usize::from(number))
     }
 
     /// The bytes of a block that `new` was given.

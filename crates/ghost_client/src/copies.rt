@@ -56,6 +56,13 @@ impl Copies {
         }
     }
 
+    /// The table of kinds that the copies were made with.
+    pub fn kinds(&self) -> &KindTable
+        ensures { result.now ≡ self.now.kinds }
+    {
+        &self.kinds
+    }
+
     /// The copy in the slot; None exactly where it is empty.
     pub fn get(&self, slot: u8) -> Option<&GhostCopy>
         ensures value { option_copied result ≡ copy_in self.now.slots slot }

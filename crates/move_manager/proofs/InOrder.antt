@@ -34,7 +34,7 @@ take-take (suc m) zero xs l = absurd (omega arith)
 take-take (suc m) (suc n) [] l = refl
 take-take (suc m) (suc n) (x ∷ xs) l = ap (λ t. x ∷ t) (take-take m n xs (omega arith))
 
-holds-push : (p : Packet) (s : List Move) (v : Move) → Holds p s → Holds p (s ++ v ∷ [])
+pub holds-push : (p : Packet) (s : List Move) (v : Move) → Holds p s → Holds p (s ++ v ∷ [])
 holds-push p s v h = record {
   within = omega (arith, h.within, length-append s (v ∷ []));
   moves = h.moves ∙ sym (ap (λ t. take (length p.moves) t) (drop-append-le p.first s (v ∷ []) (omega (arith, h.within))) ∙ take-append-le (length p.moves) (drop p.first s) (v ∷ []) (omega (arith, h.within, length-drop p.first s)));
@@ -45,7 +45,7 @@ pub record IsFront (acc s : List Move) : Type 0 where
   pub within : length acc ≤ length s
   pub first : acc ≡ take (length acc) s
 
-front-push : (acc s : List Move) (v : Move) → IsFront acc s → IsFront acc (s ++ v ∷ [])
+pub front-push : (acc s : List Move) (v : Move) → IsFront acc s → IsFront acc (s ++ v ∷ [])
 front-push acc s v h = record {
   within = omega (arith, h.within, length-append s (v ∷ []));
   first = h.first ∙ sym (take-append-le (length acc) s (v ∷ []) h.within);
@@ -70,7 +70,7 @@ pub record Grows (acc new s : List Move) : Type 0 where
   pub front : IsFront new s
   pub longer : length acc ≤ length new
 
-front-accept : (life room : ℕ) (p : Packet) (acc s : List Move) → Holds p s → IsFront acc s → Grows acc (accept life room p acc) s
+pub front-accept : (life room : ℕ) (p : Packet) (acc s : List Move) → Holds p s → IsFront acc s → Grows acc (accept life room p acc) s
 front-accept life room p acc s h f = go (nat_le p.first (length acc)) refl
   where
     taken : List Move

@@ -97,6 +97,7 @@ impl MoveSender {
     /// The number of the first move that the server may lack, and all moves from it on: what a packet carries.
     pub fn pending(&self) -> (u32, MoveList)
         ensures value { result ≡ (self.now.first, self.now.waiting) }
+        ensures within { result.0 ≤ self.now.life }
         ensures log { (log : List Event) → StandsFor self.now log → result ≡ (acked_of log, drop (acked_of log) (sampled_of log)) }
     {
         (self.first, listed(self.waiting.as_slice()))
