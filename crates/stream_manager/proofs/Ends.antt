@@ -1,12 +1,12 @@
 -- What one end's common part stands for after a call.
-use Rattle.std.proofs.Common.{◌≡◌, ℕ, ◌+◌, ◌<◌, ◌^◌, true, false, ◌==◌, nat_lt, List, ◌∷◌, if◌then◌else◌, take, Result, Ok, Err, refl, sym, ◌∙◌, ap, subst, arith, inl, inr}
+use Rattle.std.proofs.Common.{◌≡◌, ℕ, ◌+◌, ◌-◌, ◌<◌, ◌^◌, false, List, ◌∷◌, take, Result, Ok, Err, refl, sym, ◌∙◌, ap, subst, arith, inl, inr}
 use Rattle.std.specs.Prelude.{OnOk, OnErr}
-use Rattle.std.proofs.lemmas.Bool.Decides.{nat_tests}
-use Rattle.std.proofs.lemmas.Bool.{cases_lt, cases_eq}
 use Rattle.notify_window.specs.State.{WindowState}
-use Rattle.notify_window.specs.Log.{WindowEvent, Sent, Came, sent_of, judged_of, Fate, Unjudged, fate_of}
+use Rattle.std.specs.Int.{bit_at}
+use Rattle.notify_window.specs.declared.Notices.{Notices}
+use Rattle.notify_window.specs.Log.{WindowEvent, Sent, Came, sent_of, judged_of, Fate, Unjudged, fate_of, fate_of_bit}
 use Rattle.notify_window.proofs.Verdicts.{fate-above, fate-told_judged, fate-told_above}
-use Rattle.event_manager.specs.Sending.{SenderEvent, judged, due_of}
+use Rattle.event_manager.specs.Sending.{SenderEvent, due_of}
 use Rattle.event_manager.specs.SenderState.{SenderState}
 use Rattle.event_manager.specs.SenderStands.{StandsFor as SenderStandsFor}
 use Rattle.event_manager.specs.ReceiverState.{ReceiverState}
@@ -17,6 +17,7 @@ use Rattle.notify_window.specs.Stands.{StandsFor as WindowStandsFor}
 use Rattle.tn_types.specs.declared.choices.Class.TheVariants.{Guaranteed}
 use Rattle.stream_manager.specs.End.{Seen, EndEvent, Posted, Packed, Took, window_log, sender_log, fates, data_head, came_of}
 use Rattle.stream_manager.specs.EndStands.{EndState, StandsFor}
+use Rattle.stream_manager.specs.Settling.{Judges}
 
 -- some list, for which an end stands
 abbrev pub StandsForSome : EndState → Type 0
@@ -103,31 +104,14 @@ took_stands e w s r p window_life sender_life small log now sender receiver stan
   horizon = omega (arith, now.horizon, stands.window.horizon, stands.horizon, small);
 }
 
--- the fates once the packets below k have theirs
-abbrev pub upto : Seen → List EndEvent → ℕ → ℕ → Fate
-upto p log k s = if nat_lt s k then fates (Took p ∷ log) s else fates log s
-
--- a sender doesn't tell fates that are equal at each packet apart
-pub same_fates : (e : SenderState) (f g : ℕ → Fate) (log : List SenderEvent) → ((s : ℕ) → f s ≡ g s) → SenderStandsFor e f log → SenderStandsFor e g log
-same_fates e f g log h s = subst (λ fate. SenderStandsFor e fate log) (λ i. λ n. h n i) s
-
-pub upto-first : (p : Seen) (log : List EndEvent) (k : ℕ) → k ≡ judged_of (window_log log) + 1 → (s : ℕ) → fates log s ≡ upto p log k s
-upto-first p log k e s = elim (cases_lt s k) [
-  | inl l ↦ (let t : nat_lt s k ≡ true = grind (arith, nat_tests) in rw t (sym (fate-told_judged s p.head.horizon p.head.mask (Came p.ping p.head.seq ∷ window_log log) (omega arith))))
-  | inr l ↦ (let t : nat_lt s k ≡ false = grind (arith, nat_tests) in rw t)
-]
-
-pub upto-more : (p : Seen) (log : List EndEvent) (k n : ℕ) (f : Fate) → n ≡ k + 1 → fates (Took p ∷ log) k ≡ f → (s : ℕ) → judged (upto p log k) k f s ≡ upto p log n s
-upto-more p log k n f e is s = elim (cases_eq s k) [
-  | inl at ↦ (let t : (s == k) ≡ true = grind (arith, nat_tests) in let u : nat_lt s n ≡ true = grind (arith, nat_tests) in rw (t, u) (sym (ap (fates (Took p ∷ log)) at ∙ is)))
-  | inr apart ↦ (let t : (s == k) ≡ false = grind (arith, nat_tests) in let u : nat_lt s n ≡ nat_lt s k = grind (arith, nat_tests) in rw (t, u))
-]
-
-pub upto-all : (p : Seen) (log : List EndEvent) (k : ℕ) → judged_of (window_log log) < k → p.head.horizon < k → (s : ℕ) → upto p log k s ≡ fates (Took p ∷ log) s
-upto-all p log k a b s = elim (cases_lt s k) [
-  | inl l ↦ (let t : nat_lt s k ≡ true = grind (arith, nat_tests) in rw t)
-  | inr l ↦ (let t : nat_lt s k ≡ false = grind (arith, nat_tests) in rw t (sym (fate-told_above s p.head.horizon p.head.mask (Came p.ping p.head.seq ∷ window_log log) (omega arith))))
-]
-
-pub upto-next : (p : Seen) (log : List EndEvent) (k : ℕ) → judged_of (window_log log) < k → upto p log k k ≡ Unjudged
-upto-next p log k a = let t : nat_lt k k ≡ false = grind (arith, nat_tests) in rw t (fate-above k (window_log log) a)
+-- the verdicts that a packet brings are those of the packets up to its horizon
+pub judges-told : (p : Seen) (log : List EndEvent) (n : Notices) → n.first ≡ judged_of (window_log log) + 1 → n.count ≡ p.head.horizon + 1 - n.first
+    → ((i : ℕ) → i < n.count → fates (Took p ∷ log) (n.first + i) ≡ fate_of_bit (bit_at n.bits i)) → Judges n (fates log) (fates (Took p ∷ log))
+judges-told p log n first count verdicts = record {
+  unjudged = λ s low high. fate-above s (window_log log) (omega arith);
+  verdicts = verdicts;
+  others = λ s out. elim out [
+    | inl l ↦ fate-told_judged s p.head.horizon p.head.mask (Came p.ping p.head.seq ∷ window_log log) (omega arith)
+    | inr l ↦ fate-told_above s p.head.horizon p.head.mask (Came p.ping p.head.seq ∷ window_log log) (omega arith)
+  ];
+}

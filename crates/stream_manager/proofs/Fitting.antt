@@ -5,21 +5,37 @@ use Rattle.std.specs.List.{AllByRecursion}
 use Rattle.std.proofs.lemmas.List.Sums.{sum_by-cons}
 use Rattle.std.proofs.lemmas.Bool.Decides.{nat_tests}
 use Rattle.notify_window.specs.Log.{Fate}
-use Rattle.wire_format.specs.declared.events.EventItem.{EventItem}
-use Rattle.wire_format.specs.Events.{event_size, IsEventInRange}
+use Rattle.wire_format.specs.Events.{IsEventInRange}
 use Rattle.event_manager.specs.Sending.{SenderEvent, posted_of, waiting_of, guaranteed_item, loose_item, items_that, is_due, due_guaranteed, due_of}
-use Rattle.stream_manager.specs.End.{fitting}
+use Rattle.stream_manager.specs.Shares.{fitting}
 
 -- what fits has at most so many bits
-pub fitting_few : (room : ℕ) (es : List EventItem) → sum_by event_size (fitting room es) ≤ room
-fitting_few room [] = omega arith
-fitting_few room (e ∷ es) = go (nat_le (event_size e) room) refl (fitting_few (room - event_size e) es)
+pub fitting_few : {A : Type 0} (size : A → ℕ) (room : ℕ) (xs : List A) → sum_by size (fitting size room xs) ≤ room
+fitting_few size room [] = omega arith
+fitting_few size room (x ∷ xs) = go (nat_le (size x) room) refl (fitting_few size (room - size x) xs)
   where
-    go : (b : Bool) → nat_le (event_size e) room ≡ b → sum_by event_size (fitting (room - event_size e) es) ≤ room - event_size e → sum_by event_size (if b then e ∷ fitting (room - event_size e) es else []) ≤ room
+    go : (b : Bool) → nat_le (size x) room ≡ b → sum_by size (fitting size (room - size x) xs) ≤ room - size x → sum_by size (if b then x ∷ fitting size (room - size x) xs else []) ≤ room
     go true t rest =
-        let fits : event_size e ≤ room = grind (arith, nat_tests) in
-        omega (arith, sum_by-cons event_size e (fitting (room - event_size e) es))
+        let fits : size x ≤ room = grind (arith, nat_tests) in
+        omega (arith, sum_by-cons size x (fitting size (room - size x) xs))
     go false t rest = omega arith
+
+-- and keeps what holds of all items
+pub fitting-all : {A : Type 0} (P : A → Type 0) (size : A → ℕ) (room : ℕ) (xs : List A) → AllByRecursion P xs → AllByRecursion P (fitting size room xs)
+fitting-all P size room [] h = tt
+fitting-all P size room (x ∷ xs) h = go (nat_le (size x) room) (fitting-all P size (room - size x) xs h.1)
+  where
+    go : (b : Bool) → AllByRecursion P (fitting size (room - size x) xs) → AllByRecursion P (if b then x ∷ fitting size (room - size x) xs else [])
+    go true rest = (h.0, rest)
+    go false rest = tt
+
+pub fitting-short : {A : Type 0} (size : A → ℕ) (room : ℕ) (xs : List A) → length (fitting size room xs) ≤ length xs
+fitting-short size room [] = omega arith
+fitting-short size room (x ∷ xs) = go (nat_le (size x) room) (fitting-short size (room - size x) xs)
+  where
+    go : (b : Bool) → length (fitting size (room - size x) xs) ≤ length xs → length (if b then x ∷ fitting size (room - size x) xs else []) ≤ suc (length xs)
+    go true short = let l : suc (length (fitting size (room - size x) xs)) ≤ suc (length xs) = omega arith in l
+    go false short = omega arith
 
 -- a front of a front, by its own length
 pub front-own : {A : Type 0} (n m : ℕ) (xs : List A) → take n (take m xs) ≡ take (length (take n (take m xs))) xs

@@ -1,7 +1,7 @@
 -- What the two ends of a connection have in common, as a list of what happened at one of them, the newest first: its
 -- window, its events on their way out, and those that came in. An end's packets are seen by their header and their
 -- events; what else a packet holds belongs to one end alone.
-use Rattle.std.specs.Prelude.{ℕ, slice_get, length, Option, None, ◌+◌, ◌-◌, ◌==◌, ◌&&◌, not, Bool, false, nat_le, nat_lt, List, [], ◌∷◌, if◌then◌else◌, take, Result, Ok, Err}
+use Rattle.std.specs.Prelude.{ℕ, slice_get, length, Option, Some, None, ◌+◌, ◌==◌, ◌&&◌, not, Bool, false, nat_le, nat_lt, List, [], ◌∷◌, if◌then◌else◌, take, Ok, Err}
 use Rattle.tn_types.specs.declared.choices.Class.{Class}
 use Rattle.tn_types.specs.declared.choices.Class.TheVariants.{Guaranteed, Loose}
 use Rattle.notify_window.specs.Log.{WindowEvent, Sent, Came, Told, sent_of, horizon_of, mask_of, Fate, fate_of}
@@ -10,9 +10,10 @@ use Rattle.wire_format.specs.declared.events.EventItem.{EventItem}
 use Rattle.wire_format.specs.declared.widths.TheConstants.{MAX_EVENTS}
 use Rattle.wire_format.specs.Events.{event_size}
 use Rattle.event_manager.specs.declared.TheConstants.{MAX_WAITING}
-use Rattle.stream_manager.specs.declared.fault.EndFault.{EndFault}
-use Rattle.stream_manager.specs.declared.fault.EndFault.TheVariants.{WrongClient, Old, AckAhead}
-use Rattle.stream_manager.specs.declared.fault.EndFault.TheVariants as refused
+use Rattle.stream_manager.specs.declared.fault.HeadFault.{HeadFault}
+use Rattle.stream_manager.specs.declared.fault.HeadFault.TheVariants.{WrongClient, Old, AckAhead}
+use Rattle.stream_manager.specs.Faults.{Checked}
+use Rattle.stream_manager.specs.Shares.{fitting}
 use Rattle.event_manager.specs.declared.receiver.EventAhead.{EventAhead}
 use Rattle.event_manager.specs.Receiving.{items_onto, delivered_of, run_of, take_answer}
 use Rattle.event_manager.specs.Sending as sending
@@ -29,6 +30,11 @@ pub data EndEvent : Type 0 where
   Packed : Seen → EndEvent  -- a data packet was sent
   Pinged : Seen → EndEvent  -- a ping was sent
   Took : Seen → EndEvent  -- a packet came and was not refused
+
+-- an event, if there is one, behind those of a log
+abbrev pub onto : {E : Type 0} → Option E → List E → List E
+onto None log = log
+onto (Some event) log = event ∷ log
 
 -- what the window saw of it: of a packet that came, first that it came and then what it told
 abbrev pub window_log : List EndEvent → List WindowEvent
@@ -69,14 +75,9 @@ data_head client log = head_of client (sent_of (window_log log) + 1) log
 abbrev pub ping_head : ℕ → List EndEvent → Header
 ping_head client log = head_of client (sent_of (window_log log)) log
 
--- the longest front of these events that has at most so many bits
-abbrev pub fitting : ℕ → List EventItem → List EventItem
-fitting room [] = []
-fitting room (e ∷ es) = if nat_le (event_size e) room then e ∷ fitting (room - event_size e) es else []
-
 -- the events of the next data packet, where so many bits are left for them
 abbrev pub events_for : ℕ → List EndEvent → List EventItem
-events_for room log = fitting room (take MAX_EVENTS (due_of (fates log) (sender_log log)))
+events_for room log = fitting event_size room (take MAX_EVENTS (due_of (fates log) (sender_log log)))
 
 -- the next data packet as both ends see it
 abbrev pub data_seen : ℕ → ℕ → List EndEvent → Seen
@@ -94,14 +95,14 @@ came_of (Took p ∷ log) = items_onto p.events (came_of log)
 abbrev pub delivered_at : List EndEvent → List (Class × List ℕ)
 delivered_at log = delivered_of (came_of log)
 
--- what a packet that comes meets: the first refusal whose condition holds
-abbrev pub ahead_answer : Result (Unit {0}) EventAhead → Result (Unit {0}) EndFault
-ahead_answer (Ok u) = Ok tt
-ahead_answer (Err e) = Err (refused.EventAhead e.number e.delivered)
-
-abbrev pub arrival_answer : ℕ → List EndEvent → Seen → Result (Unit {0}) EndFault
-arrival_answer client log p =
+-- what the header of a packet that comes meets
+abbrev pub head_answer : ℕ → List EndEvent → Seen → Checked HeadFault
+head_answer client log p =
     if not (p.head.client == client) then Err (WrongClient p.head.client)
     else if not p.ping && nat_le p.head.seq (horizon_of (window_log log)) then Err (Old p.head.seq (horizon_of (window_log log)))
     else if nat_lt (sent_of (window_log log)) p.head.horizon then Err (AckAhead p.head.horizon (sent_of (window_log log)))
-    else ahead_answer (take_answer (run_of (came_of log)) p.events)
+    else Ok tt
+
+-- what its events meet
+abbrev pub events_answer : List EndEvent → List EventItem → Checked EventAhead
+events_answer log events = take_answer (run_of (came_of log)) events

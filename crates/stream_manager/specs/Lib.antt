@@ -1,8 +1,12 @@
-pub mod Kinds
+pub mod Shares
 pub mod Faults
 pub mod Limits
+pub mod Settling
 pub mod End
+pub mod GhostChecks
 pub mod Server
 pub mod Client
+pub mod Blocks
 pub mod EndStands
 pub mod Stands
+pub mod Calls

@@ -1,15 +1,21 @@
 -- What happened at the server's end of a connection, the newest first, and what follows from it: what a post, a pack and
 -- an arrival do and answer.
-use Rattle.std.specs.Prelude.{ℕ, ◌-◌, ◌*◌, true, false, List, [], ◌∷◌, ◌++◌, Option, Some, None, Result, Ok, Err}
+use Rattle.std.specs.Prelude.{ℕ, ◌-◌, ◌*◌, nat_lt, true, false, List, [], ◌∷◌, ◌++◌, length, map, take, sum_by, if◌then◌else◌, Option, Some, None, Result, Ok, Err}
+use Rattle.std.specs.List.{slice_index_or}
 use Rattle.tn_types.specs.declared.choices.Class.{Class}
+use Rattle.tn_types.specs.declared.moves.Move.{Move}
 use Rattle.bit_stream.specs.Bits.{datagram}
+use Rattle.quantised_fields.specs.declared.kind.Kind.{Kind}
 use Rattle.wire_format.specs.declared.fault.BitsFault.{BitsFault}
 use Rattle.wire_format.specs.declared.header.Header.{Header}
+use Rattle.wire_format.specs.declared.blocks.BlockItem.{BlockItem}
 use Rattle.wire_format.specs.declared.server.ServerBody.{ServerBody}
 use Rattle.wire_format.specs.declared.server.ServerPacket.TheVariants as down
+use Rattle.wire_format.specs.declared.client.ClientBody.{ClientBody}
 use Rattle.wire_format.specs.declared.client.ClientPacket.{ClientPacket}
 use Rattle.wire_format.specs.declared.client.ClientPacket.TheVariants as up
-use Rattle.wire_format.specs.declared.widths.TheConstants.{SERVER_FIXED_BITS}
+use Rattle.wire_format.specs.declared.widths.TheConstants.{SERVER_FIXED_BITS, MAX_BLOCKS}
+use Rattle.wire_format.specs.Blocks.{block_size}
 use Rattle.wire_format.specs.Server.{server}
 use Rattle.wire_format.specs.Client.{client_of}
 use Rattle.notify_window.specs.declared.SendState.{SendState}
@@ -17,20 +23,24 @@ use Rattle.notify_window.specs.declared.SendState.TheVariants.{Held, Worn, Room}
 use Rattle.notify_window.specs.Log.{send_state_of}
 use Rattle.event_manager.specs.declared.sender.PostFault.{PostFault}
 use Rattle.event_manager.specs.Sending.{post_answer_of}
+use Rattle.datablocks.specs.Sending as blocks
+use Rattle.move_manager.specs.Accepting as moves
+use Rattle.move_manager.specs.Accepting.{accepted_of, new_count}
 use Rattle.stream_manager.specs.declared.config.Config.{Config}
-use Rattle.stream_manager.specs.declared.fault.EndFault.{EndFault}
-use Rattle.stream_manager.specs.Kinds.{plain_kinds}
-use Rattle.stream_manager.specs.Faults.{server_fault}
+use Rattle.stream_manager.specs.declared.server.Taken.{Taken}
 use Rattle.stream_manager.specs.declared.fault.ArriveFault.{ArriveFault}
 use Rattle.stream_manager.specs.declared.fault.ArriveFault.TheVariants as refused
-use Rattle.stream_manager.specs.End.{Seen, EndEvent, window_log, sender_log, fates, data_head, ping_head, events_for, arrival_answer}
+use Rattle.stream_manager.specs.Limits.{Terms}
+use Rattle.stream_manager.specs.Shares.{fitting}
+use Rattle.stream_manager.specs.Faults.{Checked, then_check, head_at_server, events_at_server, checked_packet}
+use Rattle.stream_manager.specs.End.{Seen, EndEvent, window_log, sender_log, fates, data_head, ping_head, events_for, head_answer, events_answer}
 use Rattle.stream_manager.specs.End as common
 
 pub data ServerEvent : Type 0 where
   Posted : (class : Class) (payload : List ℕ) → ServerEvent  -- an event was posted
   Packed : ServerBody → ServerEvent  -- a data packet was sent
   Pinged : Header → ServerEvent  -- a ping was sent
-  Took : ClientPacket → ServerEvent  -- a packet came and was not refused
+  Took : ClientPacket → (room : ℕ) → ServerEvent  -- a packet came and was not refused, where so many moves had a place
 
 -- ---- what both ends have in common
 
@@ -40,16 +50,52 @@ seen_ping head = record { ping = true; head = head; events = [] }
 abbrev pub seen_body : ServerBody → Seen
 seen_body p = record { ping = false; head = p.head; events = p.events }
 
+abbrev pub seen_client_body : ClientBody → Seen
+seen_client_body p = record { ping = false; head = p.head; events = p.events }
+
 abbrev pub seen_up : ClientPacket → Seen
 seen_up (up.Ping head) = seen_ping head
-seen_up (up.Body p) = record { ping = false; head = p.head; events = p.events }
+seen_up (up.Body p) = seen_client_body p
 
 abbrev pub server_end : List ServerEvent → List EndEvent
 server_end [] = []
 server_end (Posted class payload ∷ log) = common.Posted class payload ∷ server_end log
 server_end (Packed p ∷ log) = common.Packed (seen_body p) ∷ server_end log
 server_end (Pinged head ∷ log) = common.Pinged (seen_ping head) ∷ server_end log
-server_end (Took p ∷ log) = common.Took (seen_up p) ∷ server_end log
+server_end (Took p room ∷ log) = common.Took (seen_up p) ∷ server_end log
+
+-- ---- blocks
+
+-- the blocks of packet seq, in order, behind those that were sent before
+abbrev pub wrote_blocks : ℕ → List BlockItem → List blocks.SenderEvent → List blocks.SenderEvent
+wrote_blocks seq [] log = log
+wrote_blocks seq (item ∷ items) log = wrote_blocks seq items (blocks.Wrote seq item.number ∷ log)
+
+-- what the sender of blocks did
+abbrev pub block_log : List ServerEvent → List blocks.SenderEvent
+block_log [] = []
+block_log (Posted class payload ∷ log) = block_log log
+block_log (Packed p ∷ log) = wrote_blocks p.head.seq p.blocks (block_log log)
+block_log (Pinged head ∷ log) = block_log log
+block_log (Took p room ∷ log) = block_log log
+
+-- ---- moves
+
+abbrev pub moves_taken : ClientPacket → ℕ → List moves.Event → List moves.Event
+moves_taken (up.Ping head) room log = log
+moves_taken (up.Body p) room log = moves.Took (record { first = p.first; moves = p.moves }) room ∷ log
+
+-- what the receiver of moves took
+abbrev pub move_log : List ServerEvent → List moves.Event
+move_log [] = []
+move_log (Posted class payload ∷ log) = move_log log
+move_log (Packed p ∷ log) = move_log log
+move_log (Pinged head ∷ log) = move_log log
+move_log (Took p room ∷ log) = moves_taken p room (move_log log)
+
+-- the moves accepted so far, the oldest first
+abbrev pub accepted_at : Config → List ServerEvent → List Move
+accepted_at c log = accepted_of c.life (move_log log)
 
 -- ---- posting
 
@@ -61,56 +107,84 @@ posted_at_server c log = post_answer_of c.life (fates (server_end log)) (sender_
 abbrev pub server_state : Config → List ServerEvent → SendState
 server_state c log = send_state_of c.life (window_log (server_end log))
 
--- the next data packet: header, and as many due events as its share holds
-abbrev pub data_body : Config → List ServerEvent → ServerBody
-data_body c log = record {
-  head = data_head c.client (server_end log);
-  accepted = 0;
+-- block b of the script in a packet
+abbrev pub block_item : List (List ℕ) → ℕ → BlockItem
+block_item bytes b = record { number = b; bytes = slice_index_or bytes b [] }
+
+-- the due blocks, as far as they have half of a packet's bits together with its fixed part
+abbrev pub blocks_at : Terms → List ServerEvent → List BlockItem
+blocks_at t log = fitting block_size (4 * t.config.size - SERVER_FIXED_BITS)
+    (take MAX_BLOCKS (map (block_item t.blocks) (blocks.due_of (fates (server_end log)) (block_log log) (length t.blocks))))
+
+-- the bits that are left for events, which have three quarters together with the blocks and the fixed part
+abbrev pub event_room : Terms → List ServerEvent → ℕ
+event_room t log = 6 * t.config.size - SERVER_FIXED_BITS - sum_by block_size (blocks_at t log)
+
+-- the next data packet
+abbrev pub data_body : Terms → List ServerEvent → ServerBody
+data_body t log = record {
+  head = data_head t.config.client (server_end log);
+  accepted = length (accepted_at t.config log);
   control = None;
-  blocks = [];
-  events = events_for (6 * c.size - SERVER_FIXED_BITS) (server_end log);
+  blocks = blocks_at t log;
+  events = events_for (event_room t log) (server_end log);
   ghosts = [];
 }
 
 abbrev pub server_ping : Config → List ServerEvent → Header
 server_ping c log = ping_head c.client (server_end log)
 
-abbrev pub pack_event : Config → List ServerEvent → SendState → Option ServerEvent
-pack_event c log Held = Some (Pinged (server_ping c log))
-pack_event c log Worn = None
-pack_event c log Room = Some (Packed (data_body c log))
+abbrev pub pack_event : Terms → List ServerEvent → SendState → Option ServerEvent
+pack_event t log Held = Some (Pinged (server_ping t.config log))
+pack_event t log Worn = None
+pack_event t log Room = Some (Packed (data_body t log))
 
 -- what a pack does: a ping where too many packets are unjudged, nothing where the connection's life is over
-abbrev pub packing : Config → List ServerEvent → Option ServerEvent
-packing c log = pack_event c log (server_state c log)
+abbrev pub packing : Terms → List ServerEvent → Option ServerEvent
+packing t log = pack_event t log (server_state t.config log)
 
 -- the datagrams that were sent, the oldest first
-abbrev pub server_datagrams : List ServerEvent → List (List ℕ)
-server_datagrams [] = []
-server_datagrams (Posted class payload ∷ log) = server_datagrams log
-server_datagrams (Packed p ∷ log) = server_datagrams log ++ datagram (server plain_kinds (down.Body p)) ∷ []
-server_datagrams (Pinged head ∷ log) = server_datagrams log ++ datagram (server plain_kinds (down.Ping head)) ∷ []
-server_datagrams (Took p ∷ log) = server_datagrams log
+abbrev pub server_datagrams : List Kind → List ServerEvent → List (List ℕ)
+server_datagrams kinds [] = []
+server_datagrams kinds (Posted class payload ∷ log) = server_datagrams kinds log
+server_datagrams kinds (Packed p ∷ log) = server_datagrams kinds log ++ datagram (server kinds (down.Body p)) ∷ []
+server_datagrams kinds (Pinged head ∷ log) = server_datagrams kinds log ++ datagram (server kinds (down.Ping head)) ∷ []
+server_datagrams kinds (Took p room ∷ log) = server_datagrams kinds log
 
 -- ---- arriving
 
-abbrev pub with_packet : ClientPacket → Result (Unit {0}) EndFault → Result ClientPacket ArriveFault
-with_packet p (Ok u) = Ok p
-with_packet p (Err e) = Err (server_fault e)
+-- moves behind the next one
+abbrev pub gap_check : Config → List ServerEvent → ℕ → Checked ArriveFault
+gap_check c log first =
+    if nat_lt (length (accepted_at c log)) first then Err (refused.MoveGap first (length (accepted_at c log))) else Ok tt
+
+-- what stands behind the header: moves, events
+abbrev pub body_check : Config → List ServerEvent → ClientBody → Checked ArriveFault
+body_check c log p = then_check (gap_check c log p.first) (events_at_server (events_answer (server_end log) p.events))
+
+-- the first refusal of a packet that was read; a ping has its header alone
+abbrev pub packet_check : Config → List ServerEvent → ClientPacket → Checked ArriveFault
+packet_check c log (up.Ping head) = head_at_server (head_answer c.client (server_end log) (seen_ping head))
+packet_check c log (up.Body p) = then_check (head_at_server (head_answer c.client (server_end log) (seen_client_body p))) (body_check c log p)
 
 abbrev pub packet_answer : Config → List ServerEvent → Result ClientPacket BitsFault → Result ClientPacket ArriveFault
-packet_answer c log (Ok p) = with_packet p (arrival_answer c.client (server_end log) (seen_up p))
+packet_answer c log (Ok p) = checked_packet p (packet_check c log p)
 packet_answer c log (Err e) = Err (refused.Bits e)
 
 -- what bytes that come meet: the first refusal whose condition holds, else the packet that they spell
 abbrev pub server_answer : Config → List ServerEvent → List ℕ → Result ClientPacket ArriveFault
 server_answer c log bytes = packet_answer c log (client_of bytes)
 
--- the same, without the packet
-abbrev pub without_packet : {X E : Type 0} → Result X E → Result (Unit {0}) E
-without_packet (Ok x) = Ok tt
-without_packet (Err e) = Err e
+abbrev pub took_at_server : List ServerEvent → ℕ → Result ClientPacket ArriveFault → List ServerEvent
+took_at_server log room (Ok p) = Took p room ∷ log
+took_at_server log room (Err e) = log
 
-abbrev pub took_at_server : List ServerEvent → Result ClientPacket ArriveFault → List ServerEvent
-took_at_server log (Ok p) = Took p ∷ log
-took_at_server log (Err e) = log
+-- how many moves of a packet are newly accepted
+abbrev pub moves_new : Config → List ServerEvent → ℕ → ClientPacket → ℕ
+moves_new c log room (up.Ping head) = 0
+moves_new c log room (up.Body p) = new_count c.life room (length (accepted_at c log)) (record { first = p.first; moves = p.moves })
+
+-- what an arrival answers
+abbrev pub taken_of : Config → List ServerEvent → ℕ → Result ClientPacket ArriveFault → Result Taken ArriveFault
+taken_of c log room (Ok p) = Ok (record { moves = moves_new c log room p })
+taken_of c log room (Err e) = Err e

@@ -1,18 +1,49 @@
 -- The tie between each end and what happened at it.
-use Rattle.std.specs.Prelude.{List}
+use Rattle.std.specs.Prelude.{◌≡◌, ℕ, List, Option}
+use Rattle.tn_types.specs.declared.moves.Move.{Move}
+use Rattle.quantised_fields.specs.declared.kind.Kind.{Kind}
+use Rattle.datablocks.specs.SenderState.{SenderState as BlockSenderState}
+use Rattle.datablocks.specs.SenderStands.{StandsFor as BlockSenderStandsFor}
+use Rattle.datablocks.specs.Holding.{StandsFor as BlocksStandFor}
+use Rattle.move_manager.specs.Accepting as accepting
+use Rattle.move_manager.specs.Sending as sending
+use Rattle.ghost_client.specs.State as copies
+use Rattle.ghost_client.specs.StandsFor as copies_stand
+use Rattle.stream_manager.specs.Limits.{Terms}
+use Rattle.stream_manager.specs.End.{fates}
 use Rattle.stream_manager.specs.EndStands.{EndState, StandsFor}
-use Rattle.stream_manager.specs.Server.{ServerEvent, server_end}
-use Rattle.stream_manager.specs.Client.{ClientEvent, client_end}
+use Rattle.stream_manager.specs.Server.{ServerEvent, server_end, block_log, move_log}
+use Rattle.stream_manager.specs.Client.{ClientEvent, client_end, sample_log, blocks_came, ghosts_came, control_at}
 
--- an end is what both ends have in common, and so far nothing else
+-- what the server's end shows; `taken` are the moves that the last arrival newly accepted
 pub record ConnState : Type 0 where
   pub common : EndState
+  pub kinds : List Kind
+  pub blocks : BlockSenderState
+  pub moves : accepting.Receiver
+  pub taken : List Move
 
-pub record ClientState : Type 0 where
-  pub common : EndState
+-- what it was made with
+abbrev pub terms_of : ConnState → Terms
+terms_of c = record { config = c.common.config; kinds = c.kinds; blocks = c.blocks.blocks }
 
 pub record ConnStandsFor (c : ConnState) (log : List ServerEvent) : Type 0 where
   pub common : StandsFor c.common (server_end log)
+  pub blocks : BlockSenderStandsFor c.blocks (fates (server_end log)) (block_log log)
+  pub life : c.moves.life ≡ c.common.config.life
+  pub moves : accepting.StandsFor c.moves (move_log log)
+
+pub record ClientState : Type 0 where
+  pub common : EndState
+  pub moves : sending.Sender
+  pub blocks : List (Option (List ℕ))
+  pub copies : copies.State
+  pub control : Option ℕ
 
 pub record ClientStandsFor (c : ClientState) (log : List ClientEvent) : Type 0 where
   pub common : StandsFor c.common (client_end log)
+  pub life : c.moves.life ≡ c.common.config.life
+  pub moves : sending.StandsFor c.moves (sample_log log)
+  pub blocks : BlocksStandFor c.blocks (blocks_came log)
+  pub copies : copies_stand.StandsFor c.copies (ghosts_came log)
+  pub control : c.control ≡ control_at log

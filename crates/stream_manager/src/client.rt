@@ -1,28 +1,48 @@
 //! The client's end of a connection.
-ghost use Rattle.std.specs.Prelude.{◌≡◌, ℕ, ◌*◌, ◌<◌, ◌≤◌, List, [], ◌∷◌, ◌++◌, IfOk, IfErr, OnOk, OnErr, Ok, Err, length, slice_get, drop};
+ghost use Rattle.std.specs.Prelude.{◌≡◌, ℕ, true, ◌+◌, ◌-◌, ◌*◌, ◌<◌, ◌≤◌, ◌^◌, List, [], ◌∷◌, ◌++◌, All, IfOk, IfErr, OnOk, OnErr, Ok, Err, None, length, slice_get, drop};
+ghost use Rattle.std.specs.Borrow.{sem};
+ghost use Rattle.std.specs.Io.BufRead.{Rests};
 ghost use Rattle.notify_window.specs.State.{send_state};
+ghost use Rattle.notify_window.specs.Log.{arrival_of};
 ghost use Rattle.bit_stream.specs.Bits.{datagram};
-ghost use Rattle.stream_manager.specs.Kinds.{plain_kinds};
 ghost use Rattle.tn_types.specs.declared.choices.Class.TheVariants.{Guaranteed, Loose};
 ghost use Rattle.wire_format.specs.declared.client.ClientPacket.TheVariants as up;
+ghost use Rattle.wire_format.specs.declared.server.ServerPacket.TheVariants as down;
+ghost use Rattle.wire_format.specs.declared.events.EventItem.{EventItem as OneEvent};
+ghost use Rattle.wire_format.specs.Header.{IsHeader};
+ghost use Rattle.wire_format.specs.Server.{IsServerBody};
 ghost use Rattle.wire_format.specs.Client.{client, client_size, IsClientInRange};
 
+use crate::arriving::{check_control, check_same, take_blocks};
 use crate::config::Config;
 use crate::end::End;
 use crate::fault::ClientFault;
-use crate::kinds::plain_table;
 use arrayvec::ArrayVec;
 use bit_stream::BitWriter;
-use event_manager::PostFault;
-use notify_window::SendState;
+use datablocks::BlockReceiver;
+use event_manager::{EventAhead, PostFault};
+use ghost_client::Copies;
+use move_manager::{MoveFault, MoveSender};
+use notify_window::{Arrival, SendState};
 use quantised_fields::KindTable;
 use std::alloc::Global;
 use std::marker::Model;
-use tn_types::{Class, NoMemory, Payload};
+use tn_types::{Class, Move, NoMemory, Payload};
 use wire_format::{
-    CLIENT_FIXED_BITS, ClientBody, ClientPacket, EventList, MoveList, ServerPacket, client_bits,
-    decode_server, encode_client,
+    CLIENT_FIXED_BITS, ClientBody, ClientPacket, EventList, Header, MOVE_BITS, ServerBody,
+    ServerPacket, client_bits, decode_server, encode_client,
 };
+
+/// What a client's pack makes: the bytes of a datagram, or nothing.
+#[derive(Drop)]
+pub enum ClientOut<'a> {
+    /// A data packet.
+    Body(&'a [u8]),
+    /// A ping: 32 packets are unjudged.
+    Ping(&'a [u8]),
+    /// Nothing: `life` data packets were sent.
+    Worn { life: u32 },
+}
 
 /// A client's end of its connection to the server.
 ///
@@ -30,41 +50,56 @@ use wire_format::{
 #[derive(Drop)]
 pub struct Client {
     common: End,
-    kinds: KindTable,
+    moves: MoveSender,
+    blocks: BlockReceiver,
+    copies: Copies,
+    control: Option<u8>,
+    // the bytes of the datagram that was made last
+    datagram: ArrayVec<u8, 1200>,
 }
 
 impl Model for Client {
     ghost use Rattle.std.specs.Prelude.{◌≡◌};
-    ghost use Rattle.stream_manager.specs.Kinds.{plain_kinds};
     ghost use Rattle.stream_manager.specs.Stands.{ClientState};
 
     ghost Value = { ClientState };
 
-    ghost view = { λ c. record { common = c.common } };
+    ghost view = { λ c. record { common = c.common; moves = c.moves; blocks = c.blocks; copies = c.copies; control = c.control } };
 
-    ghost invariant = { λ c. c.kinds ≡ plain_kinds };
+    ghost invariant = { λ c. c.moves.life ≡ c.common.config.life };
 }
 
 impl Client {
     ghost use Rattle.stream_manager.specs.Limits.{IsConfig};
-    ghost use Rattle.stream_manager.specs.End.{dropped_of, delivered_at, arrival_answer, came_of};
-    ghost use Rattle.event_manager.specs.Receiving.{run_of};
-    ghost use Rattle.stream_manager.specs.Client.{ClientEvent, Posted, Packed, Pinged, Took, client_end, posted_at_client, client_state, client_body, client_ping, client_answer, took_at_client, seen_down, with_packet};
-    ghost use Rattle.stream_manager.specs.Server.{without_packet};
+    ghost use Rattle.stream_manager.specs.End.{dropped_of, delivered_at, came_of, head_answer, events_answer};
+    ghost use Rattle.event_manager.specs.Receiving.{run_of, take_answer};
+    ghost use Rattle.stream_manager.specs.Client.{ClientEvent, Posted, Sampled, Packed, Pinged, Took, client_end, sampled_at, control_at, posted_at_client, sampled_answer, client_body, client_ping, client_answer, packet_check, moves_check, ghosts_check, took_at_client};
     ghost use Rattle.stream_manager.specs.Stands.{ClientStandsFor};
+    ghost use Rattle.stream_manager.specs.Calls.{ClientKeeps, ClientSealed, ClientPinging, ClientPacked, IsOut, IsShort, AdmitsDown, held_bits};
+    ghost use Rattle.datablocks.specs.Holding.{after_all};
+    ghost use Rattle.ghost_client.specs.Faults.{first_fault};
+    ghost use Rattle.stream_manager.specs.Faults.{checked_packet, without_packet, head_at_client, events_at_client};
+    ghost use Rattle.stream_manager.specs.contracts.client.Client.{the_row};
     ghost use Rattle.wire_format.specs.Server.{IsServer};
 
-    /// A client's end of a new connection. It alone takes memory.
-    pub fn new(alloc: Global, config: Config) -> Result<Client, NoMemory>
+    /// A client's end of a new connection, in a match of these kinds. It alone takes memory.
+    pub fn new(alloc: Global, config: Config, kinds: &KindTable) -> Result<Client, NoMemory>
         requires { IsConfig config }
         ensures stands { IfOk result (λ c. ClientStandsFor c []) }
         ensures config { IfOk result (λ c. c.common.config ≡ config) }
+        ensures kinds { IfOk result (λ c. c.copies.kinds ≡ kinds.now) }
         ensures empty { IfOk result (λ c. c.common.receiver.ready ≡ []) }
     {
         let common = End::new(alloc, config)?;
+        let blocks = BlockReceiver::new(alloc)?;
+        let copies = Copies::new(alloc, kinds)?;
         Ok(Client {
             common,
-            kinds: plain_table(),
+            moves: MoveSender::new(config.life),
+            blocks,
+            copies,
+            control: None,
+            datagram: ArrayVec::new(),
         })
     }
 
@@ -76,13 +111,35 @@ impl Client {
         self.common.config()
     }
 
+    /// The copies of the objects that are shown to this client.
+    pub fn copies(&self) -> &Copies
+        ensures { result.now ≡ self.now.copies }
+    {
+        &self.copies
+    }
+
+    /// The slot of the client's own player, as the last data packet told it; `None` exactly where that packet has none or
+    /// no data packet came.
+    pub fn control(&self) -> Option<u8>
+        ensures { (log : List ClientEvent) → ClientStandsFor self.now log → result ≡ control_at log }
+    {
+        self.control
+    }
+
+    /// How many moves were sampled so far.
+    pub fn sampled(&self) -> u32
+        ensures { (log : List ClientEvent) → ClientStandsFor self.now log → result ≡ length (sampled_at log) }
+    {
+        self.moves.sampled()
+    }
+
     /// Posts a guaranteed event, and gives its number, from 0 on. `Worn` comes exactly where `life` were posted, else
     /// `Full` exactly where 256 are unacknowledged; nothing changes then.
     pub fn post(&mut self, payload: Payload) -> Result<u32, PostFault>
         ensures answer { (log : List ClientEvent) → ClientStandsFor self.old log → result ≡ posted_at_client self.old.common.config log }
         ensures stands { OnOk result ((log : List ClientEvent) → ClientStandsFor self.old log → ClientStandsFor self.new (Posted Guaranteed payload ∷ log)) }
         ensures unchanged { OnErr result (self.new ≡ self.old) }
-        ensures config { self.new.common.config ≡ self.old.common.config }
+        ensures keeps { ClientKeeps self.old self.new }
         ensures ready { self.new.common.receiver ≡ self.old.common.receiver }
     {
         self.common.post(payload)
@@ -92,49 +149,82 @@ impl Client {
     pub fn post_loose(&mut self, payload: Payload) -> Option<Payload>
         ensures dropped { (log : List ClientEvent) → ClientStandsFor self.old log → result ≡ dropped_of (client_end log) }
         ensures stands { (log : List ClientEvent) → ClientStandsFor self.old log → ClientStandsFor self.new (Posted Loose payload ∷ log) }
-        ensures config { self.new.common.config ≡ self.old.common.config }
+        ensures keeps { ClientKeeps self.old self.new }
         ensures ready { self.new.common.receiver ≡ self.old.common.receiver }
     {
         self.common.post_loose(payload)
     }
 
-    /// What a pack makes now (docs/connection.md, "Sending").
-    pub fn pack_state(&self) -> SendState
-        ensures state { result ≡ send_state self.now.common.window }
-        ensures log { (log : List ClientEvent) → ClientStandsFor self.now log → result ≡ client_state self.now.common.config log }
+    /// Takes up a move of the player, and gives its number, from 0 on. `Worn` comes exactly where `life` were sampled,
+    /// else `Full` exactly where the server may lack 32; nothing changes then.
+    pub fn sample(&mut self, m: Move) -> Result<u32, MoveFault>
+        ensures answer { (log : List ClientEvent) → ClientStandsFor self.old log → result ≡ sampled_answer self.old.common.config log }
+        ensures stands { OnOk result ((log : List ClientEvent) → ClientStandsFor self.old log → ClientStandsFor self.new (Sampled m ∷ log)) }
+        ensures unchanged { OnErr result (self.new ≡ self.old) }
+        ensures keeps { ClientKeeps self.old self.new }
+        ensures ready { self.new.common.receiver ≡ self.old.common.receiver }
     {
-        self.common.state()
+        self.moves.sample(m)
     }
 
-    /// Makes the next data packet, and gives its bytes.
-    pub fn seal(&mut self) -> ArrayVec<u8, 1200>
+    /// Counts the next data packet, and gives it.
+    fn packed(&mut self) -> ClientBody
         requires { send_state self.old.common.window ≡ SendState.Room }
-        ensures bytes { (log : List ClientEvent) → ClientStandsFor self.old log → result.items ≡ datagram (client (up.Body (client_body self.old.common.config log))) }
+        ensures body { (log : List ClientEvent) → ClientStandsFor self.old log → result ≡ client_body self.old.common.config log }
+        ensures fits { IsClientInRange (up.Body result) }
+        ensures size { client_size (up.Body result) ≤ 8 * self.old.common.config.size }
         ensures stands { (log : List ClientEvent) → ClientStandsFor self.old log → ClientStandsFor self.new (Packed (client_body self.old.common.config log) ∷ log) }
-        ensures config { self.new.common.config ≡ self.old.common.config }
+        ensures keeps { ClientKeeps self.old self.new }
         ensures ready { self.new.common.receiver ≡ self.old.common.receiver }
     {
         let size = self.common.config().size;
-        let (head, events) = self.common.pack(8 * size - CLIENT_FIXED_BITS);
-        let packet = ClientPacket::Body(ClientBody {
+        let (first, moves) = self.moves.pending();
+        let used = MOVE_BITS * moves.len() as u32;
+        let (head, events) = self.common.pack(8 * size - CLIENT_FIXED_BITS - used);
+        ClientBody {
             head,
-            first: 0,
-            moves: MoveList::new(),
+            first,
+            moves,
             events,
-        });
-        spelled(&packet, size)
+        }
     }
 
-    /// Makes a ping, and gives its bytes.
-    pub fn ping(&mut self) -> ArrayVec<u8, 1200>
+    /// Makes the next datagram (docs/connection.md, "Sending"), and lends its bytes.
+    pub fn pack(&mut self) -> ClientOut<'_>
+        ensures made { (log : List ClientEvent) → ClientStandsFor self.old log → IsOut self.old.common.config log result }
+        ensures few { IsShort self.old.common.config result }
+        ensures* after { sem 𝓛 (Rests the_row self.entry (ClientPacked self.old)) }
+    {
+        let life = self.common.config().life;
+        match self.common.state() {
+            SendState::Held => ClientOut::Ping(self.ping()),
+            SendState::Worn => ClientOut::Worn { life },
+            SendState::Room => ClientOut::Body(self.seal()),
+        }
+    }
+
+    /// Makes the next data packet, and lends its bytes.
+    fn seal(&mut self) -> &[u8]
+        requires { send_state self.old.common.window ≡ SendState.Room }
+        ensures bytes { (log : List ClientEvent) → ClientStandsFor self.old log → result.now ≡ datagram (client (up.Body (client_body self.old.common.config log))) }
+        ensures few { length result.now ≤ self.old.common.config.size }
+        ensures* after { sem 𝓛 (Rests the_row self.entry (ClientSealed self.old)) }
+    {
+        let packet = ClientPacket::Body(self.packed());
+        self.datagram = spelled(&packet, self.common.config().size);
+        self.datagram.as_slice()
+    }
+
+    /// Makes a ping, and lends its bytes.
+    fn ping(&mut self) -> &[u8]
         requires { send_state self.old.common.window ≡ SendState.Held }
-        ensures bytes { (log : List ClientEvent) → ClientStandsFor self.old log → result.items ≡ datagram (client (up.Ping (client_ping self.old.common.config log))) }
-        ensures stands { (log : List ClientEvent) → ClientStandsFor self.old log → ClientStandsFor self.new (Pinged (client_ping self.old.common.config log) ∷ log) }
-        ensures config { self.new.common.config ≡ self.old.common.config }
-        ensures ready { self.new.common.receiver ≡ self.old.common.receiver }
+        ensures bytes { (log : List ClientEvent) → ClientStandsFor self.old log → result.now ≡ datagram (client (up.Ping (client_ping self.old.common.config log))) }
+        ensures few { length result.now ≤ self.old.common.config.size }
+        ensures* after { sem 𝓛 (Rests the_row self.entry (ClientPinging self.old)) }
     {
         let packet = ClientPacket::Ping(self.common.pinged());
-        spelled(&packet, self.common.config().size)
+        self.datagram = spelled(&packet, self.common.config().size);
+        self.datagram.as_slice()
     }
 
     /// Takes bytes that came from the server, at most 65,536, or refuses them by the first refusal that holds; nothing
@@ -142,13 +232,13 @@ impl Client {
     pub fn arrive(&mut self, bytes: &[u8]) -> Result<(), ClientFault>
         requires few { length bytes.now ≤ 65536 }
         requires none_waits { self.old.common.receiver.ready ≡ [] }
-        ensures answer { (log : List ClientEvent) → ClientStandsFor self.old log → result ≡ without_packet (client_answer self.old.common.config log bytes.now) }
-        ensures stands { (log : List ClientEvent) → ClientStandsFor self.old log → ClientStandsFor self.new (took_at_client log (client_answer self.old.common.config log bytes.now)) }
-        ensures handed { (log : List ClientEvent) → ClientStandsFor self.old log → delivered_at (client_end (took_at_client log (client_answer self.old.common.config log bytes.now))) ≡ delivered_at (client_end log) ++ self.new.common.receiver.ready }
+        ensures answer { (log : List ClientEvent) → ClientStandsFor self.old log → result ≡ without_packet (client_answer self.old.common.config self.old.copies.kinds log bytes.now) }
+        ensures stands { (log : List ClientEvent) → ClientStandsFor self.old log → ClientStandsFor self.new (took_at_client log (client_answer self.old.common.config self.old.copies.kinds log bytes.now)) }
+        ensures handed { (log : List ClientEvent) → ClientStandsFor self.old log → delivered_at (client_end (took_at_client log (client_answer self.old.common.config self.old.copies.kinds log bytes.now))) ≡ delivered_at (client_end log) ++ self.new.common.receiver.ready }
         ensures unchanged { OnErr result (self.new ≡ self.old) }
-        ensures config { self.new.common.config ≡ self.old.common.config }
+        ensures keeps { ClientKeeps self.old self.new }
     {
-        let packet = match decode_server(bytes, &self.kinds) {
+        let packet = match decode_server(bytes, self.copies.kinds()) {
             Ok(packet) => packet,
             Err(fault) => return Err(ClientFault::Bits(fault)),
         };
@@ -157,23 +247,128 @@ impl Client {
 
     /// Takes a packet that was read, or refuses it.
     fn take(&mut self, packet: &ServerPacket) -> Result<(), ClientFault>
-        requires fits { IsServer plain_kinds packet.now }
+        requires fits { IsServer self.old.copies.kinds packet.now }
         requires none_waits { self.old.common.receiver.ready ≡ [] }
-        ensures answer { (log : List ClientEvent) → ClientStandsFor self.old log → result ≡ without_packet (with_packet packet.now (arrival_answer self.old.common.config.client (client_end log) (seen_down packet.now))) }
+        ensures answer { (log : List ClientEvent) → ClientStandsFor self.old log → result ≡ without_packet (checked_packet packet.now (packet_check self.old.common.config log packet.now)) }
         ensures stands { OnOk result ((log : List ClientEvent) → ClientStandsFor self.old log → ClientStandsFor self.new (Took packet.now ∷ log)) }
         ensures handed { OnOk result ((log : List ClientEvent) → ClientStandsFor self.old log → delivered_at (client_end (Took packet.now ∷ log)) ≡ delivered_at (client_end log) ++ self.new.common.receiver.ready) }
         ensures unchanged { OnErr result (self.new ≡ self.old) }
-        ensures config { self.new.common.config ≡ self.old.common.config }
+        ensures keeps { ClientKeeps self.old self.new }
     {
-        let none = EventList::new();
-        let (ping, head, events) = match packet {
-            ServerPacket::Ping(head) => (true, head, &none),
-            ServerPacket::Body(body) => (false, &body.head, &body.events),
-        };
-        match self.common.arrive(ping, head, events) {
+        match packet {
+            ServerPacket::Ping(head) => {
+                self.check_ping(head)?;
+                self.take_ping(head);
+                Ok(())
+            }
+            ServerPacket::Body(body) => {
+                self.check(body)?;
+                self.take_body(body);
+                Ok(())
+            }
+        }
+    }
+
+    /// The first refusal of a packet by its header; nothing changes.
+    fn check_head(&self, ping: bool, head: &Header) -> Result<(), ClientFault>
+        ensures answer { (log : List ClientEvent) → ClientStandsFor self.now log → (events : List OneEvent) → result ≡ head_at_client (head_answer self.now.common.config.client (client_end log) (record { ping = ping; head = head.now; events = events })) }
+        ensures fresh { OnOk result (arrival_of ping head.now.seq self.now.common.window.horizon ≡ Arrival.Fresh) }
+        ensures known { OnOk result (head.now.horizon ≤ self.now.common.window.sent) }
+    {
+        match self.common.check_head(ping, head) {
             Ok(()) => Ok(()),
             Err(fault) => Err(fault.at_client()),
         }
+    }
+
+    /// The first refusal of a ping; nothing changes.
+    fn check_ping(&self, head: &Header) -> Result<(), ClientFault>
+        ensures answer { (log : List ClientEvent) → ClientStandsFor self.now log → result ≡ packet_check self.now.common.config log (down.Ping head.now) }
+        ensures fresh { OnOk result (arrival_of true head.now.seq self.now.common.window.horizon ≡ Arrival.Fresh) }
+        ensures known { OnOk result (head.now.horizon ≤ self.now.common.window.sent) }
+    {
+        self.check_head(true, head)
+    }
+
+    /// The first refusal of a data packet; nothing changes.
+    fn check(&self, body: &ServerBody) -> Result<(), ClientFault>
+        requires fits { IsServerBody self.now.copies.kinds body.now }
+        ensures answer { (log : List ClientEvent) → ClientStandsFor self.now log → result ≡ packet_check self.now.common.config log (down.Body body.now) }
+        ensures admits { OnOk result (AdmitsDown self.now body.now) }
+    {
+        self.check_head(false, &body.head)?;
+        self.check_moves(body.accepted)?;
+        check_same(&self.blocks, &body.blocks)?;
+        self.check_events(&body.events)?;
+        self.check_ghosts(body)
+    }
+
+    /// Whether the server tells of more moves than were sampled.
+    fn check_moves(&self, count: u32) -> Result<(), ClientFault>
+        ensures answer { (log : List ClientEvent) → ClientStandsFor self.now log → result ≡ moves_check log count }
+        ensures known { OnOk result (count ≤ self.now.moves.first + length self.now.moves.waiting) }
+    {
+        let sampled = self.moves.sampled();
+        if count > sampled {
+            return Err(ClientFault::MoveAhead { count, sampled });
+        }
+        Ok(())
+    }
+
+    /// Whether an event is too far ahead.
+    fn check_events(&self, events: &EventList) -> Result<(), ClientFault>
+        ensures answer { (log : List ClientEvent) → ClientStandsFor self.now log → result ≡ events_at_client (events_answer (client_end log) events.now) }
+        ensures near { OnOk result (take_answer self.now.common.receiver.delivered events.now ≡ Ok tt) }
+    {
+        match self.common.check_events(events) {
+            Ok(()) => Ok(()),
+            Err(EventAhead { number, delivered }) => Err(ClientFault::EventAhead {
+                number,
+                delivered,
+            }),
+        }
+    }
+
+    /// The first fault of the ghosts of a packet, or of its control slot.
+    fn check_ghosts(&self, body: &ServerBody) -> Result<(), ClientFault>
+        requires fits { IsServerBody self.now.copies.kinds body.now }
+        ensures answer { (log : List ClientEvent) → ClientStandsFor self.now log → result ≡ ghosts_check log body.now }
+        ensures fit { OnOk result (first_fault self.now.copies.slots (held_bits (after_all self.now.blocks body.now.blocks)) [] body.now.ghosts ≡ None) }
+    {
+        let held = self.blocks.held_after(&body.blocks);
+        if let Err(fault) = self.copies.check(&body.ghosts, held) {
+            return Err(ClientFault::Ghost(fault));
+        }
+        check_control(&self.copies, body.control)
+    }
+
+    /// Takes a ping that nothing refuses.
+    fn take_ping(&mut self, head: &Header)
+        requires fits { IsHeader head.now }
+        requires fresh { arrival_of true head.now.seq self.old.common.window.horizon ≡ Arrival.Fresh }
+        requires known { head.now.horizon ≤ self.old.common.window.sent }
+        requires none_waits { self.old.common.receiver.ready ≡ [] }
+        ensures stands { (log : List ClientEvent) → ClientStandsFor self.old log → ClientStandsFor self.new (Took (down.Ping head.now) ∷ log) }
+        ensures handed { (log : List ClientEvent) → ClientStandsFor self.old log → delivered_at (client_end (Took (down.Ping head.now) ∷ log)) ≡ delivered_at (client_end log) ++ self.new.common.receiver.ready }
+        ensures keeps { ClientKeeps self.old self.new }
+    {
+        let _ = self.common.take(true, head, &EventList::new());
+    }
+
+    /// Takes a data packet that nothing refuses.
+    fn take_body(&mut self, body: &ServerBody)
+        requires fits { IsServerBody self.old.copies.kinds body.now }
+        requires admits { AdmitsDown self.old body.now }
+        requires none_waits { self.old.common.receiver.ready ≡ [] }
+        ensures stands { (log : List ClientEvent) → ClientStandsFor self.old log → ClientStandsFor self.new (Took (down.Body body.now) ∷ log) }
+        ensures handed { (log : List ClientEvent) → ClientStandsFor self.old log → delivered_at (client_end (Took (down.Body body.now) ∷ log)) ≡ delivered_at (client_end log) ++ self.new.common.receiver.ready }
+        ensures keeps { ClientKeeps self.old self.new }
+    {
+        let _ = self.common.take(false, &body.head, &body.events);
+        let _ = self.moves.acked(body.accepted);
+        take_blocks(&mut self.blocks, &body.blocks);
+        let _ = self.copies.take(&body.ghosts, self.blocks.held());
+        self.control = body.control;
     }
 
     /// How many guaranteed events were delivered, those that wait included.
@@ -196,7 +391,7 @@ impl Client {
         ensures first { result ≡ slice_get self.old.common.receiver.ready 0 }
         ensures rest { self.new.common.receiver.ready ≡ drop 1 self.old.common.receiver.ready }
         ensures stands { (log : List ClientEvent) → ClientStandsFor self.old log → ClientStandsFor self.new log }
-        ensures config { self.new.common.config ≡ self.old.common.config }
+        ensures keeps { ClientKeeps self.old self.new }
     {
         self.common.pop_event()
     }
@@ -207,7 +402,8 @@ fn spelled(packet: &ClientPacket, size: u32) -> ArrayVec<u8, 1200>
     requires fits { IsClientInRange packet.now }
     requires room { client_size packet.now ≤ 8 * size }
     requires size { size ≤ 1200 }
-    ensures { result.items ≡ datagram (client packet.now) }
+    ensures bytes { result.items ≡ datagram (client packet.now) }
+    ensures few { length result.items ≤ size }
 {
     let _bits = client_bits(packet);
     let mut out = BitWriter::new(size);

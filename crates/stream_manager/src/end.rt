@@ -4,26 +4,25 @@ ghost use Rattle.std.specs.Prelude.{◌≡◌, ℕ, ◌+◌, ◌-◌, ◌<◌, �
 ghost use Rattle.notify_window.specs.State.{send_state};
 ghost use Rattle.notify_window.specs.Log.{send_state_of};
 ghost use Rattle.event_manager.specs.SenderState.{due_now};
-ghost use Rattle.event_manager.specs.Sending.{due_of};
+ghost use Rattle.event_manager.specs.Sending.{due_of, post_answer_of};
 ghost use Rattle.std.specs.Prelude.{sum_by, false, true, All, slice_get, drop};
 ghost use Rattle.std.specs.List.{AllByRecursion};
-ghost use Rattle.std.specs.Int.{bit_at};
-ghost use Rattle.notify_window.specs.Log.{arrival_of, fate_of_bit};
-ghost use Rattle.event_manager.specs.Sending.{fate_for};
+ghost use Rattle.notify_window.specs.Log.{arrival_of};
 ghost use Rattle.event_manager.specs.Receiving.{take_answer, run_of};
 ghost use Rattle.wire_format.specs.Events.{event_size, IsEventInRange};
 ghost use Rattle.wire_format.specs.declared.events.EventItem.{EventItem as OneEvent};
-ghost use Rattle.stream_manager.specs.End.{fitting};
+ghost use Rattle.stream_manager.specs.Shares.{fitting};
 ghost use Rattle.wire_format.specs.Header.{IsHeaderInRange};
 ghost use Rattle.tn_types.specs.declared.choices.Class.TheVariants.{Guaranteed, Loose};
 
 use crate::config::Config;
-use crate::fault::EndFault;
+use crate::fault::HeadFault;
+use crate::settling::settle_events;
 use event_manager::{EventAhead, EventReceiver, EventSender, PostFault};
 use notify_window::{Arrival, Notices, SendState, Window};
 use std::alloc::Global;
 use std::marker::Model;
-use tn_types::{Class, NoMemory, Payload, Verdict};
+use tn_types::{Class, NoMemory, Payload};
 use wire_format::{EventItem, EventList, Header, event_bits};
 
 /// A window, the events on their way out, and those that came in.
@@ -49,8 +48,9 @@ impl Model for End {
 
 impl End {
     ghost use Rattle.stream_manager.specs.Limits.{IsConfig};
-    ghost use Rattle.stream_manager.specs.End.{EndEvent, Posted, Packed, Pinged, Took, window_log, sender_log, fates, data_head, ping_head, events_for, data_seen, arrival_answer, dropped_of, came_of, delivered_at};
+    ghost use Rattle.stream_manager.specs.End.{EndEvent, Posted, Packed, Pinged, Took, window_log, sender_log, fates, data_head, ping_head, events_for, data_seen, head_answer, events_answer, dropped_of, came_of, delivered_at};
     ghost use Rattle.stream_manager.specs.EndStands.{StandsFor};
+    ghost use Rattle.stream_manager.specs.Settling.{Judges, AreFew};
 
     /// The end of a new connection.
     pub(crate) fn new(alloc: Global, config: Config) -> Result<End, NoMemory>
@@ -79,7 +79,7 @@ impl End {
 
     /// Posts a guaranteed event.
     pub(crate) fn post(&mut self, payload: Payload) -> Result<u32, PostFault>
-        ensures answer { (log : List EndEvent) → StandsFor self.old log → result ≡ Rattle.event_manager.specs.Sending.post_answer_of self.old.config.life (fates log) (sender_log log) }
+        ensures answer { (log : List EndEvent) → StandsFor self.old log → result ≡ post_answer_of self.old.config.life (fates log) (sender_log log) }
         ensures stands { OnOk result ((log : List EndEvent) → StandsFor self.old log → StandsFor self.new (Posted Guaranteed payload ∷ log)) }
         ensures unchanged { OnErr result (self.new ≡ self.old) }
         ensures config { self.new.config ≡ self.old.config }
@@ -192,43 +192,44 @@ impl End {
         self.ping_head()
     }
 
-    /// The first refusal that holds of a packet with this header and these events; nothing changes.
-    fn check(&self, ping: bool, head: &Header, events: &EventList) -> Result<(), EndFault>
-        ensures answer { (log : List EndEvent) → StandsFor self.now log → result ≡ arrival_answer self.now.config.client log (record { ping = ping; head = head.now; events = events.now }) }
+    /// The first refusal of a packet by its header; nothing changes.
+    pub(crate) fn check_head(&self, ping: bool, head: &Header) -> Result<(), HeadFault>
+        ensures answer { (log : List EndEvent) → StandsFor self.now log → (events : List OneEvent) → result ≡ head_answer self.now.config.client log (record { ping = ping; head = head.now; events = events }) }
         ensures fresh { OnOk result (arrival_of ping head.now.seq self.now.window.horizon ≡ Arrival.Fresh) }
         ensures known { OnOk result (head.now.horizon ≤ self.now.window.sent) }
-        ensures near { OnOk result (take_answer self.now.receiver.delivered events.now ≡ Ok tt) }
     {
         if head.client != self.config.client {
-            return Err(EndFault::WrongClient {
+            return Err(HeadFault::WrongClient {
                 client: head.client,
             });
         }
         let (horizon, _) = self.window.ack();
         if !ping && head.seq <= horizon {
-            return Err(EndFault::Old {
+            return Err(HeadFault::Old {
                 seq: head.seq,
                 horizon,
             });
         }
         let last = self.window.last_sent();
         if head.horizon > last {
-            return Err(EndFault::AckAhead {
+            return Err(HeadFault::AckAhead {
                 horizon: head.horizon,
                 last,
             });
         }
-        match self.receiver.check(events) {
-            Ok(()) => Ok(()),
-            Err(EventAhead { number, delivered }) => Err(EndFault::EventAhead {
-                number,
-                delivered,
-            }),
-        }
+        Ok(())
+    }
+
+    /// Whether an event of a packet is too far ahead; nothing changes.
+    pub(crate) fn check_events(&self, events: &EventList) -> Result<(), EventAhead>
+        ensures answer { (log : List EndEvent) → StandsFor self.now log → result ≡ events_answer log events.now }
+        ensures near { result ≡ take_answer self.now.receiver.delivered events.now }
+    {
+        self.receiver.check(events)
     }
 
     /// Takes a packet with this header and these events, and gives the verdicts that it brings. No event may wait.
-    fn take(&mut self, ping: bool, head: &Header, events: &EventList) -> Notices
+    pub(crate) fn take(&mut self, ping: bool, head: &Header, events: &EventList) -> Notices
         requires fresh { arrival_of ping head.now.seq self.old.window.horizon ≡ Arrival.Fresh }
         requires known { head.now.horizon ≤ self.old.window.sent }
         requires fits { head.now.seq < 2 ^ 24 }
@@ -237,6 +238,8 @@ impl End {
         requires numbers { All IsEventInRange events.now }
         ensures stands { (log : List EndEvent) → StandsFor self.old log → StandsFor self.new (Took (record { ping = ping; head = head.now; events = events.now }) ∷ log) }
         ensures handed { (log : List EndEvent) → StandsFor self.old log → delivered_at (Took (record { ping = ping; head = head.now; events = events.now }) ∷ log) ≡ delivered_at log ++ self.new.receiver.ready }
+        ensures judges { (log : List EndEvent) → StandsFor self.old log → Judges result (fates log) (fates (Took (record { ping = ping; head = head.now; events = events.now }) ∷ log)) }
+        ensures few { AreFew result }
         ensures config { self.new.config ≡ self.old.config }
     {
         let _ = self.receiver.take(events);
@@ -244,32 +247,8 @@ impl End {
         let Ok(notices) = self.window.notices(head.horizon, head.mask) else {
             unreachable!()
         };
-        'verdicts: for i in 0..notices.count {
-            let verdict = verdict_at(notices.bits, i);
-            self.sender.settle(notices.first + i, verdict);
-        }
+        settle_events(&mut self.sender, &notices);
         notices
-    }
-
-    /// Takes a packet with this header and these events, or refuses it by the first refusal that holds.
-    pub(crate) fn arrive(
-        &mut self,
-        ping: bool,
-        head: &Header,
-        events: &EventList,
-    ) -> Result<(), EndFault>
-        requires fits { head.now.seq < 2 ^ 24 }
-        requires none_waits { self.old.receiver.ready ≡ [] }
-        requires numbers { All IsEventInRange events.now }
-        ensures answer { (log : List EndEvent) → StandsFor self.old log → result ≡ arrival_answer self.old.config.client log (record { ping = ping; head = head.now; events = events.now }) }
-        ensures stands { OnOk result ((log : List EndEvent) → StandsFor self.old log → StandsFor self.new (Took (record { ping = ping; head = head.now; events = events.now }) ∷ log)) }
-        ensures handed { OnOk result ((log : List EndEvent) → StandsFor self.old log → delivered_at (Took (record { ping = ping; head = head.now; events = events.now }) ∷ log) ≡ delivered_at log ++ self.new.receiver.ready) }
-        ensures unchanged { OnErr result (self.new ≡ self.old) }
-        ensures config { self.new.config ≡ self.old.config }
-    {
-        self.check(ping, head, events)?;
-        let _ = self.take(ping, head, events);
-        Ok(())
     }
 
     /// How many guaranteed events were delivered.
@@ -298,21 +277,9 @@ impl End {
     }
 }
 
-/// The verdict that bit `i` tells.
-fn verdict_at(bits: u32, i: u32) -> Verdict
-    requires { i < 32 }
-    ensures { fate_for result ≡ fate_of_bit (bit_at bits i) }
-{
-    if (bits >> i) & 1 == 1 {
-        Verdict::Received
-    } else {
-        Verdict::Lost
-    }
-}
-
 /// How many of these events have at most `room` bits together, from the first on.
 fn fitting_count(events: &[EventItem], room: u32) -> usize
-    ensures fitting { fitting room events.now ≡ take result events.now }
+    ensures fitting { fitting event_size room events.now ≡ take result events.now }
     ensures few { result ≤ length events.now }
 {
     let mut left = room;

@@ -1,14 +1,18 @@
 //! The two ends of a connection.
 #![tactic(auto)]
 
+mod arriving;
+mod blocks;
 mod client;
 mod config;
 mod end;
 mod fault;
-mod kinds;
 mod server;
+mod settling;
+#[cfg(test)]
+mod tests;
 
-pub use client::Client;
+pub use client::{Client, ClientOut};
 pub use config::{Config, MAX_CLIENTS, MAX_SIZE, MIN_SIZE};
-pub use fault::{ArriveFault, ClientFault, EndFault};
-pub use server::Conn;
+pub use fault::{ArriveFault, ClientFault, HeadFault};
+pub use server::{Conn, Taken};

@@ -1,8 +1,9 @@
 use Rattle.std.proofs.Common.{◌≡◌, ◌≤◌, ◌∙◌, List, take, length, sym, subst, ap, arith, length-take}
 use Rattle.wire_format.specs.declared.events.EventItem.{EventItem}
-use Rattle.wire_format.specs.Events.{IsEventInRange}
+use Rattle.wire_format.specs.Events.{event_size, IsEventInRange}
 use Rattle.event_manager.specs.SenderState.{due_now}
-use Rattle.stream_manager.specs.End.{fates, sender_log, fitting}
+use Rattle.stream_manager.specs.End.{fates, sender_log}
+use Rattle.stream_manager.specs.Shares.{fitting}
 use Rattle.stream_manager.specs.EndStands.{EndState, StandsFor}
 use Rattle.event_manager.specs.Sending.{due_of}
 use Rattle.stream_manager.proofs.Fitting.{fitting_few, front-own, all-take, due-in_range}
@@ -17,9 +18,9 @@ returns-clause-fits c =
 
 pub returns-clause-few : goal.returns-clause-few
 returns-clause-few c =
-    let front : fitting c.args.room c.due-events.result ≡ take c.fitting_count-count.result c.due-events.result =
-    subst (λ (es : List EventItem). fitting c.args.room es ≡ take c.fitting_count-count.result es) c.as_slice.ensures.value c.fitting_count-count.ensures.fitting in
-    rw (c.truncate.ensures, ← front) (fitting_few c.args.room c.due-events.result)
+    let front : fitting event_size c.args.room c.due-events.result ≡ take c.fitting_count-count.result c.due-events.result =
+    subst (λ (es : List EventItem). fitting event_size c.args.room es ≡ take c.fitting_count-count.result es) c.as_slice.ensures.value c.fitting_count-count.ensures.fitting in
+    rw (c.truncate.ensures, ← front) (fitting_few event_size c.args.room c.due-events.result)
 
 pub returns-clause-due : goal.returns-clause-due
 returns-clause-due c =
@@ -41,7 +42,7 @@ returns-clause-front c log s =
     let e : EndState = record { config = c.self.inside.config; window = c.self.inside.window; sender = c.self.inside.sender; receiver = c.self.inside.receiver } in
     let stands : StandsFor e log = subst (λ (x : EndState). StandsFor x log) (sym c.self.view_is) s in
     let list = c.due-events.ensures.log (fates log) (sender_log log) stands.sender in
-    let front : fitting c.args.room c.due-events.result ≡ take c.fitting_count-count.result c.due-events.result =
-    subst (λ (es : List EventItem). fitting c.args.room es ≡ take c.fitting_count-count.result es) c.as_slice.ensures.value c.fitting_count-count.ensures.fitting in
-    ap (fitting c.args.room) (sym list) ∙ front ∙ sym c.truncate.ensures
+    let front : fitting event_size c.args.room c.due-events.result ≡ take c.fitting_count-count.result c.due-events.result =
+    subst (λ (es : List EventItem). fitting event_size c.args.room es ≡ take c.fitting_count-count.result es) c.as_slice.ensures.value c.fitting_count-count.ensures.fitting in
+    ap (fitting event_size c.args.room) (sym list) ∙ front ∙ sym c.truncate.ensures
     ∙ rw (c.truncate.ensures, list) (front-own c.fitting_count-count.result 31 (due_of (fates log) (sender_log log)))

@@ -1,81 +1,46 @@
-use Rattle.std.proofs.Common.{◌≡◌, ◌+◌, ◌∙◌, ◌∷◌, sym, subst, ap, arith, refl, Ok}
+use Rattle.std.proofs.Common.{◌≡◌, ◌∙◌, ◌∷◌, List, sym, subst, arith, Ok}
 use Rattle.notify_window.specs.Log.{Came, arrival_of}
 use Rattle.notify_window.specs.declared.Arrival.TheVariants.{Fresh}
 use Rattle.notify_window.specs.Stands.{StandsFor as WindowStandsFor}
-use Rattle.event_manager.specs.Sending.{fate_for}
 use Rattle.event_manager.specs.Receiving.{take_answer}
 use Rattle.event_manager.specs.ReceiverStands.{StandsFor as ReceiverStandsFor}
 use Rattle.event_manager.specs.SenderStands.{StandsFor as SenderStandsFor}
-use Rattle.stream_manager.specs.End.{Seen, Took, window_log, sender_log, fates, came_of}
+use Rattle.stream_manager.specs.End.{Seen, EndEvent, Took, window_log, sender_log, fates, came_of}
 use Rattle.stream_manager.specs.EndStands.{EndState, StandsFor}
-use Rattle.stream_manager.proofs.Ends.{took_stands, upto-first, upto-more, upto-all, upto-next, same_fates, when_ok}
+use Rattle.stream_manager.specs.Settling.{Judges}
+use Rattle.stream_manager.proofs.Ends.{took_stands, judges-told, when_ok}
 use Rattle.stream_manager.proofs.end.End.take.Goals as goal
 
-pub verdicts-init : goal.verdicts-init
-verdicts-init c = record {
-  config = refl;
-  receiver = refl;
-  window = refl;
-  life = refl;
-  sender = λ log s.
-      let e : EndState = record { config = c.self.inside.config; window = c.self.inside.window; sender = c.self.inside.sender; receiver = c.self.inside.receiver } in
-      let stands : StandsFor e log = subst (λ (x : EndState). StandsFor x log) (sym c.self.view_is) s in
-      let fresh : arrival_of c.args.ping c.args.head.now.seq e.window.horizon ≡ Fresh = subst (λ (x : EndState). arrival_of c.args.ping c.args.head.now.seq x.window.horizon ≡ Fresh) (sym c.self.view_is) c.requires.fresh in
-      let came : WindowStandsFor c.receive.new.self (Came c.args.ping c.args.head.now.seq ∷ window_log log) = c.receive.ensures.fresh (c.receive.ensures.answer ∙ fresh) _ stands.window in
-      same_fates _ _ _ _ (upto-first (record { ping = c.args.ping; head = c.args.head.now; events = c.args.events.now }) log (c.in-Ok.notices.first + 0) (omega (arith, came.judged, c.in-Ok.ensures.first))) stands.sender;
-}
+-- the end as it was, and the packet
+abbrev before : goal.After-settle_events → EndState
+before c = record { config = c.self.inside.config; window = c.self.inside.window; sender = c.self.inside.sender; receiver = c.self.inside.receiver }
 
-pub verdicts-preserved : goal.verdicts-preserved
-verdicts-preserved c = record {
-  config = c.verdicts.invariant.config;
-  receiver = c.verdicts.invariant.receiver;
-  window = c.verdicts.invariant.window;
-  life = c.settle.ensures.life ∙ c.verdicts.invariant.life;
-  sender = λ log s.
-      let p : Seen = record { ping = c.args.ping; head = c.args.head.now; events = c.args.events.now } in
-      let e : EndState = record { config = c.self.inside.config; window = c.self.inside.window; sender = c.self.inside.sender; receiver = c.self.inside.receiver } in
-      let stands : StandsFor e log = subst (λ (x : EndState). StandsFor x log) (sym c.self.view_is) s in
-      let fresh : arrival_of c.args.ping c.args.head.now.seq e.window.horizon ≡ Fresh = subst (λ (x : EndState). arrival_of c.args.ping c.args.head.now.seq x.window.horizon ≡ Fresh) (sym c.self.view_is) c.requires.fresh in
-      let came : WindowStandsFor c.receive.new.self (Came c.args.ping c.args.head.now.seq ∷ window_log log) = c.receive.ensures.fresh (c.receive.ensures.answer ∙ fresh) _ stands.window in
-      let verdict : fates (Took p ∷ log) (c.in-Ok.notices.first + c.verdicts.i) ≡ fate_for c.verdict_at-verdict.result =
-      c.in-Ok.ensures.verdicts _ came c.verdicts.i c.verdicts-test.true ∙ sym c.verdict_at-verdict.ensures in
-      same_fates _ _ _ _ (upto-more p log (c.in-Ok.notices.first + c.verdicts.i) _ _ (omega arith) verdict)
-      (c.settle.ensures.stands _ _ (c.verdicts.invariant.sender log s) (upto-next p log (c.in-Ok.notices.first + c.verdicts.i) (omega (arith, came.judged, c.in-Ok.ensures.first))));
-}
+abbrev packet : goal.After-settle_events → Seen
+packet c = record { ping = c.args.ping; head = c.args.head.now; events = c.args.events.now }
+
+-- what the window saw first
+came : (c : goal.After-settle_events) (log : List EndEvent) → StandsFor (before c) log → WindowStandsFor c.receive.new.self (Came c.args.ping c.args.head.now.seq ∷ window_log log)
+came c log stands =
+    let fresh : arrival_of c.args.ping c.args.head.now.seq (before c).window.horizon ≡ Fresh = subst (λ (x : EndState). arrival_of c.args.ping c.args.head.now.seq x.window.horizon ≡ Fresh) (sym c.self.view_is) c.requires.fresh in
+    c.receive.ensures.fresh (c.receive.ensures.answer ∙ fresh) _ stands.window
+
+judged : (c : goal.After-settle_events) (log : List EndEvent) → StandsFor (before c) log → Judges c.in-Ok.notices (fates log) (fates (Took (packet c) ∷ log))
+judged c log stands =
+    let now = came c log stands in
+    judges-told (packet c) log c.in-Ok.notices (omega (arith, now.judged, c.in-Ok.ensures.first)) (omega (arith, c.in-Ok.ensures.first, c.in-Ok.ensures.count)) (c.in-Ok.ensures.verdicts _ now)
+
+after : (c : goal.After-settle_events) (log : List EndEvent) → StandsFor (before c) log → StandsFor (record { config = c.self.inside.config; window = c.notices.new.self; sender = c.settle_events.new.sender; receiver = c.take.new.self }) (Took (packet c) ∷ log)
+after c log stands =
+    let near : take_answer (before c).receiver.delivered c.args.events.now ≡ Ok tt = subst (λ (x : EndState). take_answer x.receiver.delivered c.args.events.now ≡ Ok tt) (sym c.self.view_is) c.requires.near in
+    let receiver : ReceiverStandsFor c.take.new.self (came_of (Took (packet c) ∷ log)) = when_ok c.take.result (c.take.ensures.answer ∙ near) c.take.ensures.stands (came_of log) stands.receiver in
+    let sender : SenderStandsFor c.settle_events.new.sender (fates (Took (packet c) ∷ log)) (sender_log log) = c.settle_events.ensures.stands _ _ _ (judged c log stands) stands.sender in
+    took_stands (before c) c.notices.new.self c.settle_events.new.sender c.take.new.self (packet c) (c.notices.ensures.life ∙ c.receive.ensures.life) c.settle_events.ensures.life c.requires.fits log (c.in-Ok.ensures.stands _ (came c log stands)) sender receiver stands
 
 pub invariant_of-self : goal.invariant_of-self
-invariant_of-self c =
-    let p : Seen = record { ping = c.args.ping; head = c.args.head.now; events = c.args.events.now } in
-    let e : EndState = record { config = c.self.inside.config; window = c.self.inside.window; sender = c.self.inside.sender; receiver = c.self.inside.receiver } in
-    let log = c.self.invariant.0 in let stands = c.self.invariant.1 in
-    let fresh : arrival_of c.args.ping c.args.head.now.seq e.window.horizon ≡ Fresh = subst (λ (x : EndState). arrival_of c.args.ping c.args.head.now.seq x.window.horizon ≡ Fresh) (sym c.self.view_is) c.requires.fresh in
-    let came : WindowStandsFor c.receive.new.self (Came c.args.ping c.args.head.now.seq ∷ window_log log) = c.receive.ensures.fresh (c.receive.ensures.answer ∙ fresh) _ stands.window in
-    let near : take_answer e.receiver.delivered c.args.events.now ≡ Ok tt = subst (λ (x : EndState). take_answer x.receiver.delivered c.args.events.now ≡ Ok tt) (sym c.self.view_is) c.requires.near in
-    let receiver : ReceiverStandsFor c.take.new.self (came_of (Took p ∷ log)) = when_ok c.take.result (c.take.ensures.answer ∙ near) c.take.ensures.stands (came_of log) stands.receiver in
-    let now = c.in-Ok.ensures.stands _ came in
-    let sender : SenderStandsFor c.verdicts.self-inside.sender (fates (Took p ∷ log)) (sender_log log) =
-    same_fates _ _ _ _ (upto-all p log (c.in-Ok.notices.first + c.verdicts.i) (omega (arith, came.judged, c.in-Ok.ensures.first)) (omega (arith, came.judged, c.in-Ok.ensures.first, c.in-Ok.ensures.count)))
-    (c.verdicts.invariant.sender log (subst (λ (x : EndState). StandsFor x log) c.self.view_is stands)) in (
-      Took p ∷ log,
-      rw (c.verdicts.invariant.config, c.verdicts.invariant.window, c.verdicts.invariant.receiver)
-          (took_stands e c.notices.new.self c.verdicts.self-inside.sender c.take.new.self p (c.notices.ensures.life ∙ c.receive.ensures.life) c.verdicts.invariant.life c.requires.fits log now sender receiver stands),
-    )
+invariant_of-self c = (Took (packet c) ∷ c.self.invariant.0, after c c.self.invariant.0 c.self.invariant.1)
 
 pub returns-clause-stands : goal.returns-clause-stands
-returns-clause-stands c log s =
-    let p : Seen = record { ping = c.args.ping; head = c.args.head.now; events = c.args.events.now } in
-    let e : EndState = record { config = c.self.inside.config; window = c.self.inside.window; sender = c.self.inside.sender; receiver = c.self.inside.receiver } in
-    let stands : StandsFor e log = subst (λ (x : EndState). StandsFor x log) (sym c.self.view_is) s in
-    let fresh : arrival_of c.args.ping c.args.head.now.seq e.window.horizon ≡ Fresh = subst (λ (x : EndState). arrival_of c.args.ping c.args.head.now.seq x.window.horizon ≡ Fresh) (sym c.self.view_is) c.requires.fresh in
-    let came : WindowStandsFor c.receive.new.self (Came c.args.ping c.args.head.now.seq ∷ window_log log) = c.receive.ensures.fresh (c.receive.ensures.answer ∙ fresh) _ stands.window in
-    let near : take_answer e.receiver.delivered c.args.events.now ≡ Ok tt = subst (λ (x : EndState). take_answer x.receiver.delivered c.args.events.now ≡ Ok tt) (sym c.self.view_is) c.requires.near in
-    let receiver : ReceiverStandsFor c.take.new.self (came_of (Took p ∷ log)) = when_ok c.take.result (c.take.ensures.answer ∙ near) c.take.ensures.stands (came_of log) stands.receiver in
-    let now = c.in-Ok.ensures.stands _ came in
-    let sender : SenderStandsFor c.verdicts.self-inside.sender (fates (Took p ∷ log)) (sender_log log) =
-    same_fates _ _ _ _ (upto-all p log (c.in-Ok.notices.first + c.verdicts.i) (omega (arith, came.judged, c.in-Ok.ensures.first)) (omega (arith, came.judged, c.in-Ok.ensures.first, c.in-Ok.ensures.count)))
-    (c.verdicts.invariant.sender log s) in
-    rw (c.verdicts.invariant.config, c.verdicts.invariant.window, c.verdicts.invariant.receiver)
-    (took_stands e c.notices.new.self c.verdicts.self-inside.sender c.take.new.self p (c.notices.ensures.life ∙ c.receive.ensures.life) c.verdicts.invariant.life c.requires.fits log now sender receiver stands)
+returns-clause-stands c log s = after c log (subst (λ (x : EndState). StandsFor x log) (sym c.self.view_is) s)
 
-pub returns-clause-config : goal.returns-clause-config
-returns-clause-config c = c.verdicts.invariant.config ∙ ap (λ (e : EndState). e.config) c.self.view_is
+pub returns-clause-judges : goal.returns-clause-judges
+returns-clause-judges c log s = judged c log (subst (λ (x : EndState). StandsFor x log) (sym c.self.view_is) s)

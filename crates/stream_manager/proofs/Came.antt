@@ -1,0 +1,108 @@
+-- What a packet of the server meets at a client: by what came before it, and by what the client holds.
+use Rattle.std.proofs.Common.{◌≡◌, ℕ, zero, suc, ◌<◌, ◌^◌, Bool, true, false, ◌==◌, List, [], ◌∷◌, ◌++◌, if◌then◌else◌, length, Option, Some, None, Ok, Err, refl, sym, ◌∙◌, ap, subst, arith, inl, inr, append_assoc}
+use Rattle.std.specs.Prelude.{reverse, is_some, IfSome}
+use Rattle.std.specs.List.{All, AllByRecursion, list_any}
+use Rattle.std.specs.Int.{bit_at}
+use Rattle.std.proofs.lemmas.Bool.Decides.{nat_tests}
+use Rattle.std.proofs.lemmas.Bool.{cases_eq}
+use Rattle.std.proofs.lemmas.List.{get_or-set_same, get_or-set_other, length-set, reverse-append}
+use Rattle.notify_window.specs.Bits.{bit_of, from_bits}
+use Rattle.std.proofs.lemmas.Nat.Bits.{same_from_bits_below}
+use Rattle.notify_window.proofs.Words.{from_bits-lt, bit_at-from_bits}
+use Rattle.wire_format.specs.declared.blocks.BlockItem.{BlockItem}
+use Rattle.wire_format.specs.declared.ghosts.GhostItem.{GhostItem}
+use Rattle.datablocks.specs.declared.receiver.BlockFault.TheVariants.{BlockDiffers}
+use Rattle.datablocks.specs.Holding.{StandsFor, block_at, held_of, held_bit, differs, after_take, after_all, check_answer, then_check}
+use Rattle.ghost_client.specs.declared.copy.GhostCopy.{GhostCopy}
+use Rattle.ghost_client.specs.declared.fault.GhostFault.{GhostFault}
+use Rattle.ghost_client.specs.declared.fault.GhostFault.TheVariants.{Twice}
+use Rattle.ghost_client.specs.Copies.{copy_of}
+use Rattle.ghost_client.specs.Fields.{slot_of, names}
+use Rattle.ghost_client.specs.Faults.{fault_of, item_fault, first_fault, or_else}
+use Rattle.ghost_client.specs.State.{copy_in}
+use Rattle.stream_manager.specs.declared.fault.ClientFault.TheVariants as refused
+use Rattle.stream_manager.specs.Faults.{blocks_at_client}
+use Rattle.stream_manager.specs.Client.{blocks_check, held_word}
+use Rattle.stream_manager.specs.Calls.{held_bits, control_missing}
+use Rattle.stream_manager.specs.GhostChecks.{fault_at, first_fault_at, control_fault}
+
+pub all_by_place : {A : Type 0} (P : A → Type 0) (xs : List A) → AllByRecursion P xs → All P xs
+all_by_place P [] h k d l = absurd (omega arith)
+all_by_place P (x ∷ xs) h zero d l = h.0
+all_by_place P (x ∷ xs) h (suc k) d l = all_by_place P xs h.1 k d (omega arith)
+
+pub weaker : {A : Type 0} (P Q : A → Type 0) → ((x : A) → P x → Q x) → (xs : List A) → AllByRecursion P xs → AllByRecursion Q xs
+weaker P Q f [] h = tt
+weaker P Q f (x ∷ xs) h = (f x h.0, weaker P Q f xs h.1)
+
+-- ---- blocks
+
+all-tail : (item : BlockItem) (items : List BlockItem) → All (λ (x : BlockItem). x.number < 64) (item ∷ items) → All (λ (x : BlockItem). x.number < 64) items
+all-tail item items h k d l = h (suc k) d (omega arith)
+
+all-head : (item : BlockItem) (items : List BlockItem) → All (λ (x : BlockItem). x.number < 64) (item ∷ items) → item.number < 64
+all-head item items h = let l : 0 < suc (length items) = omega arith in h 0 item l
+
+pub takes-one : (blocks : List (Option (List ℕ))) (came : List BlockItem) (item : BlockItem) → item.number < 64 → StandsFor blocks came → StandsFor (after_take blocks item) (item ∷ came)
+takes-one blocks came item small s = record {
+  places = length-set blocks item.number (Some item.bytes) ∙ s.places;
+  held = λ b low. elim (cases_eq b item.number) [
+    | inl same ↦ (let t : (item.number == b) ≡ true = grind (arith, nat_tests) in
+        let there : item.number < length blocks = omega (arith, s.places) in
+        rw t (ap (block_at (after_take blocks item)) same ∙ get_or-set_same blocks item.number (Some item.bytes) None there))
+    | inr other ↦ (let t : (item.number == b) ≡ false = grind (arith, nat_tests) in
+        rw t (get_or-set_other blocks item.number b (Some item.bytes) None other ∙ s.held b low))
+  ];
+}
+
+pub same-check : (items : List BlockItem) (blocks : List (Option (List ℕ))) (came : List BlockItem) → All (λ (x : BlockItem). x.number < 64) items → StandsFor blocks came → blocks_at_client (check_answer blocks items) ≡ blocks_check came items
+same-check [] blocks came all s = refl
+same-check (item ∷ items) blocks came all s =
+    let small = all-head item items all in
+    let later = same-check items (after_take blocks item) (item ∷ came) (all-tail item items all) (takes-one blocks came item small s) in
+    rw (← s.held item.number small) (go (differs (block_at blocks item.number) item.bytes) later)
+  where
+    go : (b : Bool) → blocks_at_client (check_answer (after_take blocks item) items) ≡ blocks_check (item ∷ came) items
+        → blocks_at_client (then_check (if b then Err (BlockDiffers item.number) else Ok tt) (check_answer (after_take blocks item) items)) ≡ (if b then Err (refused.BlockDiffers item.number) else blocks_check (item ∷ came) items)
+    go true later = refl
+    go false later = later
+
+reverse-onto : (item : BlockItem) (items came : List BlockItem) → reverse items ++ (item ∷ came) ≡ reverse (item ∷ items) ++ came
+reverse-onto item items came = sym (ap (λ (l : List BlockItem). l ++ came) (reverse-append (item ∷ []) items) ∙ append_assoc (reverse items) (item ∷ []) came)
+
+pub takes-all : (items : List BlockItem) (blocks : List (Option (List ℕ))) (came : List BlockItem) → All (λ (x : BlockItem). x.number < 64) items → StandsFor blocks came → StandsFor (after_all blocks items) (reverse items ++ came)
+takes-all [] blocks came all s = s
+takes-all (item ∷ items) blocks came all s =
+    subst (λ (l : List BlockItem). StandsFor (after_all (after_take blocks item) items) l) (reverse-onto item items came)
+    (takes-all items (after_take blocks item) (item ∷ came) (all-tail item items all) (takes-one blocks came item (all-head item items all) s))
+
+-- a word that tells which blocks are held is the one of the definitions
+held-is : (o : Option (List ℕ)) → held_bit o ≡ bit_of (is_some o)
+held-is None = refl
+held-is (Some bytes) = refl
+
+same_bits : (f g : ℕ → Bool) (n : ℕ) → ((b : ℕ) → b < n → f b ≡ g b) → from_bits f n ≡ from_bits g n
+unfolding from_bits
+same_bits f g zero h = refl
+same_bits f g (suc n) h = rw (h n (omega arith), same_bits f g n (λ b l. h b (omega arith))) refl
+
+pub held-word : (word : ℕ) (blocks : List (Option (List ℕ))) → word < 2 ^ 64 → ((b : ℕ) → b < 64 → bit_at word b ≡ held_bit (block_at blocks b)) → word ≡ held_bits blocks
+held-word word blocks small each =
+    same_from_bits_below 64 word (held_bits blocks) small (from_bits-lt (λ b. is_some (block_at blocks b)) 64) (λ b l. each b l ∙ held-is (block_at blocks b) ∙ sym (bit_at-from_bits (λ b. is_some (block_at blocks b)) 64 b l))
+
+pub held-same : (blocks : List (Option (List ℕ))) (came : List BlockItem) → StandsFor blocks came → held_bits blocks ≡ held_word came
+held-same blocks came s = same_bits (λ b. is_some (block_at blocks b)) (λ b. is_some (held_of b came)) 64 (λ b l. ap is_some (s.held b l))
+
+-- ---- ghosts
+
+pub faults-same : (items before came : List GhostItem) (slots : List (Option GhostCopy)) (held : ℕ) → AllByRecursion (λ (x : GhostItem). slot_of x < 256) items → ((slot : ℕ) → slot < 256 → copy_in slots slot ≡ copy_of came slot)
+    → first_fault slots held before items ≡ first_fault_at came held before items
+faults-same [] before came slots held all s = refl
+faults-same (item ∷ items) before came slots held all s =
+    let here : item_fault slots held before item ≡ fault_at came held before item = ap (λ (o : Option GhostCopy). if list_any (names (slot_of item)) before then Some (Twice (slot_of item)) else fault_of o held item) (s (slot_of item) all.0) in
+    ap (λ (f : Option GhostFault). or_else f (first_fault slots held (before ++ item ∷ []) items)) here
+    ∙ ap (or_else (fault_at came held before item)) (faults-same items (before ++ item ∷ []) came slots held all.1 s)
+
+pub control-same : (control : Option ℕ) (came : List GhostItem) (slots : List (Option GhostCopy)) → ((slot : ℕ) → slot < 256 → copy_in slots slot ≡ copy_of came slot) → IfSome control (λ slot. slot < 2 ^ 8) → control_missing slots control ≡ control_fault came control
+control-same None came slots s small = refl
+control-same (Some slot) came slots s small = let l : slot < 256 = omega (arith, small) in rw (s slot l) refl

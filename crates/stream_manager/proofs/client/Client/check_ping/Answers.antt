@@ -1,0 +1,5 @@
+use Rattle.std.proofs.Common.{[]}
+use Rattle.stream_manager.proofs.client.Client.check_ping.Goals as goal
+
+pub returns-clause-answer : goal.returns-clause-answer
+returns-clause-answer c log s = c.check_head.ensures.answer log s []
