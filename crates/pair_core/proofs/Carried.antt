@@ -1,6 +1,6 @@
 -- What goes over the network: each datagram that was sent spells a packet whose guaranteed events are those that were
 -- posted, and so are those that came.
-use Rattle.std.proofs.Common.{◌≡◌, ℕ, zero, suc, ◌+◌, ◌<◌, ◌≤◌, ◌^◌, Bool, true, false, List, [], ◌∷◌, ◌++◌, length, Option, Some, None, Result, Ok, Err, refl, sym, ◌∙◌, ap, subst, arith, if◌then◌else◌}
+use Rattle.std.proofs.Common.{◌≡◌, ◌≢◌, ◌==◌, ◌-◌, length-append, length-drop, ℕ, ◌+◌, ◌<◌, ◌≤◌, ◌^◌, Bool, true, false, List, [], ◌∷◌, ◌++◌, length, Option, Some, None, Result, Ok, Err, refl, sym, subst, arith, if◌then◌else◌}
 use Rattle.std.specs.Prelude.{slice_get}
 use Rattle.std.specs.Result.{is_ok}
 use Rattle.std.specs.List.{AllByRecursion}
@@ -20,173 +20,277 @@ use Rattle.wire_format.proofs.ServerFormat.{a_server}
 use Rattle.wire_format.proofs.ClientFormat.{a_client}
 use Rattle.wire_format.proofs.Whole.{whole_again}
 use Rattle.stream_manager.specs.declared.config.Config.{Config}
-use Rattle.stream_manager.specs.declared.fault.EndFault.{EndFault}
+use Rattle.move_manager.specs.declared.faults.MoveFault.TheVariants as move_refused
+use Rattle.move_manager.specs.Accepting as moves
+use Rattle.std.proofs.lemmas.Bool.Decides.{nat_tests}
+use Rattle.std.proofs.lemmas.List.{take_all}
+use Rattle.quantised_fields.specs.declared.kind.Kind.{Kind}
+use Rattle.tn_types.specs.declared.moves.Move.{Move}
 use Rattle.stream_manager.specs.declared.fault.ArriveFault.{ArriveFault}
 use Rattle.stream_manager.specs.declared.fault.ClientFault.{ClientFault}
-use Rattle.stream_manager.specs.Limits.{IsConfig}
-use Rattle.stream_manager.specs.Kinds.{plain_kinds}
-use Rattle.stream_manager.specs.End.{Seen, EndEvent, sender_log, came_of, fates, window_log, arrival_answer}
+use Rattle.stream_manager.specs.Limits.{Terms, AreTerms}
+use Rattle.stream_manager.specs.Faults.{Checked, checked_packet}
+use Rattle.move_manager.specs.Sending as sending
+use Rattle.move_manager.specs.Sending.{sampled_of, acked_of, packet_of}
+use Rattle.move_manager.specs.Accepting.{accepted_of, accept}
+use Rattle.move_manager.proofs.InOrder.{Holds, IsFront, holds-push, front-push, front-accept}
+use Rattle.stream_manager.specs.End.{came_of, onto}
 use Rattle.stream_manager.specs.Server as server_log
-use Rattle.stream_manager.specs.Server.{ServerEvent, server_end, server_datagrams, seen_up, server_state, posted_at_server, data_body, server_ping, took_at_server, server_answer, packet_answer}
+use Rattle.stream_manager.specs.Server.{ServerEvent, server_end, server_datagrams, seen_up, server_state, posted_at_server, data_body, server_ping, took_at_server, server_answer, packet_answer, accepted_at, move_log, moves_taken}
 use Rattle.stream_manager.specs.Client as client_log
-use Rattle.stream_manager.specs.Client.{ClientEvent, client_end, client_datagrams, seen_down, client_state, posted_at_client, client_body, client_ping, took_at_client, client_answer}
-use Rattle.pair_core.specs.History.{Step, Post, ClientPost, Pack, ClientPack, Down, Up, History, history, server_posts, client_posts, onto, client_gets, server_gets}
+use Rattle.stream_manager.specs.Client.{ClientEvent, client_end, client_datagrams, seen_down, client_state, posted_at_client, client_body, client_ping, took_at_client, client_answer, sampled_answer, sampled_at, sample_log, moves_acked}
+use Rattle.pair_core.specs.History.{Step, Post, ClientPost, Sample, Pack, ClientPack, Down, Up, history, server_posts, client_posts, client_samples, client_gets, server_gets}
 use Rattle.pair_core.specs.Laws.{IsPayload, StepFits, posted_at}
 use Rattle.pair_core.proofs.Lists.{all-append, all-map, all-at}
 use Rattle.pair_core.proofs.Fits.{EndFits, start-fits, posted-fits, loose-fits, packed-fits, pinged-fits, took-fits, data_head-fits, ping_head-fits, events-fit}
 use Rattle.event_manager.specs.Posted.{ArePosted}
 use Rattle.event_manager.proofs.Prefixes.{posted-push}
 use Rattle.pair_core.proofs.Posted.{posted-events, posted-onto}
+use Rattle.pair_core.proofs.Sections.{blocks-fit, any-moves}
 
--- bytes that spell a packet of the server whose guaranteed events are these
-pub record IsDown (vs : List (List ℕ)) (bytes : List ℕ) : Type 0 where
+-- a move that is taken up finds room
+sample-is : (c : Config) (u : List ClientEvent) → is_ok (sampled_answer c u) ≡ true → (length (sampled_at u) ≢ c.life) × (length (sampled_at u) ≢ acked_of (sample_log u) + 32)
+sample-is c u ok = (
+  λ same. (let full : (length (sampled_at u) == c.life) ≡ true = grind (arith, nat_tests) in absurd (let h : is_ok (sampled_answer c u) ≡ false = rw full in cc)),
+  λ same. (let full : (length (sampled_at u) == acked_of (sample_log u) + 32) ≡ true = grind (arith, nat_tests) in absurd (let h : is_ok (sampled_answer c u) ≡ false = worn-or-full (length (sampled_at u) == c.life) full in cc)),
+)
+  where
+    worn-or-full : (b : Bool) → (length (sampled_at u) == acked_of (sample_log u) + 32) ≡ true
+        → is_ok (if b then Err (move_refused.Worn c.life) else (if length (sampled_at u) == acked_of (sample_log u) + 32 then Err (move_refused.Full (acked_of (sample_log u)) (length (sampled_at u) - 1)) else Ok (length (sampled_at u)))) ≡ false
+    worn-or-full true full = refl
+    worn-or-full false full = rw full refl
+
+-- how many moves a packet of the server tells of
+abbrev TellsAtMost : ℕ → ServerPacket → Type 0
+TellsAtMost count (down.Ping head) = Unit {0}
+TellsAtMost count (down.Body p) = p.accepted ≤ count
+
+-- the moves of a client's packet are those that were sampled, from its first one on
+abbrev HoldsMoves : List Move → ClientPacket → Type 0
+HoldsMoves ms (up.Ping head) = Unit {0}
+HoldsMoves ms (up.Body p) = Holds (record { first = p.first; moves = p.moves }) ms
+
+-- bytes that spell a packet of the server whose guaranteed events are these, and which tells of so many moves at most
+pub record IsDown (kinds : List Kind) (vs : List (List ℕ)) (count : ℕ) (bytes : List ℕ) : Type 0 where
   pub packet : ServerPacket
-  pub fits : IsServer plain_kinds packet
-  pub reads : server_of plain_kinds bytes ≡ Ok packet
+  pub fits : IsServer kinds packet
+  pub reads : server_of kinds bytes ≡ Ok packet
   pub posted : ArePosted vs (seen_down packet).events
+  pub tells : TellsAtMost count packet
 
-pub record IsUp (vs : List (List ℕ)) (bytes : List ℕ) : Type 0 where
+-- bytes that spell a packet of the client with these events and moves
+pub record IsUp (vs : List (List ℕ)) (ms : List Move) (bytes : List ℕ) : Type 0 where
   pub packet : ClientPacket
   pub fits : IsClient packet
   pub reads : client_of bytes ≡ Ok packet
   pub posted : ArePosted vs (seen_up packet).events
+  pub moves : HoldsMoves ms packet
 
-down-push : (vs : List (List ℕ)) (w bytes : List ℕ) → IsDown vs bytes → IsDown (vs ++ w ∷ []) bytes
-down-push vs w bytes d = record { packet = d.packet; fits = d.fits; reads = d.reads; posted = posted-push vs w (seen_down d.packet).events d.posted }
+tells-more : (m n : ℕ) (p : ServerPacket) → m ≤ n → TellsAtMost m p → TellsAtMost n p
+tells-more m n (down.Ping head) l h = tt
+tells-more m n (down.Body p) l h = omega arith
 
-up-push : (vs : List (List ℕ)) (w bytes : List ℕ) → IsUp vs bytes → IsUp (vs ++ w ∷ []) bytes
-up-push vs w bytes d = record { packet = d.packet; fits = d.fits; reads = d.reads; posted = posted-push vs w (seen_up d.packet).events d.posted }
+holds-more : (ms : List Move) (m : Move) (p : ClientPacket) → HoldsMoves ms p → HoldsMoves (ms ++ m ∷ []) p
+holds-more ms m (up.Ping head) h = tt
+holds-more ms m (up.Body p) h = holds-push (record { first = p.first; moves = p.moves }) ms m h
+
+down-push : (kinds : List Kind) (vs : List (List ℕ)) (w : List ℕ) (count : ℕ) (bytes : List ℕ) → IsDown kinds vs count bytes → IsDown kinds (vs ++ w ∷ []) count bytes
+down-push kinds vs w count bytes d = record { packet = d.packet; fits = d.fits; reads = d.reads; posted = posted-push vs w (seen_down d.packet).events d.posted; tells = d.tells }
+
+down-told : (kinds : List Kind) (vs : List (List ℕ)) (m n : ℕ) → m ≤ n → (bytes : List ℕ) → IsDown kinds vs m bytes → IsDown kinds vs n bytes
+down-told kinds vs m n l bytes d = record { packet = d.packet; fits = d.fits; reads = d.reads; posted = d.posted; tells = tells-more m n d.packet l d.tells }
+
+up-push : (vs : List (List ℕ)) (w : List ℕ) (ms : List Move) (bytes : List ℕ) → IsUp vs ms bytes → IsUp (vs ++ w ∷ []) ms bytes
+up-push vs w ms bytes d = record { packet = d.packet; fits = d.fits; reads = d.reads; posted = posted-push vs w (seen_up d.packet).events d.posted; moves = d.moves }
+
+up-sampled : (vs : List (List ℕ)) (ms : List Move) (m : Move) (bytes : List ℕ) → IsUp vs ms bytes → IsUp vs (ms ++ m ∷ []) bytes
+up-sampled vs ms m bytes d = record { packet = d.packet; fits = d.fits; reads = d.reads; posted = d.posted; moves = holds-more ms m d.packet d.moves }
+
+-- the moves of both ends
+pub record Moves (life : ℕ) (server client : List Move) (told : ℕ) : Type 0 where
+  pub accepted : length server ≤ life
+  pub sampled : length client ≤ life
+  pub front : IsFront server client
+  pub acked : told ≤ length server
+  pub few : length client ≤ told + 32
 
 -- the invariant over the steps
-pub record Carried (c : Config) (s : List ServerEvent) (t : List ClientEvent) : Type 0 where
-  pub server : EndFits c.life (server_end s)
-  pub client : EndFits c.life (client_end t)
-  pub down : AllByRecursion (IsDown (posted_at (server_end s))) (server_datagrams s)
-  pub up : AllByRecursion (IsUp (posted_at (client_end t))) (client_datagrams t)
-  pub came_down : ArePosted (posted_at (server_end s)) (came_of (client_end t))
-  pub came_up : ArePosted (posted_at (client_end t)) (came_of (server_end s))
+pub record Carried (t : Terms) (s : List ServerEvent) (u : List ClientEvent) : Type 0 where
+  pub server : EndFits t.config.life (server_end s)
+  pub client : EndFits t.config.life (client_end u)
+  pub down : AllByRecursion (IsDown t.kinds (posted_at (server_end s)) (length (accepted_at t.config s))) (server_datagrams t.kinds s)
+  pub up : AllByRecursion (IsUp (posted_at (client_end u)) (sampled_at u)) (client_datagrams u)
+  pub came_down : ArePosted (posted_at (server_end s)) (came_of (client_end u))
+  pub came_up : ArePosted (posted_at (client_end u)) (came_of (server_end s))
+  pub moves : Moves t.config.life (accepted_at t.config s) (sampled_at u) (acked_of (sample_log u))
 
-module _ (c : Config) (limits : IsConfig c) where
-  start : Carried c [] []
-  start = record { server = start-fits c.life; client = start-fits c.life; down = tt; up = tt; came_down = tt; came_up = tt }
+module _ (t : Terms) (limits : AreTerms t) where
+  start : Carried t [] []
+  start = record {
+    server = start-fits t.config.life;
+    client = start-fits t.config.life;
+    down = tt;
+    up = tt;
+    came_down = tt;
+    came_up = tt;
+    moves = record { accepted = omega arith; sampled = omega arith; front = record { within = omega arith; first = refl }; acked = omega arith; few = omega arith };
+  }
 
   -- ---- posts
 
-  posts-down : (class : Class) (v : List ℕ) (s : List ServerEvent) (t : List ClientEvent) → IsPayload v → Carried c s t → Carried c (server_posts c class v s) t
-  posts-down Loose v s t fits h = record { server = loose-fits c.life (server_end s) v fits h.server; client = h.client; down = h.down; up = h.up; came_down = h.came_down; came_up = h.came_up }
-  posts-down Guaranteed v s t fits h = go (is_ok (posted_at_server c s)) refl
+  posts-down : (class : Class) (v : List ℕ) (s : List ServerEvent) (u : List ClientEvent) → IsPayload v → Carried t s u → Carried t (server_posts t.config class v s) u
+  posts-down Loose v s u fits h = record { server = loose-fits t.config.life (server_end s) v fits h.server; client = h.client; down = h.down; up = h.up; came_down = h.came_down; came_up = h.came_up; moves = h.moves }
+  posts-down Guaranteed v s u fits h = go (is_ok (posted_at_server t.config s)) refl
     where
-      go : (b : Bool) → is_ok (posted_at_server c s) ≡ b → Carried c (if b then server_log.Posted Guaranteed v ∷ s else s) t
+      go : (b : Bool) → is_ok (posted_at_server t.config s) ≡ b → Carried t (if b then server_log.Posted Guaranteed v ∷ s else s) u
       go false e = h
       go true e = record {
-        server = posted-fits c.life (server_end s) v e fits h.server;
+        server = posted-fits t.config.life (server_end s) v e fits h.server;
         client = h.client;
-        down = all-map (IsDown (posted_at (server_end s))) (IsDown (posted_at (server_end s) ++ v ∷ [])) (down-push (posted_at (server_end s)) v) (server_datagrams s) h.down;
+        down = all-map (IsDown t.kinds (posted_at (server_end s)) (length (accepted_at t.config s))) (IsDown t.kinds (posted_at (server_end s) ++ v ∷ []) (length (accepted_at t.config s)))
+            (down-push t.kinds (posted_at (server_end s)) v (length (accepted_at t.config s))) (server_datagrams t.kinds s) h.down;
         up = h.up;
-        came_down = posted-push (posted_at (server_end s)) v (came_of (client_end t)) h.came_down;
+        came_down = posted-push (posted_at (server_end s)) v (came_of (client_end u)) h.came_down;
         came_up = h.came_up;
+        moves = h.moves;
       }
 
-  posts-up : (class : Class) (v : List ℕ) (s : List ServerEvent) (t : List ClientEvent) → IsPayload v → Carried c s t → Carried c s (client_posts c class v t)
-  posts-up Loose v s t fits h = record { server = h.server; client = loose-fits c.life (client_end t) v fits h.client; down = h.down; up = h.up; came_down = h.came_down; came_up = h.came_up }
-  posts-up Guaranteed v s t fits h = go (is_ok (posted_at_client c t)) refl
+  posts-up : (class : Class) (v : List ℕ) (s : List ServerEvent) (u : List ClientEvent) → IsPayload v → Carried t s u → Carried t s (client_posts t.config class v u)
+  posts-up Loose v s u fits h = record { server = h.server; client = loose-fits t.config.life (client_end u) v fits h.client; down = h.down; up = h.up; came_down = h.came_down; came_up = h.came_up; moves = h.moves }
+  posts-up Guaranteed v s u fits h = go (is_ok (posted_at_client t.config u)) refl
     where
-      go : (b : Bool) → is_ok (posted_at_client c t) ≡ b → Carried c s (if b then client_log.Posted Guaranteed v ∷ t else t)
+      go : (b : Bool) → is_ok (posted_at_client t.config u) ≡ b → Carried t s (if b then client_log.Posted Guaranteed v ∷ u else u)
       go false e = h
       go true e = record {
         server = h.server;
-        client = posted-fits c.life (client_end t) v e fits h.client;
+        client = posted-fits t.config.life (client_end u) v e fits h.client;
         down = h.down;
-        up = all-map (IsUp (posted_at (client_end t))) (IsUp (posted_at (client_end t) ++ v ∷ [])) (up-push (posted_at (client_end t)) v) (client_datagrams t) h.up;
+        up = all-map (IsUp (posted_at (client_end u)) (sampled_at u)) (IsUp (posted_at (client_end u) ++ v ∷ []) (sampled_at u)) (up-push (posted_at (client_end u)) v (sampled_at u)) (client_datagrams u) h.up;
         came_down = h.came_down;
-        came_up = posted-push (posted_at (client_end t)) v (came_of (server_end s)) h.came_up;
+        came_up = posted-push (posted_at (client_end u)) v (came_of (server_end s)) h.came_up;
+        moves = h.moves;
       }
+
+  -- ---- samples
+
+  samples-up : (m : Move) (s : List ServerEvent) (u : List ClientEvent) → Carried t s u → Carried t s (client_samples t.config m u)
+  samples-up m s u h = go (is_ok (sampled_answer t.config u)) refl
+    where
+      go : (b : Bool) → is_ok (sampled_answer t.config u) ≡ b → Carried t s (if b then client_log.Sampled m ∷ u else u)
+      go false e = h
+      go true e =
+          let apart = sample-is t.config u e in
+          let one = length-append (sampled_at u) (m ∷ []) in
+          record {
+            server = h.server;
+            client = h.client;
+            down = h.down;
+            up = all-map (IsUp (posted_at (client_end u)) (sampled_at u)) (IsUp (posted_at (client_end u)) (sampled_at u ++ m ∷ [])) (up-sampled (posted_at (client_end u)) (sampled_at u) m) (client_datagrams u) h.up;
+            came_down = h.came_down;
+            came_up = h.came_up;
+            moves = record {
+              accepted = h.moves.accepted;
+              sampled = omega (arith, h.moves.sampled, apart.0, one);
+              front = front-push (accepted_at t.config s) (sampled_at u) m h.moves.front;
+              acked = h.moves.acked;
+              few = omega (arith, h.moves.few, apart.1, one);
+            };
+          }
 
   -- ---- packs
 
-  short : c.life < 2 ^ 24
-  short = omega (arith, limits.life)
+  short : t.config.life < 2 ^ 24
+  short = omega (arith, limits.config.life)
 
-  is-down : (vs : List (List ℕ)) (p : ServerPacket) → IsServer plain_kinds p → ArePosted vs (seen_down p).events → IsDown vs (datagram (server plain_kinds p))
-  is-down vs p fits posted = record { packet = p; fits = fits; reads = whole_again (server_at plain_kinds) (server plain_kinds) (IsServer plain_kinds) (a_server plain_kinds) p fits; posted = posted }
+  is-down : (vs : List (List ℕ)) (count : ℕ) (p : ServerPacket) → IsServer t.kinds p → ArePosted vs (seen_down p).events → TellsAtMost count p → IsDown t.kinds vs count (datagram (server t.kinds p))
+  is-down vs count p fits posted tells = record { packet = p; fits = fits; reads = whole_again (server_at t.kinds) (server t.kinds) (IsServer t.kinds) (a_server t.kinds) p fits; posted = posted; tells = tells }
 
-  is-up : (vs : List (List ℕ)) (p : ClientPacket) → IsClient p → ArePosted vs (seen_up p).events → IsUp vs (datagram (client p))
-  is-up vs p fits posted = record { packet = p; fits = fits; reads = whole_again client_at client IsClient a_client p fits; posted = posted }
+  is-up : (vs : List (List ℕ)) (ms : List Move) (p : ClientPacket) → IsClient p → ArePosted vs (seen_up p).events → HoldsMoves ms p → IsUp vs ms (datagram (client p))
+  is-up vs ms p fits posted holds = record { packet = p; fits = fits; reads = whole_again client_at client IsClient a_client p fits; posted = posted; moves = holds }
 
-  packs-down : (s : List ServerEvent) (t : List ClientEvent) → Carried c s t → Carried c (onto (server_log.packing c s) s) t
-  packs-down s t h = go (server_state c s) refl
+  packs-down : (s : List ServerEvent) (u : List ClientEvent) → Carried t s u → Carried t (onto (server_log.packing t s) s) u
+  packs-down s u h = go (server_state t.config s) refl
     where
-      vs : List (List ℕ)
-      vs = posted_at (server_end s)
-
-      go : (state : SendState) → server_state c s ≡ state → Carried c (onto (server_log.pack_event c s state) s) t
+      go : (state : SendState) → server_state t.config s ≡ state → Carried t (onto (server_log.pack_event t s state) s) u
       go Worn e = h
       go Held e = record {
-        server = pinged-fits c.life (server_end s) _ h.server;
+        server = pinged-fits t.config.life (server_end s) _ h.server;
         client = h.client;
-        down = all-append (IsDown (posted_at (server_end s))) (server_datagrams s) _ h.down
-            (is-down (posted_at (server_end s)) (down.Ping (server_ping c s)) (ping_head-fits c.life c.client (server_end s) short limits.client e h.server) tt, tt);
+        down = all-append (IsDown t.kinds (posted_at (server_end s)) (length (accepted_at t.config s))) (server_datagrams t.kinds s) _ h.down
+            (is-down (posted_at (server_end s)) (length (accepted_at t.config s)) (down.Ping (server_ping t.config s)) (ping_head-fits t.config.life t.config.client (server_end s) short limits.config.client e h.server) tt tt, tt);
         up = h.up;
         came_down = h.came_down;
         came_up = h.came_up;
+        moves = h.moves;
       }
       go Room e = record {
-        server = packed-fits c.life (server_end s) _ e h.server;
+        server = packed-fits t.config.life (server_end s) _ e h.server;
         client = h.client;
-        down = all-append (IsDown (posted_at (server_end s))) (server_datagrams s) _ h.down (
-          is-down (posted_at (server_end s)) (down.Body (data_body c s))
+        down = all-append (IsDown t.kinds (posted_at (server_end s)) (length (accepted_at t.config s))) (server_datagrams t.kinds s) _ h.down (
+          is-down (posted_at (server_end s)) (length (accepted_at t.config s)) (down.Body (data_body t s))
               (record {
-                head = data_head-fits c.life c.client (server_end s) short limits.client e h.server;
-                accepted = omega arith;
+                head = data_head-fits t.config.life t.config.client (server_end s) short limits.config.client e h.server;
+                accepted = omega (arith, h.moves.accepted, short);
                 control = tt;
-                blocks = record { few = omega arith; each = tt };
-                events = events-fit c.life _ (server_end s) short h.server;
+                blocks = blocks-fit t s limits;
+                events = events-fit t.config.life _ (server_end s) short h.server;
                 ghosts = record { few = omega arith; each = tt };
               })
-              (posted-events _ (server_end s)),
+              (posted-events _ (server_end s))
+              (omega arith),
           tt,
         );
         up = h.up;
         came_down = h.came_down;
         came_up = h.came_up;
+        moves = h.moves;
       }
 
-  packs-up : (s : List ServerEvent) (t : List ClientEvent) → Carried c s t → Carried c s (onto (client_log.packing c t) t)
-  packs-up s t h = go (client_state c t) refl
+  packs-up : (s : List ServerEvent) (u : List ClientEvent) → Carried t s u → Carried t s (onto (client_log.packing t.config u) u)
+  packs-up s u h = go (client_state t.config u) refl
     where
-      go : (state : SendState) → client_state c t ≡ state → Carried c s (onto (client_log.pack_event c t state) t)
+      waiting : length (packet_of (sample_log u)).moves + acked_of (sample_log u) ≡ length (sampled_at u)
+      waiting = omega (arith, length-drop (acked_of (sample_log u)) (sampled_at u), h.moves.acked, h.moves.front.within)
+
+      holds : Holds (packet_of (sample_log u)) (sampled_at u)
+      holds = record { within = omega (arith, waiting); moves = sym (take_all _ _ (omega arith)) }
+
+      go : (state : SendState) → client_state t.config u ≡ state → Carried t s (onto (client_log.pack_event t.config u state) u)
       go Worn e = h
       go Held e = record {
         server = h.server;
-        client = pinged-fits c.life (client_end t) _ h.client;
+        client = pinged-fits t.config.life (client_end u) _ h.client;
         down = h.down;
-        up = all-append (IsUp (posted_at (client_end t))) (client_datagrams t) _ h.up
-            (is-up (posted_at (client_end t)) (up.Ping (client_ping c t)) (ping_head-fits c.life c.client (client_end t) short limits.client e h.client) tt, tt);
+        up = all-append (IsUp (posted_at (client_end u)) (sampled_at u)) (client_datagrams u) _ h.up
+            (is-up (posted_at (client_end u)) (sampled_at u) (up.Ping (client_ping t.config u)) (ping_head-fits t.config.life t.config.client (client_end u) short limits.config.client e h.client) tt tt, tt);
         came_down = h.came_down;
         came_up = h.came_up;
+        moves = h.moves;
       }
       go Room e = record {
         server = h.server;
-        client = packed-fits c.life (client_end t) _ e h.client;
+        client = packed-fits t.config.life (client_end u) _ e h.client;
         down = h.down;
-        up = all-append (IsUp (posted_at (client_end t))) (client_datagrams t) _ h.up (
-          is-up (posted_at (client_end t)) (up.Body (client_body c t))
+        up = all-append (IsUp (posted_at (client_end u)) (sampled_at u)) (client_datagrams u) _ h.up (
+          is-up (posted_at (client_end u)) (sampled_at u) (up.Body (client_body t.config u))
               (record {
-                head = data_head-fits c.life c.client (client_end t) short limits.client e h.client;
-                first = omega arith;
-                moves = record { few = omega arith; each = tt };
-                events = events-fit c.life _ (client_end t) short h.client;
+                head = data_head-fits t.config.life t.config.client (client_end u) short limits.config.client e h.client;
+                first = omega (arith, h.moves.acked, h.moves.accepted, short);
+                moves = record { few = omega (arith, waiting, h.moves.few); each = any-moves (packet_of (sample_log u)).moves };
+                events = events-fit t.config.life _ (client_end u) short h.client;
               })
-              (posted-events _ (client_end t)),
+              (posted-events _ (client_end u))
+              holds,
           tt,
         );
         came_down = h.came_down;
         came_up = h.came_up;
+        moves = h.moves;
       }
 
   -- ---- arrivals
 
-  seq-down : (p : ServerPacket) → IsServer plain_kinds p → (seen_down p).head.seq < 2 ^ 24
+  seq-down : (p : ServerPacket) → IsServer t.kinds p → (seen_down p).head.seq < 2 ^ 24
   seq-down (down.Ping head) fits = fits.seq
   seq-down (down.Body body) fits = fits.head.seq
 
@@ -194,49 +298,81 @@ module _ (c : Config) (limits : IsConfig c) where
   seq-up (up.Ping head) fits = fits.seq
   seq-up (up.Body body) fits = fits.head.seq
 
-  took-down : (s : List ServerEvent) (t : List ClientEvent) (p : ServerPacket) (a : Result (Unit {0}) EndFault) → IsServer plain_kinds p → ArePosted (posted_at (server_end s)) (seen_down p).events → Carried c s t → Carried c s (took_at_client t (client_log.with_packet p a))
-  took-down s t p (Err e) fits posted h = h
-  took-down s t p (Ok u) fits posted h = record {
+  -- the client learns of moves
+  moves-down : (p : ServerPacket) (accepted : List Move) (log : List sending.Event) → TellsAtMost (length accepted) p → Moves t.config.life accepted (sampled_of log) (acked_of log) → Moves t.config.life accepted (sampled_of (moves_acked p log)) (acked_of (moves_acked p log))
+  moves-down (down.Ping head) accepted log tells m = m
+  moves-down (down.Body p) accepted log tells m = record { accepted = m.accepted; sampled = m.sampled; front = m.front; acked = omega (arith, m.acked, tells); few = omega (arith, m.few) }
+
+  took-down : (s : List ServerEvent) (u : List ClientEvent) (p : ServerPacket) (a : Checked ClientFault) → IsServer t.kinds p → ArePosted (posted_at (server_end s)) (seen_down p).events → TellsAtMost (length (accepted_at t.config s)) p
+      → Carried t s u → Carried t s (took_at_client u (checked_packet p a))
+  took-down s u p (Err e) fits posted tells h = h
+  took-down s u p (Ok x) fits posted tells h = record {
     server = h.server;
-    client = took-fits c.life (client_end t) (seen_down p) (seq-down p fits) h.client;
+    client = took-fits t.config.life (client_end u) (seen_down p) (seq-down p fits) h.client;
     down = h.down;
-    up = h.up;
-    came_down = posted-onto (posted_at (server_end s)) (seen_down p).events (came_of (client_end t)) posted h.came_down;
+    up = subst (λ (ms : List Move). AllByRecursion (IsUp (posted_at (client_end u)) ms) (client_datagrams u)) (same-sampled p) h.up;
+    came_down = posted-onto (posted_at (server_end s)) (seen_down p).events (came_of (client_end u)) posted h.came_down;
     came_up = h.came_up;
+    moves = moves-down p (accepted_at t.config s) (sample_log u) tells h.moves;
   }
+    where
+      same-sampled : (p : ServerPacket) → sampled_at u ≡ sampled_of (moves_acked p (sample_log u))
+      same-sampled (down.Ping head) = refl
+      same-sampled (down.Body p) = refl
 
-  took-up : (s : List ServerEvent) (t : List ClientEvent) (p : ClientPacket) (a : Result (Unit {0}) EndFault) → IsClient p → ArePosted (posted_at (client_end t)) (seen_up p).events → Carried c s t → Carried c (took_at_server s (server_log.with_packet p a)) t
-  took-up s t p (Err e) fits posted h = h
-  took-up s t p (Ok u) fits posted h = record {
-    server = took-fits c.life (server_end s) (seen_up p) (seq-up p fits) h.server;
-    client = h.client;
-    down = h.down;
-    up = h.up;
-    came_down = h.came_down;
-    came_up = posted-onto (posted_at (client_end t)) (seen_up p).events (came_of (server_end s)) posted h.came_up;
-  }
+  -- the server accepts moves
+  pub record Accepts (old new : List Move) (sampled : List Move) (acked : ℕ) : Type 0 where
+    pub moves : Moves t.config.life new sampled acked
+    pub longer : length old ≤ length new
 
-  gets-down : (s : List ServerEvent) (t : List ClientEvent) (k : ℕ) (o : Option (List ℕ)) → slice_get (server_datagrams s) k ≡ o → Carried c s t → Carried c s (client_gets c o t)
-  gets-down s t k None e h = h
-  gets-down s t k (Some bytes) e h =
-      let d : IsDown (posted_at (server_end s)) bytes = all-at (IsDown (posted_at (server_end s))) (server_datagrams s) k bytes h.down e in
-      subst (λ (r : Result ServerPacket BitsFault). Carried c s (took_at_client t (client_log.packet_answer c t r))) (sym d.reads)
-      (took-down s t d.packet (arrival_answer c.client (client_end t) (seen_down d.packet)) d.fits d.posted h)
+  moves-up : (p : ClientPacket) (room : ℕ) (log : List moves.Event) (sampled : List Move) (acked : ℕ) → HoldsMoves sampled p → Moves t.config.life (accepted_of t.config.life log) sampled acked
+      → Accepts (accepted_of t.config.life log) (accepted_of t.config.life (moves_taken p room log)) sampled acked
+  moves-up (up.Ping head) room log sampled acked holds m = record { moves = m; longer = omega arith }
+  moves-up (up.Body p) room log sampled acked holds m =
+      let grows = front-accept t.config.life room (record { first = p.first; moves = p.moves }) (accepted_of t.config.life log) sampled holds m.front in
+      record {
+        moves = record { accepted = omega (arith, grows.front.within, m.sampled); sampled = m.sampled; front = grows.front; acked = omega (arith, m.acked, grows.longer); few = m.few };
+        longer = grows.longer;
+      }
 
-  gets-up : (s : List ServerEvent) (t : List ClientEvent) (k : ℕ) (o : Option (List ℕ)) → slice_get (client_datagrams t) k ≡ o → Carried c s t → Carried c (server_gets c o s) t
-  gets-up s t k None e h = h
-  gets-up s t k (Some bytes) e h =
-      let d : IsUp (posted_at (client_end t)) bytes = all-at (IsUp (posted_at (client_end t))) (client_datagrams t) k bytes h.up e in
-      subst (λ (r : Result ClientPacket BitsFault). Carried c (took_at_server s (server_log.packet_answer c s r)) t) (sym d.reads)
-      (took-up s t d.packet (arrival_answer c.client (server_end s) (seen_up d.packet)) d.fits d.posted h)
+  took-up : (s : List ServerEvent) (u : List ClientEvent) (room : ℕ) (p : ClientPacket) (a : Checked ArriveFault) → IsClient p → ArePosted (posted_at (client_end u)) (seen_up p).events → HoldsMoves (sampled_at u) p
+      → Carried t s u → Carried t (took_at_server s room (checked_packet p a)) u
+  took-up s u room p (Err e) fits posted holds h = h
+  took-up s u room p (Ok x) fits posted holds h =
+      let accepts = moves-up p room (move_log s) (sampled_at u) (acked_of (sample_log u)) holds h.moves in
+      record {
+        server = took-fits t.config.life (server_end s) (seen_up p) (seq-up p fits) h.server;
+        client = h.client;
+        down = all-map (IsDown t.kinds (posted_at (server_end s)) (length (accepted_at t.config s))) (IsDown t.kinds (posted_at (server_end s)) (length (accepted_of t.config.life (moves_taken p room (move_log s)))))
+            (down-told t.kinds (posted_at (server_end s)) _ _ accepts.longer) (server_datagrams t.kinds s) h.down;
+        up = h.up;
+        came_down = h.came_down;
+        came_up = posted-onto (posted_at (client_end u)) (seen_up p).events (came_of (server_end s)) posted h.came_up;
+        moves = accepts.moves;
+      }
+
+  gets-down : (s : List ServerEvent) (u : List ClientEvent) (k : ℕ) (o : Option (List ℕ)) → slice_get (server_datagrams t.kinds s) k ≡ o → Carried t s u → Carried t s (client_gets t o u)
+  gets-down s u k None e h = h
+  gets-down s u k (Some bytes) e h =
+      let d : IsDown t.kinds (posted_at (server_end s)) (length (accepted_at t.config s)) bytes = all-at (IsDown t.kinds (posted_at (server_end s)) (length (accepted_at t.config s))) (server_datagrams t.kinds s) k bytes h.down e in
+      subst (λ (r : Result ServerPacket BitsFault). Carried t s (took_at_client u (client_log.packet_answer t.config u r))) (sym d.reads)
+      (took-down s u d.packet (client_log.packet_check t.config u d.packet) d.fits d.posted d.tells h)
+
+  gets-up : (s : List ServerEvent) (u : List ClientEvent) (k room : ℕ) (o : Option (List ℕ)) → slice_get (client_datagrams u) k ≡ o → Carried t s u → Carried t (server_gets t.config room o s) u
+  gets-up s u k room None e h = h
+  gets-up s u k room (Some bytes) e h =
+      let d : IsUp (posted_at (client_end u)) (sampled_at u) bytes = all-at (IsUp (posted_at (client_end u)) (sampled_at u)) (client_datagrams u) k bytes h.up e in
+      subst (λ (r : Result ClientPacket BitsFault). Carried t (took_at_server s room (server_log.packet_answer t.config s r)) u) (sym d.reads)
+      (took-up s u room d.packet (server_log.packet_check t.config s d.packet) d.fits d.posted d.moves h)
 
   -- ---- all steps
 
-  pub carried : (steps : List Step) → AllByRecursion StepFits steps → Carried c (history c steps).server (history c steps).client
+  pub carried : (steps : List Step) → AllByRecursion StepFits steps → Carried t (history t steps).server (history t steps).client
   carried [] fit = start
-  carried (Post class v ∷ steps) fit = posts-down class v (history c steps).server (history c steps).client fit.0 (carried steps fit.1)
-  carried (ClientPost class v ∷ steps) fit = posts-up class v (history c steps).server (history c steps).client fit.0 (carried steps fit.1)
-  carried (Pack ∷ steps) fit = packs-down (history c steps).server (history c steps).client (carried steps fit.1)
-  carried (ClientPack ∷ steps) fit = packs-up (history c steps).server (history c steps).client (carried steps fit.1)
-  carried (Down k ∷ steps) fit = gets-down (history c steps).server (history c steps).client k (slice_get (server_datagrams (history c steps).server) k) refl (carried steps fit.1)
-  carried (Up k ∷ steps) fit = gets-up (history c steps).server (history c steps).client k (slice_get (client_datagrams (history c steps).client) k) refl (carried steps fit.1)
+  carried (Post class v ∷ steps) fit = posts-down class v (history t steps).server (history t steps).client fit.0 (carried steps fit.1)
+  carried (ClientPost class v ∷ steps) fit = posts-up class v (history t steps).server (history t steps).client fit.0 (carried steps fit.1)
+  carried (Sample m ∷ steps) fit = samples-up m (history t steps).server (history t steps).client (carried steps fit.1)
+  carried (Pack ∷ steps) fit = packs-down (history t steps).server (history t steps).client (carried steps fit.1)
+  carried (ClientPack ∷ steps) fit = packs-up (history t steps).server (history t steps).client (carried steps fit.1)
+  carried (Down k ∷ steps) fit = gets-down (history t steps).server (history t steps).client k (slice_get (server_datagrams t.kinds (history t steps).server) k) refl (carried steps fit.1)
+  carried (Up k room ∷ steps) fit = gets-up (history t steps).server (history t steps).client k room (slice_get (client_datagrams (history t steps).client) k) refl (carried steps fit.1)

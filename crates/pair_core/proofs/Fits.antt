@@ -1,19 +1,18 @@
 -- The counts and bytes of one end lie in their ranges, so that each of its packets has a spelling.
-use Rattle.std.proofs.Common.{◌≡◌, ◌≢◌, ℕ, zero, suc, ◌+◌, ◌-◌, ◌*◌, ◌<◌, ◌≤◌, ◌^◌, max, Bool, true, false, ◌==◌, nat_le, List, [], ◌∷◌, ◌++◌, if◌then◌else◌, length, map, take, drop, Option, Some, None, Result, Ok, Err, refl, sym, ◌∙◌, ap, subst, arith, length-append, length-take}
-use Rattle.std.specs.Prelude.{sum_by}
+use Rattle.std.proofs.Common.{◌≡◌, ◌≢◌, ℕ, suc, ◌+◌, ◌<◌, ◌≤◌, ◌^◌, Bool, true, false, ◌==◌, List, [], ◌∷◌, ◌++◌, if◌then◌else◌, length, map, take, refl, arith, length-append, length-take}
 use Rattle.std.specs.Result.{is_ok}
 use Rattle.std.specs.List.{AllByRecursion}
 use Rattle.std.proofs.lemmas.Bool.Decides.{nat_tests}
 use Rattle.tn_types.specs.declared.choices.Class.TheVariants.{Guaranteed, Loose}
-use Rattle.notify_window.specs.Log.{WindowEvent, sent_of, judged_of, horizon_of, mask_of, mask_bit, Fate, send_state_of}
+use Rattle.notify_window.specs.Log.{WindowEvent, sent_of, judged_of, horizon_of, mask_bit, Fate, send_state_of}
 use Rattle.notify_window.specs.declared.SendState.TheVariants.{Held, Worn, Room}
 use Rattle.notify_window.proofs.Words.{from_bits-lt}
-use Rattle.wire_format.specs.declared.events.EventItem.{EventItem}
 use Rattle.wire_format.specs.Events.{IsEvent, event_size}
 use Rattle.wire_format.specs.Header.{IsHeader}
 use Rattle.wire_format.specs.Reading.{AreListed}
 use Rattle.event_manager.specs.Sending.{SenderEvent, posted_of, waiting_of, guaranteed_item, loose_item, loose_count, items_that, is_due, due_guaranteed, due_of, post_answer_of}
-use Rattle.stream_manager.specs.End.{Seen, EndEvent, Posted, Packed, Pinged, Took, window_log, sender_log, fates, data_head, ping_head, fitting, events_for}
+use Rattle.stream_manager.specs.End.{Seen, EndEvent, Posted, Packed, Pinged, Took, window_log, sender_log, fates, data_head, ping_head, events_for}
+use Rattle.stream_manager.proofs.Fitting.{fitting-all, fitting-short}
 use Rattle.pair_core.specs.Laws.{IsPayload}
 use Rattle.pair_core.proofs.Lists.{all-append, all-take, all-drop}
 
@@ -131,24 +130,8 @@ due-are_events life log short h =
     (guaranteed-are_events (is_due (fates log) (sender_log log)) 0 (posted_of (sender_log log)) (omega (arith, h.posted)) h.payloads)
     (loose-are_events (waiting_of (sender_log log)) h.waiting)
 
-fitting-all : (P : EventItem → Type 0) (room : ℕ) (es : List EventItem) → AllByRecursion P es → AllByRecursion P (fitting room es)
-fitting-all P room [] h = tt
-fitting-all P room (e ∷ es) h = go (nat_le (event_size e) room) (fitting-all P (room - event_size e) es h.1)
-  where
-    go : (b : Bool) → AllByRecursion P (fitting (room - event_size e) es) → AllByRecursion P (if b then e ∷ fitting (room - event_size e) es else [])
-    go true rest = (h.0, rest)
-    go false rest = tt
-
-fitting-few : (room : ℕ) (es : List EventItem) → length (fitting room es) ≤ length es
-fitting-few room [] = omega arith
-fitting-few room (e ∷ es) = go (nat_le (event_size e) room) (fitting-few (room - event_size e) es)
-  where
-    go : (b : Bool) → length (fitting (room - event_size e) es) ≤ length es → length (if b then e ∷ fitting (room - event_size e) es else []) ≤ suc (length es)
-    go true rest = let l : suc (length (fitting (room - event_size e) es)) ≤ suc (length es) = omega arith in l
-    go false rest = omega arith
-
 pub events-fit : (life room : ℕ) (log : List EndEvent) → life < 2 ^ 24 → EndFits life log → AreListed 31 IsEvent (events_for room log)
 events-fit life room log short h = record {
-  few = omega (arith, fitting-few room (take 31 (due_of (fates log) (sender_log log))), length-take 31 (due_of (fates log) (sender_log log)));
-  each = fitting-all IsEvent room (take 31 (due_of (fates log) (sender_log log))) (all-take IsEvent 31 (due_of (fates log) (sender_log log)) (due-are_events life log short h));
+  few = omega (arith, fitting-short event_size room (take 31 (due_of (fates log) (sender_log log))), length-take 31 (due_of (fates log) (sender_log log)));
+  each = fitting-all IsEvent event_size room (take 31 (due_of (fates log) (sender_log log))) (all-take IsEvent 31 (due_of (fates log) (sender_log log)) (due-are_events life log short h));
 }

@@ -1,12 +1,13 @@
 -- The guaranteed events of a packet are those that were posted under their numbers.
-use Rattle.std.proofs.Common.{◌≡◌, ℕ, zero, suc, ◌-◌, Bool, true, false, nat_le, List, [], ◌∷◌, ◌++◌, if◌then◌else◌, take, drop, ap, ◌∙◌}
+use Rattle.std.proofs.Common.{ℕ, zero, suc, ◌-◌, Bool, true, false, nat_le, List, [], ◌∷◌, ◌++◌, if◌then◌else◌, take, drop, ap, ◌∙◌}
 use Rattle.std.proofs.lemmas.List.{take-append-drop}
 use Rattle.wire_format.specs.declared.events.EventItem.{EventItem}
 use Rattle.wire_format.specs.Events.{event_size}
 use Rattle.event_manager.specs.Receiving.{items_onto, run_of, delivered_of}
 use Rattle.event_manager.specs.Posted.{ArePosted, guaranteed_of}
 use Rattle.event_manager.proofs.Prefixes.{posted-due, delivered-posted}
-use Rattle.stream_manager.specs.End.{EndEvent, sender_log, fates, fitting, events_for}
+use Rattle.stream_manager.specs.End.{EndEvent, sender_log, fates, events_for}
+use Rattle.stream_manager.specs.Shares.{fitting}
 use Rattle.pair_core.specs.Laws.{IsPrefixOf, posted_at}
 
 posted-take : (vs : List (List ℕ)) (n : ℕ) (xs : List EventItem) → ArePosted vs xs → ArePosted vs (take n xs)
@@ -14,11 +15,11 @@ posted-take vs zero xs h = tt
 posted-take vs (suc n) [] h = tt
 posted-take vs (suc n) (x ∷ xs) h = (h.0, posted-take vs n xs h.1)
 
-posted-fitting : (vs : List (List ℕ)) (room : ℕ) (es : List EventItem) → ArePosted vs es → ArePosted vs (fitting room es)
+posted-fitting : (vs : List (List ℕ)) (room : ℕ) (es : List EventItem) → ArePosted vs es → ArePosted vs (fitting event_size room es)
 posted-fitting vs room [] h = tt
 posted-fitting vs room (e ∷ es) h = go (nat_le (event_size e) room) (posted-fitting vs (room - event_size e) es h.1)
   where
-    go : (b : Bool) → ArePosted vs (fitting (room - event_size e) es) → ArePosted vs (if b then e ∷ fitting (room - event_size e) es else [])
+    go : (b : Bool) → ArePosted vs (fitting event_size (room - event_size e) es) → ArePosted vs (if b then e ∷ fitting event_size (room - event_size e) es else [])
     go true rest = (h.0, rest)
     go false rest = tt
 

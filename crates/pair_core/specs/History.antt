@@ -5,19 +5,23 @@ use Rattle.std.specs.Prelude.{ℕ, List, [], ◌∷◌, if◌then◌else◌, sli
 use Rattle.std.specs.Result.{is_ok}
 use Rattle.tn_types.specs.declared.choices.Class.{Class}
 use Rattle.tn_types.specs.declared.choices.Class.TheVariants.{Guaranteed, Loose}
+use Rattle.tn_types.specs.declared.moves.Move.{Move}
 use Rattle.stream_manager.specs.declared.config.Config.{Config}
+use Rattle.stream_manager.specs.Limits.{Terms}
+use Rattle.stream_manager.specs.End.{onto}
 use Rattle.stream_manager.specs.Server as server
 use Rattle.stream_manager.specs.Server.{ServerEvent, posted_at_server, server_datagrams, server_answer, took_at_server}
 use Rattle.stream_manager.specs.Client as client
-use Rattle.stream_manager.specs.Client.{ClientEvent, posted_at_client, client_datagrams, client_answer, took_at_client}
+use Rattle.stream_manager.specs.Client.{ClientEvent, posted_at_client, sampled_answer, client_datagrams, client_answer, took_at_client}
 
 pub data Step : Type 0 where
   Post : (class : Class) (payload : List ℕ) → Step  -- the server posts an event
   ClientPost : (class : Class) (payload : List ℕ) → Step  -- the client posts one
+  Sample : Move → Step  -- the client takes up a move of its player
   Pack : Step  -- the server makes a datagram
   ClientPack : Step  -- the client makes one
   Down : (k : ℕ) → Step  -- the client gets the server's datagram of this place
-  Up : (k : ℕ) → Step  -- the server gets the client's
+  Up : (k room : ℕ) → Step  -- the server gets the client's, where so many moves have a place
 
 pub record History : Type 0 where
   pub server : List ServerEvent
@@ -32,28 +36,29 @@ abbrev pub client_posts : Config → Class → List ℕ → List ClientEvent →
 client_posts c Guaranteed v log = if is_ok (posted_at_client c log) then client.Posted Guaranteed v ∷ log else log
 client_posts c Loose v log = client.Posted Loose v ∷ log
 
-abbrev pub onto : {E : Type 0} → Option E → List E → List E
-onto None log = log
-onto (Some event) log = event ∷ log
+-- a move, unless it is refused
+abbrev pub client_samples : Config → Move → List ClientEvent → List ClientEvent
+client_samples c m log = if is_ok (sampled_answer c log) then client.Sampled m ∷ log else log
 
 -- an arrival, unless nothing of that place was sent or it is refused
-abbrev pub client_gets : Config → Option (List ℕ) → List ClientEvent → List ClientEvent
-client_gets c None log = log
-client_gets c (Some bytes) log = took_at_client log (client_answer c log bytes)
+abbrev pub client_gets : Terms → Option (List ℕ) → List ClientEvent → List ClientEvent
+client_gets t None log = log
+client_gets t (Some bytes) log = took_at_client log (client_answer t.config t.kinds log bytes)
 
-abbrev pub server_gets : Config → Option (List ℕ) → List ServerEvent → List ServerEvent
-server_gets c None log = log
-server_gets c (Some bytes) log = took_at_server log (server_answer c log bytes)
+abbrev pub server_gets : Config → ℕ → Option (List ℕ) → List ServerEvent → List ServerEvent
+server_gets c room None log = log
+server_gets c room (Some bytes) log = took_at_server log room (server_answer c log bytes)
 
-abbrev pub happens : Config → Step → History → History
-happens c (Post class v) h = record { server = server_posts c class v h.server; client = h.client }
-happens c (ClientPost class v) h = record { server = h.server; client = client_posts c class v h.client }
-happens c Pack h = record { server = onto (server.packing c h.server) h.server; client = h.client }
-happens c ClientPack h = record { server = h.server; client = onto (client.packing c h.client) h.client }
-happens c (Down k) h = record { server = h.server; client = client_gets c (slice_get (server_datagrams h.server) k) h.client }
-happens c (Up k) h = record { server = server_gets c (slice_get (client_datagrams h.client) k) h.server; client = h.client }
+abbrev pub happens : Terms → Step → History → History
+happens t (Post class v) h = record { server = server_posts t.config class v h.server; client = h.client }
+happens t (ClientPost class v) h = record { server = h.server; client = client_posts t.config class v h.client }
+happens t (Sample m) h = record { server = h.server; client = client_samples t.config m h.client }
+happens t Pack h = record { server = onto (server.packing t h.server) h.server; client = h.client }
+happens t ClientPack h = record { server = h.server; client = onto (client.packing t.config h.client) h.client }
+happens t (Down k) h = record { server = h.server; client = client_gets t (slice_get (server_datagrams t.kinds h.server) k) h.client }
+happens t (Up k room) h = record { server = server_gets t.config room (slice_get (client_datagrams h.client) k) h.server; client = h.client }
 
 -- what has happened after the steps
-abbrev pub history : Config → List Step → History
-history c [] = record { server = []; client = [] }
-history c (step ∷ steps) = happens c step (history c steps)
+abbrev pub history : Terms → List Step → History
+history t [] = record { server = []; client = [] }
+history t (step ∷ steps) = happens t step (history t steps)

@@ -10,7 +10,7 @@ mod laws;
 mod pair;
 
 pub use fault::{DownFault, Made, UpFault};
-pub use laws::delivers_in_order;
+pub use laws::{accepts_in_order, delivers_in_order};
 pub use pair::Pair;
 
 /// The most datagrams that are sent one way.

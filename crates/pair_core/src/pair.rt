@@ -2,17 +2,20 @@
 ghost use Rattle.std.specs.Prelude.{◌≡◌, ℕ, ◌<◌, ◌≤◌, List, [], ◌∷◌, ◌++◌, IfOk, IfSome, OnOk, OnErr, length, slice_get, drop};
 ghost use Rattle.std.specs.Option.{option_copied};
 ghost use Rattle.tn_types.specs.declared.choices.Class.TheVariants.{Guaranteed, Loose};
-ghost use Rattle.stream_manager.specs.declared.config.Config.{Config as OneConfig};
+ghost use Rattle.stream_manager.specs.Limits.{Terms};
 
 use crate::datagrams::Datagrams;
 use crate::fault::{DownFault, Made, UpFault};
 use crate::{MAX_DATAGRAM_BYTES, MAX_DATAGRAMS};
+use datablocks::MAX_SCRIPT_BLOCKS;
 use event_manager::PostFault;
+use move_manager::MoveFault;
 use notify_window::SendState;
+use quantised_fields::KindTable;
 use std::alloc::Global;
 use std::marker::Model;
-use stream_manager::{Client, Config, Conn};
-use tn_types::{Class, NoMemory, Payload};
+use stream_manager::{Client, ClientOut, Config, Conn, Taken};
+use tn_types::{BlockBytes, Class, Move, NoMemory, Payload};
 
 /// The server's end, the client's end, and the datagrams that each sent.
 ///
@@ -37,20 +40,26 @@ impl Pair {
     ghost use Rattle.stream_manager.specs.Limits.{IsConfig};
     ghost use Rattle.stream_manager.specs.End.{dropped_of};
     ghost use Rattle.stream_manager.specs.Server.{posted_at_server, server_end};
-    ghost use Rattle.stream_manager.specs.Client.{posted_at_client, client_end};
-    ghost use Rattle.pair_core.specs.History.{Step, Post, ClientPost, Pack, ClientPack, Down, Up, history};
-    ghost use Rattle.pair_core.specs.Answers.{pack_answer, client_pack_answer, down_answer, up_answer, client_delivered, server_delivered, client_run};
+    ghost use Rattle.stream_manager.specs.Client.{posted_at_client, sampled_answer, client_end};
+    ghost use Rattle.pair_core.specs.History.{Step, Post, ClientPost, Sample, Pack, ClientPack, Down, Up, history};
+    ghost use Rattle.pair_core.specs.Answers.{pack_answer, client_pack_answer, down_answer, up_answer, client_delivered, server_delivered, client_run, accepted_in};
     ghost use Rattle.pair_core.specs.Stands.{StandsFor};
 
-    /// A new connection.
-    pub fn new(alloc: Global, config: Config) -> Result<Pair, NoMemory>
-        requires { IsConfig config }
-        ensures stands { IfOk result (λ p. StandsFor p config []) }
+    /// A new connection, in a match of these kinds and blocks, at most 64.
+    pub fn new(
+        alloc: Global,
+        config: Config,
+        kinds: &KindTable,
+        blocks: &[BlockBytes],
+    ) -> Result<Pair, NoMemory>
+        requires config { IsConfig config }
+        requires few { length blocks.now ≤ MAX_SCRIPT_BLOCKS }
+        ensures stands { IfOk result (λ p. StandsFor p (record { config = config; kinds = kinds.now; blocks = blocks.now }) []) }
         ensures conn_empty { IfOk result (λ p. p.conn.common.receiver.ready ≡ []) }
         ensures client_empty { IfOk result (λ p. p.client.common.receiver.ready ≡ []) }
     {
-        let conn = Conn::new(alloc, config)?;
-        let client = Client::new(alloc, config)?;
+        let conn = Conn::new(alloc, config, kinds, blocks)?;
+        let client = Client::new(alloc, config, kinds)?;
         Ok(Pair {
             conn,
             client,
@@ -59,10 +68,24 @@ impl Pair {
         })
     }
 
+    /// The server's end.
+    pub fn conn(&self) -> &Conn
+        ensures { result.now ≡ self.now.conn }
+    {
+        &self.conn
+    }
+
+    /// The client's end.
+    pub fn client(&self) -> &Client
+        ensures { result.now ≡ self.now.client }
+    {
+        &self.client
+    }
+
     /// The server posts a guaranteed event, and gives its number.
     pub fn post(&mut self, payload: Payload) -> Result<u32, PostFault>
-        ensures answer { (c : OneConfig) (steps : List Step) → StandsFor self.old c steps → result ≡ posted_at_server c (history c steps).server }
-        ensures stands { (c : OneConfig) (steps : List Step) → StandsFor self.old c steps → StandsFor self.new c (Post Guaranteed payload ∷ steps) }
+        ensures answer { (t : Terms) (steps : List Step) → StandsFor self.old t steps → result ≡ posted_at_server t.config (history t steps).server }
+        ensures stands { (t : Terms) (steps : List Step) → StandsFor self.old t steps → StandsFor self.new t (Post Guaranteed payload ∷ steps) }
         ensures conn_ready { self.new.conn.common.receiver ≡ self.old.conn.common.receiver }
         ensures client_ready { self.new.client ≡ self.old.client }
     {
@@ -71,8 +94,8 @@ impl Pair {
 
     /// The server posts an unguaranteed event, and gives back the oldest waiting one where too many wait.
     pub fn post_loose(&mut self, payload: Payload) -> Option<Payload>
-        ensures dropped { (c : OneConfig) (steps : List Step) → StandsFor self.old c steps → result ≡ dropped_of (server_end (history c steps).server) }
-        ensures stands { (c : OneConfig) (steps : List Step) → StandsFor self.old c steps → StandsFor self.new c (Post Loose payload ∷ steps) }
+        ensures dropped { (t : Terms) (steps : List Step) → StandsFor self.old t steps → result ≡ dropped_of (server_end (history t steps).server) }
+        ensures stands { (t : Terms) (steps : List Step) → StandsFor self.old t steps → StandsFor self.new t (Post Loose payload ∷ steps) }
         ensures conn_ready { self.new.conn.common.receiver ≡ self.old.conn.common.receiver }
         ensures client_ready { self.new.client ≡ self.old.client }
     {
@@ -81,8 +104,8 @@ impl Pair {
 
     /// The client posts a guaranteed event, and gives its number.
     pub fn client_post(&mut self, payload: Payload) -> Result<u32, PostFault>
-        ensures answer { (c : OneConfig) (steps : List Step) → StandsFor self.old c steps → result ≡ posted_at_client c (history c steps).client }
-        ensures stands { (c : OneConfig) (steps : List Step) → StandsFor self.old c steps → StandsFor self.new c (ClientPost Guaranteed payload ∷ steps) }
+        ensures answer { (t : Terms) (steps : List Step) → StandsFor self.old t steps → result ≡ posted_at_client t.config (history t steps).client }
+        ensures stands { (t : Terms) (steps : List Step) → StandsFor self.old t steps → StandsFor self.new t (ClientPost Guaranteed payload ∷ steps) }
         ensures client_ready { self.new.client.common.receiver ≡ self.old.client.common.receiver }
         ensures conn_ready { self.new.conn ≡ self.old.conn }
     {
@@ -91,19 +114,29 @@ impl Pair {
 
     /// The client posts an unguaranteed event, and gives back the oldest waiting one where too many wait.
     pub fn client_post_loose(&mut self, payload: Payload) -> Option<Payload>
-        ensures dropped { (c : OneConfig) (steps : List Step) → StandsFor self.old c steps → result ≡ dropped_of (client_end (history c steps).client) }
-        ensures stands { (c : OneConfig) (steps : List Step) → StandsFor self.old c steps → StandsFor self.new c (ClientPost Loose payload ∷ steps) }
+        ensures dropped { (t : Terms) (steps : List Step) → StandsFor self.old t steps → result ≡ dropped_of (client_end (history t steps).client) }
+        ensures stands { (t : Terms) (steps : List Step) → StandsFor self.old t steps → StandsFor self.new t (ClientPost Loose payload ∷ steps) }
         ensures client_ready { self.new.client.common.receiver ≡ self.old.client.common.receiver }
         ensures conn_ready { self.new.conn ≡ self.old.conn }
     {
         self.client.post_loose(payload)
     }
 
+    /// The client takes up a move of its player, and gives its number.
+    pub fn sample(&mut self, m: Move) -> Result<u32, MoveFault>
+        ensures answer { (t : Terms) (steps : List Step) → StandsFor self.old t steps → result ≡ sampled_answer t.config (history t steps).client }
+        ensures stands { (t : Terms) (steps : List Step) → StandsFor self.old t steps → StandsFor self.new t (Sample m ∷ steps) }
+        ensures client_ready { self.new.client.common.receiver ≡ self.old.client.common.receiver }
+        ensures conn_ready { self.new.conn ≡ self.old.conn }
+    {
+        self.client.sample(m)
+    }
+
     /// The server makes its next datagram.
     pub fn pack(&mut self, alloc: Global) -> Result<Made, NoMemory>
         requires { length self.old.down < MAX_DATAGRAMS }
-        ensures answer { IfOk result (λ made. (c : OneConfig) (steps : List Step) → StandsFor self.old c steps → made ≡ pack_answer c steps) }
-        ensures stands { OnOk result ((c : OneConfig) (steps : List Step) → StandsFor self.old c steps → StandsFor self.new c (Pack ∷ steps)) }
+        ensures answer { IfOk result (λ made. (t : Terms) (steps : List Step) → StandsFor self.old t steps → made ≡ pack_answer t steps) }
+        ensures stands { OnOk result ((t : Terms) (steps : List Step) → StandsFor self.old t steps → StandsFor self.new t (Pack ∷ steps)) }
         ensures conn_ready { OnOk result (self.new.conn.common.receiver ≡ self.old.conn.common.receiver) }
         ensures client_ready { self.new.client ≡ self.old.client }
     {
@@ -112,13 +145,13 @@ impl Pair {
         match self.conn.pack_state() {
             SendState::Held => {
                 let bytes = self.conn.ping();
-                self.down.push(alloc, bytes.as_slice())?;
+                self.down.push(alloc, bytes)?;
                 Ok(Made::Ping { place })
             }
             SendState::Worn => Ok(Made::Worn { life }),
             SendState::Room => {
                 let bytes = self.conn.seal();
-                self.down.push(alloc, bytes.as_slice())?;
+                self.down.push(alloc, bytes)?;
                 Ok(Made::Data { place })
             }
         }
@@ -127,23 +160,22 @@ impl Pair {
     /// The client makes its next datagram.
     pub fn client_pack(&mut self, alloc: Global) -> Result<Made, NoMemory>
         requires { length self.old.up < MAX_DATAGRAMS }
-        ensures answer { IfOk result (λ made. (c : OneConfig) (steps : List Step) → StandsFor self.old c steps → made ≡ client_pack_answer c steps) }
-        ensures stands { OnOk result ((c : OneConfig) (steps : List Step) → StandsFor self.old c steps → StandsFor self.new c (ClientPack ∷ steps)) }
+        ensures answer { IfOk result (λ made. (t : Terms) (steps : List Step) → StandsFor self.old t steps → made ≡ client_pack_answer t steps) }
+        ensures stands { OnOk result ((t : Terms) (steps : List Step) → StandsFor self.old t steps → StandsFor self.new t (ClientPack ∷ steps)) }
         ensures client_ready { OnOk result (self.new.client.common.receiver ≡ self.old.client.common.receiver) }
         ensures conn_ready { self.new.conn ≡ self.old.conn }
     {
         let place = self.up.len();
-        let life = self.client.config().life;
-        match self.client.pack_state() {
-            SendState::Held => {
-                let bytes = self.client.ping();
-                self.up.push(alloc, bytes.as_slice())?;
+        // no datagram is longer than its size, nor that than 1,200
+        let _config = self.client.config();
+        match self.client.pack() {
+            ClientOut::Ping(bytes) => {
+                self.up.push(alloc, bytes)?;
                 Ok(Made::Ping { place })
             }
-            SendState::Worn => Ok(Made::Worn { life }),
-            SendState::Room => {
-                let bytes = self.client.seal();
-                self.up.push(alloc, bytes.as_slice())?;
+            ClientOut::Worn { life } => Ok(Made::Worn { life }),
+            ClientOut::Body(bytes) => {
+                self.up.push(alloc, bytes)?;
                 Ok(Made::Data { place })
             }
         }
@@ -152,9 +184,9 @@ impl Pair {
     /// The client gets the server's datagram of place `k`, counted from 0. No event may wait at the client.
     pub fn down(&mut self, k: u32) -> Result<(), DownFault>
         requires { self.old.client.common.receiver.ready ≡ [] }
-        ensures answer { (c : OneConfig) (steps : List Step) → StandsFor self.old c steps → result ≡ down_answer c steps k }
-        ensures stands { (c : OneConfig) (steps : List Step) → StandsFor self.old c steps → StandsFor self.new c (Down k ∷ steps) }
-        ensures handed { (c : OneConfig) (steps : List Step) → StandsFor self.old c steps → client_delivered c (Down k ∷ steps) ≡ client_delivered c steps ++ self.new.client.common.receiver.ready }
+        ensures answer { (t : Terms) (steps : List Step) → StandsFor self.old t steps → result ≡ down_answer t steps k }
+        ensures stands { (t : Terms) (steps : List Step) → StandsFor self.old t steps → StandsFor self.new t (Down k ∷ steps) }
+        ensures handed { (t : Terms) (steps : List Step) → StandsFor self.old t steps → client_delivered t (Down k ∷ steps) ≡ client_delivered t steps ++ self.new.client.common.receiver.ready }
         ensures conn_ready { self.new.conn ≡ self.old.conn }
         ensures unchanged { OnErr result (self.new ≡ self.old) }
     {
@@ -169,12 +201,14 @@ impl Pair {
         }
     }
 
-    /// The server gets the client's datagram of place `k`, counted from 0. No event may wait at the server.
-    pub fn up(&mut self, k: u32) -> Result<(), UpFault>
+    /// The server gets the client's datagram of place `k`, counted from 0, where `room` further moves have a place. No
+    /// event may wait at the server.
+    pub fn up(&mut self, k: u32, room: u32) -> Result<Taken, UpFault>
         requires { self.old.conn.common.receiver.ready ≡ [] }
-        ensures answer { (c : OneConfig) (steps : List Step) → StandsFor self.old c steps → result ≡ up_answer c steps k }
-        ensures stands { (c : OneConfig) (steps : List Step) → StandsFor self.old c steps → StandsFor self.new c (Up k ∷ steps) }
-        ensures handed { (c : OneConfig) (steps : List Step) → StandsFor self.old c steps → server_delivered c (Up k ∷ steps) ≡ server_delivered c steps ++ self.new.conn.common.receiver.ready }
+        ensures answer { (t : Terms) (steps : List Step) → StandsFor self.old t steps → result ≡ up_answer t steps k room }
+        ensures stands { (t : Terms) (steps : List Step) → StandsFor self.old t steps → StandsFor self.new t (Up k room ∷ steps) }
+        ensures handed { (t : Terms) (steps : List Step) → StandsFor self.old t steps → server_delivered t (Up k room ∷ steps) ≡ server_delivered t steps ++ self.new.conn.common.receiver.ready }
+        ensures moves { OnOk result ((t : Terms) (steps : List Step) → StandsFor self.old t steps → accepted_in t (Up k room ∷ steps) ≡ accepted_in t steps ++ self.new.conn.taken) }
         ensures client_ready { self.new.client ≡ self.old.client }
         ensures unchanged { OnErr result (self.new ≡ self.old) }
     {
@@ -183,8 +217,8 @@ impl Pair {
                 sent: self.up.len(),
             });
         };
-        match self.conn.arrive(datagram.as_slice()) {
-            Ok(()) => Ok(()),
+        match self.conn.arrive(datagram.as_slice(), room) {
+            Ok(taken) => Ok(taken),
             Err(fault) => Err(UpFault::Refused(fault)),
         }
     }
@@ -193,7 +227,7 @@ impl Pair {
     pub fn pop_client_event(&mut self) -> Option<(Class, Payload)>
         ensures first { result ≡ slice_get self.old.client.common.receiver.ready 0 }
         ensures rest { self.new.client.common.receiver.ready ≡ drop 1 self.old.client.common.receiver.ready }
-        ensures stands { (c : OneConfig) (steps : List Step) → StandsFor self.old c steps → StandsFor self.new c steps }
+        ensures stands { (t : Terms) (steps : List Step) → StandsFor self.old t steps → StandsFor self.new t steps }
         ensures conn_ready { self.new.conn ≡ self.old.conn }
     {
         self.client.pop_event()
@@ -203,7 +237,7 @@ impl Pair {
     pub fn pop_server_event(&mut self) -> Option<(Class, Payload)>
         ensures first { result ≡ slice_get self.old.conn.common.receiver.ready 0 }
         ensures rest { self.new.conn.common.receiver.ready ≡ drop 1 self.old.conn.common.receiver.ready }
-        ensures stands { (c : OneConfig) (steps : List Step) → StandsFor self.old c steps → StandsFor self.new c steps }
+        ensures stands { (t : Terms) (steps : List Step) → StandsFor self.old t steps → StandsFor self.new t steps }
         ensures client_ready { self.new.client ≡ self.old.client }
     {
         self.conn.pop_event()
@@ -249,7 +283,7 @@ impl Pair {
 
     /// How many guaranteed events the client delivered.
     pub fn client_delivered(&self) -> u32
-        ensures { (c : OneConfig) (steps : List Step) → StandsFor self.now c steps → result ≡ client_run c steps }
+        ensures { (t : Terms) (steps : List Step) → StandsFor self.now t steps → result ≡ client_run t steps }
     {
         self.client.delivered()
     }

@@ -2,7 +2,7 @@ use Rattle.pair_core.proofs.InOrder.{delivers_down, delivers_up}
 use Rattle.pair_core.proofs.laws.delivers_in_order.Goals as goal
 
 pub returns-clause-down : goal.returns-clause-down
-returns-clause-down c cfg steps limits fit = delivers_down cfg steps limits fit
+returns-clause-down c t steps limits fit = delivers_down t steps limits fit
 
 pub returns-clause-up : goal.returns-clause-up
-returns-clause-up c cfg steps limits fit = delivers_up cfg steps limits fit
+returns-clause-up c t steps limits fit = delivers_up t steps limits fit

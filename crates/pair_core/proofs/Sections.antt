@@ -1,0 +1,51 @@
+-- The sections of a data packet lie in their ranges, so that each packet has a spelling.
+use Rattle.std.proofs.Common.{◌≡◌, ℕ, zero, suc, ◌-◌, ◌*◌, ◌<◌, ◌≤◌, Bool, true, false, List, [], ◌∷◌, ◌++◌, if◌then◌else◌, length, map, take, refl, ap, arith, length-take}
+use Rattle.std.specs.List.{AllByRecursion, slice_index_or}
+use Rattle.tn_types.specs.declared.moves.Move.{Move}
+use Rattle.wire_format.specs.declared.blocks.BlockItem.{BlockItem}
+use Rattle.wire_format.specs.Blocks.{block_size, IsBlock}
+use Rattle.wire_format.specs.Moves.{AnyMove}
+use Rattle.wire_format.specs.Reading.{AreListed}
+use Rattle.datablocks.specs.Sending.{those_below, due_of, is_due}
+use Rattle.stream_manager.specs.End.{fates}
+use Rattle.stream_manager.specs.Limits.{Terms, IsBlockBytes, AreTerms}
+use Rattle.stream_manager.specs.Server.{ServerEvent, server_end, block_log, block_item, blocks_at}
+use Rattle.stream_manager.proofs.Fitting.{fitting-all, fitting-short}
+use Rattle.pair_core.proofs.Lists.{all-append, all-take}
+
+-- ---- blocks
+
+bytes-at : (blocks : List (List ℕ)) (b : ℕ) → b < length blocks → AllByRecursion IsBlockBytes blocks → IsBlockBytes (slice_index_or blocks b [])
+bytes-at [] b l h = absurd (omega arith)
+bytes-at (x ∷ blocks) zero l h = h.0
+bytes-at (x ∷ blocks) (suc b) l h = bytes-at blocks b (omega arith) h.1
+
+block-fits : (blocks : List (List ℕ)) (b : ℕ) → b < length blocks → length blocks ≤ 64 → AllByRecursion IsBlockBytes blocks → IsBlock (block_item blocks b)
+block-fits blocks b l few h = let bytes = bytes-at blocks b l h in record { number = omega arith; length = bytes.few; bytes = bytes.bytes }
+
+map-push : (f : ℕ → BlockItem) (ns : List ℕ) (n : ℕ) → map f (ns ++ n ∷ []) ≡ map f ns ++ f n ∷ []
+map-push f [] n = refl
+map-push f (m ∷ ns) n = ap (λ (l : List BlockItem). f m ∷ l) (map-push f ns n)
+
+below-fit : (blocks : List (List ℕ)) (f : ℕ → Bool) (n : ℕ) → n ≤ length blocks → length blocks ≤ 64 → AllByRecursion IsBlockBytes blocks → AllByRecursion IsBlock (map (block_item blocks) (those_below f n))
+below-fit blocks f zero l few h = tt
+below-fit blocks f (suc n) l few h = go (f n) (below-fit blocks f n (omega arith) few h)
+  where
+    go : (b : Bool) → AllByRecursion IsBlock (map (block_item blocks) (those_below f n)) → AllByRecursion IsBlock (map (block_item blocks) (if b then those_below f n ++ n ∷ [] else those_below f n))
+    go false rest = rest
+    go true rest = rw (map-push (block_item blocks) (those_below f n) n) (all-append IsBlock (map (block_item blocks) (those_below f n)) (block_item blocks n ∷ []) rest (block-fits blocks n (omega arith) few h, tt))
+
+pub blocks-fit : (t : Terms) (log : List ServerEvent) → AreTerms t → AreListed 15 IsBlock (blocks_at t log)
+blocks-fit t log limits =
+    let due : List BlockItem = map (block_item t.blocks) (due_of (fates (server_end log)) (block_log log) (length t.blocks)) in
+    record {
+      few = omega (arith, fitting-short block_size (4 * t.config.size - 136) (take 15 due), length-take 15 due);
+      each = fitting-all IsBlock block_size (4 * t.config.size - 136) (take 15 due)
+          (all-take IsBlock 15 due (below-fit t.blocks (is_due (fates (server_end log)) (block_log log) (length t.blocks)) (length t.blocks) (omega arith) limits.few limits.blocks));
+    }
+
+-- ---- moves
+
+pub any-moves : (ms : List Move) → AllByRecursion AnyMove ms
+any-moves [] = tt
+any-moves (m ∷ ms) = (tt, any-moves ms)

@@ -1,0 +1,5 @@
+use Rattle.pair_core.proofs.InOrder.{accepts}
+use Rattle.pair_core.proofs.laws.accepts_in_order.Goals as goal
+
+pub returns : goal.returns
+returns c t steps limits fit = accepts t steps limits fit
