@@ -1,10 +1,10 @@
 -- Lines behind lines, as they are printed.
 use Rattle.std.proofs.Common.{◌≡◌, ℕ, ◌+◌, ◌<◌, List, [], ◌∷◌, ◌++◌, length, map, take, get_or, refl, append_assoc}
-use Rattle.std.proofs.lemmas.List.{map-append, take_more}
+use Rattle.std.proofs.lemmas.List.{append-nil, map-append, take_more}
 use Rattle.match_script.specs.declared.types.BodyLine.{BodyLine}
 use Rattle.match_script.specs.declared.types.Head.{Head}
 use Rattle.match_script.specs.Text.{spelled}
-use Rattle.match_script.specs.Print.{line_words, header_words, version_words, match_words, go_words, joined, with_line}
+use Rattle.match_script.specs.Print.{line_words, header_words, version_words, match_words, block_words, go_words, joined, with_line}
 
 joined-append : (front back : List (List ℕ)) → joined (front ++ back) ≡ joined front ++ joined back
 unfolding joined
@@ -19,17 +19,35 @@ one_more words more = rw (map-append, joined-append) refl
 abbrev pub begun : Head → List BodyLine → List ℕ
 begun head lines = joined (map spelled (header_words head ++ map line_words lines))
 
-line_more : (front : List (List (List ℕ))) (lines : List BodyLine) (line : BodyLine) → joined (map spelled (front ++ map line_words (lines ++ line ∷ []))) ≡ with_line (joined (map spelled (front ++ map line_words lines))) (line_words line)
-line_more front lines line = rw (map-append line_words lines (line ∷ []), ← append_assoc) (one_more (front ++ map line_words lines) (line_words line))
+lines_more : {A : Type 0} (words_of_item : A → List (List ℕ)) (front : List (List (List ℕ))) (items : List A) (item : A) → joined (map spelled (front ++ map words_of_item (items ++ item ∷ []))) ≡ with_line (joined (map spelled (front ++ map words_of_item items))) (words_of_item item)
+lines_more words_of_item front items item = rw (map-append words_of_item items (item ∷ []), ← append_assoc) (one_more (front ++ map words_of_item items) (words_of_item item))
 
 pub one_line_more : (head : Head) (lines : List BodyLine) (i : ℕ) (line : BodyLine) → i < length lines → line ≡ get_or lines i line → begun head (take (i + 1) lines) ≡ with_line (begun head (take i lines)) (line_words line)
 one_line_more head lines i line lt e =
     let more = take_more lines i line lt in
-    rw (more, ← e) (line_more (header_words head) (take i lines) line)
+    rw (more, ← e) (lines_more line_words (header_words head) (take i lines) line)
 
-lines_three : (a b c : List (List ℕ)) → with_line (with_line (with_line [] a) b) c ≡ joined (map spelled (a ∷ b ∷ c ∷ []))
+-- the lines of some blocks
+abbrev pub blocks_text : List (List ℕ) → List ℕ
+blocks_text blocks = joined (map spelled (map block_words blocks))
+
+pub one_block_more : (text : List ℕ) (blocks : List (List ℕ)) (i : ℕ) (block : List ℕ) → i < length blocks → block ≡ get_or blocks i block → text ++ blocks_text (take (i + 1) blocks) ≡ with_line (text ++ blocks_text (take i blocks)) (block_words block)
+one_block_more text blocks i block lt e =
+    let more = take_more blocks i block lt in
+    rw (more, ← e, lines_more block_words [] (take i blocks) block, append_assoc) refl
+
+pub no_block : (text : List ℕ) → text ++ blocks_text [] ≡ text
 unfolding joined
-lines_three a b c = simp append_assoc
+no_block text = append-nil text
 
-pub three_lines : (head : Head) → with_line (with_line (with_line [] (version_words head.version)) (match_words head)) go_words ≡ joined (map spelled (header_words head))
-three_lines head = lines_three (version_words head.version) (match_words head) go_words
+lines_round : (v m g : List (List ℕ)) (bs : List (List (List ℕ))) → with_line (with_line (with_line [] v) m ++ joined (map spelled bs)) g ≡ joined (map spelled (v ∷ m ∷ [])) ++ (joined (map spelled bs) ++ joined (map spelled (g ∷ [])))
+unfolding joined
+lines_round v m g bs = simp append_assoc
+
+header_text : (v m g : List (List ℕ)) (bs : List (List (List ℕ))) → with_line (with_line (with_line [] v) m ++ joined (map spelled bs)) g ≡ joined (map spelled ((v ∷ m ∷ []) ++ (bs ++ g ∷ [])))
+header_text v m g bs =
+    rw (map-append spelled (v ∷ m ∷ []) (bs ++ g ∷ []), map-append spelled bs (g ∷ []), joined-append (map spelled (v ∷ m ∷ [])) (map spelled bs ++ map spelled (g ∷ [])), joined-append (map spelled bs) (map spelled (g ∷ [])))
+    (lines_round v m g bs)
+
+pub header_lines : (head : Head) → with_line (with_line (with_line [] (version_words head.version)) (match_words head) ++ blocks_text head.blocks) go_words ≡ joined (map spelled (header_words head))
+header_lines head = header_text (version_words head.version) (match_words head) go_words (map block_words head.blocks)

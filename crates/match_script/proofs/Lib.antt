@@ -1,5 +1,8 @@
 pub mod Cutting
 pub mod Numbers
+pub mod Steps
+pub mod MoveLines
+pub mod BlockLines
 pub mod Bodies
 pub mod Joining
 pub mod Printing

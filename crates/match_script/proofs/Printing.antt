@@ -1,15 +1,16 @@
 -- The lines and words of what was printed: each is read again.
-use Rattle.std.proofs.Common.{◌≡◌, ℕ, zero, suc, ◌+◌, ◌^◌, ◌<◌, ◌≤◌, ◌/◌, ◌%◌, Bool, true, false, ◌&&◌, List, [], ◌∷◌, ◌++◌, length, map, arith, Ok, nat_lt, nat_le, nat_eq, refl, get_or}
-use Rattle.std.specs.Prelude.{codes}
+use Rattle.std.proofs.Common.{◌≡◌, ℕ, zero, suc, ◌+◌, ◌-◌, ◌^◌, ◌<◌, ◌≤◌, ◌/◌, ◌%◌, Bool, true, false, ◌&&◌, List, [], ◌∷◌, ◌++◌, length, map, arith, Ok, nat_lt, nat_le, nat_eq, cond, refl, sym, ap, get_or}
+use Rattle.std.specs.Prelude.{ℤ, pos, negsuc, codes}
 use Rattle.std.specs.List.{list_all}
 use Rattle.std.specs.Str.{bytes_eq}
 use Rattle.std.specs.Str.Parse.{AllDigits}
 use Rattle.std.specs.Char.{digit_value}
 use Rattle.std.specs.Int.Digits.{digits_of}
-use Rattle.std.specs.Fmt.{decimal, digits}
+use Rattle.std.specs.Fmt.{decimal, signed_decimal, digits}
 use Rattle.std.proofs.lemmas.Fmt.{decimal_is_IsNumeral, decimal-digits_of}
 use Rattle.std.proofs.lemmas.Int.Digits.{first_digits_of}
 use Rattle.std.proofs.lemmas.Bool.{and_parts}
+use Rattle.std.proofs.lemmas.Int.{ints}
 use Rattle.std.proofs.lemmas.List.Folds.{list_all-append}
 use Rattle.std.proofs.lemmas.List.Sums.{list_all-from_AllPass}
 use Rattle.hex.specs.Hex.{encode_lower, IsBytes, decode_of, is_hex_digit}
@@ -18,8 +19,10 @@ use Rattle.tn_types.specs.Bytes.{AreBytes}
 use Rattle.tn_types.specs.declared.choices.Class.{Class}
 use Rattle.tn_types.specs.declared.choices.Class.TheVariants.{Guaranteed, Loose}
 use Rattle.match_script.specs.Text.{lines_of, words_of, is_text, is_text_byte, spelled}
-use Rattle.match_script.specs.Words.{number, number_from, hex, is_number, is_digit}
-use Rattle.match_script.specs.Print.{hex_word, class_word, joined}
+use Rattle.match_script.specs.Words.{number, number_from, flag, class_named, hex, is_number, is_digit}
+use Rattle.match_script.specs.Steps.{IsStep, GivesStep, step, signed, as_step, back}
+use Rattle.match_script.specs.Print.{hex_word, class_word, flag_word, joined}
+use Rattle.match_script.proofs.Steps.{is_ahead, is_back}
 
 abbrev pub is_word_byte : ℕ → Bool
 is_word_byte b = nat_le 33 b && nat_le b 126
@@ -153,6 +156,50 @@ number_from_decimal least most n low lt le =
 
 pub plain_decimal : (n : ℕ) → n < 2 ^ 64 → is_plain (decimal n) ≡ true
 plain_decimal n h = digits_plain (decimal n) (decimal_digits n h)
+
+-- a number's word begins with no minus sign
+number_shape : (ds : List ℕ) → is_number ds ≡ true → (d : ℕ) × (rest : List ℕ) × (ds ≡ d ∷ rest) × (nat_eq d 45 ≡ false)
+number_shape [] h = absurd (cc)
+number_shape (d ∷ rest) h = (d, rest, refl, one d (nat_eq (length rest) 0) (list_all is_digit rest) h)
+  where
+    one : (d : ℕ) (a b : Bool) → cond (nat_eq d 48) a (is_digit d && b) ≡ true → nat_eq d 45 ≡ false
+    one d a b h = grind arith
+
+step_ahead : (ds : List ℕ) (n : ℕ) → is_number ds ≡ true → number 8 ds ≡ Ok n → GivesStep (Ok (pos n)) (step ds)
+unfolding step signed
+step_ahead ds n h e =
+    let s = number_shape ds h in
+    let k = is_ahead ds n (pos n) e refl in
+    rw (s.2, s.3) (rw s.2 at k)
+
+backwards : (n : ℕ) → number 9 (decimal (suc n)) ≡ Ok (suc n) → GivesStep (Ok (negsuc n)) (as_step (back (decimal (suc n))))
+backwards n e =
+    let less : suc n - 1 ≡ n = omega arith in
+    is_back (decimal (suc n)) (suc n) (negsuc n) e (omega arith) (ap negsuc (sym less))
+
+-- a printed step is read again
+pub step_back : (z : ℤ) → IsStep z → GivesStep (Ok z) (step (signed_decimal z))
+unfolding step signed
+step_back (pos n) h = step_ahead (decimal n) n (decimal_number n (omega (arith, ints))) (number_decimal 8 n (omega (arith, ints)) (omega arith))
+step_back (negsuc n) h = backwards n (number_decimal 9 (suc n) (omega (arith, ints)) (omega arith))
+
+pub plain_step : (z : ℤ) → IsStep z → is_plain (signed_decimal z) ≡ true
+plain_step (pos n) h = plain_decimal n (omega (arith, ints))
+plain_step (negsuc n) h = plain_decimal (suc n) (omega (arith, ints))
+
+pub flag_back : (b : Bool) → flag (flag_word b) ≡ Ok b
+unfolding flag number
+flag_back true = refl
+flag_back false = refl
+
+pub plain_flag : (b : Bool) → is_plain (flag_word b) ≡ true
+plain_flag true = refl
+plain_flag false = refl
+
+pub class_back : (c : Class) → class_named (class_word c) ≡ Ok c
+unfolding class_named
+class_back Guaranteed = refl
+class_back Loose = refl
 
 pub plain_class : (c : Class) → is_plain (class_word c) ≡ true
 plain_class Guaranteed = refl

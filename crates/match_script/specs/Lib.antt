@@ -1,5 +1,6 @@
 pub mod Text
 pub mod Words
+pub mod Steps
 pub mod Shape
 pub mod Lines
 pub mod Script

@@ -1,16 +1,18 @@
 -- What a line of the body says. A line is known by its first word, the number of its words and, for a post, its
--- class; then its words are read from left to right. A further kind of line is one case here.
-use Rattle.std.specs.Prelude.{ℕ, ◌≡◌, ◌^◌, List, [], ◌∷◌, ◌&&◌, ◌||◌, Bool, false, if◌then◌else◌, codes, Result, Ok, Err, refl}
+-- class; then its words are read from left to right. A further kind of line is one case here. The lines of the
+-- header that have numbers or bytes stand here too.
+use Rattle.std.specs.Prelude.{ℕ, ◌≡◌, ◌^◌, List, [], ◌∷◌, ◌||◌, Bool, false, if◌then◌else◌, codes, Result, Ok, Err, refl}
 use Rattle.std.specs.Str.{bytes_eq}
-use Rattle.tn_types.specs.declared.choices.Class.{Class}
-use Rattle.tn_types.specs.declared.choices.Class.TheVariants.{Guaranteed}
+use Rattle.tn_types.specs.declared.choices.Class.TheVariants.{Loose}
+use Rattle.tn_types.specs.declared.moves.Move.{Move as PlayerMove}
 use Rattle.match_script.specs.declared.limits.TheConstants.{MOST_PAYLOAD, MOST_CLIENTS, MOST_LIFE, LEAST_SIZE, MOST_SIZE, MOST_RADIUS}
 use Rattle.match_script.specs.declared.types.ScriptFault.{ScriptFault}
 use Rattle.match_script.specs.declared.types.ScriptFault.TheVariants.{UnknownWord, NotBuilt, BadHeader, OutOfRange}
 use Rattle.match_script.specs.declared.types.BodyLine.{BodyLine}
-use Rattle.match_script.specs.declared.types.BodyLine.TheVariants.{Post, Pack, ClientPack, Down, Up, Show}
+use Rattle.match_script.specs.declared.types.BodyLine.TheVariants.{Post, ClientPost, Pack, ClientPack, Down, Up, Move, Show}
 use Rattle.match_script.specs.declared.types.Head.{Head}
-use Rattle.match_script.specs.Words.{◌>>=◌, number, number_from, hex}
+use Rattle.match_script.specs.Words.{◌>>=◌, number, number_from, flag, class_named, hex}
+use Rattle.match_script.specs.Steps.{Step, step}
 
 abbrev pub is : List ℕ → List ℕ → Bool
 is word name = bytes_eq word name
@@ -18,12 +20,9 @@ is word name = bytes_eq word name
 -- Lines of the format that no version so far reads, in the header and in the body.
 unfoldable pub is_unbuilt : List (List ℕ) → Bool
 is_unbuilt (kind ∷ []) = is kind (codes "tick") || is kind (codes "world")
-is_unbuilt (kind ∷ word ∷ []) = is kind (codes "scan") || is kind (codes "block")
+is_unbuilt (kind ∷ c ∷ []) = is kind (codes "scan")
 is_unbuilt (kind ∷ c ∷ bytes ∷ []) = is kind (codes "raw")
-is_unbuilt (kind ∷ c ∷ class ∷ bytes ∷ []) =
-    (is kind (codes "post") && is class (codes "u"))
-    || (is kind (codes "cpost") && (is class (codes "g") || is class (codes "u")))
-is_unbuilt (kind ∷ c ∷ v ∷ w ∷ x ∷ y ∷ []) = is kind (codes "move") || is kind (codes "player") || is kind (codes "spawn")
+is_unbuilt (kind ∷ v ∷ block ∷ team ∷ x ∷ y ∷ []) = is kind (codes "player") || is kind (codes "spawn")
 is_unbuilt words = false
 
 -- why these words are no line of the body
@@ -34,11 +33,19 @@ no_body_line words = if is_unbuilt words then NotBuilt else UnknownWord
 unfoldable pub no_header_line : List (List ℕ) → ScriptFault
 no_header_line words = if is_unbuilt words then NotBuilt else BadHeader
 
-unfoldable pub post_line : ℕ → List ℕ → Class → List ℕ → Result BodyLine ScriptFault
+unfoldable pub post_line : ℕ → List ℕ → List ℕ → List ℕ → Result BodyLine ScriptFault
 post_line clients c class bytes = do
+  class ← class_named class
   client ← number clients c
   payload ← hex MOST_PAYLOAD bytes
   Ok (Post client class payload)
+
+unfoldable pub client_post_line : ℕ → List ℕ → List ℕ → List ℕ → Result BodyLine ScriptFault
+client_post_line clients c class bytes = do
+  class ← class_named class
+  client ← number clients c
+  payload ← hex MOST_PAYLOAD bytes
+  Ok (ClientPost client class payload)
 
 unfoldable pub pack_line : ℕ → List ℕ → Result BodyLine ScriptFault
 pack_line clients c = do
@@ -62,6 +69,19 @@ up_line clients c place = do
   k ← number (2 ^ 32) place
   Ok (Up client k)
 
+-- the move of these steps, and whether it fires and uses
+abbrev pub move_of : Step → Step → Bool → Bool → PlayerMove
+move_of dx dy fire act = record { dx = dx.value; dy = dy.value; fire = fire; act = act; dx_range = dx.range; dy_range = dy.range }
+
+unfoldable pub move_line : ℕ → List ℕ → List ℕ → List ℕ → List ℕ → List ℕ → Result BodyLine ScriptFault
+move_line clients c dx dy fire act = do
+  client ← number clients c
+  dx ← step dx
+  dy ← step dy
+  fire ← flag fire
+  act ← flag act
+  Ok (Move client (move_of dx dy fire act))
+
 unfoldable pub show_line : ℕ → List ℕ → Result BodyLine ScriptFault
 show_line clients c = do
   client ← number clients c
@@ -79,11 +99,15 @@ body_line clients (kind ∷ c ∷ place ∷ []) =
     else if is kind (codes "up") then up_line clients c place
     else Err (no_body_line (kind ∷ c ∷ place ∷ []))
 body_line clients (kind ∷ c ∷ class ∷ bytes ∷ []) =
-    if is kind (codes "post") && is class (codes "g") then post_line clients c Guaranteed bytes
+    if is kind (codes "post") then post_line clients c class bytes
+    else if is kind (codes "cpost") then client_post_line clients c class bytes
     else Err (no_body_line (kind ∷ c ∷ class ∷ bytes ∷ []))
+body_line clients (kind ∷ c ∷ dx ∷ dy ∷ fire ∷ act ∷ []) =
+    if is kind (codes "move") then move_line clients c dx dy fire act
+    else Err (no_body_line (kind ∷ c ∷ dx ∷ dy ∷ fire ∷ act ∷ []))
 body_line clients words = Err (no_body_line words)
 
--- the five numbers of `match SEED CLIENTS LIFE SIZE RADIUS`
+-- the five numbers of `match SEED CLIENTS LIFE SIZE RADIUS`, as a header with no block yet
 unfoldable pub match_numbers : ℕ → List ℕ → List ℕ → List ℕ → List ℕ → List ℕ → Result Head ScriptFault
 match_numbers version seed clients life size radius = do
   seed ← number (2 ^ 32) seed
@@ -91,7 +115,7 @@ match_numbers version seed clients life size radius = do
   life ← number_from 1 MOST_LIFE life
   size ← number_from LEAST_SIZE MOST_SIZE size
   radius ← number_from 0 MOST_RADIUS radius
-  Ok (record { version = version; seed = seed; clients = clients; life = life; size = size; radius = radius })
+  Ok (record { version = version; seed = seed; clients = clients; life = life; size = size; radius = radius; blocks = [] })
 
 packed : body_line 2 (codes "pack" ∷ codes "1" ∷ []) ≡ Ok (Pack 1)
 unfolding body_line pack_line number
@@ -102,5 +126,9 @@ unfolding body_line down_line number
 client_first = refl
 
 class_before_numbers : body_line 1 (codes "post" ∷ codes "99" ∷ codes "x" ∷ codes "6" ∷ []) ≡ Err UnknownWord
-unfolding body_line no_body_line is_unbuilt
+unfolding body_line post_line class_named
 class_before_numbers = refl
+
+posted_by_client : body_line 1 (codes "cpost" ∷ codes "0" ∷ codes "u" ∷ codes "-" ∷ []) ≡ Ok (ClientPost 0 Loose [])
+unfolding body_line client_post_line class_named number hex
+posted_by_client = refl

@@ -1,26 +1,35 @@
 -- The ranges and counts of a script. What `parse` gives has them, and each call that takes a script may rely on
--- them.
+-- them. The steps of a move have theirs by the move's type.
 use Rattle.std.specs.Prelude.{ℕ, ◌≡◌, ◌^◌, ◌<◌, ◌≤◌, List, length}
 use Rattle.std.specs.List.{All}
 use Rattle.tn_types.specs.Bytes.{AreBytes}
-use Rattle.tn_types.specs.declared.choices.Class.TheVariants.{Guaranteed}
-use Rattle.match_script.specs.declared.limits.TheConstants.{VERSION, MOST_CLIENTS, MOST_LIFE, LEAST_SIZE, MOST_SIZE, MOST_RADIUS, MOST_BODY_LINES, MOST_PAYLOAD}
+use Rattle.match_script.specs.declared.limits.TheConstants.{VERSION, MOST_CLIENTS, MOST_LIFE, LEAST_SIZE, MOST_SIZE, MOST_RADIUS, MOST_BODY_LINES, MOST_PAYLOAD, MOST_BLOCKS, MOST_BLOCK_BYTES}
 use Rattle.match_script.specs.declared.types.BodyLine.{BodyLine}
-use Rattle.match_script.specs.declared.types.BodyLine.TheVariants.{Post, Pack, ClientPack, Down, Up, Show}
+use Rattle.match_script.specs.declared.types.BodyLine.TheVariants.{Post, ClientPost, Pack, ClientPack, Down, Up, Move, Show}
 use Rattle.match_script.specs.declared.types.Head.{Head}
 use Rattle.match_script.specs.declared.types.Script.{Script}
 
+-- at most so many bytes
+abbrev pub BytesFit : ℕ → List ℕ → Type 0
+BytesFit most bytes = (length bytes ≤ most) × AreBytes bytes
+
 -- the bytes of an event
 abbrev pub PayloadFits : List ℕ → Type 0
-PayloadFits bytes = (length bytes ≤ MOST_PAYLOAD) × AreBytes bytes
+PayloadFits bytes = BytesFit MOST_PAYLOAD bytes
+
+-- the bytes of a block
+abbrev pub BlockFits : List ℕ → Type 0
+BlockFits bytes = BytesFit MOST_BLOCK_BYTES bytes
 
 -- a line of a body for so many clients
 abbrev pub LineFits : ℕ → BodyLine → Type 0
-LineFits clients (Post c class bytes) = (c < clients) × (class ≡ Guaranteed) × PayloadFits bytes
+LineFits clients (Post c class bytes) = (c < clients) × PayloadFits bytes
+LineFits clients (ClientPost c class bytes) = (c < clients) × PayloadFits bytes
 LineFits clients (Pack c) = c < clients
 LineFits clients (ClientPack c) = c < clients
 LineFits clients (Down c k) = (c < clients) × (k < 2 ^ 32)
 LineFits clients (Up c k) = (c < clients) × (k < 2 ^ 32)
+LineFits clients (Move c m) = c < clients
 LineFits clients (Show c) = c < clients
 
 pub record HeadFits (h : Head) : Type 0 where
@@ -33,6 +42,8 @@ pub record HeadFits (h : Head) : Type 0 where
   pub size_least : LEAST_SIZE ≤ h.size
   pub size : h.size ≤ MOST_SIZE
   pub radius : h.radius ≤ MOST_RADIUS
+  pub blocks_few : length h.blocks ≤ MOST_BLOCKS
+  pub blocks : All BlockFits h.blocks
 
 pub record HasRanges (s : Script) : Type 0 where
   pub head : HeadFits s.head

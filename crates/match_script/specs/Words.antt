@@ -1,5 +1,5 @@
--- What a word says: a number in a range, or bytes in hexadecimal digits, or else why it says none. The words of
--- a line are read from left to right, and the first that has a fault gives the line's.
+-- What a word says: a number in a range, a flag, a class, or bytes in hexadecimal digits, or else why it says none.
+-- The words of a line are read from left to right, and the first that has a fault gives the line's.
 use Rattle.std.specs.Prelude.{ℕ, ◌≡◌, ◌+◌, ◌/◌, ◌%◌, List, [], ◌∷◌, length, ◌==◌, ◌&&◌, ◌||◌, not, Bool, false, nat_le, nat_lt, if◌then◌else◌, codes, Result, Ok, Err, refl}
 use Rattle.std.specs.List.{list_all}
 use Rattle.std.specs.Str.{bytes_eq}
@@ -7,7 +7,9 @@ use Rattle.std.specs.Str.Parse.{digits_value}
 use Rattle.hex.specs.Hex.{decode_of, is_hex_digit}
 use Rattle.hex.specs.declared.error.FromHexError.{FromHexError}
 use Rattle.match_script.specs.declared.types.ScriptFault.{ScriptFault}
-use Rattle.match_script.specs.declared.types.ScriptFault.TheVariants.{BadNumber, OutOfRange, BadHex}
+use Rattle.tn_types.specs.declared.choices.Class.{Class}
+use Rattle.tn_types.specs.declared.choices.Class.TheVariants.{Guaranteed, Loose}
+use Rattle.match_script.specs.declared.types.ScriptFault.TheVariants.{UnknownWord, BadNumber, OutOfRange, BadHex}
 
 -- the next word is read where this one has no fault
 infixl 10 ◌>>=◌
@@ -35,6 +37,19 @@ unfoldable pub number_from : ℕ → ℕ → List ℕ → Result ℕ ScriptFault
 number_from least most word = do
   n ← number (most + 1) word
   if nat_lt n least then Err OutOfRange else Ok n
+
+-- 0 or 1: whether it is 1
+unfoldable pub flag : List ℕ → Result Bool ScriptFault
+flag word = do
+  n ← number 2 word
+  Ok (n == 1)
+
+-- the class of an event
+unfoldable pub class_named : List ℕ → Result Class ScriptFault
+class_named word =
+    if bytes_eq word (codes "g") then Ok Guaranteed
+    else if bytes_eq word (codes "u") then Ok Loose
+    else Err UnknownWord
 
 -- hexadecimal digits, an even number of them
 abbrev pub is_hex : List ℕ → Bool
@@ -67,6 +82,10 @@ no_minus = refl
 many_digits : number 16 (codes "12345678901234567890123") ≡ Err OutOfRange
 unfolding number
 many_digits = refl
+
+no_third_flag : flag (codes "2") ≡ Err OutOfRange
+unfolding flag number
+no_third_flag = refl
 
 odd_digits : hex 24 (codes "616") ≡ Err BadHex
 unfolding hex

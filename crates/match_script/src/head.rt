@@ -1,20 +1,28 @@
-//! The three lines of the header.
-ghost use Rattle.std.specs.Prelude.{◌≡◌, List, ℕ, Ok, Err, IfOk, IfSome};
+//! The lines of the header.
+ghost use Rattle.std.specs.Prelude.{◌≡◌, ◌<◌, ◌≤◌, List, ℕ, [], Ok, Err, IfOk, IfSome, length};
+ghost use Rattle.std.specs.List.{All};
 ghost use Rattle.match_script.specs.declared.types.ParseFault.TheVariants.{Bad};
 ghost use Rattle.match_script.specs.Text.{lines_of, words_of};
 ghost use Rattle.match_script.specs.Lines.{no_header_line, match_numbers};
-ghost use Rattle.match_script.specs.Script.{Gives, header_words, version_line, match_line, go_line, header};
-ghost use Rattle.match_script.specs.Ranges.{HeadFits};
+ghost use Rattle.match_script.specs.Script.{Gives, header_words, version_line, match_line, block_line, is_go, blocks_of, header};
+ghost use Rattle.match_script.specs.Ranges.{BlockFits, HeadFits};
 
 use crate::cut::{cut_line, is_text};
-use crate::limits::{LEAST_SIZE, MOST_CLIENTS, MOST_LIFE, MOST_RADIUS, MOST_SIZE, VERSION};
-use crate::types::{Head, ParseFault, ScriptFault};
+use crate::limits::{
+    LEAST_SIZE, MOST_BLOCKS, MOST_CLIENTS, MOST_LIFE, MOST_RADIUS, MOST_SIZE, VERSION,
+};
+use crate::types::{Blocks, Head, ParseFault, ScriptFault};
 use crate::unbuilt::no_header_line;
 use crate::word;
 use crate::words::{Words, parted};
+use std::alloc::Global;
+use tn_types::BlockBytes;
+
+// The line of the first block, if there is one.
+const FIRST_BLOCK_LINE: u32 = 3;
 
 // The line that is to stand at place n of the header, and what comes after it.
-#[tactic(auto, using(crate::proofs::Bodies::no_line), unfolding(crate::specs::Script::header_words))]
+#[tactic(auto, using(crate::proofs::Bodies::no_line), unfolding(crate::specs::Script::header_words, crate::specs::Script::text_line))]
 fn header_line(n: u32, text: &[u8]) -> Result<(&[u8], &[u8]), ParseFault>
     ensures { Gives (λ x. (words_of x.0.now, lines_of x.1.now)) result (header_words n (lines_of text.now)) }
 {
@@ -55,6 +63,7 @@ fn version_line(line: &[u8]) -> Option<u8>
 
 #[tactic(auto, using(crate::proofs::Numbers::number_from_fits, crate::proofs::Numbers::number_below), unfolding(crate::specs::Lines::match_numbers))]
 fn match_numbers(
+    alloc: Global,
     version: u8,
     seed: &[u8],
     clients: &[u8],
@@ -77,19 +86,20 @@ fn match_numbers(
         life,
         size,
         radius,
+        blocks: Blocks::from_vec(Vec::new(alloc)),
     })
 }
 
 // The header that `match SEED CLIENTS LIFE SIZE RADIUS` gives.
 #[tactic(auto, unfolding(crate::specs::Script::match_line))]
-fn match_line(version: u8, line: &[u8]) -> Option<Head>
+fn match_line(alloc: Global, version: u8, line: &[u8]) -> Option<Head>
     ensures value { result ≡ match_line version (words_of line.now) }
     ensures fits { version ≡ VERSION → IfSome result HeadFits }
 {
     match parted(line) {
         Words::Six(kind, seed, clients, life, size, radius) => {
             if kind == b"match".as_slice() {
-                match match_numbers(version, seed, clients, life, size, radius) {
+                match match_numbers(alloc, version, seed, clients, life, size, radius) {
                     Ok(head) => Some(head),
                     Err(_) => None,
                 }
@@ -101,20 +111,36 @@ fn match_line(version: u8, line: &[u8]) -> Option<Head>
     }
 }
 
-// Whether a line is `go`, which ends the header.
-#[tactic(auto, unfolding(crate::specs::Script::go_line))]
-fn go_line(line: &[u8]) -> Option<()>
-    ensures { result ≡ go_line (words_of line.now) }
+// The bytes of block k that `block HEX` gives.
+#[tactic(auto, unfolding(crate::specs::Script::block_line))]
+fn block_line(k: u32, line: &[u8]) -> Option<BlockBytes>
+    ensures value { result ≡ block_line k (words_of line.now) }
+    ensures few { IfSome result (λ _. k < MOST_BLOCKS) }
+    ensures fits { IfSome result BlockFits }
 {
     match parted(line) {
-        Words::One(kind) => {
-            if kind == b"go".as_slice() {
-                Some(())
+        Words::Two(kind, bytes) => {
+            if kind == b"block".as_slice() && k < MOST_BLOCKS {
+                match word::bytes(bytes) {
+                    Ok(block) => Some(block),
+                    Err(_) => None,
+                }
             } else {
                 None
             }
         }
         _ => None,
+    }
+}
+
+// Whether a line is `go`, which ends the header.
+#[tactic(auto, unfolding(crate::specs::Script::is_go))]
+fn is_go(line: &[u8]) -> bool
+    ensures { result ≡ is_go (words_of line.now) }
+{
+    match parted(line) {
+        Words::One(kind) => kind == b"go".as_slice(),
+        _ => false,
     }
 }
 
@@ -128,9 +154,33 @@ fn misplaced(n: u32, line: &[u8]) -> ParseFault
     }
 }
 
+// The blocks of a text whose header goes on here, and what comes after its line `go`.
+#[tactic(auto, using(crate::proofs::BlockLines::blocks_go_on, crate::proofs::BlockLines::blocks_end, crate::proofs::BlockLines::blocks_stop, crate::proofs::BlockLines::blocks_misplaced, crate::proofs::BlockLines::all_fit_more))]
+fn blocks_of(alloc: Global, text: &[u8]) -> Result<(Blocks, &[u8]), ParseFault>
+    ensures value { Gives (λ x. (x.0, lines_of x.1.now)) result (blocks_of 0 (lines_of text.now)) }
+    ensures few { IfOk result (λ x. length x.0 ≤ MOST_BLOCKS) }
+    ensures fits { IfOk result (λ x. All BlockFits x.0) }
+{
+    let mut blocks = Vec::new(alloc);
+    let mut rest = text;
+    let mut k = 0u32;
+    'lines: loop {
+        let (line, after) = header_line(FIRST_BLOCK_LINE + k, rest)?;
+        if is_go(line) {
+            return Ok((Blocks::from_vec(blocks), after));
+        }
+        let Some(block) = block_line(k, line) else {
+            return Err(misplaced(FIRST_BLOCK_LINE + k, line));
+        };
+        blocks.push(block)?;
+        rest = after;
+        k += 1;
+    }
+}
+
 // The header of a text, and what comes after it.
 #[tactic(auto, unfolding(crate::specs::Script::header))]
-pub fn header(text: &[u8]) -> Result<(Head, &[u8]), ParseFault>
+pub fn header(alloc: Global, text: &[u8]) -> Result<(Head, &[u8]), ParseFault>
     ensures value { Gives (λ x. (x.0, lines_of x.1.now)) result (header (lines_of text.now)) }
     ensures fits { IfOk result (λ x. HeadFits x.0) }
 {
@@ -139,12 +189,9 @@ pub fn header(text: &[u8]) -> Result<(Head, &[u8]), ParseFault>
         return Err(misplaced(1, line));
     };
     let (line, rest) = header_line(2, rest)?;
-    let Some(head) = match_line(version, line) else {
+    let Some(head) = match_line(alloc, version, line) else {
         return Err(misplaced(2, line));
     };
-    let (line, rest) = header_line(3, rest)?;
-    let Some(_) = go_line(line) else {
-        return Err(misplaced(3, line));
-    };
-    Ok((head, rest))
+    let (blocks, rest) = blocks_of(alloc, rest)?;
+    Ok((Head { blocks, ..head }, rest))
 }

@@ -23,3 +23,9 @@ pub const MOST_BODY_LINES: u32 = 100_000;
 
 /// Bytes of an event.
 pub const MOST_PAYLOAD: usize = 24;
+
+/// Blocks of a script.
+pub const MOST_BLOCKS: u32 = 64;
+
+/// Bytes of a block.
+pub const MOST_BLOCK_BYTES: usize = 40;

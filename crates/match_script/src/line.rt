@@ -1,25 +1,42 @@
 //! The lines of the body, one function each.
 ghost use Rattle.std.specs.Prelude.{◌≡◌, List, ℕ, IfOk};
 ghost use Rattle.match_script.specs.Text.{words_of};
-ghost use Rattle.match_script.specs.Lines.{body_line, post_line, pack_line, client_pack_line, down_line, up_line, show_line};
+ghost use Rattle.match_script.specs.Lines.{body_line, post_line, client_post_line, pack_line, client_pack_line, down_line, up_line, move_line, show_line};
+ghost use Rattle.match_script.specs.Steps.{IsStep};
 ghost use Rattle.match_script.specs.Ranges.{LineFits};
 
 use crate::types::{BodyLine, ScriptFault};
 use crate::unbuilt::no_body_line;
 use crate::word;
 use crate::words::{Words, parted};
-use tn_types::Class;
+use tn_types::Move;
 
 #[tactic(auto, unfolding(crate::specs::Lines::post_line))]
-fn guaranteed_post(clients: u8, c: &[u8], bytes: &[u8]) -> Result<BodyLine, ScriptFault>
-    ensures value { result ≡ post_line clients c.now Class.Guaranteed bytes.now }
+fn post(clients: u8, c: &[u8], class: &[u8], bytes: &[u8]) -> Result<BodyLine, ScriptFault>
+    ensures value { result ≡ post_line clients c.now class.now bytes.now }
     ensures fits { IfOk result (LineFits clients) }
 {
+    let class = word::class(class)?;
     let client = word::client(clients, c)?;
-    let payload = word::payload(bytes)?;
+    let payload = word::bytes(bytes)?;
     Ok(BodyLine::Post {
         client,
-        class: Class::Guaranteed,
+        class,
+        payload,
+    })
+}
+
+#[tactic(auto, unfolding(crate::specs::Lines::client_post_line))]
+fn client_post(clients: u8, c: &[u8], class: &[u8], bytes: &[u8]) -> Result<BodyLine, ScriptFault>
+    ensures value { result ≡ client_post_line clients c.now class.now bytes.now }
+    ensures fits { IfOk result (LineFits clients) }
+{
+    let class = word::class(class)?;
+    let client = word::client(clients, c)?;
+    let payload = word::bytes(bytes)?;
+    Ok(BodyLine::ClientPost {
+        client,
+        class,
         payload,
     })
 }
@@ -62,6 +79,39 @@ fn up(clients: u8, c: &[u8], place: &[u8]) -> Result<BodyLine, ScriptFault>
     Ok(BodyLine::Up { client, k })
 }
 
+// The move of these steps.
+fn moved(dx: i8, dy: i8, fire: bool, act: bool) -> Move
+    requires dx { IsStep dx }
+    requires dy { IsStep dy }
+    ensures dx { result.dx ≡ dx }
+    ensures dy { result.dy ≡ dy }
+    ensures fire { result.fire ≡ fire }
+    ensures act { result.act ≡ act }
+{
+    Move { dx, dy, fire, act }
+}
+
+#[tactic(auto, unfolding(crate::specs::Lines::move_line))]
+fn sampled(
+    clients: u8,
+    c: &[u8],
+    dx: &[u8],
+    dy: &[u8],
+    fire: &[u8],
+    act: &[u8],
+) -> Result<BodyLine, ScriptFault>
+    ensures value { result ≡ move_line clients c.now dx.now dy.now fire.now act.now }
+    ensures fits { IfOk result (LineFits clients) }
+{
+    let client = word::client(clients, c)?;
+    let dx = word::step(dx)?;
+    let dy = word::step(dy)?;
+    let fire = word::flag(fire)?;
+    let act = word::flag(act)?;
+    let m = moved(dx, dy, fire, act);
+    Ok(BodyLine::Move { client, m })
+}
+
 #[tactic(auto, unfolding(crate::specs::Lines::show_line))]
 fn show(clients: u8, c: &[u8]) -> Result<BodyLine, ScriptFault>
     ensures value { result ≡ show_line clients c.now }
@@ -99,8 +149,17 @@ pub fn body_line(clients: u8, line: &[u8]) -> Result<BodyLine, ScriptFault>
             }
         }
         Words::Four(kind, c, class, bytes) => {
-            if kind == b"post".as_slice() && class == b"g".as_slice() {
-                guaranteed_post(clients, c, bytes)
+            if kind == b"post".as_slice() {
+                post(clients, c, class, bytes)
+            } else if kind == b"cpost".as_slice() {
+                client_post(clients, c, class, bytes)
+            } else {
+                Err(no_body_line(line))
+            }
+        }
+        Words::Six(kind, c, dx, dy, fire, act) => {
+            if kind == b"move".as_slice() {
+                sampled(clients, c, dx, dy, fire, act)
             } else {
                 Err(no_body_line(line))
             }

@@ -1,15 +1,15 @@
 //! From a script to its text.
 ghost use Rattle.std.specs.Prelude.{◌≡◌, ◌++◌, ◌∷◌, [], List, ℕ, OnOk, IfOk, Ok, string_bytes, map};
-ghost use Rattle.match_script.specs.declared.types.BodyLine.TheVariants.{Post};
+ghost use Rattle.match_script.specs.declared.types.BodyLine.TheVariants.{Post, ClientPost};
 ghost use Rattle.match_script.specs.Text.{spelled};
 ghost use Rattle.match_script.specs.Script.{script_of};
 ghost use Rattle.match_script.specs.Ranges.{HasRanges};
-ghost use Rattle.match_script.specs.Print.{class_word, hex_word, line_words, version_words, match_words, go_words, header_words, joined, with_line, text_of};
+ghost use Rattle.match_script.specs.Print.{class_word, flag_word, hex_word, line_words, version_words, match_words, block_words, go_words, header_words, joined, with_line, text_of};
 
 use crate::types::{BodyLine, Head, Script};
 use std::alloc::{AllocError, Global};
 use std::fmt::Write;
-use tn_types::{Class, NoMemory};
+use tn_types::{BlockBytes, Class, Move, NoMemory};
 
 fn class_text(class: Class) -> &'static str
     ensures { result.now ≡ class_word class }
@@ -18,6 +18,12 @@ fn class_text(class: Class) -> &'static str
         Class::Guaranteed => "g",
         Class::Loose => "u",
     }
+}
+
+fn flag_text(flag: bool) -> &'static str
+    ensures { result.now ≡ flag_word flag }
+{
+    if flag { "1" } else { "0" }
 }
 
 fn hex_text(alloc: Global, bytes: &[u8]) -> Result<String, AllocError>
@@ -46,6 +52,33 @@ fn put_post(
 }
 
 #[tactic(auto, unfolding(crate::specs::Text::spelled))]
+fn put_client_post(
+    alloc: Global,
+    out: &mut String,
+    client: u8,
+    class: Class,
+    bytes: &[u8],
+) -> Result<(), AllocError>
+    ensures { OnOk result (string_bytes out.new ≡ with_line (string_bytes out.old) (line_words (ClientPost client class bytes.now))) }
+{
+    let class = class_text(class);
+    let text = hex_text(alloc, bytes)?;
+    let text = text.as_str();
+    writeln!(out, "cpost {client} {class} {text}")
+}
+
+#[tactic(auto, unfolding(crate::specs::Text::spelled))]
+fn put_move(out: &mut String, client: u8, m: Move) -> Result<(), AllocError>
+    ensures { OnOk result (string_bytes out.new ≡ with_line (string_bytes out.old) (line_words (BodyLine.Move client m))) }
+{
+    let dx = m.dx;
+    let dy = m.dy;
+    let fire = flag_text(m.fire);
+    let act = flag_text(m.act);
+    writeln!(out, "move {client} {dx} {dy} {fire} {act}")
+}
+
+#[tactic(auto, unfolding(crate::specs::Text::spelled))]
 fn put_line(alloc: Global, out: &mut String, line: &BodyLine) -> Result<(), AllocError>
     ensures { OnOk result (string_bytes out.new ≡ with_line (string_bytes out.old) (line_words line.now)) }
 {
@@ -55,10 +88,16 @@ fn put_line(alloc: Global, out: &mut String, line: &BodyLine) -> Result<(), Allo
             class,
             payload,
         } => put_post(alloc, out, *client, *class, payload.as_slice()),
+        BodyLine::ClientPost {
+            client,
+            class,
+            payload,
+        } => put_client_post(alloc, out, *client, *class, payload.as_slice()),
         BodyLine::Pack { client } => writeln!(out, "pack {client}"),
         BodyLine::ClientPack { client } => writeln!(out, "cpack {client}"),
         BodyLine::Down { client, k } => writeln!(out, "down {client} {k}"),
         BodyLine::Up { client, k } => writeln!(out, "up {client} {k}"),
+        BodyLine::Move { client, m } => put_move(out, *client, *m),
         BodyLine::Show { client } => writeln!(out, "show {client}"),
     }
 }
@@ -81,7 +120,8 @@ fn put_match(out: &mut String, head: &Head) -> Result<(), AllocError>
         life,
         size,
         radius,
-    } = *head;
+        blocks: _,
+    } = head;
     writeln!(out, "match {seed} {clients} {life} {size} {radius}")
 }
 
@@ -92,13 +132,33 @@ fn put_go(out: &mut String) -> Result<(), AllocError>
     writeln!(out, "go")
 }
 
-#[tactic(auto, using(crate::proofs::Joining::three_lines))]
+#[tactic(auto, unfolding(crate::specs::Text::spelled))]
+fn put_block(alloc: Global, out: &mut String, block: &BlockBytes) -> Result<(), AllocError>
+    ensures { OnOk result (string_bytes out.new ≡ with_line (string_bytes out.old) (block_words block.now)) }
+{
+    let text = hex_text(alloc, block.as_slice())?;
+    let text = text.as_str();
+    writeln!(out, "block {text}")
+}
+
+#[tactic(auto, using(crate::proofs::Joining::one_block_more, crate::proofs::Joining::no_block))]
+fn put_blocks(alloc: Global, out: &mut String, blocks: &[BlockBytes]) -> Result<(), AllocError>
+    ensures { OnOk result (string_bytes out.new ≡ string_bytes out.old ++ joined (map spelled (map block_words blocks.now))) }
+{
+    for block in blocks {
+        put_block(alloc, out, block)?;
+    }
+    Ok(())
+}
+
+#[tactic(auto, using(crate::proofs::Joining::header_lines))]
 fn header_text(alloc: Global, head: &Head) -> Result<String, AllocError>
     ensures { IfOk result (λ text. string_bytes text ≡ joined (map spelled (header_words head.now))) }
 {
     let mut out = String::new(alloc);
     put_version(&mut out, head.version)?;
     put_match(&mut out, head)?;
+    put_blocks(alloc, &mut out, head.blocks.as_slice())?;
     put_go(&mut out)?;
     Ok(out)
 }

@@ -1,19 +1,28 @@
 //! From a text to its script.
-ghost use Rattle.std.specs.Prelude.{◌≡◌, ◌≤◌, List, ℕ, IfOk, length};
+ghost use Rattle.std.specs.Prelude.{◌≡◌, ◌≤◌, ◌+◌, List, ℕ, IfOk, length};
 ghost use Rattle.std.specs.List.{All};
 ghost use Rattle.match_script.specs.Text.{lines_of};
-ghost use Rattle.match_script.specs.Script.{Gives, line_at, body_of, script_of};
+ghost use Rattle.match_script.specs.Script.{Gives, line_at, header_length, body_of, script_of};
 ghost use Rattle.match_script.specs.Ranges.{LineFits, HasRanges};
 
 use crate::cut::{cut_line, is_text};
 use crate::head::header;
-use crate::limits::MOST_BODY_LINES;
+use crate::limits::{MOST_BLOCKS, MOST_BODY_LINES};
 use crate::line::body_line;
-use crate::types::{Body, BodyLine, ParseFault, Script, ScriptFault};
+use crate::types::{Body, BodyLine, Head, ParseFault, Script, ScriptFault};
 use std::alloc::Global;
 
-// Lines of the header.
-const HEADER_LINES: u32 = 3;
+// Lines of a header without blocks.
+const LEAST_HEADER: u32 = 3;
+
+// How many lines a header is.
+fn header_length(head: &Head) -> u32
+    requires { length head.now.blocks ≤ MOST_BLOCKS }
+    ensures value { result ≡ header_length head.now }
+    ensures few { result ≤ LEAST_HEADER + MOST_BLOCKS }
+{
+    LEAST_HEADER + head.blocks.len() as u32
+}
 
 // Line k of the body, counted from 0.
 #[tactic(auto, unfolding(crate::specs::Script::line_at))]
@@ -30,10 +39,11 @@ fn line_at(clients: u8, k: u32, line: &[u8]) -> Result<BodyLine, ScriptFault>
     body_line(clients, line)
 }
 
-// The body of the text behind the header.
+// The body behind line n of a text.
 #[tactic(auto, using(crate::proofs::Bodies::body_goes_on, crate::proofs::Bodies::body_stops, crate::proofs::Bodies::body_ends, crate::proofs::Bodies::line_few, crate::proofs::Bodies::fits_more))]
-fn body_of(alloc: Global, clients: u8, text: &[u8]) -> Result<Body, ParseFault>
-    ensures value { Gives (λ b. b) result (body_of clients 3 0 (lines_of text.now)) }
+fn body_of(alloc: Global, clients: u8, n: u32, text: &[u8]) -> Result<Body, ParseFault>
+    requires { n ≤ LEAST_HEADER + MOST_BLOCKS }
+    ensures value { Gives (λ b. b) result (body_of clients n 0 (lines_of text.now)) }
     ensures few { IfOk result (λ b. length b ≤ MOST_BODY_LINES) }
     ensures fits { IfOk result (All (LineFits clients)) }
 {
@@ -46,7 +56,7 @@ fn body_of(alloc: Global, clients: u8, text: &[u8]) -> Result<Body, ParseFault>
             Ok(line) => lines.push(line)?,
             Err(fault) => {
                 return Err(ParseFault::Bad {
-                    line: HEADER_LINES + (k + 1),
+                    line: n + (k + 1),
                     fault,
                 });
             }
@@ -65,7 +75,7 @@ pub fn parse(alloc: Global, bytes: &[u8]) -> Result<Script, ParseFault>
     ensures grammar { Gives (λ script. script) result (script_of bytes.now) }
     ensures ranges { IfOk result HasRanges }
 {
-    let (head, rest) = header(bytes)?;
-    let body = body_of(alloc, head.clients, rest)?;
+    let (head, rest) = header(alloc, bytes)?;
+    let body = body_of(alloc, head.clients, header_length(&head), rest)?;
     Ok(Script { head, body })
 }

@@ -1,15 +1,21 @@
 //! A script, and why a text has none.
-ghost use Rattle.std.specs.Prelude.{◌≡◌, ◌++◌, ◌∷◌, [], OnOk, OnErr, length};
+ghost use Rattle.std.specs.Prelude.{◌≡◌, ◌++◌, ◌∷◌, [], OnOk, OnErr, IfOk, length};
 
-use std::alloc::{AllocError, AllocFailed};
+use std::alloc::{AllocError, AllocFailed, Global};
 use std::marker::Model;
-use tn_types::{Class, Payload};
+use tn_types::{BlockBytes, Class, Move, NoMemory, Payload};
 
 /// One line of a script's body. Each client is below the number of clients in the header.
 #[derive(Drop)]
 pub enum BodyLine {
-    /// `post C g HEX`: the server posts an event to a client.
+    /// `post C g HEX` or `post C u HEX`: the server posts an event to a client.
     Post {
+        client: u8,
+        class: Class,
+        payload: Payload,
+    },
+    /// `cpost C g HEX` or `cpost C u HEX`: a client posts an event to the server.
+    ClientPost {
         client: u8,
         class: Class,
         payload: Payload,
@@ -31,6 +37,11 @@ pub enum BodyLine {
     Up {
         client: u8,
         k: u32,
+    },
+    /// `move C DX DY FIRE USE`: a client samples a move.
+    Move {
+        client: u8,
+        m: Move,
     },
     /// `show C`: what a client has is told.
     Show {
@@ -128,8 +139,66 @@ impl Body {
     }
 }
 
+/// The blocks of a script by their numbers, from 0 on; contracts see them as a list.
+#[derive(Drop)]
+pub struct Blocks {
+    blocks: Vec<BlockBytes>,
+}
+
+impl Model for Blocks {
+    ghost use Rattle.std.specs.Prelude.{ℕ, List};
+
+    ghost Value = { List (List ℕ) };
+
+    ghost view = { λ b. b.blocks.items };
+}
+
+impl Blocks {
+    /// The blocks of these bytes.
+    pub fn from_vec(blocks: Vec<BlockBytes>) -> Blocks
+        ensures { result ≡ blocks.items }
+    {
+        Blocks { blocks }
+    }
+
+    /// The blocks, lent.
+    pub fn as_slice(&self) -> &[BlockBytes]
+        ensures { result.now ≡ self.now }
+    {
+        self.blocks.as_slice()
+    }
+
+    /// How many blocks these are.
+    pub fn len(&self) -> usize
+        ensures { result ≡ length self.now }
+    {
+        self.blocks.len()
+    }
+
+    /// The same blocks again.
+    pub fn copy(&self, alloc: Global) -> Result<Blocks, NoMemory>
+        ensures { IfOk result (λ b. b ≡ self.now) }
+    {
+        match copies(alloc, self.as_slice()) {
+            Ok(blocks) => Ok(Blocks { blocks }),
+            Err(_) => Err(NoMemory),
+        }
+    }
+}
+
+// The same blocks again.
+fn copies(alloc: Global, blocks: &[BlockBytes]) -> Result<Vec<BlockBytes>, AllocError>
+    ensures { IfOk result (λ all. all.items ≡ blocks.now) }
+{
+    let mut all = Vec::with_capacity(alloc, blocks.len())?;
+    for block in blocks {
+        all.push(block.copy())?;
+    }
+    Ok(all)
+}
+
 /// What the header says.
-#[derive(Clone, Copy, Debug, PartialEq, Eq)]
+#[derive(Drop)]
 pub struct Head {
     /// The version of the format and of the datagrams: 1.
     pub version: u8,
@@ -143,6 +212,26 @@ pub struct Head {
     pub size: u32,
     /// How far a player sees, in centimetres: 0 to 65,535.
     pub radius: u32,
+    /// What each client is to hold: at most 64 blocks of at most 40 bytes each.
+    pub blocks: Blocks,
+}
+
+impl Head {
+    /// The same header again.
+    pub fn copy(&self, alloc: Global) -> Result<Head, NoMemory>
+        ensures { IfOk result (λ h. h ≡ self.now) }
+    {
+        let blocks = self.blocks.copy(alloc)?;
+        Ok(Head {
+            version: self.version,
+            seed: self.seed,
+            clients: self.clients,
+            life: self.life,
+            size: self.size,
+            radius: self.radius,
+            blocks,
+        })
+    }
 }
 
 /// A script: the header and the body's lines.

@@ -12,22 +12,12 @@ fn is_unbuilt(line: &[u8]) -> bool
 {
     match parted(line) {
         Words::One(kind) => kind == b"tick".as_slice() || kind == b"world".as_slice(),
-        Words::Two(kind, _) => kind == b"scan".as_slice() || kind == b"block".as_slice(),
+        Words::Two(kind, _) => kind == b"scan".as_slice(),
         Words::Three(kind, _, _) => kind == b"raw".as_slice(),
-        Words::Four(kind, _, class, _) => {
-            if kind == b"post".as_slice() {
-                class == b"u".as_slice()
-            } else {
-                kind == b"cpost".as_slice()
-                    && (class == b"g".as_slice() || class == b"u".as_slice())
-            }
-        }
         Words::Six(kind, _, _, _, _, _) => {
-            kind == b"move".as_slice()
-                || kind == b"player".as_slice()
-                || kind == b"spawn".as_slice()
+            kind == b"player".as_slice() || kind == b"spawn".as_slice()
         }
-        Words::Other => false,
+        Words::Four(_, _, _, _) | Words::Other => false,
     }
 }
 

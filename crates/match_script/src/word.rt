@@ -1,14 +1,19 @@
-//! What a word says: a number in a range, or bytes.
-ghost use Rattle.std.specs.Prelude.{◌≡◌, ◌^◌, ◌-◌, ◌<◌, min, IsTrue, IfOk};
+//! What a word says: a number in a range, a step, a flag, a class, or bytes.
+ghost use Rattle.std.specs.Prelude.{◌≡◌, ◌^◌, ◌-◌, ◌<◌, ◌≤◌, min, IsTrue, IfOk, pos, negsuc};
 ghost use Rattle.std.specs.List.{list_all};
 ghost use Rattle.hex.specs.Hex.{is_hex_digit};
 ghost use Rattle.std.specs.Str.Parse.{digits_value};
-ghost use Rattle.match_script.specs.Words.{is_digit, is_number, is_hex, number, number_from, hex};
-ghost use Rattle.match_script.specs.Ranges.{PayloadFits};
+ghost use Rattle.match_script.specs.Words.{is_digit, is_number, is_hex, number, number_from, flag, class_named, hex};
+ghost use Rattle.match_script.specs.Steps.{GivesStep, ahead, back, as_step, step};
+ghost use Rattle.match_script.specs.Ranges.{BytesFit};
 
-use crate::limits::MOST_PAYLOAD;
 use crate::types::ScriptFault;
-use tn_types::{Payload, are_bytes};
+use tn_types::{Bytes, Class, are_bytes};
+
+// The greatest step ahead, and the greatest back.
+const MOST_AHEAD: u64 = 7;
+
+const MOST_BACK: u64 = 8;
 
 // Decimal digits with no leading zero.
 fn is_number(word: &[u8]) -> bool
@@ -115,29 +120,110 @@ pub fn number_from(least: u32, most: u32, word: &[u8]) -> Result<u32, ScriptFaul
     }
 }
 
-// The bytes of an event that a word says.
+// This many ahead.
+fn ahead_by(n: u64) -> i8
+    requires { n ≤ MOST_AHEAD }
+    ensures { result ≡ pos n }
+{
+    n as i8
+}
+
+// This many back, and one more.
+fn back_by(n: u64) -> i8
+    requires { n < MOST_BACK }
+    ensures { result ≡ negsuc n }
+{
+    -1 - n as i8
+}
+
+// The step that a word says without a sign.
+#[tactic(auto, using(crate::proofs::Steps::is_not_ahead, crate::proofs::Numbers::number_below))]
+fn step_ahead(word: &[u8]) -> Result<i8, ScriptFault>
+    ensures { GivesStep result (as_step (ahead word.now)) }
+{
+    match number(MOST_AHEAD + 1, word) {
+        Ok(n) => Ok(ahead_by(n)),
+        Err(fault) => Err(fault),
+    }
+}
+
+// The step that a word says behind a minus sign.
+#[tactic(auto, using(crate::proofs::Steps::is_not_back, crate::proofs::Steps::is_not_back_by_zero, crate::proofs::Numbers::number_below))]
+fn step_back(word: &[u8]) -> Result<i8, ScriptFault>
+    ensures { GivesStep result (as_step (back word.now)) }
+{
+    match number(MOST_BACK + 1, word) {
+        Ok(0) => Err(ScriptFault::BadNumber),
+        Ok(n) => Ok(back_by(n - 1)),
+        Err(fault) => Err(fault),
+    }
+}
+
+// The step that a word says, from -8 to 7.
+#[tactic(auto, unfolding(crate::specs::Steps::step, crate::specs::Steps::signed))]
+pub fn step(word: &[u8]) -> Result<i8, ScriptFault>
+    ensures { GivesStep result (step word.now) }
+{
+    match word.split_first() {
+        None => Err(ScriptFault::BadNumber),
+        Some((first, rest)) => {
+            if *first == b'-' {
+                step_back(rest)
+            } else {
+                step_ahead(word)
+            }
+        }
+    }
+}
+
+// Whether a word says 1, or else 0.
+#[tactic(auto, unfolding(crate::specs::Words::flag))]
+pub fn flag(word: &[u8]) -> Result<bool, ScriptFault>
+    ensures { result ≡ flag word.now }
+{
+    match number(2, word) {
+        Ok(n) => Ok(n == 1),
+        Err(fault) => Err(fault),
+    }
+}
+
+// The class that a word names.
+#[tactic(auto, unfolding(crate::specs::Words::class_named))]
+pub fn class(word: &[u8]) -> Result<Class, ScriptFault>
+    ensures { result ≡ class_named word.now }
+{
+    if word == b"g".as_slice() {
+        Ok(Class::Guaranteed)
+    } else if word == b"u".as_slice() {
+        Ok(Class::Loose)
+    } else {
+        Err(ScriptFault::UnknownWord)
+    }
+}
+
+// The bytes that a word says, at most `N`.
 #[tactic(auto, unfolding(crate::specs::Words::hex))]
-pub fn payload(word: &[u8]) -> Result<Payload, ScriptFault>
-    ensures value { result ≡ hex MOST_PAYLOAD word.now }
-    ensures fits { IfOk result PayloadFits }
+pub fn bytes<const N: usize>(word: &[u8]) -> Result<Bytes<N>, ScriptFault>
+    ensures value { result ≡ hex N word.now }
+    ensures fits { IfOk result (BytesFit N) }
 {
     if word == b"-".as_slice() {
-        return Ok(Payload::new());
+        return Ok(Bytes::new());
     }
     if word.len() == 0 || !is_hex(word) {
         return Err(ScriptFault::BadHex);
     }
     let half = word.len() / 2;
-    if half > MOST_PAYLOAD {
+    if half > N {
         return Err(ScriptFault::OutOfRange);
     }
-    let mut buf = [0u8; MOST_PAYLOAD];
+    let mut buf = [0u8; N];
     let (out, _) = buf.split_at_mut(half);
     match hex::decode_to_slice(word, out) {
         Ok(()) => {
             are_bytes(out);
-            match Payload::from_slice(out) {
-                Some(payload) => Ok(payload),
+            match Bytes::from_slice(out) {
+                Some(bytes) => Ok(bytes),
                 None => Err(ScriptFault::OutOfRange),
             }
         }
