@@ -11,6 +11,10 @@ use Rattle.wire_format.specs.declared.fault.BitsCause.{BitsCause}
 use Rattle.wire_format.specs.declared.fault.BitsCause.TheVariants.{Short, Padding, KindBits, OpBits, CountBits, LengthBits, UnknownKind, EmptyMask, ZeroSeq}
 use Rattle.event_manager.specs.declared.sender.PostFault.{PostFault}
 use Rattle.event_manager.specs.declared.sender.PostFault.TheVariants.{Worn, Full}
+use Rattle.move_manager.specs.declared.faults.MoveFault.{MoveFault}
+use Rattle.move_manager.specs.declared.faults.MoveFault.TheVariants as sampling
+use Rattle.ghost_client.specs.declared.fault.GhostFault.{GhostFault}
+use Rattle.ghost_client.specs.declared.fault.GhostFault.TheVariants.{Twice, Unknown, Taken, KindDiffers, BlockMissing}
 use Rattle.stream_manager.specs.declared.fault.ArriveFault.{ArriveFault}
 use Rattle.stream_manager.specs.declared.fault.ArriveFault.TheVariants as server
 use Rattle.stream_manager.specs.declared.fault.ClientFault.{ClientFault}
@@ -19,7 +23,7 @@ use Rattle.match_report.specs.declared.told.Way.{Way}
 use Rattle.match_report.specs.declared.told.Way.TheVariants.{Down, Up, Raw}
 use Rattle.match_report.specs.declared.told.EventTold.{EventTold}
 use Rattle.match_report.specs.declared.told.Told.{Told}
-use Rattle.match_report.specs.declared.told.Told.TheVariants.{Post, PostLoose, Packed, PackWorn, Came, NotSent, ServerRefused, ClientRefused, Show}
+use Rattle.match_report.specs.declared.told.Told.TheVariants.{Post, PostLoose, Packed, PackWorn, Moved, Came, NotSent, ServerRefused, ClientRefused, Show}
 
 -- ---- words
 
@@ -57,6 +61,11 @@ abbrev pub dropped_text : Option (List ℕ) → List ℕ
 dropped_text None = codes "u"
 dropped_text (Some payload) = codes "u dropped " ++ hex_text payload
 
+abbrev pub moved_text : Result ℕ MoveFault → List ℕ
+moved_text (Ok number) = decimal number
+moved_text (Err (sampling.Worn life)) = codes "worn " ++ decimal life
+moved_text (Err (sampling.Full first last)) = codes "full " ++ decimal first ++ codes " " ++ decimal last
+
 abbrev pub cause_word : BitsCause → List ℕ
 cause_word Short = codes "Short"
 cause_word Padding = codes "Padding"
@@ -75,11 +84,29 @@ two_numbers word first second = word ++ decimal first ++ codes " " ++ decimal se
 abbrev pub bits_text : BitsFault → List ℕ
 bits_text fault = codes "bits " ++ decimal fault.place ++ codes " " ++ cause_word fault.cause
 
+abbrev pub ghost_slot : GhostFault → ℕ
+ghost_slot (Twice slot) = slot
+ghost_slot (Unknown slot) = slot
+ghost_slot (Taken slot) = slot
+ghost_slot (KindDiffers slot held) = slot
+ghost_slot (BlockMissing slot block) = slot
+
+abbrev pub ghost_word : GhostFault → List ℕ
+ghost_word (Twice slot) = codes "Twice"
+ghost_word (Unknown slot) = codes "Unknown"
+ghost_word (Taken slot) = codes "Taken"
+ghost_word (KindDiffers slot held) = codes "KindDiffers"
+ghost_word (BlockMissing slot block) = codes "BlockMissing"
+
+abbrev pub ghost_text : GhostFault → List ℕ
+ghost_text fault = codes "ghost " ++ decimal (ghost_slot fault) ++ codes " " ++ ghost_word fault
+
 abbrev pub server_refusal : ArriveFault → List ℕ
 server_refusal (server.Bits fault) = bits_text fault
 server_refusal (server.WrongClient named) = codes "client " ++ decimal named
 server_refusal (server.Old seq horizon) = two_numbers (codes "old ") seq horizon
 server_refusal (server.AckAhead horizon last) = two_numbers (codes "ackahead ") horizon last
+server_refusal (server.MoveGap first accepted) = two_numbers (codes "movegap ") first accepted
 server_refusal (server.EventAhead number delivered) = two_numbers (codes "eventahead ") number delivered
 
 abbrev pub client_refusal : ClientFault → List ℕ
@@ -87,7 +114,10 @@ client_refusal (client.Bits fault) = bits_text fault
 client_refusal (client.WrongClient named) = codes "client " ++ decimal named
 client_refusal (client.Old seq horizon) = two_numbers (codes "old ") seq horizon
 client_refusal (client.AckAhead horizon last) = two_numbers (codes "ackahead ") horizon last
+client_refusal (client.MoveAhead count sampled) = two_numbers (codes "moveahead ") count sampled
+client_refusal (client.BlockDiffers number) = codes "block " ++ decimal number
 client_refusal (client.EventAhead number delivered) = two_numbers (codes "eventahead ") number delivered
+client_refusal (client.Ghost fault) = ghost_text fault
 
 -- ---- lines
 
@@ -109,6 +139,7 @@ told_text (PostLoose up c dropped) = end_word up ++ codes "post " ++ decimal c +
 told_text (Packed up c place ping bytes) =
     end_word up ++ two_numbers (codes "pack ") c place ++ ping_word ping ++ hex_text bytes
 told_text (PackWorn up c life) = end_word up ++ codes "pack " ++ decimal c ++ codes " worn " ++ decimal life
+told_text (Moved c number) = codes "move " ++ decimal c ++ codes " " ++ moved_text number
 told_text (Came way c k moves events) = arrival_words way c k ++ codes "ok" ++ came_text way moves events
 told_text (NotSent way c k sent) = arrival_words way c k ++ codes "notsent " ++ decimal sent
 told_text (ServerRefused way c k fault) = arrival_words way c k ++ server_refusal fault

@@ -6,3 +6,6 @@ mod told;
 
 pub use line::put_line;
 pub use told::{EventTold, Events, Told, Way};
+
+#[cfg(test)]
+mod tests;

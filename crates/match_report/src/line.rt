@@ -2,10 +2,12 @@
 ghost use Rattle.std.specs.Prelude.{◌≡◌, ◌++◌, ◌∷◌, [], IfOk, OnOk, OnErr, string_bytes};
 ghost use Rattle.std.specs.List.{flat_map};
 ghost use Rattle.std.specs.Fmt.{decimal};
-ghost use Rattle.match_report.specs.Text.{arrival_words, bits_text, came_text, cause_word, class_word, client_refusal, control_word, dropped_text, end_word, event_word, hex_text, ping_word, posted_text, report_line, server_refusal, told_text, two_numbers};
+ghost use Rattle.match_report.specs.Text.{arrival_words, bits_text, came_text, cause_word, class_word, client_refusal, control_word, dropped_text, end_word, event_word, ghost_slot, ghost_text, ghost_word, hex_text, moved_text, ping_word, posted_text, report_line, server_refusal, told_text, two_numbers};
 
 use crate::told::{EventTold, Told, Way};
 use event_manager::PostFault;
+use ghost_client::GhostFault;
+use move_manager::MoveFault;
 use std::alloc::{AllocError, Global};
 use std::fmt::Write;
 use stream_manager::{ArriveFault, ClientFault};
@@ -56,6 +58,30 @@ fn cause_word(cause: BitsCause) -> &'static str
         BitsCause::UnknownKind => "UnknownKind",
         BitsCause::EmptyMask => "EmptyMask",
         BitsCause::ZeroSeq => "ZeroSeq",
+    }
+}
+
+fn ghost_slot(fault: GhostFault) -> u8
+    ensures { result ≡ ghost_slot fault }
+{
+    match fault {
+        GhostFault::Twice { slot } => slot,
+        GhostFault::Unknown { slot } => slot,
+        GhostFault::Taken { slot } => slot,
+        GhostFault::KindDiffers { slot, held: _ } => slot,
+        GhostFault::BlockMissing { slot, block: _ } => slot,
+    }
+}
+
+fn ghost_word(fault: GhostFault) -> &'static str
+    ensures { result.now ≡ ghost_word fault }
+{
+    match fault {
+        GhostFault::Twice { slot: _ } => "Twice",
+        GhostFault::Unknown { slot: _ } => "Unknown",
+        GhostFault::Taken { slot: _ } => "Taken",
+        GhostFault::KindDiffers { slot: _, held: _ } => "KindDiffers",
+        GhostFault::BlockMissing { slot: _, block: _ } => "BlockMissing",
     }
 }
 
@@ -114,6 +140,16 @@ fn put_posted(text: &mut String, number: &Result<u32, PostFault>) -> Result<(), 
     }
 }
 
+fn put_moved(text: &mut String, number: &Result<u32, MoveFault>) -> Result<(), AllocError>
+    ensures { OnOk result (string_bytes text.new ≡ string_bytes text.old ++ moved_text number.now) }
+{
+    match number {
+        Ok(number) => put(text, "", *number),
+        Err(MoveFault::Worn { life }) => put(text, "worn ", *life),
+        Err(MoveFault::Full { first, last }) => put_two(text, "full ", *first, *last),
+    }
+}
+
 fn put_dropped(
     text: &mut String,
     alloc: Global,
@@ -145,6 +181,14 @@ fn put_two(text: &mut String, word: &str, first: u32, second: u32) -> Result<(),
     put(text, " ", second)
 }
 
+fn put_ghost(text: &mut String, fault: &GhostFault) -> Result<(), AllocError>
+    ensures { OnOk result (string_bytes text.new ≡ string_bytes text.old ++ ghost_text fault.now) }
+{
+    put(text, "ghost ", u32::from(ghost_slot(*fault)))?;
+    text.push_str(" ")?;
+    text.push_str(ghost_word(*fault))
+}
+
 fn put_server_refusal(text: &mut String, fault: &ArriveFault) -> Result<(), AllocError>
     ensures { OnOk result (string_bytes text.new ≡ string_bytes text.old ++ server_refusal fault.now) }
 {
@@ -153,6 +197,7 @@ fn put_server_refusal(text: &mut String, fault: &ArriveFault) -> Result<(), Allo
         ArriveFault::WrongClient { client } => put(text, "client ", u32::from(*client)),
         ArriveFault::Old { seq, horizon } => put_two(text, "old ", *seq, *horizon),
         ArriveFault::AckAhead { horizon, last } => put_two(text, "ackahead ", *horizon, *last),
+        ArriveFault::MoveGap { first, accepted } => put_two(text, "movegap ", *first, *accepted),
         ArriveFault::EventAhead { number, delivered } => put_two(
             text,
             "eventahead ",
@@ -170,12 +215,15 @@ fn put_client_refusal(text: &mut String, fault: &ClientFault) -> Result<(), Allo
         ClientFault::WrongClient { client } => put(text, "client ", u32::from(*client)),
         ClientFault::Old { seq, horizon } => put_two(text, "old ", *seq, *horizon),
         ClientFault::AckAhead { horizon, last } => put_two(text, "ackahead ", *horizon, *last),
+        ClientFault::MoveAhead { count, sampled } => put_two(text, "moveahead ", *count, *sampled),
+        ClientFault::BlockDiffers { number } => put(text, "block ", u32::from(*number)),
         ClientFault::EventAhead { number, delivered } => put_two(
             text,
             "eventahead ",
             *number,
             *delivered,
         ),
+        ClientFault::Ghost(fault) => put_ghost(text, fault),
     }
 }
 
@@ -243,6 +291,11 @@ fn put_told(text: &mut String, alloc: Global, told: &Told) -> Result<(), AllocEr
             text.push_str(end_word(*up))?;
             put(text, "pack ", u32::from(*client))?;
             put(text, " worn ", *life)
+        }
+        Told::Moved { client, number } => {
+            put(text, "move ", u32::from(*client))?;
+            text.push_str(" ")?;
+            put_moved(text, number)
         }
         Told::Came {
             way,

@@ -3,6 +3,7 @@ ghost use Rattle.std.specs.Prelude.{◌≡◌, ◌<◌, ◌≤◌, [], ◌∷◌
 
 use arrayvec::ArrayVec;
 use event_manager::PostFault;
+use move_manager::MoveFault;
 use std::marker::Model;
 use stream_manager::{ArriveFault, ClientFault};
 use tn_types::{Class, Payload, RawBytes};
@@ -110,6 +111,11 @@ pub enum Told {
         up: bool,
         client: u8,
         life: u32,
+    },
+    /// The client sampled a move, to which it gave `number` (from 0), or refused it.
+    Moved {
+        client: u8,
+        number: Result<u32, MoveFault>,
     },
     /// Datagram `k` came and was taken (`k` is 0 for raw bytes), with so many moves newly accepted and these events handed out.
     Came {
