@@ -16,7 +16,7 @@ go
 const ALL: usize = 4096;
 
 /// Scripts and their reports.
-const ROWS: [(&str, &str, &str); 7] = [
+const ROWS: [(&str, &str, &str); 11] = [
     ("empty_body", HEADER, ""),
     (
         "first_event",
@@ -140,6 +140,73 @@ pack 0 1 data 80000000000000000000000000000000
 pack 0 worn 2
 ",
     ),
+    (
+        "unguaranteed_event_sent_once",
+        "tribes 1
+match 1 1 100 128 1000
+go
+post 0 u 61
+pack 0
+pack 0
+down 0 0
+",
+        "post 0 u
+pack 0 0 data 400000000000000000000000000008421800
+pack 0 1 data 80000000000000000000000000000000
+down 0 0 ok u:61
+",
+    ),
+    (
+        "client_event",
+        "tribes 1
+match 1 1 100 128 1000
+go
+cpost 0 g 61
+cpack 0
+up 0 0
+",
+        "cpost 0 g 0
+cpack 0 0 data 4000000000000000000000000000100200008430
+up 0 0 ok 0 g:61
+",
+    ),
+    (
+        "block_received",
+        "tribes 1
+match 1 1 100 128 1000
+block 61
+go
+pack 0
+down 0 0
+cpack 0
+up 0 0
+pack 0
+",
+        "pack 0 0 data 40000000000000000000000000800082300000
+down 0 0 ok
+cpack 0 0 data 40000040000040000000000000000000
+up 0 0 ok 0
+pack 0 1 data 80000040000040000000000000000000
+",
+    ),
+    (
+        "move_applied_once",
+        "tribes 1
+match 1 1 100 128 1000
+go
+move 0 1 0 0 0
+cpack 0
+cpack 0
+up 0 0
+up 0 1
+",
+        "move 0 0
+cpack 0 0 data 4000000000000000000000000040900800
+cpack 0 1 data 8000000000000000000000000040900800
+up 0 0 ok 1
+up 0 1 ok 0
+",
+    ),
 ];
 
 /// The report of 33 packs of which the last makes a ping, and of a datagram that comes after it.
@@ -181,6 +248,17 @@ cpack 0 0 data 40000000080000000000000000000000
 up 0 0 ok 0
 pack 0 33 data 40080040000040000000000000000000
 down 0 0 old 1 32
+";
+
+/// The end of the report of 33 moves, two packs of the client, and both datagrams delivered: the 33rd move finds no place,
+/// and the second datagram has no new move.
+const FULL_MOVES: &str = "move 0 31
+move 0 full 0 31
+cpack 0 0 data 4000000000000000000000000000984822892492482289249248228924924822892492482289249248228924924822892492482289240200
+cpack 0 1 data 8000000000000000000000000000984822892492482289249248228924924822892492482289249248228924924822892492482289240200
+up 0 0 ok 32
+up 0 1 ok 0
+show 0 events 0 sampled 32 accepted 32 taken 0 control - ghosts 0
 ";
 
 /// What a call with these words answers, and what it writes. The source gives and the sink takes at most `most` bytes a
@@ -270,6 +348,31 @@ fn too_many_events(rt: HostRuntime) -> Result<(), Fail> {
             .as_slice()
             .ends_with(b"post 0 g 255\npost 0 full 0 255\n")
     );
+    Ok(())
+}
+
+#[test]
+fn oldest_unguaranteed_event_is_dropped(rt: HostRuntime) -> Result<(), Fail> {
+    let header = String::from_str(rt.alloc(), HEADER)?;
+    let first = with_lines(header, 1, "post 0 u 00\n")?;
+    let script = with_lines(first, 64, "post 0 u 02\n")?;
+    let (status, bytes) = run_on(&rt, script.as_str())?;
+    assert_eq!(rt; status, Status::Done);
+    let posts = with_lines(String::from_str(rt.alloc(), "")?, 64, "post 0 u\n")?;
+    let report = with_lines(posts, 1, "post 0 u dropped 00\n")?;
+    assert_eq!(rt; bytes.as_slice(), report.as_bytes());
+    Ok(())
+}
+
+#[test]
+fn moves_are_accepted_once(rt: HostRuntime) -> Result<(), Fail> {
+    let header = String::from_str(rt.alloc(), HEADER)?;
+    let moves = with_lines(header, 33, "move 0 1 0 0 0\n")?;
+    let script = with_lines(moves, 1, "cpack 0\ncpack 0\nup 0 0\nup 0 1\nshow 0\n")?;
+    let (status, bytes) = run_on(&rt, script.as_str())?;
+    assert_eq!(rt; status, Status::Done);
+    assert!(rt; bytes.as_slice().starts_with(b"move 0 0\nmove 0 1\n"));
+    assert!(rt; bytes.as_slice().ends_with(FULL_MOVES.as_bytes()));
     Ok(())
 }
 

@@ -1,31 +1,35 @@
 -- The lines of a script make steps whose payloads are in range, so what is delivered is a front of what was posted.
-use Rattle.std.proofs.Common.{ℕ, zero, suc, ◌<◌, Bool, true, false, ◌==◌, List, [], ◌∷◌, ◌++◌, if◌then◌else◌, take, reverse, sym, subst, arith}
+use Rattle.std.proofs.Common.{ℕ, zero, suc, ◌<◌, Bool, true, false, ◌==◌, List, [], ◌∷◌, ◌++◌, if◌then◌else◌, take, reverse, refl, sym, subst, arith}
 use Rattle.std.specs.List.{AllByRecursion, All}
 use Rattle.std.proofs.lemmas.Grind.{reverse_onto}
 use Rattle.match_script.specs.declared.types.BodyLine.{BodyLine}
 use Rattle.match_script.specs.declared.types.BodyLine.TheVariants as script
 use Rattle.match_script.specs.declared.types.Head.{Head}
-use Rattle.match_script.specs.Ranges.{LineFits, HeadFits}
-use Rattle.stream_manager.specs.Limits.{IsConfig}
+use Rattle.match_script.specs.declared.types.Script.{Script}
+use Rattle.match_script.specs.Ranges.{LineFits, HeadFits, HasRanges}
+use Rattle.match_script.specs.Ranges.{BlockFits}
+use Rattle.stream_manager.specs.Limits.{Terms, IsBlockBytes, AreTerms}
 use Rattle.pair_core.specs.Laws.{StepFits}
-use Rattle.pair_core.proofs.InOrder.{delivers_down, delivers_up}
-use Rattle.match_engine.specs.Journal.{client_of, own, onto, steps_of, journal, config_of}
-use Rattle.match_engine.specs.Laws.{after, EventsInOrder}
+use Rattle.pair_core.proofs.InOrder.{delivers_down, delivers_up, accepts}
+use Rattle.match_engine.specs.Journal.{client_of, own, onto, steps_of, journal, terms_of}
+use Rattle.match_engine.specs.Laws.{after, EventsInOrder, MovesInOrder}
 
-step-fits : (clients : ℕ) (line : BodyLine) (lines : List BodyLine) → LineFits clients line → AllByRecursion StepFits (steps_of lines) → AllByRecursion StepFits (onto line (steps_of lines))
-step-fits clients (script.Post c class payload) lines h rest = (h.2, rest)
-step-fits clients (script.Pack c) lines h rest = (tt, rest)
-step-fits clients (script.ClientPack c) lines h rest = (tt, rest)
-step-fits clients (script.Down c k) lines h rest = (tt, rest)
-step-fits clients (script.Up c k) lines h rest = (tt, rest)
-step-fits clients (script.Show c) lines h rest = rest
+step-fits : (t : Terms) (clients : ℕ) (line : BodyLine) (lines : List BodyLine) → LineFits clients line → AllByRecursion StepFits (steps_of t lines) → AllByRecursion StepFits (onto t line (steps_of t lines))
+step-fits t clients (script.Post c class payload) lines h rest = (h.1, rest)
+step-fits t clients (script.ClientPost c class payload) lines h rest = (h.1, rest)
+step-fits t clients (script.Pack c) lines h rest = (tt, rest)
+step-fits t clients (script.ClientPack c) lines h rest = (tt, rest)
+step-fits t clients (script.Down c k) lines h rest = (tt, rest)
+step-fits t clients (script.Up c k) lines h rest = (tt, rest)
+step-fits t clients (script.Move c m) lines h rest = (tt, rest)
+step-fits t clients (script.Show c) lines h rest = rest
 
-pub journal-fits : (clients c : ℕ) (lines : List BodyLine) → AllByRecursion (LineFits clients) lines → AllByRecursion StepFits (journal c lines)
-journal-fits clients c [] h = tt
-journal-fits clients c (line ∷ lines) h = go (client_of line == c) (journal-fits clients c lines h.1)
+pub journal-fits : (t : Terms) (clients c : ℕ) (lines : List BodyLine) → AllByRecursion (LineFits clients) lines → AllByRecursion StepFits (journal t c lines)
+journal-fits t clients c [] h = tt
+journal-fits t clients c (line ∷ lines) h = go (client_of line == c) (journal-fits t clients c lines h.1)
   where
-    go : (b : Bool) → AllByRecursion StepFits (journal c lines) → AllByRecursion StepFits (steps_of (if b then line ∷ own c lines else own c lines))
-    go true rest = step-fits clients line (own c lines) h.0 rest
+    go : (b : Bool) → AllByRecursion StepFits (journal t c lines) → AllByRecursion StepFits (steps_of t (if b then line ∷ own c lines else own c lines))
+    go true rest = step-fits t clients line (own c lines) h.0 rest
     go false rest = rest
 
 module _ {A : Type 0} (P : A → Type 0) where
@@ -46,17 +50,32 @@ module _ {A : Type 0} (P : A → Type 0) where
   all-reverse [] h = tt
   all-reverse (x ∷ xs) h = subst (λ (l : List A). AllByRecursion P l) (sym (reverse_onto xs x [])) (all-append (reverse xs) (x ∷ []) (all-reverse xs h.1) (h.0, tt))
 
-pub config-fits : (head : Head) (c : ℕ) → HeadFits head → c < head.clients → IsConfig (config_of head c)
-config-fits head c h l = record {
-  client = omega (arith, h.clients);
-  some_life = h.life_least;
-  life = h.life;
-  least = h.size_least;
-  size = h.size;
+blocks-fit : (blocks : List (List ℕ)) → AllByRecursion BlockFits blocks → AllByRecursion IsBlockBytes blocks
+blocks-fit [] h = tt
+blocks-fit (block ∷ blocks) h = (record { few = (h.0).0; bytes = (h.0).1 }, blocks-fit blocks h.1)
+
+pub terms-fit : (head : Head) (c : ℕ) → HeadFits head → c < head.clients → AreTerms (terms_of head c)
+terms-fit head c h l = record {
+  config = record {
+    client = omega (arith, h.clients);
+    some_life = h.life_least;
+    life = h.life;
+    least = h.size_least;
+    size = h.size;
+  };
+  kinds = refl;
+  few = h.blocks_few;
+  blocks = blocks-fit head.blocks (all-by_recursion BlockFits head.blocks h.blocks);
 }
+
+steps-fit : (s : Script) (c n : ℕ) → HasRanges s → AllByRecursion StepFits (journal (terms_of s.head c) c (after n s))
+steps-fit s c n h = journal-fits (terms_of s.head c) s.head.clients c (after n s) (all-reverse (LineFits s.head.clients) (take n s.body) (all-take (LineFits s.head.clients) n s.body (all-by_recursion (LineFits s.head.clients) s.body h.lines)))
 
 pub in_order : EventsInOrder
 in_order s c n h l =
-    let limits = config-fits s.head c h.head l in
-    let fit = journal-fits s.head.clients c (after n s) (all-reverse (LineFits s.head.clients) (take n s.body) (all-take (LineFits s.head.clients) n s.body (all-by_recursion (LineFits s.head.clients) s.body h.lines))) in
-    (delivers_down (config_of s.head c) (journal c (after n s)) limits fit, delivers_up (config_of s.head c) (journal c (after n s)) limits fit)
+    let limits = terms-fit s.head c h.head l in
+    let fit = steps-fit s c n h in
+    (delivers_down (terms_of s.head c) (journal (terms_of s.head c) c (after n s)) limits fit, delivers_up (terms_of s.head c) (journal (terms_of s.head c) c (after n s)) limits fit)
+
+pub moves-in_order : MovesInOrder
+moves-in_order s c n h l = accepts (terms_of s.head c) (journal (terms_of s.head c) c (after n s)) (terms-fit s.head c h.head l) (steps-fit s c n h)

@@ -1,19 +1,25 @@
 -- What of a script concerns one client: the lines that name it, and what they make its connection do. Lines are listed
 -- newest first, as those that were done so far.
-use Rattle.std.specs.Prelude.{ℕ, ◌==◌, if◌then◌else◌, List, [], ◌∷◌}
+use Rattle.std.specs.Prelude.{ℕ, ◌-◌, ◌==◌, if◌then◌else◌, List, [], ◌∷◌, length}
+use Rattle.tn_types.specs.declared.moves.Move.{Move}
 use Rattle.match_script.specs.declared.types.BodyLine.{BodyLine}
 use Rattle.match_script.specs.declared.types.BodyLine.TheVariants as script
 use Rattle.match_script.specs.declared.types.Head.{Head}
-use Rattle.stream_manager.specs.declared.config.Config.{Config}
-use Rattle.pair_core.specs.History.{Step, Post, Pack, ClientPack, Down, Up}
+use Rattle.stream_manager.specs.Limits.{Terms}
+use Rattle.pair_core.specs.History.{Step, Post, ClientPost, Sample, Pack, ClientPack, Down, Up}
+use Rattle.pair_core.specs.Answers.{accepted_in}
+use Rattle.match_engine.specs.Kinds.{plain_kinds}
+use Rattle.match_engine.specs.declared.seat.TheConstants.{MAX_WAITING_MOVES}
 
 -- the client that a line names
 abbrev pub client_of : BodyLine → ℕ
 client_of (script.Post c class payload) = c
+client_of (script.ClientPost c class payload) = c
 client_of (script.Pack c) = c
 client_of (script.ClientPack c) = c
 client_of (script.Down c k) = c
 client_of (script.Up c k) = c
+client_of (script.Move c m) = c
 client_of (script.Show c) = c
 
 -- the lines of a client
@@ -21,24 +27,34 @@ abbrev pub own : ℕ → List BodyLine → List BodyLine
 own c [] = []
 own c (line ∷ lines) = if client_of line == c then line ∷ own c lines else own c lines
 
+-- the accepted moves that wait for a tick: no line ticks yet, so all of them
+abbrev pub waiting_in : Terms → List Step → List Move
+waiting_in t steps = accepted_in t steps
+
+-- the places that are left for moves
+abbrev pub room_in : Terms → List Step → ℕ
+room_in t steps = MAX_WAITING_MOVES - length (waiting_in t steps)
+
 -- the steps with that of one more line
-abbrev pub onto : BodyLine → List Step → List Step
-onto (script.Post c class payload) steps = Post class payload ∷ steps
-onto (script.Pack c) steps = Pack ∷ steps
-onto (script.ClientPack c) steps = ClientPack ∷ steps
-onto (script.Down c k) steps = Down k ∷ steps
-onto (script.Up c k) steps = Up k ∷ steps
-onto (script.Show c) steps = steps
+abbrev pub onto : Terms → BodyLine → List Step → List Step
+onto t (script.Post c class payload) steps = Post class payload ∷ steps
+onto t (script.ClientPost c class payload) steps = ClientPost class payload ∷ steps
+onto t (script.Pack c) steps = Pack ∷ steps
+onto t (script.ClientPack c) steps = ClientPack ∷ steps
+onto t (script.Down c k) steps = Down k ∷ steps
+onto t (script.Up c k) steps = Up k (room_in t steps) ∷ steps
+onto t (script.Move c m) steps = Sample m ∷ steps
+onto t (script.Show c) steps = steps
 
 -- the steps of a client's own lines
-abbrev pub steps_of : List BodyLine → List Step
-steps_of [] = []
-steps_of (line ∷ lines) = onto line (steps_of lines)
+abbrev pub steps_of : Terms → List BodyLine → List Step
+steps_of t [] = []
+steps_of t (line ∷ lines) = onto t line (steps_of t lines)
 
 -- the journal of a client's connection
-abbrev pub journal : ℕ → List BodyLine → List Step
-journal c lines = steps_of (own c lines)
+abbrev pub journal : Terms → ℕ → List BodyLine → List Step
+journal t c lines = steps_of t (own c lines)
 
 -- what the header says of a client's connection
-abbrev pub config_of : Head → ℕ → Config
-config_of head c = record { client = c; life = head.life; size = head.size }
+abbrev pub terms_of : Head → ℕ → Terms
+terms_of head c = record { config = record { client = c; life = head.life; size = head.size }; kinds = plain_kinds; blocks = head.blocks }

@@ -1,24 +1,26 @@
 -- What the report of a script promises.
 use Rattle.std.specs.Prelude.{ℕ, ◌≡◌, ◌<◌, ◌==◌, Bool, false, if◌then◌else◌, List, [], ◌∷◌, ◌++◌, reverse, take}
 use Rattle.match_script.specs.declared.types.BodyLine.{BodyLine}
-use Rattle.match_script.specs.declared.types.BodyLine.TheVariants.{Post, Pack, ClientPack, Down, Up, Show}
+use Rattle.match_script.specs.declared.types.BodyLine.TheVariants.{Post, ClientPost, Pack, ClientPack, Down, Up, Move, Show}
 use Rattle.match_script.specs.declared.types.Head.{Head}
 use Rattle.match_script.specs.declared.types.Script.{Script}
 use Rattle.match_script.specs.Ranges.{HasRanges}
 use Rattle.match_report.specs.Text.{report_line}
-use Rattle.stream_manager.specs.declared.config.Config.{Config}
-use Rattle.pair_core.specs.Laws.{DeliversDown, DeliversUp}
-use Rattle.match_engine.specs.Journal.{own, steps_of, journal, config_of}
+use Rattle.stream_manager.specs.Limits.{Terms}
+use Rattle.pair_core.specs.Laws.{DeliversDown, DeliversUp, AcceptsInOrder}
+use Rattle.match_engine.specs.Journal.{own, steps_of, journal, terms_of}
 use Rattle.match_engine.specs.Report.{told, told_lines}
 
 -- ---- isolation
 
 abbrev pub is_pack : ℕ → BodyLine → Bool
 is_pack c (Post d class payload) = false
+is_pack c (ClientPost d class payload) = false
 is_pack c (Pack d) = d == c
 is_pack c (ClientPack d) = false
 is_pack c (Down d k) = false
 is_pack c (Up d k) = false
+is_pack c (Move d m) = false
 is_pack c (Show d) = false
 
 -- the report's lines of the `pack c` lines
@@ -27,13 +29,13 @@ packs_in c [] = []
 packs_in c (x ∷ xs) = if is_pack c x.0 then x.1 ∷ packs_in c xs else packs_in c xs
 
 -- what a server that serves this client alone writes for its own lines, the newest of which stand first
-abbrev pub pack_lines : Config → List BodyLine → List (List ℕ)
-pack_lines k [] = []
-pack_lines k (line ∷ lines) = pack_lines k lines ++ (if is_pack k.client line then report_line (told k (steps_of lines) line) ∷ [] else [])
+abbrev pub pack_lines : Terms → List BodyLine → List (List ℕ)
+pack_lines t [] = []
+pack_lines t (line ∷ lines) = pack_lines t lines ++ (if is_pack t.config.client line then report_line (told t (steps_of t lines) line) ∷ [] else [])
 
--- the `pack c` lines of a script's report are a function of the client's own lines and of three numbers
+-- the `pack c` lines of a script's report are a function of the client's own lines, of three numbers and of the blocks
 abbrev pub Isolation : Type 0
-Isolation = (head : Head) (c : ℕ) (past : List BodyLine) → packs_in c (told_lines head past) ≡ pack_lines (config_of head c) (own c past)
+Isolation = (head : Head) (c : ℕ) (past : List BodyLine) → packs_in c (told_lines head past) ≡ pack_lines (terms_of head c) (own c past)
 
 -- ---- delivered prefixes
 
@@ -43,4 +45,8 @@ after n s = reverse (take n s.body)
 
 -- at every line, what each end of each connection delivered is what the other end posted, as far as it has come
 abbrev pub EventsInOrder : Type 0
-EventsInOrder = (s : Script) (c n : ℕ) → HasRanges s → c < s.head.clients → DeliversDown (config_of s.head c) (journal c (after n s)) × DeliversUp (config_of s.head c) (journal c (after n s))
+EventsInOrder = (s : Script) (c n : ℕ) → HasRanges s → c < s.head.clients → DeliversDown (terms_of s.head c) (journal (terms_of s.head c) c (after n s)) × DeliversUp (terms_of s.head c) (journal (terms_of s.head c) c (after n s))
+
+-- at every line, the moves that the server accepted are those that the client sampled, as far as they have come
+abbrev pub MovesInOrder : Type 0
+MovesInOrder = (s : Script) (c n : ℕ) → HasRanges s → c < s.head.clients → AcceptsInOrder (terms_of s.head c) (journal (terms_of s.head c) c (after n s))

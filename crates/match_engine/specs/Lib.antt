@@ -1,3 +1,4 @@
+pub mod Kinds
 pub mod Journal
 pub mod Report
 pub mod Laws

@@ -2,10 +2,11 @@
 ghost use Rattle.std.specs.Prelude.{◌≡◌, ℕ, ◌<◌, ◌≤◌, List, [], ◌∷◌, IfOk, OnOk, length};
 ghost use Rattle.match_engine.specs.Journal.{client_of as client_named};
 
+use crate::kinds::plain_table;
 use crate::lines::line_on;
+use crate::seat::Seat;
 use match_report::Told;
 use match_script::{BodyLine, Head};
-use pair_core::Pair;
 use std::alloc::Global;
 use std::marker::Model;
 use stream_manager::Config;
@@ -20,7 +21,7 @@ pub const MAX_LINES: u32 = 4_000_000;
 #[derive(Drop)]
 pub struct Match {
     head: Head,
-    pairs: Vec<Pair>,
+    seats: Vec<Seat>,
     done: u32,
 }
 
@@ -31,7 +32,7 @@ impl Model for Match {
 
     ghost Value = { MatchState };
 
-    ghost view = { λ m. record { head = m.head; pairs = m.pairs.items; done = m.done } };
+    ghost view = { λ m. record { head = m.head; seats = m.seats.items; done = m.done } };
 }
 
 /// The client that a line names.
@@ -44,10 +45,16 @@ fn client_of(line: &BodyLine) -> u8
             class: _,
             payload: _,
         } => *client,
+        BodyLine::ClientPost {
+            client,
+            class: _,
+            payload: _,
+        } => *client,
         BodyLine::Pack { client } => *client,
         BodyLine::ClientPack { client } => *client,
         BodyLine::Down { client, k: _ } => *client,
         BodyLine::Up { client, k: _ } => *client,
+        BodyLine::Move { client, m: _ } => *client,
         BodyLine::Show { client } => *client,
     }
 }
@@ -55,7 +62,7 @@ fn client_of(line: &BodyLine) -> u8
 impl Match {
     ghost use Rattle.match_script.specs.declared.types.BodyLine.{BodyLine as OneLine};
     ghost use Rattle.match_script.specs.Ranges.{HeadFits, LineFits};
-    ghost use Rattle.match_engine.specs.Journal.{journal, config_of};
+    ghost use Rattle.match_engine.specs.Journal.{journal, terms_of};
     ghost use Rattle.match_engine.specs.Report.{told};
     ghost use Rattle.match_engine.specs.Stands.{StandsFor};
 
@@ -65,21 +72,25 @@ impl Match {
         ensures stands { IfOk result (λ m. StandsFor m []) }
         ensures head { IfOk result (λ m. m.head ≡ head.now) }
     {
-        let mut pairs = Vec::new(alloc);
-        'pairs: for client in 0..head.clients {
+        let Ok(own) = head.copy(alloc) else {
+            return Err(NoMemory);
+        };
+        let kinds = plain_table();
+        let mut seats = Vec::new(alloc);
+        'seats: for client in 0..head.clients {
             let config = Config {
                 client,
                 life: head.life,
                 size: head.size,
             };
-            let pair = Pair::new(alloc, config)?;
-            if pairs.push(pair).is_err() {
+            let seat = Seat::new(alloc, config, &kinds, head.blocks.as_slice())?;
+            if seats.push(seat).is_err() {
                 return Err(NoMemory);
             }
         }
         Ok(Match {
-            head: *head,
-            pairs,
+            head: own,
+            seats,
             done: 0,
         })
     }
@@ -89,13 +100,13 @@ impl Match {
         requires stands { (past : List OneLine) × StandsFor self.old past }
         requires fits { LineFits self.old.head.clients line.now }
         requires few { self.old.done < MAX_LINES }
-        ensures told { IfOk result (λ t. (past : List OneLine) → StandsFor self.old past → t ≡ told (config_of self.old.head (client_named line.now)) (journal (client_named line.now) past) line.now) }
+        ensures told { IfOk result (λ t. (past : List OneLine) → StandsFor self.old past → t ≡ told (terms_of self.old.head (client_named line.now)) (journal (terms_of self.old.head (client_named line.now)) (client_named line.now) past) line.now) }
         ensures stands { OnOk result ((past : List OneLine) → StandsFor self.old past → StandsFor self.new (line.now ∷ past)) }
         ensures head { self.new.head ≡ self.old.head }
     {
         let client = client_of(line) as usize;
         self.done += 1;
-        let pair = &mut self.pairs[client];
-        line_on(alloc, pair, line)
+        let seat = &mut self.seats[client];
+        line_on(alloc, seat, line)
     }
 }

@@ -1,9 +1,9 @@
 //! What the report of a script promises.
 
-ghost use Rattle.match_engine.specs.Laws.{Isolation, EventsInOrder};
+ghost use Rattle.match_engine.specs.Laws.{Isolation, EventsInOrder, MovesInOrder};
 
 /// The `pack c` lines of a report are those of a server that serves client c alone: a function of the client's own lines
-/// and of `client`, `life` and `size` (docs/proofs.md, "Isolation").
+/// and of `client`, `life`, `size` and the blocks (docs/proofs.md, "Isolation").
 pub fn isolation()
     ensures { Isolation }
 {}
@@ -12,4 +12,10 @@ pub fn isolation()
 /// (docs/proofs.md, "Delivered prefixes").
 pub fn events_in_order()
     ensures { EventsInOrder }
+{}
+
+/// At every line the moves that the server accepted are the first ones that the client sampled, each once and in order
+/// (docs/proofs.md, "Accepted prefixes").
+pub fn moves_in_order()
+    ensures { MovesInOrder }
 {}

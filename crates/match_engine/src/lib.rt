@@ -2,11 +2,14 @@
 #![tactic(auto)]
 
 mod game;
+mod kinds;
 mod laws;
 mod lines;
 mod output;
 mod running;
+mod seat;
 
 pub use game::Match;
-pub use laws::{events_in_order, isolation};
+pub use laws::{events_in_order, isolation, moves_in_order};
 pub use running::{RunFault, run};
+pub use seat::MAX_WAITING_MOVES;

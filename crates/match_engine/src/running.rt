@@ -7,10 +7,10 @@ ghost use Rattle.match_script.specs.Ranges.{HasRanges, LineFits};
 ghost use Rattle.match_engine.specs.Stands.{StandsFor};
 ghost use Rattle.match_engine.specs.Outside.{Adds, AddsFront};
 ghost use Rattle.match_engine.specs.Report.{report, line_text};
-ghost use Rattle.match_engine.specs.Laws.{Isolation, EventsInOrder};
+ghost use Rattle.match_engine.specs.Laws.{Isolation, EventsInOrder, MovesInOrder};
 
 use crate::game::{MAX_LINES, Match};
-use crate::laws::{events_in_order, isolation};
+use crate::laws::{events_in_order, isolation, moves_in_order};
 use crate::output::write_all;
 use match_report::put_line;
 use match_script::{BodyLine, Script};
@@ -68,9 +68,12 @@ pub fn run<K: Sink>(alloc: Global, script: &Script, sink: &mut K) -> Result<(), 
     ensures isolation { Isolation }
     // What is delivered is a front of what was posted.
     ensures events_in_order { EventsInOrder }
+    // Each accepted move was sampled, once and in order.
+    ensures moves_in_order { MovesInOrder }
 {
     isolation();
     events_in_order();
+    moves_in_order();
     let Ok(mut game) = Match::new(alloc, &script.head) else {
         return Err(RunFault::NoMemory);
     };

@@ -1,5 +1,5 @@
 use Rattle.std.proofs.Common.{◌≡◌, ◌≤◌, ◌++◌, List, length, map}
-use Rattle.stream_manager.specs.declared.config.Config.{Config}
+use Rattle.stream_manager.specs.Limits.{Terms}
 use Rattle.pair_core.specs.History.{Step}
 use Rattle.pair_core.specs.Stands.{StandsFor}
 use Rattle.match_engine.specs.Report.{event_told}
@@ -9,7 +9,7 @@ abbrev pub invariant-out : goal.invariant-out
 invariant-out l = record {
   events : l.events ++ map event_told l.pair.client.common.receiver.ready ≡ map event_told l.fn.pair.client.common.receiver.ready;
   few : length l.fn.pair.client.common.receiver.ready ≤ 95;
-  stands : (k : Config) (steps : List Step) → StandsFor l.fn.pair k steps → StandsFor l.pair k steps;
+  stands : (t : Terms) (steps : List Step) → StandsFor l.fn.pair t steps → StandsFor l.pair t steps;
   other : l.pair.conn ≡ l.fn.pair.conn;
 }
 

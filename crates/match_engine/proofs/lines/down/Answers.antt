@@ -3,4 +3,4 @@ use Rattle.pair_core.specs.History.{Down}
 use Rattle.match_engine.proofs.lines.down.Goals as goal
 
 pub returns-in-Ok-clause-stands : goal.returns-in-Ok-clause-stands
-returns-in-Ok-clause-stands c k steps s = c.client_events.ensures.stands k (Down c.args.k ∷ steps) (c.down.ensures.stands k steps s)
+returns-in-Ok-clause-stands c t steps s = c.client_events.ensures.stands t (Down c.args.k ∷ steps) (c.down.ensures.stands t steps s)

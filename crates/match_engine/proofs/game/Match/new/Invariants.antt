@@ -1,13 +1,13 @@
 use Rattle.std.proofs.Common.{◌≡◌, ◌<◌, ℕ, [], length}
 use Rattle.std.specs.Prelude.{slice_index_or}
-use Rattle.pair_core.specs.Stands.{PairState, StandsFor as PairStandsFor}
-use Rattle.match_engine.specs.Journal.{config_of}
-use Rattle.match_engine.specs.Stands.{IsQuiet}
+use Rattle.match_engine.specs.declared.seat.Seat.{Seat}
+use Rattle.match_engine.specs.Journal.{terms_of}
+use Rattle.match_engine.specs.Stands.{SeatStandsFor, IsQuiet}
 use Rattle.match_engine.proofs.game.Match.new.Given as goal
 
-abbrev pub invariant-pairs : goal.invariant-pairs
-invariant-pairs l = record {
-  count : length l.pairs.items ≡ l.client;
-  stands : (c : ℕ) (d : PairState) → c < l.client → PairStandsFor (slice_index_or l.pairs.items c d) (config_of l.head c) [];
-  quiet : (c : ℕ) (d : PairState) → c < l.client → IsQuiet (slice_index_or l.pairs.items c d);
+abbrev pub invariant-seats : goal.invariant-seats
+invariant-seats l = record {
+  count : length l.seats.items ≡ l.client;
+  stands : (c : ℕ) (d : Seat) → c < l.client → SeatStandsFor (slice_index_or l.seats.items c d) (terms_of l.head c) [];
+  quiet : (c : ℕ) (d : Seat) → c < l.client → IsQuiet (slice_index_or l.seats.items c d).pair;
 }

@@ -1,0 +1,62 @@
+//! A client's connection in a match, with its accepted moves.
+ghost use Rattle.std.specs.Prelude.{◌≡◌, ◌≤◌, ◌++◌, ◌∷◌, [], List, IfOk, OnErr, length};
+ghost use Rattle.stream_manager.specs.Limits.{IsConfig, Terms};
+ghost use Rattle.pair_core.specs.History.{Step, Up};
+ghost use Rattle.pair_core.specs.Answers.{up_answer, server_delivered};
+ghost use Rattle.match_engine.specs.Journal.{room_in};
+ghost use Rattle.match_engine.specs.Stands.{IsQuiet, SeatStandsFor};
+
+use circular_buffer::HeapCircularBuffer;
+use datablocks::MAX_SCRIPT_BLOCKS;
+use pair_core::{Pair, UpFault};
+use quantised_fields::KindTable;
+use std::alloc::Global;
+use stream_manager::{Config, Taken};
+use tn_types::{BlockBytes, Move, NoMemory};
+
+/// The most accepted moves of a client that wait for a tick.
+pub const MAX_WAITING_MOVES: usize = 32;
+
+/// A client's connection, and its accepted moves that wait for a tick, the oldest first.
+#[derive(Drop)]
+pub(crate) struct Seat {
+    pub(crate) pair: Pair,
+    pub(crate) waiting: HeapCircularBuffer<Move>,
+}
+
+impl Seat {
+    /// A connection of which nothing happened.
+    pub(crate) fn new(
+        alloc: Global,
+        config: Config,
+        kinds: &KindTable,
+        blocks: &[BlockBytes],
+    ) -> Result<Seat, NoMemory>
+        requires config { IsConfig config }
+        requires few { length blocks.now ≤ MAX_SCRIPT_BLOCKS }
+        ensures stands { IfOk result (λ s. SeatStandsFor s (record { config = config; kinds = kinds.now; blocks = blocks.now }) []) }
+        ensures quiet { IfOk result (λ s. IsQuiet s.pair) }
+    {
+        let pair = Pair::new(alloc, config, kinds, blocks)?;
+        match HeapCircularBuffer::with_capacity(alloc, MAX_WAITING_MOVES) {
+            Ok(waiting) => Ok(Seat { pair, waiting }),
+            Err(_) => Err(NoMemory),
+        }
+    }
+
+    /// The server gets the client's datagram of place `k`. Each move that it newly accepts waits, as far as there is a
+    /// place. No event may wait.
+    pub(crate) fn up(&mut self, k: u32) -> Result<Taken, UpFault>
+        requires { self.old.pair.conn.common.receiver.ready ≡ [] }
+        ensures answer { (t : Terms) (steps : List Step) → SeatStandsFor self.old t steps → result ≡ up_answer t steps k (room_in t steps) }
+        ensures stands { (t : Terms) (steps : List Step) → SeatStandsFor self.old t steps → SeatStandsFor self.new t (Up k (room_in t steps) ∷ steps) }
+        ensures handed { (t : Terms) (steps : List Step) → SeatStandsFor self.old t steps → server_delivered t (Up k (room_in t steps) ∷ steps) ≡ server_delivered t steps ++ self.new.pair.conn.common.receiver.ready }
+        ensures client { self.new.pair.client ≡ self.old.pair.client }
+        ensures unchanged { OnErr result (self.new ≡ self.old) }
+    {
+        let room = MAX_WAITING_MOVES.saturating_sub(self.waiting.len());
+        let taken = self.pair.up(k, room as u32)?;
+        self.waiting.fill_from_slice(self.pair.conn().taken_moves());
+        Ok(taken)
+    }
+}
