@@ -14,6 +14,7 @@ use Rattle.world_sim.specs.RowsNext.{fresh_row, rows_next, rows_writes, WasCount
 
 pub record Worlds : Type 0 where
   pub seed : ℕ
+  pub radius : ℕ
   pub ticks : ℕ
   pub objects : List Object
   pub rows : List Row
@@ -34,6 +35,7 @@ after w moves = objects_next w.objects moves (coming w)
 unfoldable pub next : Worlds → List (Option Move) → Worlds
 next w moves = record {
   seed = w.seed;
+  radius = w.radius;
   ticks = w.ticks + 1;
   objects = after w moves;
   rows = rows_next w.rows (after w moves);
@@ -52,9 +54,9 @@ pub record IsWorld (w : Worlds) : Type 0 where
   pub fits : AllByRecursion ObjectFits w.objects
   pub values : map row_values w.rows ≡ map values_of w.objects
 
--- the world before its first tick
-abbrev pub first_world : ℕ → List Object → Worlds
-first_world seed os = record { seed = seed; ticks = 0; objects = os; rows = map fresh_row os; writes = [] }
+-- the world before its first tick, in which players see so far
+abbrev pub first_world : ℕ → ℕ → List Object → Worlds
+first_world seed radius os = record { seed = seed; radius = radius; ticks = 0; objects = os; rows = map fresh_row os; writes = [] }
 
 -- what stands at this number
 abbrev pub alive_at : Worlds → ℕ → Option Bool

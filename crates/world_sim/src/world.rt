@@ -56,6 +56,8 @@ fn workroom(alloc: Global) -> Result<Work, AllocError> {
 #[derive(Drop)]
 pub struct World {
     seed: u32,
+    // How far players see, in centimetres.
+    radius: u32,
     ticks: u32,
     objects: Vec<Object>,
     rows: Vec<Row>,
@@ -68,9 +70,9 @@ impl Model for World {
 
     ghost Value = { Worlds };
 
-    ghost view = { λ w. record { seed = w.seed; ticks = w.ticks; objects = w.objects.items; rows = w.rows.items; writes = w.writes.items } };
+    ghost view = { λ w. record { seed = w.seed; radius = w.radius; ticks = w.ticks; objects = w.objects.items; rows = w.rows.items; writes = w.writes.items } };
 
-    ghost invariant = { λ w. IsWorld (record { seed = w.seed; ticks = w.ticks; objects = w.objects.items; rows = w.rows.items; writes = w.writes.items }) };
+    ghost invariant = { λ w. IsWorld (record { seed = w.seed; radius = w.radius; ticks = w.ticks; objects = w.objects.items; rows = w.rows.items; writes = w.writes.items }) };
 }
 
 // Adds a disc that is made, if there is a place.
@@ -194,18 +196,18 @@ impl World {
     #[tactic(auto, using(world_rules::proofs::Ranging::first_objects_fit))]
     pub fn new(alloc: Global, seed: u32, setup: &Setup) -> Result<World, NoMemory>
         requires { SetupFits setup.now }
-        ensures { IfOk result (λ w. w ≡ first_world seed (first_objects 0 setup.now.spawns)) }
+        ensures { IfOk result (λ w. w ≡ first_world seed setup.now.radius (first_objects 0 setup.now.spawns)) }
     {
-        match World::start(alloc, seed, setup.spawns.as_slice()) {
+        match World::start(alloc, seed, setup.radius, setup.spawns.as_slice()) {
             Ok(world) => Ok(world),
             Err(_) => Err(NoMemory),
         }
     }
 
-    fn start(alloc: Global, seed: u32, spawns: &[Spawn]) -> Result<World, AllocError>
+    fn start(alloc: Global, seed: u32, radius: u32, spawns: &[Spawn]) -> Result<World, AllocError>
         requires few { length spawns.now ≤ 1024 }
         requires fits { AllByRecursion ObjectFits (first_objects 0 spawns.now) }
-        ensures { IfOk result (λ w. w ≡ first_world seed (first_objects 0 spawns.now)) }
+        ensures { IfOk result (λ w. w ≡ first_world seed radius (first_objects 0 spawns.now)) }
     {
         let objects = start_objects(alloc, spawns)?;
         let rows = first_rows(alloc, &objects)?;
@@ -213,6 +215,7 @@ impl World {
         let work = workroom(alloc)?;
         Ok(World {
             seed,
+            radius,
             ticks: 0,
             objects,
             rows,
@@ -277,6 +280,21 @@ impl World {
         ensures few { result ≤ 1024 }
     {
         self.objects.len() as u32
+    }
+
+    /// How far players see, in centimetres.
+    pub fn radius(&self) -> u32
+        ensures { result ≡ self.now.radius }
+    {
+        self.radius
+    }
+
+    /// The objects made so far, dead ones too, each at the place of its number.
+    pub fn all_objects(&self) -> &[Object]
+        ensures value { result.now ≡ self.now.objects }
+        ensures few { length result.now ≤ 1024 }
+    {
+        self.objects.as_slice()
     }
 
     /// Whether an object is alive.

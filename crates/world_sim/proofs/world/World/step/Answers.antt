@@ -4,5 +4,5 @@ use Rattle.world_sim.proofs.world.World.step.Goals as goal
 
 pub invariant_of-self-2 : goal.invariant_of-self-2
 invariant_of-self-2 c =
-    let before : Worlds = record { seed = c.self.inside.seed; ticks = c.self.inside.ticks; objects = c.self.inside.objects.items; rows = c.self.inside.rows.items; writes = c.self.inside.writes.items } in
+    let before : Worlds = record { seed = c.self.inside.seed; radius = c.self.inside.radius; ticks = c.self.inside.ticks; objects = c.self.inside.objects.items; rows = c.self.inside.rows.items; writes = c.self.inside.writes.items } in
     world_from before c.args.moves.now c.deref.result.now c.deref-2.result.now c.swap.new.x.items c.swap-2.new.x.items c.swap-3.new.x.items c.deref.ensures.value c.deref-2.ensures.value (rw c.swap.ensures.x_after c.in_ok-advance.ensures.objects) (rw c.swap-2.ensures.x_after c.in_ok-advance.ensures.rows) (rw c.swap-3.ensures.x_after c.in_ok-advance.ensures.writes) c.self.invariant

@@ -1,0 +1,3 @@
+pub mod Sight
+pub mod Scope
+pub mod Examples

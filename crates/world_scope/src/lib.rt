@@ -1,0 +1,10 @@
+//! Which objects of a world a client sees, and how near they are. The rules stand in docs/world.md, "Scope".
+#![tactic(auto)]
+
+mod scope;
+#[cfg(test)]
+mod tests;
+mod viewer;
+
+pub use scope::visible;
+pub use viewer::Seen;

@@ -1,0 +1,116 @@
+//! A client's look at one object.
+ghost use Rattle.std.specs.Prelude.{◌≡◌, ◌≤◌, ◌+◌, ◌*◌, ◌/◌, ◌||◌, Some, None, find, if◌then◌else◌};
+ghost use Rattle.std.specs.Option.{option_copied};
+ghost use Rattle.world_rules.specs.Rules.{is_player};
+ghost use Rattle.world_scope.specs.Sight.{distance, is_hidden, is_always};
+
+use world_rules::flags::is_player;
+use world_rules::{Object, Place, State};
+use world_sim::World;
+
+/// An object that a client sees.
+#[derive(Clone, Copy, Debug, PartialEq, Eq)]
+pub struct Seen {
+    /// The object's number.
+    pub object: u32,
+    /// How near it is: 0 for the client's own player and for what is always seen, and else the quarter of the
+    /// radius that it lies in, 0 to 3.
+    pub level: u8,
+}
+
+/// Who looks: a client, its player if it has one, and how far players see, in centimetres.
+#[derive(Clone, Copy)]
+pub struct Viewer {
+    pub client: u8,
+    pub player: Option<Object>,
+    pub radius: u32,
+}
+
+// How far two places are from one another: the greater of the ways along x and along y.
+fn distance(a: &Place, b: &Place) -> u32
+    ensures { result ≡ distance a.now b.now }
+{
+    a.x.abs_diff(b.x).max(a.y.abs_diff(b.y))
+}
+
+// Whether an object is hidden from a team.
+fn is_hidden(team: u8, o: &Object) -> bool
+    ensures { result ≡ is_hidden team o.now }
+{
+    match &o.state {
+        State::Mine(mine) => mine.armed && o.team != team,
+        _ => false,
+    }
+}
+
+// Whether an object's kind is always seen.
+fn is_always(o: &Object) -> bool
+    ensures { result ≡ is_always o.now }
+{
+    matches!(o.state, State::Flag(_) | State::Clock(_))
+}
+
+// The quarter of the radius that lies so far away.
+fn quarter(radius: u32, away: u32) -> u8
+    requires { away ≤ radius }
+    ensures value { result ≡ 4 * away / (radius + 1) }
+{
+    (4 * u64::from(away) / (u64::from(radius) + 1)) as u8
+}
+
+// The client's player.
+fn player_of(client: u8, objects: &[Object]) -> Option<&Object>
+    ensures { option_copied result ≡ find (is_player client) objects.now }
+{
+    objects.iter().find(|o| is_player(client, o))
+}
+
+impl Viewer {
+    ghost use Rattle.world_scope.specs.Scope.{player_sees, quarter, seen, viewer_of};
+
+    /// The look of a client at a world.
+    pub fn of(world: &World, client: u8) -> Viewer
+        ensures { result ≡ viewer_of world.now client }
+    {
+        Viewer {
+            client,
+            player: player_of(client, world.all_objects()).copied(),
+            radius: world.radius(),
+        }
+    }
+
+    // Whether an object is seen wherever it is.
+    fn sees_anywhere(&self, o: &Object) -> bool
+        ensures { result ≡ (is_player self.now.client o.now || is_always o.now) }
+    {
+        is_player(self.client, o) || is_always(o)
+    }
+
+    // What the client's player sees of an object with this number.
+    fn seen_by_player(&self, object: u32, o: &Object) -> Option<Seen>
+        ensures { result ≡ (if player_sees self.now.radius self.now.player o.now then Some (record { object = object; level = quarter self.now.radius self.now.player o.now }) else None) }
+    {
+        let player = self.player?;
+        let away = distance(&player.place, &o.place);
+        if is_hidden(player.team, o) || away > self.radius {
+            return None;
+        }
+        Some(Seen {
+            object,
+            level: quarter(self.radius, away),
+        })
+    }
+
+    /// An object with this number as the client sees it, if it does.
+    pub fn seen(&self, object: u32, o: &Object) -> Option<Seen>
+        ensures { result ≡ seen self.now (object, o.now) }
+    {
+        if !o.alive {
+            return None;
+        }
+        if self.sees_anywhere(o) {
+            return Some(Seen { object, level: 0 });
+        }
+        self.seen_by_player(object, o)
+    }
+}
