@@ -1,0 +1,5 @@
+pub mod Places
+pub mod Changes
+pub mod Logs
+pub mod Calls
+pub mod Bits

@@ -1,0 +1,59 @@
+//! Where the words of lanes lie, and what is in them.
+//!
+//! Word 0 is never used. Behind it each object has 32 words, whatever the number of clients: one for each of
+//! its fields and then one for each client.
+
+ghost use Rattle.std.specs.Prelude.{◌≡◌, ◌*◌, ◌+◌, ◌/◌, ◌%◌, ◌<◌};
+ghost use Rattle.dirty_lanes.specs.Words.{field_word, mask_word, packed};
+
+/// The fields of an object, numbered from 0.
+pub const FIELDS: u8 = 16;
+
+/// The most clients, numbered from 0.
+pub const MAX_CLIENTS: u32 = 16;
+
+/// The most objects, numbered from 0.
+pub const MAX_OBJECTS: u32 = 1024;
+
+/// The words of an object.
+pub(crate) const WORDS: usize = 32;
+
+/// What one version adds to a field's word: the value stands in the 32 bits below it.
+pub(crate) const VERSION: u64 = 4_294_967_296;
+
+// The place of a field's word.
+pub(crate) fn field_word(object: u32, field: u8) -> usize
+    requires { field < FIELDS }
+    ensures { result ≡ field_word object field }
+{
+    WORDS * object as usize + field as usize + 1
+}
+
+// The place of the word that holds a client's bits of an object.
+pub(crate) fn mask_word(client: u8, object: u32) -> usize
+    requires { client < MAX_CLIENTS }
+    ensures { result ≡ mask_word client object }
+{
+    WORDS * object as usize + (FIELDS as usize + client as usize) + 1
+}
+
+// A field's word with this version and value.
+pub(crate) fn packed(version: u32, value: u32) -> u64
+    ensures { result ≡ packed version value }
+{
+    u64::from(version) * VERSION + u64::from(value)
+}
+
+// The version in a field's word.
+pub(crate) fn version_in(word: u64) -> u32
+    ensures { result ≡ word / VERSION }
+{
+    (word / VERSION) as u32
+}
+
+// The value in a field's word.
+pub(crate) fn value_in(word: u64) -> u32
+    ensures { result ≡ word % VERSION }
+{
+    (word % VERSION) as u32
+}
