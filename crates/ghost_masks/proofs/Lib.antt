@@ -1,0 +1,12 @@
+pub mod Logs
+pub mod Holders
+pub mod Offers
+pub mod Fitting
+pub mod Items
+pub mod Entries
+pub mod Turns
+pub mod Unjudged
+pub mod Stands
+pub mod Calls
+pub mod Counts
+pub mod Rows
