@@ -3,6 +3,7 @@ pub mod Holders
 pub mod Offers
 pub mod Fitting
 pub mod Items
+pub mod Carried
 pub mod Entries
 pub mod Turns
 pub mod Unjudged

@@ -1,3 +1,4 @@
 pub mod Plan
 pub mod Packets
 pub mod StandsFor
+pub mod Carried

@@ -7,8 +7,10 @@
 
 mod choices;
 pub mod masks;
+mod packet_items;
 mod packets;
 pub mod plan;
+mod values;
 
 pub use masks::Masks;
 

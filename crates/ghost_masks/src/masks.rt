@@ -1,7 +1,7 @@
 //! Periods, records and the plan of one connection, tied to one list of what happened.
 
 ghost use Rattle.std.specs.Prelude.{◌≡◌, ◌+◌, ◌-◌, ◌<◌, ◌≤◌, ◌^◌, ◌&&◌, List, [], ◌∷◌, IfOk, IsSome, IsNone, ◌↔◌, ◌⊎◌, IfSome, Some, None, true, false, length, All, count_by, sum_by, IsTrue};
-ghost use Rattle.std.specs.List.{list_any};
+ghost use Rattle.std.specs.List.{list_any, AllByRecursion};
 ghost use Rattle.std.specs.Borrow.{sem};
 ghost use Rattle.std.specs.Io.BufRead.{Rests};
 ghost use Rattle.ghost_model.specs.Words.{upto};
@@ -10,8 +10,10 @@ ghost use Rattle.ghost_model.specs.Scope.{shows, traits};
 ghost use Rattle.ghost_scope.specs.Table.{phase_of, IsOrdered};
 
 use crate::choices::Choices;
+use crate::packet_items::ghost_items;
 use crate::packets::{keep, settle, write};
 use crate::plan::fill;
+use crate::values::fit_items;
 use ghost_model::Phase;
 use ghost_scope::periods::MOST_SHOWN;
 use ghost_scope::{Period, Periods};
@@ -20,6 +22,7 @@ use quantised_fields::KindTable;
 use std::alloc::Global;
 use std::marker::Model;
 use tn_types::{Choice, NoMemory, Verdict};
+use wire_format::GhostList;
 
 /// What the server's end of a connection knows of the ghosts at its client.
 #[derive(Drop)]
@@ -54,6 +57,8 @@ impl Masks {
     ghost use Rattle.ghost_model.specs.Scope.{control_slot};
     ghost use Rattle.ghost_masks.specs.Plan.{kind_of, block_of, item_bits, plan_of, IsItem, IsOfPeriod};
     ghost use Rattle.ghost_masks.specs.Packets.{NameOnce};
+    ghost use Rattle.ghost_masks.specs.Carried.{all_carried, ghosts_for, AreValues};
+    ghost use Rattle.wire_format.specs.Ghosts.{ghost_size, IsGhostInRange};
     ghost use Rattle.ghost_masks.specs.contracts.masks.Masks.{the_row};
     ghost use Rattle.ghost_masks.specs.StandsFor.{StandsFor, IsChosen};
 
@@ -149,6 +154,30 @@ impl Masks {
         ensures items { (log : List GhostEvent) → StandsFor self.now log → All (IsItem self.now.kinds log) result.now }
     {
         self.chosen.as_slice()
+    }
+
+    /// The ghosts of the next packet: what was chosen, with the level of each of these values. There is one value for
+    /// each field that the items carry, in the order of the items and by rising field (docs/formats.md, "Levels").
+    pub fn items(&self, values: &[i64]) -> GhostList
+        requires chosen { IsSome self.now.plan }
+        requires values { (log : List GhostEvent) → StandsFor self.now log → IfSome self.now.plan (λ items. AreValues (all_carried self.now.kinds log items) values.now) }
+        ensures items { (log : List GhostEvent) → StandsFor self.now log → IfSome self.now.plan (λ items. result ≡ ghosts_for self.now.kinds log items values.now) }
+        ensures fits { AllByRecursion (IsGhostInRange self.now.kinds) result }
+        ensures size { (log : List GhostEvent) → StandsFor self.now log → IfSome self.now.plan (λ items. sum_by (ghost_size self.now.kinds) result ≡ sum_by (item_bits self.now.kinds log) items) }
+        ensures few { length result ≤ 128 }
+    {
+        prove!(self.is_chosen);
+        ghost_items(self, values)
+    }
+
+    /// Whether there is one value for each field that the items of the next packet carry, in the order of the items and
+    /// by rising field, each in its field's range.
+    pub fn fits(&self, values: &[i64]) -> bool
+        requires { IsSome self.now.plan }
+        ensures told { (log : List GhostEvent) → StandsFor self.now log → IfSome self.now.plan (λ items. IsTrue result ↔ AreValues (all_carried self.now.kinds log items) values.now) }
+        ensures holds { IsTrue result → (log : List GhostEvent) → StandsFor self.now log → IfSome self.now.plan (λ items. AreValues (all_carried self.now.kinds log items) values.now) }
+    {
+        fit_items(self, values)
     }
 
     /// Chooses what the next packet carries, and gives it.
