@@ -67,6 +67,7 @@ impl Masks {
         ensures stands { IfOk result (λ m. StandsFor m []) }
         ensures numbers { IfOk result (λ m. (m.sent ≡ 0) × (m.judged ≡ 0)) }
         ensures kinds { IfOk result (λ m. m.kinds ≡ kinds.now) }
+        ensures plan { IfOk result (λ m. m.plan ≡ None) }
     {
         let periods = Periods::new(alloc)?;
         in_order(&periods);
@@ -187,6 +188,14 @@ impl Masks {
     {
         self.choose(received, room);
         self.chosen()
+    }
+
+    /// What was chosen is not to be sent, since something else changed: until the next choice there is no plan.
+    pub fn discard_plan(&mut self)
+        ensures rest { self.new ≡ record self.old { plan = None } }
+        ensures stands { (log : List GhostEvent) → StandsFor self.old log → StandsFor self.new log }
+    {
+        self.is_chosen = false;
     }
 
     /// What was chosen was written as packet `seq`.
