@@ -19,7 +19,7 @@ use Rattle.wire_format.specs.declared.server.ServerPacket.TheVariants as down
 use Rattle.wire_format.specs.declared.client.ClientPacket.TheVariants as up
 use Rattle.wire_format.specs.Server.{server}
 use Rattle.wire_format.specs.Client.{client}
-use Rattle.stream_manager.specs.Server.{ServerEvent, server_datagrams, server_state, posted_at_server, data_body, server_ping}
+use Rattle.stream_manager.specs.Server.{ServerEvent, server_datagrams, server_state, posted_at_server, next_body, server_ping}
 use Rattle.stream_manager.specs.Client as client_log
 use Rattle.stream_manager.specs.Client.{ClientEvent, client_datagrams, client_state, posted_at_client, client_body, client_ping, sampled_answer}
 use Rattle.pair_core.specs.History.{Step, Post, ClientPost, Sample, Pack, ClientPack, Down, Up, history, server_posts, client_posts, client_samples}
@@ -49,13 +49,13 @@ client-samples k m log = go (is_ok (sampled_answer k log))
     go true = refl
     go false = refl
 
-server-packs : (t : Terms) (log : List ServerEvent) → length (server_datagrams t.kinds (after (server_log.packing t log) log)) ≤ suc (length (server_datagrams t.kinds log))
+server-packs : (t : Terms) (log : List ServerEvent) → length (server_datagrams t.kinds (server_log.packing t log [])) ≤ suc (length (server_datagrams t.kinds log))
 server-packs t log = go (server_state t.config log)
   where
-    go : (state : SendState) → length (server_datagrams t.kinds (after (server_log.pack_event t log state) log)) ≤ suc (length (server_datagrams t.kinds log))
+    go : (state : SendState) → length (server_datagrams t.kinds (server_log.packed_onto t log [] state)) ≤ suc (length (server_datagrams t.kinds log))
     go Held = omega (arith, length-append (server_datagrams t.kinds log) (datagram (server t.kinds (down.Ping (server_ping t.config log))) ∷ []))
     go Worn = omega arith
-    go Room = omega (arith, length-append (server_datagrams t.kinds log) (datagram (server t.kinds (down.Body (data_body t log))) ∷ []))
+    go Room = omega (arith, length-append (server_datagrams t.kinds log) (datagram (server t.kinds (down.Body (next_body t log []))) ∷ []))
 
 client-packs : (k : Config) (log : List ClientEvent) → length (client_datagrams (after (client_log.packing k log) log)) ≤ suc (length (client_datagrams log))
 client-packs k log = go (client_state k log)

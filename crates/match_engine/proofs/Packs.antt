@@ -11,7 +11,7 @@ use Rattle.notify_window.specs.declared.SendState.TheVariants.{Held, Worn, Room}
 use Rattle.stream_manager.specs.Limits.{Terms}
 use Rattle.stream_manager.specs.End.{onto}
 use Rattle.stream_manager.specs.Server as server_log
-use Rattle.stream_manager.specs.Server.{server_state, server_datagrams, data_body, server_ping}
+use Rattle.stream_manager.specs.Server.{server_state, server_datagrams, next_body, server_ping}
 use Rattle.stream_manager.specs.Client as client_log
 use Rattle.stream_manager.specs.Client.{client_state, client_datagrams, client_body, client_ping}
 use Rattle.pair_core.specs.declared.fault.Made.{Made}
@@ -37,16 +37,16 @@ module _ (t : Terms) (steps : List Step) (c place : ℕ) (told : Told) where
       → ((bytes : List ℕ) → slice_get l place ≡ Some bytes → told ≡ told_as.Packed false c place false bytes) → told ≡ pack_told t steps c (server_state t.config (history t steps).server)
   server_sealed l e sent f = go (server_state t.config (history t steps).server) e sent
     where
-      go : (state : SendState) → Data place ≡ made state t.config.life (length (server_datagrams t.kinds (history t steps).server)) → l ≡ server_datagrams t.kinds (onto (server_log.pack_event t (history t steps).server state) (history t steps).server) → told ≡ pack_told t steps c state
+      go : (state : SendState) → Data place ≡ made state t.config.life (length (server_datagrams t.kinds (history t steps).server)) → l ≡ server_datagrams t.kinds (server_log.packed_onto t (history t steps).server [] state) → told ≡ pack_told t steps c state
       go Held e sent = absurd cc
       go Worn e sent = absurd cc
-      go Room e sent = f (datagram (server t.kinds (server_packet.Body (data_body t (history t steps).server)))) (at-end (server_datagrams t.kinds (history t steps).server) l (datagram (server t.kinds (server_packet.Body (data_body t (history t steps).server)))) place (ap place-of e) sent) ∙ ap (λ n. told_as.Packed false c n false (datagram (server t.kinds (server_packet.Body (data_body t (history t steps).server))))) (ap place-of e)
+      go Room e sent = f (datagram (server t.kinds (server_packet.Body (next_body t (history t steps).server [])))) (at-end (server_datagrams t.kinds (history t steps).server) l (datagram (server t.kinds (server_packet.Body (next_body t (history t steps).server [])))) place (ap place-of e) sent) ∙ ap (λ n. told_as.Packed false c n false (datagram (server t.kinds (server_packet.Body (next_body t (history t steps).server []))))) (ap place-of e)
 
   pub server_pinged : (l : List (List ℕ)) → Ping place ≡ pack_answer t steps → l ≡ server_datagrams t.kinds (history t (Pack ∷ steps)).server
       → ((bytes : List ℕ) → slice_get l place ≡ Some bytes → told ≡ told_as.Packed false c place true bytes) → told ≡ pack_told t steps c (server_state t.config (history t steps).server)
   server_pinged l e sent f = go (server_state t.config (history t steps).server) e sent
     where
-      go : (state : SendState) → Ping place ≡ made state t.config.life (length (server_datagrams t.kinds (history t steps).server)) → l ≡ server_datagrams t.kinds (onto (server_log.pack_event t (history t steps).server state) (history t steps).server) → told ≡ pack_told t steps c state
+      go : (state : SendState) → Ping place ≡ made state t.config.life (length (server_datagrams t.kinds (history t steps).server)) → l ≡ server_datagrams t.kinds (server_log.packed_onto t (history t steps).server [] state) → told ≡ pack_told t steps c state
       go Held e sent = f (datagram (server t.kinds (server_packet.Ping (server_ping t.config (history t steps).server)))) (at-end (server_datagrams t.kinds (history t steps).server) l (datagram (server t.kinds (server_packet.Ping (server_ping t.config (history t steps).server)))) place (ap place-of e) sent) ∙ ap (λ n. told_as.Packed false c n true (datagram (server t.kinds (server_packet.Ping (server_ping t.config (history t steps).server))))) (ap place-of e)
       go Worn e sent = absurd cc
       go Room e sent = absurd cc

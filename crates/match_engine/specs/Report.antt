@@ -18,7 +18,7 @@ use Rattle.match_script.specs.declared.types.Script.{Script}
 use Rattle.stream_manager.specs.declared.server.Taken.{Taken}
 use Rattle.stream_manager.specs.Limits.{Terms}
 use Rattle.stream_manager.specs.End.{dropped_of}
-use Rattle.stream_manager.specs.Server.{server_end, server_state, server_datagrams, posted_at_server, data_body, server_ping}
+use Rattle.stream_manager.specs.Server.{server_end, server_state, server_datagrams, posted_at_server, next_body, server_ping}
 use Rattle.stream_manager.specs.Client.{client_end, client_state, client_datagrams, client_body, client_ping, posted_at_client, sampled_answer, control_at}
 use Rattle.pair_core.specs.declared.fault.DownFault.{DownFault}
 use Rattle.pair_core.specs.declared.fault.DownFault.TheVariants as down
@@ -49,7 +49,7 @@ client_post_told t steps c Loose = told_as.PostLoose true c (dropped_of (client_
 abbrev pub pack_told : Terms → List Step → ℕ → SendState → Told
 pack_told t steps c Held = told_as.Packed false c (length (server_datagrams t.kinds (history t steps).server)) true (datagram (server t.kinds (server_packet.Ping (server_ping t.config (history t steps).server))))
 pack_told t steps c Worn = told_as.PackWorn false c t.config.life
-pack_told t steps c Room = told_as.Packed false c (length (server_datagrams t.kinds (history t steps).server)) false (datagram (server t.kinds (server_packet.Body (data_body t (history t steps).server))))
+pack_told t steps c Room = told_as.Packed false c (length (server_datagrams t.kinds (history t steps).server)) false (datagram (server t.kinds (server_packet.Body (next_body t (history t steps).server []))))
 
 abbrev pub client_pack_told : Terms → List Step → ℕ → SendState → Told
 client_pack_told t steps c Held = told_as.Packed true c (length (client_datagrams (history t steps).client)) true (datagram (client (client_packet.Ping (client_ping t.config (history t steps).client))))

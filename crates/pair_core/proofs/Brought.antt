@@ -1,5 +1,5 @@
 -- What a pair stands for after a delivery.
-use Rattle.std.proofs.Common.{◌≡◌, ℕ, List, ◌∷◌, Some, None, Result, Ok, Err, refl, sym, subst, ap, ◌∙◌}
+use Rattle.std.proofs.Common.{◌≡◌, ℕ, List, ◌∷◌, ◌++◌, Some, None, Result, Ok, Err, refl, sym, subst, ap, ◌∙◌}
 use Rattle.std.specs.Prelude.{slice_get, Option}
 use Rattle.wire_format.specs.declared.client.ClientPacket.{ClientPacket}
 use Rattle.wire_format.specs.declared.server.ServerPacket.{ServerPacket}
@@ -10,9 +10,10 @@ use Rattle.quantised_fields.specs.declared.kind.Kind.{Kind}
 use Rattle.stream_manager.specs.Limits.{Terms}
 use Rattle.stream_manager.specs.Calls.{ClientKeeps}
 use Rattle.stream_manager.specs.Stands.{ConnState, ConnStandsFor, terms_of, ClientState, ClientStandsFor}
-use Rattle.stream_manager.specs.Server.{ServerEvent, server_datagrams, server_answer, took_at_server}
+use Rattle.stream_manager.specs.Server.{ServerEvent, server_datagrams, server_answer, took_at_server, accepted_at}
 use Rattle.stream_manager.specs.Client.{ClientEvent, client_datagrams, client_answer, took_at_client}
 use Rattle.pair_core.specs.History.{Step, Down, Up, history, client_gets, server_gets}
+use Rattle.pair_core.specs.Answers.{accepted_in}
 use Rattle.pair_core.specs.Stands.{PairState, StandsFor}
 
 -- an arrival sends nothing
@@ -68,3 +69,15 @@ up_stands p new t steps k room bytes there terms gets s =
       down = s.down ∙ sym (gets_sends_down t room (slice_get (client_datagrams (history t steps).client) k) (history t steps).server);
       up = s.up;
     }
+
+-- the moves that the server newly accepts are those that its end lends
+pub up_moves : (p : PairState) (new : ConnState) (t : Terms) (steps : List Step) (k room : ℕ) (bytes : List ℕ) → slice_get p.up k ≡ Some bytes
+    → ((log : List ServerEvent) → ConnStandsFor p.conn log → accepted_at p.conn.common.config (took_at_server log room (server_answer p.conn.common.config log bytes)) ≡ accepted_at p.conn.common.config log ++ new.taken)
+    → StandsFor p t steps → accepted_in t (Up k room ∷ steps) ≡ accepted_in t steps ++ new.taken
+up_moves p new t steps k room bytes there moves s =
+    let before = (history t steps).server in
+    let sent : slice_get (client_datagrams (history t steps).client) k ≡ Some bytes = ap (λ (l : List (List ℕ)). slice_get l k) (sym s.up) ∙ there in
+    let config : p.conn.common.config ≡ t.config = ap (λ (x : Terms). x.config) s.terms in
+    let now : accepted_at t.config (server_gets t.config room (Some bytes) before) ≡ accepted_at t.config before ++ new.taken =
+    subst (λ (x : Config). accepted_at x (took_at_server before room (server_answer x before bytes)) ≡ accepted_at x before ++ new.taken) config (moves before s.conn) in
+    subst (λ (o : Option (List ℕ)). accepted_at t.config (server_gets t.config room o before) ≡ accepted_at t.config before ++ new.taken) (sym sent) now

@@ -1,7 +1,8 @@
 -- What goes over the network: each datagram that was sent spells a packet whose guaranteed events are those that were
 -- posted, and so are those that came.
 use Rattle.std.proofs.Common.{◌≡◌, ◌≢◌, ◌==◌, ◌-◌, length-append, length-drop, ℕ, ◌+◌, ◌<◌, ◌≤◌, ◌^◌, Bool, true, false, List, [], ◌∷◌, ◌++◌, length, Option, Some, None, Result, Ok, Err, refl, sym, subst, arith, if◌then◌else◌}
-use Rattle.std.specs.Prelude.{slice_get}
+use Rattle.std.specs.Prelude.{slice_get, IfSome}
+use Rattle.tn_types.specs.declared.choices.Choice.{Choice}
 use Rattle.std.specs.Result.{is_ok}
 use Rattle.std.specs.List.{AllByRecursion}
 use Rattle.tn_types.specs.declared.choices.Class.{Class}
@@ -16,6 +17,10 @@ use Rattle.wire_format.specs.declared.client.ClientPacket.{ClientPacket}
 use Rattle.wire_format.specs.declared.client.ClientPacket.TheVariants as up
 use Rattle.wire_format.specs.Server.{server, server_at, server_of, IsServer}
 use Rattle.wire_format.specs.Client.{client, client_at, client_of, IsClient}
+use Rattle.wire_format.specs.Ghosts.{IsGhost}
+use Rattle.wire_format.specs.Reading.{AreListed}
+use Rattle.ghost_model.specs.Ghosts.{Grant}
+use Rattle.ghost_masks.specs.Carried.{ghosts_for}
 use Rattle.wire_format.proofs.ServerFormat.{a_server}
 use Rattle.wire_format.proofs.ClientFormat.{a_client}
 use Rattle.wire_format.proofs.Whole.{whole_again}
@@ -36,11 +41,13 @@ use Rattle.move_manager.specs.Accepting.{accepted_of, accept}
 use Rattle.move_manager.proofs.InOrder.{Holds, IsFront, holds-push, front-push, front-accept}
 use Rattle.stream_manager.specs.End.{came_of, onto}
 use Rattle.stream_manager.specs.Server as server_log
-use Rattle.stream_manager.specs.Server.{ServerEvent, server_end, server_datagrams, seen_up, server_state, posted_at_server, data_body, server_ping, took_at_server, server_answer, packet_answer, accepted_at, move_log, moves_taken}
+use Rattle.stream_manager.specs.Server.{ServerEvent, server_end, server_datagrams, seen_up, server_state, posted_at_server, with_plan, next_body, server_ping, ghost_log, took_at_server, server_answer, packet_answer, accepted_at, move_log, moves_taken}
 use Rattle.stream_manager.specs.Client as client_log
 use Rattle.stream_manager.specs.Client.{ClientEvent, client_end, client_datagrams, seen_down, client_state, posted_at_client, client_body, client_ping, took_at_client, client_answer, sampled_answer, sampled_at, sample_log, moves_acked}
 use Rattle.pair_core.specs.History.{Step, Post, ClientPost, Sample, Pack, ClientPack, Down, Up, history, server_posts, client_posts, client_samples, client_gets, server_gets}
 use Rattle.pair_core.specs.Laws.{IsPayload, StepFits, posted_at}
+use Rattle.pair_core.specs.Stands.{ShowsNothing}
+use Rattle.pair_core.proofs.NoGhosts.{packed-nothing, took-nothing, no-plan, no-control}
 use Rattle.pair_core.proofs.Lists.{all-append, all-map, all-at}
 use Rattle.pair_core.proofs.Fits.{EndFits, start-fits, posted-fits, loose-fits, packed-fits, pinged-fits, took-fits, data_head-fits, ping_head-fits, events-fit}
 use Rattle.event_manager.specs.Posted.{ArePosted}
@@ -123,6 +130,7 @@ pub record Carried (t : Terms) (s : List ServerEvent) (u : List ClientEvent) : T
   pub came_down : ArePosted (posted_at (server_end s)) (came_of (client_end u))
   pub came_up : ArePosted (posted_at (client_end u)) (came_of (server_end s))
   pub moves : Moves t.config.life (accepted_at t.config s) (sampled_at u) (acked_of (sample_log u))
+  pub nothing : ShowsNothing s
 
 module _ (t : Terms) (limits : AreTerms t) where
   start : Carried t [] []
@@ -134,12 +142,13 @@ module _ (t : Terms) (limits : AreTerms t) where
     came_down = tt;
     came_up = tt;
     moves = record { accepted = omega arith; sampled = omega arith; front = record { within = omega arith; first = refl }; acked = omega arith; few = omega arith };
+    nothing = refl;
   }
 
   -- ---- posts
 
   posts-down : (class : Class) (v : List ℕ) (s : List ServerEvent) (u : List ClientEvent) → IsPayload v → Carried t s u → Carried t (server_posts t.config class v s) u
-  posts-down Loose v s u fits h = record { server = loose-fits t.config.life (server_end s) v fits h.server; client = h.client; down = h.down; up = h.up; came_down = h.came_down; came_up = h.came_up; moves = h.moves }
+  posts-down Loose v s u fits h = record { server = loose-fits t.config.life (server_end s) v fits h.server; client = h.client; down = h.down; up = h.up; came_down = h.came_down; came_up = h.came_up; moves = h.moves; nothing = h.nothing }
   posts-down Guaranteed v s u fits h = go (is_ok (posted_at_server t.config s)) refl
     where
       go : (b : Bool) → is_ok (posted_at_server t.config s) ≡ b → Carried t (if b then server_log.Posted Guaranteed v ∷ s else s) u
@@ -153,10 +162,11 @@ module _ (t : Terms) (limits : AreTerms t) where
         came_down = posted-push (posted_at (server_end s)) v (came_of (client_end u)) h.came_down;
         came_up = h.came_up;
         moves = h.moves;
+        nothing = h.nothing;
       }
 
   posts-up : (class : Class) (v : List ℕ) (s : List ServerEvent) (u : List ClientEvent) → IsPayload v → Carried t s u → Carried t s (client_posts t.config class v u)
-  posts-up Loose v s u fits h = record { server = h.server; client = loose-fits t.config.life (client_end u) v fits h.client; down = h.down; up = h.up; came_down = h.came_down; came_up = h.came_up; moves = h.moves }
+  posts-up Loose v s u fits h = record { server = h.server; client = loose-fits t.config.life (client_end u) v fits h.client; down = h.down; up = h.up; came_down = h.came_down; came_up = h.came_up; moves = h.moves; nothing = h.nothing }
   posts-up Guaranteed v s u fits h = go (is_ok (posted_at_client t.config u)) refl
     where
       go : (b : Bool) → is_ok (posted_at_client t.config u) ≡ b → Carried t s (if b then client_log.Posted Guaranteed v ∷ u else u)
@@ -169,6 +179,7 @@ module _ (t : Terms) (limits : AreTerms t) where
         came_down = h.came_down;
         came_up = posted-push (posted_at (client_end u)) v (came_of (server_end s)) h.came_up;
         moves = h.moves;
+        nothing = h.nothing;
       }
 
   -- ---- samples
@@ -195,6 +206,7 @@ module _ (t : Terms) (limits : AreTerms t) where
               acked = h.moves.acked;
               few = omega (arith, h.moves.few, apart.1, one);
             };
+            nothing = h.nothing;
           }
 
   -- ---- packs
@@ -208,10 +220,10 @@ module _ (t : Terms) (limits : AreTerms t) where
   is-up : (vs : List (List ℕ)) (ms : List Move) (p : ClientPacket) → IsClient p → ArePosted vs (seen_up p).events → HoldsMoves ms p → IsUp vs ms (datagram (client p))
   is-up vs ms p fits posted holds = record { packet = p; fits = fits; reads = whole_again client_at client IsClient a_client p fits; posted = posted; moves = holds }
 
-  packs-down : (s : List ServerEvent) (u : List ClientEvent) → Carried t s u → Carried t (onto (server_log.packing t s) s) u
+  packs-down : (s : List ServerEvent) (u : List ClientEvent) → Carried t s u → Carried t (server_log.packing t s []) u
   packs-down s u h = go (server_state t.config s) refl
     where
-      go : (state : SendState) → server_state t.config s ≡ state → Carried t (onto (server_log.pack_event t s state) s) u
+      go : (state : SendState) → server_state t.config s ≡ state → Carried t (server_log.packed_onto t s [] state) u
       go Worn e = h
       go Held e = record {
         server = pinged-fits t.config.life (server_end s) _ h.server;
@@ -222,19 +234,20 @@ module _ (t : Terms) (limits : AreTerms t) where
         came_down = h.came_down;
         came_up = h.came_up;
         moves = h.moves;
+        nothing = h.nothing;
       }
       go Room e = record {
         server = packed-fits t.config.life (server_end s) _ e h.server;
         client = h.client;
         down = all-append (IsDown t.kinds (posted_at (server_end s)) (length (accepted_at t.config s))) (server_datagrams t.kinds s) _ h.down (
-          is-down (posted_at (server_end s)) (length (accepted_at t.config s)) (down.Body (data_body t s))
+          is-down (posted_at (server_end s)) (length (accepted_at t.config s)) (down.Body (next_body t s []))
               (record {
                 head = data_head-fits t.config.life t.config.client (server_end s) short limits.config.client e h.server;
                 accepted = omega (arith, h.moves.accepted, short);
-                control = tt;
+                control = subst (λ (o : Option ℕ). IfSome o (λ slot. slot < 2 ^ 8)) (sym (no-control t.kinds (Grant ∷ ghost_log s) h.nothing)) tt;
                 blocks = blocks-fit t s limits;
                 events = events-fit t.config.life _ (server_end s) short h.server;
-                ghosts = record { few = omega arith; each = tt };
+                ghosts = subst (λ (cs : List Choice). AreListed 128 (IsGhost t.kinds) (ghosts_for t.kinds (Grant ∷ ghost_log s) cs [])) (sym (no-plan t.kinds (Grant ∷ ghost_log s) h.nothing _ _)) (record { few = omega arith; each = tt });
               })
               (posted-events _ (server_end s))
               (omega arith),
@@ -244,6 +257,7 @@ module _ (t : Terms) (limits : AreTerms t) where
         came_down = h.came_down;
         came_up = h.came_up;
         moves = h.moves;
+        nothing = packed-nothing (with_plan t s) (next_body t s []) h.nothing;
       }
 
   packs-up : (s : List ServerEvent) (u : List ClientEvent) → Carried t s u → Carried t s (onto (client_log.packing t.config u) u)
@@ -266,6 +280,7 @@ module _ (t : Terms) (limits : AreTerms t) where
         came_down = h.came_down;
         came_up = h.came_up;
         moves = h.moves;
+        nothing = h.nothing;
       }
       go Room e = record {
         server = h.server;
@@ -286,6 +301,7 @@ module _ (t : Terms) (limits : AreTerms t) where
         came_down = h.came_down;
         came_up = h.came_up;
         moves = h.moves;
+        nothing = h.nothing;
       }
 
   -- ---- arrivals
@@ -314,6 +330,7 @@ module _ (t : Terms) (limits : AreTerms t) where
     came_down = posted-onto (posted_at (server_end s)) (seen_down p).events (came_of (client_end u)) posted h.came_down;
     came_up = h.came_up;
     moves = moves-down p (accepted_at t.config s) (sample_log u) tells h.moves;
+    nothing = h.nothing;
   }
     where
       same-sampled : (p : ServerPacket) → sampled_at u ≡ sampled_of (moves_acked p (sample_log u))
@@ -349,6 +366,7 @@ module _ (t : Terms) (limits : AreTerms t) where
         came_down = h.came_down;
         came_up = posted-onto (posted_at (client_end u)) (seen_up p).events (came_of (server_end s)) posted h.came_up;
         moves = accepts.moves;
+        nothing = took-nothing s p room h.nothing;
       }
 
   gets-down : (s : List ServerEvent) (u : List ClientEvent) (k : ℕ) (o : Option (List ℕ)) → slice_get (server_datagrams t.kinds s) k ≡ o → Carried t s u → Carried t s (client_gets t o u)

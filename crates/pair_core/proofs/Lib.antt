@@ -3,5 +3,6 @@ pub mod Lists
 pub mod Fits
 pub mod Posted
 pub mod Sections
-pub mod Carried
+pub mod NoGhosts
+mod Carried
 pub mod InOrder

@@ -1,6 +1,7 @@
 -- One connection with its network, as a list of steps, the newest first. Each step is something that the server, the
 -- client or the network does, and `history` is what has happened at both ends after them. The network brings only
--- datagrams that were sent, named by their place: any number of times, in any order, as late as it likes.
+-- datagrams that were sent, named by their place: any number of times, in any order, as late as it likes. No step shows
+-- an object to the client yet, so a pack reads no value.
 use Rattle.std.specs.Prelude.{ℕ, List, [], ◌∷◌, if◌then◌else◌, slice_get, Option, Some, None}
 use Rattle.std.specs.Result.{is_ok}
 use Rattle.tn_types.specs.declared.choices.Class.{Class}
@@ -53,7 +54,7 @@ abbrev pub happens : Terms → Step → History → History
 happens t (Post class v) h = record { server = server_posts t.config class v h.server; client = h.client }
 happens t (ClientPost class v) h = record { server = h.server; client = client_posts t.config class v h.client }
 happens t (Sample m) h = record { server = h.server; client = client_samples t.config m h.client }
-happens t Pack h = record { server = onto (server.packing t h.server) h.server; client = h.client }
+happens t Pack h = record { server = server.packing t h.server []; client = h.client }
 happens t ClientPack h = record { server = h.server; client = onto (client.packing t.config h.client) h.client }
 happens t (Down k) h = record { server = h.server; client = client_gets t (slice_get (server_datagrams t.kinds h.server) k) h.client }
 happens t (Up k room) h = record { server = server_gets t.config room (slice_get (client_datagrams h.client) k) h.server; client = h.client }

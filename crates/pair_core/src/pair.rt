@@ -29,11 +29,13 @@ pub struct Pair {
 }
 
 impl Model for Pair {
-    ghost use Rattle.pair_core.specs.Stands.{PairState};
+    ghost use Rattle.pair_core.specs.Stands.{PairState, IsWithoutGhosts};
 
     ghost Value = { PairState };
 
     ghost view = { λ p. record { conn = p.conn; client = p.client; down = p.down; up = p.up } };
+
+    ghost invariant = { λ p. IsWithoutGhosts p.conn };
 }
 
 impl Pair {
@@ -150,7 +152,9 @@ impl Pair {
             }
             SendState::Worn => Ok(Made::Worn { life }),
             SendState::Room => {
-                let bytes = self.conn.seal();
+                // no step shows an object, so that the plan is empty and asks for no value
+                let _ = self.conn.plan();
+                let bytes = self.conn.seal(&[]);
                 self.down.push(alloc, bytes)?;
                 Ok(Made::Data { place })
             }

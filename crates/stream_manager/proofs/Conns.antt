@@ -1,57 +1,58 @@
 -- What the server's end stands for after a call.
-use Rattle.std.proofs.Common.{◌≡◌, ℕ, ◌-◌, ◌*◌, ◌<◌, List, ◌∷◌, length, map, take, Result, Ok, Err, sym, ◌∙◌, ap, subst, arith}
-use Rattle.std.specs.Prelude.{OnOk, OnErr, sum_by}
-use Rattle.notify_window.specs.Log.{Fate, Unjudged, judged_of}
-use Rattle.notify_window.proofs.Verdicts.{fate-above}
+use Rattle.std.proofs.Common.{◌≡◌, ℕ, ◌+◌, ◌≤◌, List, ◌∷◌, length, Option, None, Result, Ok, Err, sym, ◌∙◌, ap, subst, arith}
+use Rattle.std.specs.Prelude.{OnOk, OnErr, IfSome}
+use Rattle.tn_types.specs.declared.choices.Choice.{Choice}
+use Rattle.notify_window.specs.declared.Notices.{Notices}
+use Rattle.move_manager.specs.Accepting as accepting
 use Rattle.move_manager.specs.Accepting.{accepted_of}
-use Rattle.wire_format.specs.declared.header.Header.{Header}
-use Rattle.wire_format.specs.declared.blocks.BlockItem.{BlockItem}
-use Rattle.wire_format.specs.declared.client.ClientPacket.{ClientPacket}
-use Rattle.wire_format.specs.Blocks.{block_size}
-use Rattle.datablocks.specs.Sending.{SenderEvent as BlockEvent, due_of as blocks_due}
-use Rattle.datablocks.specs.SenderState.{SenderState as BlockSenderState, due_now}
 use Rattle.datablocks.specs.SenderStands.{StandsFor as BlockSenderStandsFor}
+use Rattle.ghost_masks.specs.StandsFor.{StandsFor as MasksStandFor}
+use Rattle.wire_format.specs.declared.client.ClientPacket.{ClientPacket}
 use Rattle.stream_manager.specs.declared.config.Config.{Config}
 use Rattle.stream_manager.specs.declared.server.Taken.{Taken}
 use Rattle.stream_manager.specs.declared.fault.ArriveFault.{ArriveFault}
 use Rattle.stream_manager.specs.Faults.{Checked, checked_packet}
-use Rattle.stream_manager.specs.Shares.{fitting}
-use Rattle.stream_manager.specs.End.{EndEvent, window_log, fates, data_head, data_seen}
-use Rattle.stream_manager.specs.End.{Packed as PackedEnd}
-use Rattle.stream_manager.specs.EndStands.{EndState, StandsFor}
-use Rattle.stream_manager.specs.Server.{ServerEvent, Packed, server_end, accepted_at, move_log, block_log, block_item, blocks_at, event_room, wrote_blocks, data_body, taken_of}
-use Rattle.stream_manager.specs.Stands.{ConnState, ConnStandsFor, terms_of}
+use Rattle.stream_manager.specs.Limits.{Terms}
+use Rattle.stream_manager.specs.Settling.{Names, judgements}
+use Rattle.stream_manager.specs.End.{Seen, fates, judged_at}
+use Rattle.stream_manager.specs.End.{Took as TookEnd}
+use Rattle.stream_manager.specs.EndStands.{StandsFor}
+use Rattle.stream_manager.specs.Server.{ServerEvent, Took, server_end, seen_up, block_log, accepted_at, move_log, ghost_log, taken_of}
+use Rattle.stream_manager.specs.Stands.{ConnState, ConnStandsFor, IsPlanned}
+use Rattle.stream_manager.proofs.GhostTurns.{same-sent, same-judged}
 
 pub accepted-told : (c : ConnState) (log : List ServerEvent) → ConnStandsFor c log → c.moves.accepted ≡ length (accepted_at c.common.config log)
 accepted-told c log s = s.moves.accepted ∙ ap (λ (life : ℕ). length (accepted_of life (move_log log))) s.life
 
--- behind a data packet with these blocks
-module _ (c : ConnState) (common : EndState) (blocks : BlockSenderState) (head : Header) (items : List BlockItem) (used : ℕ) (log : List ServerEvent)
-    (chosen : items ≡ fitting block_size (4 * c.common.config.size - 136) (take 15 (map (block_item c.blocks.blocks) (due_now c.blocks)))) (bits : used ≡ sum_by block_size items)
-    (due : (fate : ℕ → Fate) (log : List BlockEvent) → BlockSenderStandsFor c.blocks fate log → due_now c.blocks ≡ blocks_due fate log (length c.blocks.blocks)) (s : ConnStandsFor c log) where
-  pub the-blocks : items ≡ blocks_at (terms_of c) log
-  the-blocks = chosen ∙ ap (λ (ns : List ℕ). fitting block_size (4 * c.common.config.size - 136) (take 15 (map (block_item c.blocks.blocks) ns))) (due (fates (server_end log)) (block_log log) s.blocks)
+-- where there is no plan, nothing is asked of it
+pub no_plan : (t : Terms) (log : List ServerEvent) (plan : Option (List Choice)) → plan ≡ None → IfSome plan (IsPlanned t log)
+no_plan t log plan none = rw none tt
 
-  pub the-room : 6 * c.common.config.size - 136 - used ≡ event_room (terms_of c) log
-  the-room = ap (λ (n : ℕ). 6 * c.common.config.size - 136 - n) (bits ∙ ap (sum_by block_size) the-blocks)
+-- a packet that comes names the oldest unjudged packets, of those that were sent
+module _ (c : ConnState) (log : List ServerEvent) (p : Seen) (n : Notices) (s : ConnStandsFor c log) (names : Names n (judged_at (server_end log)) (judged_at (TookEnd p ∷ server_end log))) where
+  pub named-first : n.first ≡ c.masks.judged + 1
+  named-first = omega (arith, names.first, s.common.window.judged, same-judged c log s)
 
-  pub packed-stands : ((log : List EndEvent) → StandsFor c.common log → head ≡ data_head c.common.config.client log)
-      → ((log : List EndEvent) → StandsFor c.common log → StandsFor common (PackedEnd (data_seen c.common.config.client (6 * c.common.config.size - 136 - used) log) ∷ log))
-      → ((fate : ℕ → Fate) (log : List BlockEvent) → BlockSenderStandsFor c.blocks fate log → fate head.seq ≡ Unjudged → BlockSenderStandsFor blocks fate (wrote_blocks head.seq items log))
-      → common.config ≡ c.common.config
-      → ConnStandsFor (record { common = common; kinds = c.kinds; blocks = blocks; moves = c.moves; taken = c.taken }) (Packed (data_body (terms_of c) log) ∷ log)
-  packed-stands heads packs notes config =
-      let first : head ≡ data_head c.common.config.client (server_end log) = heads (server_end log) s.common in
-      let window = s.common.window in
-      let above : judged_of (window_log (server_end log)) < head.seq = omega (arith, window.judged, window.bounded.judged, window.sent, ap (λ (h : Header). h.seq) first) in
-      let noted = notes (fates (server_end log)) (block_log log) s.blocks (fate-above head.seq (window_log (server_end log)) above) in
-      record {
-        common = subst (λ (room : ℕ). StandsFor common (PackedEnd (data_seen c.common.config.client room (server_end log)) ∷ server_end log)) the-room (packs (server_end log) s.common);
-        blocks = subst (λ (h : Header). BlockSenderStandsFor blocks (fates (server_end log)) (wrote_blocks h.seq (blocks_at (terms_of c) log) (block_log log))) first
-            (subst (λ (xs : List BlockItem). BlockSenderStandsFor blocks (fates (server_end log)) (wrote_blocks head.seq xs (block_log log))) the-blocks noted);
-        life = s.life ∙ ap (λ (k : Config). k.life) (sym config);
-        moves = s.moves;
-      }
+  pub named-sent : p.head.horizon ≤ c.common.window.sent → c.masks.judged + n.count ≤ c.masks.sent
+  named-sent known = omega (arith, names.count, s.common.window.judged, s.common.window.bounded.judged, same-judged c log s, same-sent c log s)
+
+-- and leaves this, once its verdicts are told
+pub took-stands : (c new : ConnState) (log : List ServerEvent) (p : ClientPacket) (room : ℕ) (n : Notices) → Names n (judged_at (server_end log)) (judged_at (TookEnd (seen_up p) ∷ server_end log))
+    → StandsFor new.common (TookEnd (seen_up p) ∷ server_end log) → new.common.config ≡ c.common.config
+    → BlockSenderStandsFor new.blocks (fates (TookEnd (seen_up p) ∷ server_end log)) (block_log log)
+    → MasksStandFor new.masks (judgements (fates (TookEnd (seen_up p) ∷ server_end log)) n.first n.count (ghost_log log)) → new.masks.plan ≡ None
+    → new.moves.life ≡ c.moves.life → accepting.StandsFor new.moves (move_log (Took p room ∷ log))
+    → ConnStandsFor c log → ConnStandsFor new (Took p room ∷ log)
+took-stands c new log p room n names common config blocks masks none life moves s = record {
+  common = common;
+  blocks = blocks;
+  life = life ∙ s.life ∙ ap (λ (k : Config). k.life) (sym config);
+  moves = moves;
+  masks =
+      subst (λ (count : ℕ). MasksStandFor new.masks (judgements (fates (TookEnd (seen_up p) ∷ server_end log)) (judged_at (server_end log) + 1) count (ghost_log log))) names.count
+      (subst (λ (first : ℕ). MasksStandFor new.masks (judgements (fates (TookEnd (seen_up p) ∷ server_end log)) first n.count (ghost_log log))) names.first masks);
+  planned = no_plan _ _ _ none;
+}
 
 -- what a packet leaves that was read: taken, or refused
 pub arrived : (c : Config) (log : List ServerEvent) (room : ℕ) (p : ClientPacket) (check : Checked ArriveFault) (result : Result Taken ArriveFault) (G : Result ClientPacket ArriveFault → Type 0)

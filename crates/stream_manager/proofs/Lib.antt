@@ -4,5 +4,7 @@ pub mod Verdicts
 pub mod DueBlocks
 pub mod Came
 pub mod Checks
+pub mod GhostTurns
+pub mod Plans
 pub mod Conns
 pub mod Clients

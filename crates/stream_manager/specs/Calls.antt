@@ -1,5 +1,5 @@
 -- What calls leave and what they need: the end that a lent datagram leaves behind, and the packets that nothing refuses.
-use Rattle.std.specs.Prelude.{◌≡◌, ℕ, ◌+◌, ◌≤◌, false, is_some, List, [], ◌∷◌, length, Option, Some, None, if◌then◌else◌, Ok}
+use Rattle.std.specs.Prelude.{◌≡◌, ℕ, ℤ, ◌+◌, ◌≤◌, false, is_some, IsSome, IfSome, List, [], ◌∷◌, length, Option, Some, None, if◌then◌else◌, Ok}
 use Rattle.notify_window.specs.declared.Arrival.TheVariants.{Fresh}
 use Rattle.notify_window.specs.Log.{arrival_of}
 use Rattle.notify_window.specs.declared.SendState.TheVariants.{Held, Worn, Room}
@@ -11,6 +11,10 @@ use Rattle.wire_format.specs.declared.server.ServerBody.{ServerBody}
 use Rattle.event_manager.specs.Receiving.{take_answer}
 use Rattle.datablocks.specs.declared.progress.TheConstants.{MAX_SCRIPT_BLOCKS}
 use Rattle.datablocks.specs.Holding.{block_at, after_all, check_answer}
+use Rattle.ghost_model.specs.Ghosts.{GhostEvent}
+use Rattle.ghost_masks.specs.Carried.{all_carried, AreValues}
+use Rattle.ghost_masks.specs.StandsFor.{MasksState}
+use Rattle.ghost_masks.specs.StandsFor.{StandsFor as MasksStandFor}
 use Rattle.ghost_client.specs.declared.copy.GhostCopy.{GhostCopy}
 use Rattle.ghost_client.specs.declared.fault.GhostFault.{GhostFault}
 use Rattle.ghost_client.specs.declared.fault.GhostFault.TheVariants.{Unknown}
@@ -18,7 +22,7 @@ use Rattle.ghost_client.specs.State.{copy_in}
 use Rattle.ghost_client.specs.Faults.{first_fault}
 use Rattle.notify_window.specs.Bits.{from_bits}
 use Rattle.stream_manager.specs.Server as server
-use Rattle.stream_manager.specs.Server.{ServerEvent, data_body, server_ping}
+use Rattle.stream_manager.specs.Server.{ServerEvent, with_plan, data_body, server_ping}
 use Rattle.stream_manager.specs.Client as client
 use Rattle.stream_manager.specs.Client.{ClientEvent, client_state, client_body, client_ping, packing}
 use Rattle.stream_manager.specs.End.{onto}
@@ -29,9 +33,21 @@ use Rattle.stream_manager.specs.Stands.{ConnState, ConnStandsFor, terms_of, Clie
 
 -- ---- the server's end
 
--- behind a data packet
-pub record Sealed (old new : ConnState) : Type 0 where
-  pub stands : (log : List ServerEvent) → ConnStandsFor old log → ConnStandsFor new (server.Packed (data_body (terms_of old) log) ∷ log)
+-- behind a plan
+pub record Planning (old new : ConnState) : Type 0 where
+  pub stands : (log : List ServerEvent) → ConnStandsFor old log → ConnStandsFor new (with_plan (terms_of old) log)
+  pub planned : IsSome new.masks.plan
+  pub terms : terms_of new ≡ terms_of old
+  pub ready : new.common.receiver ≡ old.common.receiver
+  pub taken : new.taken ≡ old.taken
+
+-- one value for each field that the planned ghosts carry, in the order of the plan and rising field, each in its range
+abbrev pub AreForPlan : MasksState → List ℤ → Type 0
+AreForPlan m values = (log : List GhostEvent) → MasksStandFor m log → IfSome m.plan (λ choices. AreValues (all_carried m.kinds log choices) values)
+
+-- behind a data packet with these values
+pub record Sealed (old : ConnState) (values : List ℤ) (new : ConnState) : Type 0 where
+  pub stands : (log : List ServerEvent) → ConnStandsFor old log → ConnStandsFor new (server.Packed (data_body (terms_of old) log values) ∷ log)
   pub terms : terms_of new ≡ terms_of old
   pub ready : new.common.receiver ≡ old.common.receiver
   pub taken : new.taken ≡ old.taken

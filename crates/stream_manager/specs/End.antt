@@ -4,7 +4,7 @@
 use Rattle.std.specs.Prelude.{ℕ, slice_get, length, Option, Some, None, ◌+◌, ◌==◌, ◌&&◌, not, Bool, false, nat_le, nat_lt, List, [], ◌∷◌, if◌then◌else◌, take, Ok, Err}
 use Rattle.tn_types.specs.declared.choices.Class.{Class}
 use Rattle.tn_types.specs.declared.choices.Class.TheVariants.{Guaranteed, Loose}
-use Rattle.notify_window.specs.Log.{WindowEvent, Sent, Came, Told, sent_of, horizon_of, mask_of, Fate, fate_of}
+use Rattle.notify_window.specs.Log.{WindowEvent, Sent, Came, Told, sent_of, horizon_of, mask_of, judged_of, Fate, fate_of}
 use Rattle.wire_format.specs.declared.header.Header.{Header}
 use Rattle.wire_format.specs.declared.events.EventItem.{EventItem}
 use Rattle.wire_format.specs.declared.widths.TheConstants.{MAX_EVENTS}
@@ -59,6 +59,10 @@ sender_log (Took p ∷ log) = sender_log log
 -- what became of each packet
 abbrev pub fates : List EndEvent → ℕ → Fate
 fates log s = fate_of s (window_log log)
+
+-- the greatest number of a packet of this end that has a verdict
+abbrev pub judged_at : List EndEvent → ℕ
+judged_at log = judged_of (window_log log)
 
 -- what a post of an unguaranteed event drops: the oldest that waits, where too many wait
 abbrev pub dropped_of : List EndEvent → Option (List ℕ)

@@ -1,8 +1,9 @@
 -- What happened at the server's end of a connection, the newest first, and what follows from it: what a post, a pack and
 -- an arrival do and answer.
-use Rattle.std.specs.Prelude.{ℕ, ◌-◌, ◌*◌, nat_lt, true, false, List, [], ◌∷◌, ◌++◌, length, map, take, sum_by, if◌then◌else◌, Option, Some, None, Result, Ok, Err}
+use Rattle.std.specs.Prelude.{ℕ, ℤ, ◌+◌, ◌-◌, ◌*◌, nat_lt, Bool, true, false, List, [], ◌∷◌, ◌++◌, length, map, take, sum_by, if◌then◌else◌, Result, Ok, Err}
 use Rattle.std.specs.List.{slice_index_or}
 use Rattle.tn_types.specs.declared.choices.Class.{Class}
+use Rattle.tn_types.specs.declared.choices.Choice.{Choice}
 use Rattle.tn_types.specs.declared.moves.Move.{Move}
 use Rattle.bit_stream.specs.Bits.{datagram}
 use Rattle.quantised_fields.specs.declared.kind.Kind.{Kind}
@@ -16,14 +17,22 @@ use Rattle.wire_format.specs.declared.client.ClientPacket.{ClientPacket}
 use Rattle.wire_format.specs.declared.client.ClientPacket.TheVariants as up
 use Rattle.wire_format.specs.declared.widths.TheConstants.{SERVER_FIXED_BITS, MAX_BLOCKS}
 use Rattle.wire_format.specs.Blocks.{block_size}
+use Rattle.wire_format.specs.Events.{event_size}
 use Rattle.wire_format.specs.Server.{server}
 use Rattle.wire_format.specs.Client.{client_of}
 use Rattle.notify_window.specs.declared.SendState.{SendState}
 use Rattle.notify_window.specs.declared.SendState.TheVariants.{Held, Worn, Room}
+use Rattle.notify_window.specs.Bits.{from_bits}
 use Rattle.notify_window.specs.Log.{send_state_of}
 use Rattle.event_manager.specs.declared.sender.PostFault.{PostFault}
 use Rattle.event_manager.specs.Sending.{post_answer_of}
+use Rattle.datablocks.specs.declared.progress.TheConstants.{MAX_SCRIPT_BLOCKS}
 use Rattle.datablocks.specs.Sending as blocks
+use Rattle.ghost_model.specs.Ghosts as ghosts
+use Rattle.ghost_model.specs.Ghosts.{GhostEvent, scope_log}
+use Rattle.ghost_model.specs.Scope.{control_slot}
+use Rattle.ghost_masks.specs.Plan.{plan_of}
+use Rattle.ghost_masks.specs.Carried.{ghosts_for}
 use Rattle.move_manager.specs.Accepting as moves
 use Rattle.move_manager.specs.Accepting.{accepted_of, new_count}
 use Rattle.stream_manager.specs.declared.config.Config.{Config}
@@ -33,11 +42,15 @@ use Rattle.stream_manager.specs.declared.fault.ArriveFault.TheVariants as refuse
 use Rattle.stream_manager.specs.Limits.{Terms}
 use Rattle.stream_manager.specs.Shares.{fitting}
 use Rattle.stream_manager.specs.Faults.{Checked, then_check, head_at_server, events_at_server, checked_packet}
-use Rattle.stream_manager.specs.End.{Seen, EndEvent, window_log, sender_log, fates, data_head, ping_head, events_for, head_answer, events_answer}
+use Rattle.stream_manager.specs.Settling.{judgements}
+use Rattle.stream_manager.specs.End.{Seen, EndEvent, window_log, sender_log, fates, judged_at, data_head, ping_head, events_for, head_answer, events_answer}
 use Rattle.stream_manager.specs.End as common
 
 pub data ServerEvent : Type 0 where
   Posted : (class : Class) (payload : List ℕ) → ServerEvent  -- an event was posted
+  Shown : (kind block level : ℕ) (control : Bool) → ServerEvent  -- a period began
+  Hidden : (n : ℕ) → ServerEvent  -- it ended
+  Planned : (choices : List Choice) → ServerEvent  -- slots were granted, and these ghosts chosen for the next data packet
   Packed : ServerBody → ServerEvent  -- a data packet was sent
   Pinged : Header → ServerEvent  -- a ping was sent
   Took : ClientPacket → (room : ℕ) → ServerEvent  -- a packet came and was not refused, where so many moves had a place
@@ -60,6 +73,9 @@ seen_up (up.Body p) = seen_client_body p
 abbrev pub server_end : List ServerEvent → List EndEvent
 server_end [] = []
 server_end (Posted class payload ∷ log) = common.Posted class payload ∷ server_end log
+server_end (Shown kind block level control ∷ log) = server_end log
+server_end (Hidden n ∷ log) = server_end log
+server_end (Planned choices ∷ log) = server_end log
 server_end (Packed p ∷ log) = common.Packed (seen_body p) ∷ server_end log
 server_end (Pinged head ∷ log) = common.Pinged (seen_ping head) ∷ server_end log
 server_end (Took p room ∷ log) = common.Took (seen_up p) ∷ server_end log
@@ -75,6 +91,9 @@ wrote_blocks seq (item ∷ items) log = wrote_blocks seq items (blocks.Wrote seq
 abbrev pub block_log : List ServerEvent → List blocks.SenderEvent
 block_log [] = []
 block_log (Posted class payload ∷ log) = block_log log
+block_log (Shown kind block level control ∷ log) = block_log log
+block_log (Hidden n ∷ log) = block_log log
+block_log (Planned choices ∷ log) = block_log log
 block_log (Packed p ∷ log) = wrote_blocks p.head.seq p.blocks (block_log log)
 block_log (Pinged head ∷ log) = block_log log
 block_log (Took p room ∷ log) = block_log log
@@ -89,6 +108,9 @@ moves_taken (up.Body p) room log = moves.Took (record { first = p.first; moves =
 abbrev pub move_log : List ServerEvent → List moves.Event
 move_log [] = []
 move_log (Posted class payload ∷ log) = move_log log
+move_log (Shown kind block level control ∷ log) = move_log log
+move_log (Hidden n ∷ log) = move_log log
+move_log (Planned choices ∷ log) = move_log log
 move_log (Packed p ∷ log) = move_log log
 move_log (Pinged head ∷ log) = move_log log
 move_log (Took p room ∷ log) = moves_taken p room (move_log log)
@@ -96,6 +118,25 @@ move_log (Took p room ∷ log) = moves_taken p room (move_log log)
 -- the moves accepted so far, the oldest first
 abbrev pub accepted_at : Config → List ServerEvent → List Move
 accepted_at c log = accepted_of c.life (move_log log)
+
+-- ---- ghosts
+
+-- what was chosen for the next data packet, unless something happened since
+abbrev pub planned : List ServerEvent → List Choice
+planned (Planned choices ∷ log) = choices
+planned log = []
+
+-- what happened to ghosts: a plan begins with a grant, and an acknowledgement tells the verdicts of packets one by one
+abbrev pub ghost_log : List ServerEvent → List GhostEvent
+ghost_log [] = []
+ghost_log (Posted class payload ∷ log) = ghost_log log
+ghost_log (Shown kind block level control ∷ log) = ghosts.Show kind block level control ∷ ghost_log log
+ghost_log (Hidden n ∷ log) = ghosts.Hide n ∷ ghost_log log
+ghost_log (Planned choices ∷ log) = ghosts.Grant ∷ ghost_log log
+ghost_log (Packed p ∷ log) = ghosts.Sent (planned log) ∷ ghost_log log
+ghost_log (Pinged head ∷ log) = ghost_log log
+ghost_log (Took p room ∷ log) =
+    judgements (fates (server_end (Took p room ∷ log))) (judged_at (server_end log) + 1) (judged_at (server_end (Took p room ∷ log)) - judged_at (server_end log)) (ghost_log log)
 
 -- ---- posting
 
@@ -120,33 +161,56 @@ blocks_at t log = fitting block_size (4 * t.config.size - SERVER_FIXED_BITS)
 abbrev pub event_room : Terms → List ServerEvent → ℕ
 event_room t log = 6 * t.config.size - SERVER_FIXED_BITS - sum_by block_size (blocks_at t log)
 
--- the next data packet
-abbrev pub data_body : Terms → List ServerEvent → ServerBody
-data_body t log = record {
+-- the bits that are left for ghosts, which have what blocks and events leave of the whole
+abbrev pub ghost_room : Terms → List ServerEvent → ℕ
+ghost_room t log = 8 * t.config.size - SERVER_FIXED_BITS - sum_by block_size (blocks_at t log) - sum_by event_size (events_for (event_room t log) (server_end log))
+
+-- a word whose bit b is set where a packet that carries block b was received
+abbrev pub received_at : List ServerEvent → ℕ
+received_at log = from_bits (λ b. blocks.any_received (fates (server_end log)) (blocks.carriers b (block_log log))) MAX_SCRIPT_BLOCKS
+
+-- the ghosts of the next data packet, once slots are granted
+abbrev pub choices_at : Terms → List ServerEvent → List Choice
+choices_at t log = plan_of t.kinds (received_at log) (ghost_room t log) (ghosts.Grant ∷ ghost_log log)
+
+abbrev pub with_plan : Terms → List ServerEvent → List ServerEvent
+with_plan t log = Planned (choices_at t log) ∷ log
+
+-- the next data packet, with these values of the fields that the planned ghosts carry
+abbrev pub data_body : Terms → List ServerEvent → List ℤ → ServerBody
+data_body t log values = record {
   head = data_head t.config.client (server_end log);
   accepted = length (accepted_at t.config log);
-  control = None;
+  control = control_slot (scope_log (ghost_log log));
   blocks = blocks_at t log;
   events = events_for (event_room t log) (server_end log);
-  ghosts = [];
+  ghosts = ghosts_for t.kinds (ghost_log log) (planned log) values;
 }
+
+-- the one that a pack makes, which plans first
+abbrev pub next_body : Terms → List ServerEvent → List ℤ → ServerBody
+next_body t log values = data_body t (with_plan t log) values
 
 abbrev pub server_ping : Config → List ServerEvent → Header
 server_ping c log = ping_head c.client (server_end log)
 
-abbrev pub pack_event : Terms → List ServerEvent → SendState → Option ServerEvent
-pack_event t log Held = Some (Pinged (server_ping t.config log))
-pack_event t log Worn = None
-pack_event t log Room = Some (Packed (data_body t log))
+abbrev pub packed_onto : Terms → List ServerEvent → List ℤ → SendState → List ServerEvent
+packed_onto t log values Held = Pinged (server_ping t.config log) ∷ log
+packed_onto t log values Worn = log
+packed_onto t log values Room = Packed (next_body t log values) ∷ with_plan t log
 
--- what a pack does: a ping where too many packets are unjudged, nothing where the connection's life is over
-abbrev pub packing : Terms → List ServerEvent → Option ServerEvent
-packing t log = pack_event t log (server_state t.config log)
+-- what a pack does, which reads these values: it plans and sends a data packet, or sends a ping where too many packets
+-- are unjudged, or does nothing where the connection's life is over
+abbrev pub packing : Terms → List ServerEvent → List ℤ → List ServerEvent
+packing t log values = packed_onto t log values (server_state t.config log)
 
 -- the datagrams that were sent, the oldest first
 abbrev pub server_datagrams : List Kind → List ServerEvent → List (List ℕ)
 server_datagrams kinds [] = []
 server_datagrams kinds (Posted class payload ∷ log) = server_datagrams kinds log
+server_datagrams kinds (Shown kind block level control ∷ log) = server_datagrams kinds log
+server_datagrams kinds (Hidden n ∷ log) = server_datagrams kinds log
+server_datagrams kinds (Planned choices ∷ log) = server_datagrams kinds log
 server_datagrams kinds (Packed p ∷ log) = server_datagrams kinds log ++ datagram (server kinds (down.Body p)) ∷ []
 server_datagrams kinds (Pinged head ∷ log) = server_datagrams kinds log ++ datagram (server kinds (down.Ping head)) ∷ []
 server_datagrams kinds (Took p room ∷ log) = server_datagrams kinds log

@@ -48,9 +48,9 @@ impl Model for End {
 
 impl End {
     ghost use Rattle.stream_manager.specs.Limits.{IsConfig};
-    ghost use Rattle.stream_manager.specs.End.{EndEvent, Posted, Packed, Pinged, Took, window_log, sender_log, fates, data_head, ping_head, events_for, data_seen, head_answer, events_answer, dropped_of, came_of, delivered_at};
+    ghost use Rattle.stream_manager.specs.End.{EndEvent, Posted, Packed, Pinged, Took, window_log, sender_log, fates, judged_at, data_head, ping_head, events_for, data_seen, head_answer, events_answer, dropped_of, came_of, delivered_at};
     ghost use Rattle.stream_manager.specs.EndStands.{StandsFor};
-    ghost use Rattle.stream_manager.specs.Settling.{Judges, AreFew};
+    ghost use Rattle.stream_manager.specs.Settling.{Judges, Names, AreFew};
 
     /// The end of a new connection.
     pub(crate) fn new(alloc: Global, config: Config) -> Result<End, NoMemory>
@@ -147,9 +147,18 @@ impl End {
         ensures front { (log : List EndEvent) → StandsFor self.now log → events_for room log ≡ take (length result) (due_of (fates log) (sender_log log)) }
     {
         let mut events = self.sender.due();
-        let count = fitting_count(events.as_slice(), room);
+        let (count, _) = fitting_front(events.as_slice(), room);
         events.truncate(count);
         events
+    }
+
+    /// The bits of the events of the next data packet, where `room` bits are left for them.
+    pub(crate) fn events_bits(&self, room: u32) -> u32
+        ensures bits { (log : List EndEvent) → StandsFor self.now log → result ≡ sum_by event_size (events_for room log) }
+        ensures few { result ≤ room }
+    {
+        let (_, bits) = fitting_front(self.sender.due().as_slice(), room);
+        bits
     }
 
     /// Counts a data packet with the first `count` of the due events.
@@ -239,6 +248,7 @@ impl End {
         ensures stands { (log : List EndEvent) → StandsFor self.old log → StandsFor self.new (Took (record { ping = ping; head = head.now; events = events.now }) ∷ log) }
         ensures handed { (log : List EndEvent) → StandsFor self.old log → delivered_at (Took (record { ping = ping; head = head.now; events = events.now }) ∷ log) ≡ delivered_at log ++ self.new.receiver.ready }
         ensures judges { (log : List EndEvent) → StandsFor self.old log → Judges result (fates log) (fates (Took (record { ping = ping; head = head.now; events = events.now }) ∷ log)) }
+        ensures named { (log : List EndEvent) → StandsFor self.old log → Names result (judged_at log) (judged_at (Took (record { ping = ping; head = head.now; events = events.now }) ∷ log)) }
         ensures few { AreFew result }
         ensures config { self.new.config ≡ self.old.config }
     {
@@ -277,18 +287,20 @@ impl End {
     }
 }
 
-/// How many of these events have at most `room` bits together, from the first on.
-fn fitting_count(events: &[EventItem], room: u32) -> usize
-    ensures fitting { fitting event_size room events.now ≡ take result events.now }
-    ensures few { result ≤ length events.now }
+/// How many of these events have at most `room` bits together, from the first on, and their bits.
+fn fitting_front(events: &[EventItem], room: u32) -> (usize, u32)
+    ensures fitting { fitting event_size room events.now ≡ take result.0 events.now }
+    ensures count { result.0 ≤ length events.now }
+    ensures bits { result.1 ≡ sum_by event_size (fitting event_size room events.now) }
+    ensures few { result.1 ≤ room }
 {
-    let mut left = room;
+    let mut used = 0;
     'fit: for (i, event) in events.iter().enumerate() {
         let bits = event_bits(event);
-        if bits > left {
-            return i;
+        if bits > room - used {
+            return (i, used);
         }
-        left -= bits;
+        used += bits;
     }
-    events.len()
+    (events.len(), used)
 }

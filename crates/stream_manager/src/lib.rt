@@ -7,6 +7,7 @@ mod client;
 mod config;
 mod end;
 mod fault;
+mod sealing;
 mod server;
 mod settling;
 #[cfg(test)]

@@ -1,38 +1,36 @@
 //! The server's end of a connection.
-ghost use Rattle.std.specs.Prelude.{◌≡◌, ℕ, true, ◌+◌, ◌-◌, ◌*◌, ◌<◌, ◌≤◌, ◌^◌, List, [], ◌∷◌, ◌++◌, All, IfOk, IfErr, OnOk, OnErr, Ok, Err, length, slice_get, drop, take};
+ghost use Rattle.std.specs.Prelude.{◌≡◌, ℕ, true, false, ◌+◌, ◌-◌, ◌*◌, ◌<◌, ◌≤◌, ◌^◌, ◌&&◌, ◌↔◌, ◌⊎◌, List, [], ◌∷◌, ◌++◌, All, IfOk, IfErr, OnOk, OnErr, IsNone, None, Ok, Err, length, slice_get, drop, take, count_by};
+ghost use Rattle.std.specs.List.{list_any};
 ghost use Rattle.std.specs.Option.{option_copied};
-ghost use Rattle.std.specs.Borrow.{sem};
-ghost use Rattle.std.specs.Io.BufRead.{Rests};
 ghost use Rattle.notify_window.specs.State.{send_state};
 ghost use Rattle.notify_window.specs.Log.{arrival_of};
-ghost use Rattle.bit_stream.specs.Bits.{datagram};
+ghost use Rattle.ghost_model.specs.Phases.{is_up};
+ghost use Rattle.ghost_model.specs.Ghosts.{scope_log, slot};
+ghost use Rattle.ghost_model.specs.Scope.{shows};
+ghost use Rattle.ghost_scope.specs.Table.{phase_of};
 ghost use Rattle.tn_types.specs.declared.choices.Class.TheVariants.{Guaranteed, Loose};
-ghost use Rattle.wire_format.specs.declared.server.ServerPacket.TheVariants as down;
 ghost use Rattle.wire_format.specs.declared.client.ClientPacket.TheVariants as up;
 ghost use Rattle.wire_format.specs.declared.events.EventItem.{EventItem as OneEvent};
 ghost use Rattle.wire_format.specs.Header.{IsHeader};
 ghost use Rattle.wire_format.specs.Client.{IsClientBody};
-ghost use Rattle.wire_format.specs.Server.{server, server_size, IsServerInRange};
 
-use crate::blocks::{due_blocks, note_blocks};
 use crate::config::Config;
 use crate::end::End;
 use crate::fault::ArriveFault;
-use crate::settling::settle_blocks;
+use crate::settling::{settle_blocks, settle_ghosts};
 use arrayvec::ArrayVec;
-use bit_stream::BitWriter;
 use datablocks::BlockSender;
 use event_manager::{EventAhead, PostFault};
+use ghost_masks::Masks;
+use ghost_model::Phase;
+use ghost_scope::periods::MOST_SHOWN;
 use move_manager::MoveReceiver;
 use notify_window::{Arrival, SendState};
 use quantised_fields::KindTable;
 use std::alloc::Global;
 use std::marker::Model;
 use tn_types::{BlockBytes, Class, Move, NoMemory, Payload};
-use wire_format::{
-    ClientBody, ClientPacket, EventList, GhostList, Header, MoveList, SERVER_FIXED_BITS,
-    ServerBody, ServerPacket, decode_client, encode_server, server_bits,
-};
+use wire_format::{ClientBody, ClientPacket, EventList, Header, MoveList, decode_client};
 
 /// What a packet of the client brought.
 #[derive(Clone, Copy, Debug, PartialEq, Eq)]
@@ -46,34 +44,34 @@ pub struct Taken {
 /// A clause sees `ConnState`, and what it means by the list of what happened at this end.
 #[derive(Drop)]
 pub struct Conn {
-    common: End,
-    kinds: KindTable,
-    blocks: BlockSender,
-    moves: MoveReceiver,
-    taken: MoveList,
+    pub(crate) common: End,
+    pub(crate) masks: Masks,
+    pub(crate) blocks: BlockSender,
+    pub(crate) moves: MoveReceiver,
+    pub(crate) taken: MoveList,
     // the bytes of the datagram that was made last
-    datagram: ArrayVec<u8, 1200>,
+    pub(crate) datagram: ArrayVec<u8, 1200>,
 }
 
 impl Model for Conn {
-    ghost use Rattle.std.specs.Prelude.{◌≡◌};
-    ghost use Rattle.stream_manager.specs.Stands.{ConnState};
+    ghost use Rattle.std.specs.Prelude.{List};
+    ghost use Rattle.stream_manager.specs.Server.{ServerEvent};
+    ghost use Rattle.stream_manager.specs.Stands.{ConnState, ConnStandsFor};
 
     ghost Value = { ConnState };
 
-    ghost view = { λ c. record { common = c.common; kinds = c.kinds; blocks = c.blocks; moves = c.moves; taken = c.taken } };
+    ghost view = { λ c. record { common = c.common; masks = c.masks; blocks = c.blocks; moves = c.moves; taken = c.taken } };
 
-    ghost invariant = { λ c. c.moves.life ≡ c.common.config.life };
+    ghost invariant = { λ c. (log : List ServerEvent) × ConnStandsFor (record { common = c.common; masks = c.masks; blocks = c.blocks; moves = c.moves; taken = c.taken }) log };
 }
 
 impl Conn {
     ghost use Rattle.stream_manager.specs.Limits.{IsConfig};
     ghost use Rattle.stream_manager.specs.End.{fates, dropped_of, delivered_at, head_answer, events_answer};
-    ghost use Rattle.stream_manager.specs.Server.{ServerEvent, Posted, Packed, Pinged, Took, server_end, accepted_at, posted_at_server, server_state, data_body, server_ping, server_answer, taken_of, took_at_server, packet_check, gap_check, moves_new, seen_ping, seen_client_body, blocks_at};
+    ghost use Rattle.stream_manager.specs.Server.{ServerEvent, Posted, Shown, Hidden, Took, server_end, ghost_log, accepted_at, posted_at_server, server_state, server_answer, taken_of, took_at_server, packet_check, gap_check, moves_new, seen_ping, seen_client_body};
     ghost use Rattle.stream_manager.specs.Stands.{ConnState, ConnStandsFor, terms_of};
-    ghost use Rattle.stream_manager.specs.Calls.{Sealed, Pinging, Admits};
+    ghost use Rattle.stream_manager.specs.Calls.{Admits};
     ghost use Rattle.stream_manager.specs.Faults.{checked_packet, head_at_server, events_at_server};
-    ghost use Rattle.stream_manager.specs.contracts.server.Conn.{the_row};
     ghost use Rattle.wire_format.specs.Client.{IsClient};
     ghost use Rattle.event_manager.specs.Receiving.{take_answer};
 
@@ -92,10 +90,11 @@ impl Conn {
         ensures none_taken { IfOk result (λ c. c.taken ≡ []) }
     {
         let common = End::new(alloc, config)?;
+        let masks = Masks::new(alloc, kinds)?;
         let blocks = BlockSender::new(alloc, blocks)?;
         Ok(Conn {
             common,
-            kinds: kinds.copy(),
+            masks,
             blocks,
             moves: MoveReceiver::new(config.life),
             taken: MoveList::new(),
@@ -113,9 +112,16 @@ impl Conn {
 
     /// The table of kinds that the connection was made with.
     pub fn kinds(&self) -> &KindTable
-        ensures { result.now ≡ self.now.kinds }
+        ensures { result.now ≡ self.now.masks.kinds }
     {
-        &self.kinds
+        self.masks.kinds()
+    }
+
+    /// What this end knows of the ghosts at its client: it answers what `show`, `hide`, `slot` and `seal` ask for.
+    pub fn masks(&self) -> &Masks
+        ensures { result.now ≡ self.now.masks }
+    {
+        &self.masks
     }
 
     /// The block of this number; `None` exactly where the connection was made with none of this number.
@@ -144,7 +150,9 @@ impl Conn {
         ensures ready { self.new.common.receiver ≡ self.old.common.receiver }
         ensures taken { self.new.taken ≡ self.old.taken }
     {
-        self.common.post(payload)
+        let number = self.common.post(payload)?;
+        self.masks.discard_plan();
+        Ok(number)
     }
 
     /// Posts an unguaranteed event. It never refuses: where 64 wait, the oldest of them is dropped and given back.
@@ -155,7 +163,49 @@ impl Conn {
         ensures ready { self.new.common.receiver ≡ self.old.common.receiver }
         ensures taken { self.new.taken ≡ self.old.taken }
     {
+        self.masks.discard_plan();
         self.common.post_loose(payload)
+    }
+
+    /// A period of an object begins: it is of this kind, has this datablock below 64 and is at this level of distance, 0 to
+    /// 3. It waits for a slot. Gives its number: the number of periods shown before (docs/connection.md, "Periods and
+    /// slots"). One period with `control` may be shown and not hidden.
+    pub fn show(&mut self, kind: u8, block: u8, level: u8, control: bool) -> u32
+        requires kind { kind < length self.old.masks.kinds }
+        requires block { block < 64 }
+        requires level { level ≤ 3 }
+        requires few { count_by (λ e. is_up e.phase) self.old.masks.periods.entries < MOST_SHOWN }
+        requires numbers { self.old.masks.periods.shown < 2 ^ 32 - 1 }
+        requires alone { control ≡ true → list_any (λ e. e.control && is_up e.phase) self.old.masks.periods.entries ≡ false }
+        ensures number { result ≡ self.old.masks.periods.shown }
+        ensures told { (log : List ServerEvent) → ConnStandsFor self.old log → result ≡ shows (scope_log (ghost_log log)) }
+        ensures stands { (log : List ServerEvent) → ConnStandsFor self.old log → ConnStandsFor self.new (Shown kind block level control ∷ log) }
+        ensures terms { terms_of self.new ≡ terms_of self.old }
+        ensures ready { self.new.common.receiver ≡ self.old.common.receiver }
+        ensures taken { self.new.taken ≡ self.old.taken }
+    {
+        self.masks.show(kind, block, level, control)
+    }
+
+    /// The period's object isn't visible any more.
+    pub fn hide(&mut self, n: u32)
+        requires shown { n < self.old.masks.periods.shown }
+        requires up { is_up (phase_of self.old.masks.periods n) ≡ true }
+        ensures stands { (log : List ServerEvent) → ConnStandsFor self.old log → ConnStandsFor self.new (Hidden n ∷ log) }
+        ensures terms { terms_of self.new ≡ terms_of self.old }
+        ensures ready { self.new.common.receiver ≡ self.old.common.receiver }
+        ensures taken { self.new.taken ≡ self.old.taken }
+    {
+        self.masks.hide(n);
+    }
+
+    /// The slot that the period holds; `None` exactly where it is Waiting or Gone.
+    pub fn slot(&self, n: u32) -> Option<u8>
+        requires { n < self.now.masks.periods.shown }
+        ensures none { IsNone result ↔ ((phase_of self.now.masks.periods n ≡ Phase.Waiting) ⊎ (phase_of self.now.masks.periods n ≡ Phase.Gone)) }
+        ensures told { (log : List ServerEvent) → ConnStandsFor self.now log → result ≡ slot (ghost_log log) n }
+    {
+        self.masks.slot(n)
     }
 
     /// What a pack makes now (docs/connection.md, "Sending").
@@ -164,55 +214,6 @@ impl Conn {
         ensures log { (log : List ServerEvent) → ConnStandsFor self.now log → result ≡ server_state self.now.common.config log }
     {
         self.common.state()
-    }
-
-    /// Counts the next data packet, and gives it.
-    fn packed(&mut self) -> ServerBody
-        requires { send_state self.old.common.window ≡ SendState.Room }
-        ensures body { (log : List ServerEvent) → ConnStandsFor self.old log → result ≡ data_body (terms_of self.old) log }
-        ensures fits { IsServerInRange self.old.kinds (down.Body result) }
-        ensures size { server_size self.old.kinds (down.Body result) ≤ 8 * self.old.common.config.size }
-        ensures stands { (log : List ServerEvent) → ConnStandsFor self.old log → ConnStandsFor self.new (Packed (data_body (terms_of self.old) log) ∷ log) }
-        ensures terms { terms_of self.new ≡ terms_of self.old }
-        ensures ready { self.new.common.receiver ≡ self.old.common.receiver }
-        ensures taken { self.new.taken ≡ self.old.taken }
-    {
-        let size = self.common.config().size;
-        let (blocks, used) = due_blocks(&self.blocks, 4 * size - SERVER_FIXED_BITS);
-        let (head, events) = self.common.pack(6 * size - SERVER_FIXED_BITS - used);
-        note_blocks(&mut self.blocks, &blocks, head.seq);
-        ServerBody {
-            head,
-            accepted: self.moves.accepted(),
-            control: None,
-            blocks,
-            events,
-            ghosts: GhostList::new(),
-        }
-    }
-
-    /// Makes the next data packet, and lends its bytes.
-    pub fn seal(&mut self) -> &[u8]
-        requires { send_state self.old.common.window ≡ SendState.Room }
-        ensures bytes { (log : List ServerEvent) → ConnStandsFor self.old log → result.now ≡ datagram (server self.old.kinds (down.Body (data_body (terms_of self.old) log))) }
-        ensures few { length result.now ≤ self.old.common.config.size }
-        ensures* after { sem 𝓛 (Rests the_row self.entry (Sealed self.old)) }
-    {
-        let packet = ServerPacket::Body(self.packed());
-        self.datagram = spelled(&packet, &self.kinds, self.common.config().size);
-        self.datagram.as_slice()
-    }
-
-    /// Makes a ping, and lends its bytes.
-    pub fn ping(&mut self) -> &[u8]
-        requires { send_state self.old.common.window ≡ SendState.Held }
-        ensures bytes { (log : List ServerEvent) → ConnStandsFor self.old log → result.now ≡ datagram (server self.old.kinds (down.Ping (server_ping self.old.common.config log))) }
-        ensures few { length result.now ≤ self.old.common.config.size }
-        ensures* after { sem 𝓛 (Rests the_row self.entry (Pinging self.old)) }
-    {
-        let packet = ServerPacket::Ping(self.common.pinged());
-        self.datagram = spelled(&packet, &self.kinds, self.common.config().size);
-        self.datagram.as_slice()
     }
 
     /// Takes bytes that came from the client, at most 65,536, where `room` further moves have a place, or refuses them by
@@ -329,6 +330,8 @@ impl Conn {
     {
         let notices = self.common.take(true, head, &EventList::new());
         settle_blocks(&mut self.blocks, &notices);
+        self.masks.discard_plan();
+        settle_ghosts(&mut self.masks, &notices);
         self.taken = MoveList::new();
     }
 
@@ -345,6 +348,8 @@ impl Conn {
     {
         let notices = self.common.take(false, &body.head, &body.events);
         settle_blocks(&mut self.blocks, &notices);
+        self.masks.discard_plan();
+        settle_ghosts(&mut self.masks, &notices);
         let before = self.moves.accepted();
         let Ok(count) = self.moves.take(body.first, &body.moves, room) else {
             unreachable!()
@@ -391,18 +396,4 @@ fn moves_from(moves: &MoveList, start: u32, count: u32) -> MoveList
         some.push(*m);
     }
     some
-}
-
-/// The datagram of a packet, in as many bytes as it takes, at most `size`.
-fn spelled(packet: &ServerPacket, kinds: &KindTable, size: u32) -> ArrayVec<u8, 1200>
-    requires fits { IsServerInRange kinds.now packet.now }
-    requires room { server_size kinds.now packet.now ≤ 8 * size }
-    requires size { size ≤ 1200 }
-    ensures bytes { result.items ≡ datagram (server kinds.now packet.now) }
-    ensures few { length result.items ≤ size }
-{
-    let _bits = server_bits(packet, kinds);
-    let mut out = BitWriter::new(size);
-    encode_server(packet, kinds, &mut out);
-    out.finish()
 }

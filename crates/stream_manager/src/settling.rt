@@ -1,22 +1,26 @@
 //! The verdicts of one acknowledgement, told to those who keep what is on its way.
-ghost use Rattle.std.specs.Prelude.{◌≡◌, ℕ, ◌<◌, List};
+ghost use Rattle.std.specs.Prelude.{◌≡◌, ℕ, ◌+◌, ◌<◌, ◌≤◌, List, None};
 ghost use Rattle.std.specs.Int.{bit_at};
 ghost use Rattle.notify_window.specs.Log.{Fate, fate_of_bit};
 ghost use Rattle.event_manager.specs.Sending as events;
 ghost use Rattle.event_manager.specs.SenderStands as events_stand;
 ghost use Rattle.datablocks.specs.Sending as blocks;
 ghost use Rattle.datablocks.specs.SenderStands as blocks_stand;
-ghost use Rattle.stream_manager.specs.Settling.{Judges, AreFew};
+ghost use Rattle.ghost_model.specs.Ghosts.{GhostEvent};
+ghost use Rattle.ghost_masks.specs.StandsFor as masks_stand;
+ghost use Rattle.stream_manager.specs.Settling.{Judges, AreFew, verdict_of, judgements};
 
 use datablocks::BlockSender;
 use event_manager::EventSender;
+use ghost_masks::Masks;
 use notify_window::Notices;
 use tn_types::Verdict;
 
 /// The verdict that bit `i` tells.
 fn verdict_at(bits: u32, i: u32) -> Verdict
     requires { i < 32 }
-    ensures { events.fate_for result ≡ fate_of_bit (bit_at bits i) }
+    ensures fate { events.fate_for result ≡ fate_of_bit (bit_at bits i) }
+    ensures verdict { result ≡ verdict_of (fate_of_bit (bit_at bits i)) }
 {
     if (bits >> i) & 1 == 1 {
         Verdict::Received
@@ -46,5 +50,21 @@ pub(crate) fn settle_blocks(sender: &mut BlockSender, notices: &Notices)
     'verdicts: for i in 0..notices.count {
         let verdict = verdict_at(notices.bits, i);
         sender.settle(notices.first + i, verdict);
+    }
+}
+
+/// Tells the ghosts each verdict, in rising order: of the oldest unjudged packets, which were sent.
+pub(crate) fn settle_ghosts(masks: &mut Masks, notices: &Notices)
+    requires few { AreFew notices.now }
+    requires first { notices.now.first ≡ masks.old.judged + 1 }
+    requires sent { masks.old.judged + notices.now.count ≤ masks.old.sent }
+    requires no_plan { masks.old.plan ≡ None }
+    ensures stands { (before after : ℕ → Fate) (log : List GhostEvent) → Judges notices.now before after → masks_stand.StandsFor masks.old log → masks_stand.StandsFor masks.new (judgements after notices.now.first notices.now.count log) }
+    ensures kinds { masks.new.kinds ≡ masks.old.kinds }
+    ensures no_plan { masks.new.plan ≡ None }
+{
+    'verdicts: for i in 0..notices.count {
+        let verdict = verdict_at(notices.bits, i);
+        masks.judge(notices.first + i, verdict);
     }
 }

@@ -3,6 +3,7 @@ ghost use Rattle.std.specs.Prelude.{◌≤◌, length};
 
 use crate::{ArriveFault, Client, ClientFault, ClientOut, Config, Conn, Taken};
 use ghost_client::GhostFault;
+use ghost_scope::periods::MOST_SHOWN;
 use move_manager::MoveFault;
 use notify_window::SendState;
 use quantised_fields::{FieldSpec, Kind, KindTable};
@@ -84,12 +85,49 @@ fn down(client: &mut Client, bytes: &[u8]) -> Option<Result<(), ClientFault>> {
     Some(client.arrive(bytes))
 }
 
-/// The server's next data packet; `None` where none may be sent.
-fn sealed(conn: &mut Conn) -> Option<&[u8]> {
+/// The server's next data packet, where its ghosts carry fields of these values; `None` where none may be sent, or the
+/// fields are others.
+fn sealed<'a>(conn: &'a mut Conn, values: &[i64]) -> Option<&'a [u8]> {
     match conn.pack_state() {
-        SendState::Room => Some(conn.seal()),
+        SendState::Room => {
+            let _ = conn.plan();
+            if conn.masks().fits(values) {
+                Some(conn.seal(values))
+            } else {
+                None
+            }
+        }
         SendState::Held | SendState::Worn => None,
     }
+}
+
+/// Shows an object of this kind, with datablock 0, and gives its period; `None` where it can't be shown.
+fn shown(conn: &mut Conn, kind: u8, control: bool) -> Option<u32> {
+    let masks = conn.masks();
+    if !masks.has_kind(kind) || masks.count_up() >= MOST_SHOWN || masks.shown() == u32::MAX {
+        return None;
+    }
+    if control && masks.has_control() {
+        return None;
+    }
+    Some(conn.show(kind, 0, 0, control))
+}
+
+/// Hides a period; `None` where it isn't shown.
+fn hidden(conn: &mut Conn, n: u32) -> Option<()> {
+    if n >= conn.masks().shown() || !conn.masks().phase(n).is_up() {
+        return None;
+    }
+    conn.hide(n);
+    Some(())
+}
+
+/// The slot of a period; `None` where it has none.
+fn slot_of(conn: &Conn, n: u32) -> Option<u8> {
+    if n >= conn.masks().shown() {
+        return None;
+    }
+    conn.slot(n)
 }
 
 /// The client's next data packet; `None` where it makes none.
@@ -157,7 +195,7 @@ fn malformed_datagrams(rt: HostRuntime) -> Result<(), Fail> {
         assert_eq!(rt; up(&mut conn, bytes), Some(Err(fault)));
         assert_eq!(rt; (conn.waiting(), conn.accepted()), (0, 0));
         assert_eq!(rt; conn.taken_moves().len(), 0);
-        assert_eq!(rt; sealed(&mut conn), Some(PLAIN.as_slice()));
+        assert_eq!(rt; sealed(&mut conn, &[]), Some(PLAIN.as_slice()));
     }
     Ok(())
 }
@@ -230,8 +268,8 @@ fn unguaranteed_event_goes_once(rt: HostRuntime) -> Result<(), Fail> {
     let mut conn = server(rt.alloc(), &[])?;
     let mut client = client(rt.alloc())?;
     assert!(rt; conn.post_loose(payload(b"a")?).is_none());
-    assert_eq!(rt; sealed(&mut conn), Some(event.as_slice()));
-    assert_eq!(rt; sealed(&mut conn), Some(second.as_slice()));
+    assert_eq!(rt; sealed(&mut conn, &[]), Some(event.as_slice()));
+    assert_eq!(rt; sealed(&mut conn, &[]), Some(second.as_slice()));
     assert_eq!(rt; down(&mut client, &event), Some(Ok(())));
     assert_eq!(rt; (client.waiting(), client.delivered()), (1, 0));
     let (class, bytes) = client.pop_event().ok_or("no event")?;
@@ -269,14 +307,14 @@ fn received_block_is_sent_once(rt: HostRuntime) -> Result<(), Fail> {
     let blocks = [BlockBytes::from_slice(b"a").ok_or("too long")?];
     let mut conn = server(rt.alloc(), &blocks)?;
     let mut client = client(rt.alloc())?;
-    assert_eq!(rt; sealed(&mut conn), Some(block.as_slice()));
+    assert_eq!(rt; sealed(&mut conn, &[]), Some(block.as_slice()));
     assert_eq!(rt; down(&mut client, &block), Some(Ok(())));
     assert_eq!(rt; packed(&mut client), Some(acknowledgement.as_slice()));
     assert_eq!(rt;
         up(&mut conn, &acknowledgement),
         Some(Ok(Taken { moves: 0 }))
     );
-    assert_eq!(rt; sealed(&mut conn), Some(second.as_slice()));
+    assert_eq!(rt; sealed(&mut conn, &[]), Some(second.as_slice()));
     Ok(())
 }
 
@@ -309,5 +347,128 @@ fn moves_applied_once(rt: HostRuntime) -> Result<(), Fail> {
         assert_eq!(rt; conn.taken_moves().len(), 0);
         assert_eq!(rt; conn.accepted(), count);
     }
+    Ok(())
+}
+
+/// Block 0 of the matches below, the byte `a`, alone in the server's first packet.
+const BLOCK: [u8; 19] = [
+    0x40, 0, 0, 0, 0, 0, 0, 0, 0, 0, 0, 0, 0, 0x80, 0, 0x82, 0x30, 0, 0,
+];
+
+/// The client's first packet, which tells that the server's first one came.
+const BLOCK_CAME: [u8; 16] = [0x40, 0, 0, 0x40, 0, 0, 0x40, 0, 0, 0, 0, 0, 0, 0, 0, 0];
+
+/// Both ends of a connection, where the client has block 0 and the server knows it.
+fn ends_with_block(alloc: Global) -> Result<(Conn, Client), Fail> {
+    let blocks = [BlockBytes::from_slice(b"a").ok_or("too long")?];
+    let mut conn = server(alloc, &blocks)?;
+    let mut client = client(alloc)?;
+    if sealed(&mut conn, &[]) != Some(BLOCK.as_slice()) {
+        return Err("another block".into());
+    }
+    if down(&mut client, &BLOCK) != Some(Ok(())) || packed(&mut client).is_none() {
+        return Err("the block did not come".into());
+    }
+    if up(&mut conn, &BLOCK_CAME) != Some(Ok(Taken { moves: 0 })) {
+        return Err("the server did not learn of it".into());
+    }
+    Ok((conn, client))
+}
+
+#[test]
+fn object_is_created_once_its_block_came(rt: HostRuntime) -> Result<(), Fail> {
+    let create = [
+        0x80, 0, 0, 0x40, 0, 0, 0x40, 0, 0, 0, 0, 0, 0, 0, 0, 1, 0, 0x15, 0, 0, 0, 0, 0, 0,
+    ];
+    let create_came = [0x80, 0, 0, 0x80, 0, 0, 0xc0, 0, 0, 0, 0, 0, 0, 0, 0, 0];
+    let blocks = [BlockBytes::from_slice(b"a").ok_or("too long")?];
+    let mut conn = server(rt.alloc(), &blocks)?;
+    let mut client = client(rt.alloc())?;
+    assert_eq!(rt; shown(&mut conn, 5, false), Some(0));
+    assert_eq!(rt; slot_of(&conn, 0), None);
+    assert_eq!(rt; sealed(&mut conn, &[]), Some(BLOCK.as_slice()));
+    assert_eq!(rt; slot_of(&conn, 0), Some(0));
+    assert_eq!(rt; down(&mut client, &BLOCK), Some(Ok(())));
+    assert_eq!(rt; packed(&mut client), Some(BLOCK_CAME.as_slice()));
+    assert_eq!(rt; up(&mut conn, &BLOCK_CAME), Some(Ok(Taken { moves: 0 })));
+    assert_eq!(rt; sealed(&mut conn, &[0, 0, 0]), Some(create.as_slice()));
+    assert_eq!(rt; down(&mut client, &create), Some(Ok(())));
+    let copy = client.copies().get(0).ok_or("no copy")?;
+    assert_eq!(rt; (copy.kind, copy.block), (5, 0));
+    assert_eq!(rt; client.copies().value(0, 2), Some(0));
+    assert!(rt; client.copies().get(1).is_none());
+    assert_eq!(rt; packed(&mut client), Some(create_came.as_slice()));
+    Ok(())
+}
+
+#[test]
+fn hidden_before_create_received(rt: HostRuntime) -> Result<(), Fail> {
+    let creates = [
+        0x80, 0, 0, 0x40, 0, 0, 0x40, 0, 0, 0, 0, 0, 0, 0, 0, 2, 0, 1, 0x80, 0x3e, 0x80, 0x3e,
+        0xf0, 0xff, 0, 1, 9, 0xc0, 0x44, 0x80, 0x3e, 0,
+    ];
+    let west = Move {
+        dx: -1,
+        dy: 0,
+        fire: false,
+        act: false,
+    };
+    let moved = [
+        0x80, 0, 0, 0x40, 0, 0, 0x40, 0, 0, 0, 0, 0, 0, 0x40, 0x70, 8, 0,
+    ];
+    let accepted = [0xc0, 0, 0, 0x80, 0, 0, 0xc0, 0, 0, 0, 0x40, 0, 0, 0, 0, 0];
+    let skipped = [0xc0, 0, 0, 0xc0, 0, 0, 0x40, 1, 0, 0, 0x40, 0, 0, 0, 0, 0];
+    let again = [
+        0, 1, 0, 0xc0, 0, 0, 0xc0, 1, 0, 0, 0x40, 0, 0, 0, 0, 1, 0, 1, 0xf0, 0x3c, 0x80, 0x3e,
+        0xf0, 0xff, 0,
+    ];
+    let (mut conn, mut client) = ends_with_block(rt.alloc())?;
+    assert_eq!(rt; shown(&mut conn, 0, true), Some(0));
+    assert_eq!(rt; shown(&mut conn, 2, false), Some(1));
+    let values = [1000, 1000, 100, 20, 0, 1100, 1000, 0];
+    assert_eq!(rt; sealed(&mut conn, &values), Some(creates.as_slice()));
+    assert_eq!(rt; client.sample(west), Ok(0));
+    assert_eq!(rt; packed(&mut client), Some(moved.as_slice()));
+    assert_eq!(rt; up(&mut conn, &moved), Some(Ok(Taken { moves: 1 })));
+    // The creates are lost. The mine that was hidden by then is over, and its slot free; the player comes again.
+    assert_eq!(rt; hidden(&mut conn, 1), Some(()));
+    assert_eq!(rt; slot_of(&conn, 1), Some(1));
+    assert_eq!(rt; sealed(&mut conn, &[]), Some(accepted.as_slice()));
+    assert_eq!(rt; down(&mut client, &accepted), Some(Ok(())));
+    assert_eq!(rt; packed(&mut client), Some(skipped.as_slice()));
+    assert_eq!(rt; up(&mut conn, &skipped), Some(Ok(Taken { moves: 0 })));
+    assert_eq!(rt; slot_of(&conn, 1), None);
+    assert_eq!(rt;
+        sealed(&mut conn, &[975, 1000, 100, 20, 0]),
+        Some(again.as_slice())
+    );
+    Ok(())
+}
+
+#[test]
+fn control_slot_is_sent_once_it_is_live(rt: HostRuntime) -> Result<(), Fail> {
+    let creating = [0xc0, 0, 0, 0x40, 0, 0, 0x40, 0, 0, 0, 0, 0, 0, 0, 0, 0];
+    let create_came = [0x80, 0, 0, 0x80, 0, 0, 0xc0, 0, 0, 0, 0, 0, 0, 0, 0, 0];
+    let live = [0, 1, 0, 0x80, 0, 0, 0xc0, 0, 0, 0, 0, 0, 0, 0x40, 0, 0, 0];
+    let kill = [
+        0x40, 1, 0, 0x80, 0, 0, 0xc0, 0, 0, 0, 0, 0, 0, 0, 0, 1, 0, 0,
+    ];
+    let (mut conn, mut client) = ends_with_block(rt.alloc())?;
+    assert_eq!(rt; shown(&mut conn, 0, true), Some(0));
+    let create = sealed(&mut conn, &[1000, 1000, 100, 20, 0]).ok_or("no packet")?;
+    let create = RawBytes::from_slice(create).ok_or("too long")?;
+    assert_eq!(rt; sealed(&mut conn, &[]), Some(creating.as_slice()));
+    assert_eq!(rt; down(&mut client, create.as_slice()), Some(Ok(())));
+    assert_eq!(rt; client.control(), None);
+    assert_eq!(rt; packed(&mut client), Some(create_came.as_slice()));
+    assert_eq!(rt; up(&mut conn, &create_came), Some(Ok(Taken { moves: 0 })));
+    assert_eq!(rt; sealed(&mut conn, &[]), Some(live.as_slice()));
+    assert_eq!(rt; down(&mut client, &live), Some(Ok(())));
+    assert_eq!(rt; client.control(), Some(0));
+    assert_eq!(rt; hidden(&mut conn, 0), Some(()));
+    assert_eq!(rt; sealed(&mut conn, &[]), Some(kill.as_slice()));
+    assert_eq!(rt; down(&mut client, &kill), Some(Ok(())));
+    assert_eq!(rt; client.control(), None);
+    assert!(rt; client.copies().get(0).is_none());
     Ok(())
 }

@@ -19,7 +19,7 @@ verdicts-init c = record {
 pub verdicts-preserved : goal.verdicts-preserved
 verdicts-preserved c = record {
   stands = λ before after log j s.
-      same_fates _ _ _ _ (upto-next c.args.notices.now before after c.verdicts.i (fate_for c.verdict_at-verdict.result) j c.verdicts-test.true c.verdict_at-verdict.ensures)
+      same_fates _ _ _ _ (upto-next c.args.notices.now before after c.verdicts.i (fate_for c.verdict_at-verdict.result) j c.verdicts-test.true c.verdict_at-verdict.ensures.fate)
       (c.settle.ensures.stands _ _ (c.verdicts.invariant.stands before after log j s) (upto-here c.args.notices.now before after c.verdicts.i j c.verdicts-test.true));
   life = c.settle.ensures.life ∙ c.verdicts.invariant.life;
 }

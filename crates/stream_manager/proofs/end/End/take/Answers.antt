@@ -5,9 +5,9 @@ use Rattle.notify_window.specs.Stands.{StandsFor as WindowStandsFor}
 use Rattle.event_manager.specs.Receiving.{take_answer}
 use Rattle.event_manager.specs.ReceiverStands.{StandsFor as ReceiverStandsFor}
 use Rattle.event_manager.specs.SenderStands.{StandsFor as SenderStandsFor}
-use Rattle.stream_manager.specs.End.{Seen, EndEvent, Took, window_log, sender_log, fates, came_of}
+use Rattle.stream_manager.specs.End.{Seen, EndEvent, Took, window_log, sender_log, fates, judged_at, came_of}
 use Rattle.stream_manager.specs.EndStands.{EndState, StandsFor}
-use Rattle.stream_manager.specs.Settling.{Judges}
+use Rattle.stream_manager.specs.Settling.{Judges, Names}
 use Rattle.stream_manager.proofs.Ends.{took_stands, judges-told, when_ok}
 use Rattle.stream_manager.proofs.end.End.take.Goals as goal
 
@@ -29,6 +29,15 @@ judged c log stands =
     let now = came c log stands in
     judges-told (packet c) log c.in-Ok.notices (omega (arith, now.judged, c.in-Ok.ensures.first)) (omega (arith, c.in-Ok.ensures.first, c.in-Ok.ensures.count)) (c.in-Ok.ensures.verdicts _ now)
 
+-- the packets that they name
+named : (c : goal.After-settle_events) (log : List EndEvent) → StandsFor (before c) log → Names c.in-Ok.notices (judged_at log) (judged_at (Took (packet c) ∷ log))
+named c log stands =
+    let now = came c log stands in
+    record {
+      first = omega (arith, now.judged, c.in-Ok.ensures.first);
+      count = omega (arith, now.judged, c.in-Ok.ensures.first, c.in-Ok.ensures.count);
+    }
+
 after : (c : goal.After-settle_events) (log : List EndEvent) → StandsFor (before c) log → StandsFor (record { config = c.self.inside.config; window = c.notices.new.self; sender = c.settle_events.new.sender; receiver = c.take.new.self }) (Took (packet c) ∷ log)
 after c log stands =
     let near : take_answer (before c).receiver.delivered c.args.events.now ≡ Ok tt = subst (λ (x : EndState). take_answer x.receiver.delivered c.args.events.now ≡ Ok tt) (sym c.self.view_is) c.requires.near in
@@ -44,3 +53,6 @@ returns-clause-stands c log s = after c log (subst (λ (x : EndState). StandsFor
 
 pub returns-clause-judges : goal.returns-clause-judges
 returns-clause-judges c log s = judged c log (subst (λ (x : EndState). StandsFor x log) (sym c.self.view_is) s)
+
+pub returns-clause-named : goal.returns-clause-named
+returns-clause-named c log s = named c log (subst (λ (x : EndState). StandsFor x log) (sym c.self.view_is) s)

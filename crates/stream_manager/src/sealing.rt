@@ -1,0 +1,117 @@
+//! The server's next datagram: planned and then sealed, or a ping.
+ghost use Rattle.std.specs.Prelude.{◌≡◌, ℕ, ◌+◌, ◌-◌, ◌*◌, ◌≤◌, List, ◌∷◌, IsSome, Some, length};
+ghost use Rattle.std.specs.Borrow.{sem};
+ghost use Rattle.std.specs.Io.BufRead.{Rests};
+ghost use Rattle.notify_window.specs.State.{send_state};
+ghost use Rattle.bit_stream.specs.Bits.{datagram};
+ghost use Rattle.wire_format.specs.declared.server.ServerPacket.TheVariants as down;
+ghost use Rattle.wire_format.specs.Server.{server, server_size, IsServerInRange};
+
+use crate::Conn;
+use crate::blocks::{due_blocks, note_blocks};
+use arrayvec::ArrayVec;
+use bit_stream::BitWriter;
+use notify_window::SendState;
+use quantised_fields::KindTable;
+use tn_types::Choice;
+use wire_format::{SERVER_FIXED_BITS, ServerBody, ServerPacket, encode_server, server_bits};
+
+impl Conn {
+    ghost use Rattle.stream_manager.specs.Server.{ServerEvent, server_end, choices_at, data_body, server_ping};
+    ghost use Rattle.stream_manager.specs.Stands.{ConnState, ConnStandsFor, terms_of};
+    ghost use Rattle.stream_manager.specs.Calls.{Planning, AreForPlan, Sealed, Pinging};
+    ghost use Rattle.stream_manager.specs.contracts.server.Conn.{the_row};
+
+    /// Gives the lowest free slots to waiting periods, and chooses the ghosts of the next data packet, in order
+    /// (docs/connection.md, "Candidates"). The plan holds until the next call that changes something.
+    pub fn plan(&mut self) -> &[Choice]
+        requires { send_state self.old.common.window ≡ SendState.Room }
+        ensures choices { (log : List ServerEvent) → ConnStandsFor self.old log → result.now ≡ choices_at (terms_of self.old) log }
+        ensures* after { sem 𝓛 (Rests the_row self.entry (Planning self.old)) }
+    {
+        self.choose();
+        self.masks.chosen()
+    }
+
+    /// Plans the next data packet.
+    fn choose(&mut self)
+        requires { send_state self.old.common.window ≡ SendState.Room }
+        ensures choices { (log : List ServerEvent) → ConnStandsFor self.old log → self.new.masks.plan ≡ Some (choices_at (terms_of self.old) log) }
+        ensures after { Planning self.old self.new }
+    {
+        let size = self.common.config().size;
+        let (_, blocks) = due_blocks(&self.blocks, 4 * size - SERVER_FIXED_BITS);
+        let events = self
+            .common
+            .events_bits(6 * size - SERVER_FIXED_BITS - blocks);
+        let received = self.blocks.received();
+        let room = 8 * size - SERVER_FIXED_BITS - blocks - events;
+        self.masks.choose(received, room);
+    }
+
+    /// Counts the data packet that was planned, and gives it.
+    fn packed(&mut self, values: &[i64]) -> ServerBody
+        requires planned { IsSome self.old.masks.plan }
+        requires values { AreForPlan self.old.masks values.now }
+        ensures body { (log : List ServerEvent) → ConnStandsFor self.old log → result ≡ data_body (terms_of self.old) log values.now }
+        ensures fits { IsServerInRange self.old.masks.kinds (down.Body result) }
+        ensures size { server_size self.old.masks.kinds (down.Body result) ≤ 8 * self.old.common.config.size }
+        ensures after { Sealed self.old values.now self.new }
+    {
+        let size = self.common.config().size;
+        let control = self.masks.control_slot();
+        let ghosts = self.masks.items(values);
+        let (blocks, used) = due_blocks(&self.blocks, 4 * size - SERVER_FIXED_BITS);
+        let (head, events) = self.common.pack(6 * size - SERVER_FIXED_BITS - used);
+        note_blocks(&mut self.blocks, &blocks, head.seq);
+        self.masks.sent(head.seq);
+        ServerBody {
+            head,
+            accepted: self.moves.accepted(),
+            control,
+            blocks,
+            events,
+            ghosts,
+        }
+    }
+
+    /// Makes the data packet that was planned, and lends its bytes. There is one value for each field that the planned
+    /// ghosts carry, in the order of the plan and by rising field, each in its field's range: `masks().fits` tells.
+    pub fn seal(&mut self, values: &[i64]) -> &[u8]
+        requires planned { IsSome self.old.masks.plan }
+        requires values { AreForPlan self.old.masks values.now }
+        ensures bytes { (log : List ServerEvent) → ConnStandsFor self.old log → result.now ≡ datagram (server self.old.masks.kinds (down.Body (data_body (terms_of self.old) log values.now))) }
+        ensures few { length result.now ≤ self.old.common.config.size }
+        ensures* after { sem 𝓛 (Rests the_row self.entry (Sealed self.old values.now)) }
+    {
+        let packet = ServerPacket::Body(self.packed(values));
+        self.datagram = spelled(&packet, self.masks.kinds(), self.common.config().size);
+        self.datagram.as_slice()
+    }
+
+    /// Makes a ping, and lends its bytes.
+    pub fn ping(&mut self) -> &[u8]
+        requires { send_state self.old.common.window ≡ SendState.Held }
+        ensures bytes { (log : List ServerEvent) → ConnStandsFor self.old log → result.now ≡ datagram (server self.old.masks.kinds (down.Ping (server_ping self.old.common.config log))) }
+        ensures few { length result.now ≤ self.old.common.config.size }
+        ensures* after { sem 𝓛 (Rests the_row self.entry (Pinging self.old)) }
+    {
+        let packet = ServerPacket::Ping(self.common.pinged());
+        self.datagram = spelled(&packet, self.masks.kinds(), self.common.config().size);
+        self.datagram.as_slice()
+    }
+}
+
+/// The datagram of a packet, in as many bytes as it takes, at most `size`.
+fn spelled(packet: &ServerPacket, kinds: &KindTable, size: u32) -> ArrayVec<u8, 1200>
+    requires fits { IsServerInRange kinds.now packet.now }
+    requires room { server_size kinds.now packet.now ≤ 8 * size }
+    requires size { size ≤ 1200 }
+    ensures bytes { result.items ≡ datagram (server kinds.now packet.now) }
+    ensures few { length result.items ≤ size }
+{
+    let _bits = server_bits(packet, kinds);
+    let mut out = BitWriter::new(size);
+    encode_server(packet, kinds, &mut out);
+    out.finish()
+}
