@@ -68,12 +68,12 @@ sample-is c u ok = (
     worn-or-full false full = rw full refl
 
 -- how many moves a packet of the server tells of
-abbrev TellsAtMost : ℕ → ServerPacket → Type 0
+abbrev pub TellsAtMost : ℕ → ServerPacket → Type 0
 TellsAtMost count (down.Ping head) = Unit {0}
 TellsAtMost count (down.Body p) = p.accepted ≤ count
 
 -- the moves of a client's packet are those that were sampled, from its first one on
-abbrev HoldsMoves : List Move → ClientPacket → Type 0
+abbrev pub HoldsMoves : List Move → ClientPacket → Type 0
 HoldsMoves ms (up.Ping head) = Unit {0}
 HoldsMoves ms (up.Body p) = Holds (record { first = p.first; moves = p.moves }) ms
 
@@ -220,6 +220,20 @@ module _ (t : Terms) (limits : AreTerms t) where
   is-up : (vs : List (List ℕ)) (ms : List Move) (p : ClientPacket) → IsClient p → ArePosted vs (seen_up p).events → HoldsMoves ms p → IsUp vs ms (datagram (client p))
   is-up vs ms p fits posted holds = record { packet = p; fits = fits; reads = whole_again client_at client IsClient a_client p fits; posted = posted; moves = holds }
 
+  -- the packets that the server makes
+  pub ping-down : (s : List ServerEvent) (u : List ClientEvent) → server_state t.config s ≡ Held → Carried t s u → IsServer t.kinds (down.Ping (server_ping t.config s))
+  ping-down s u e h = ping_head-fits t.config.life t.config.client (server_end s) short limits.config.client e h.server
+
+  pub body-down : (s : List ServerEvent) (u : List ClientEvent) → server_state t.config s ≡ Room → Carried t s u → IsServer t.kinds (down.Body (next_body t s []))
+  body-down s u e h = record {
+    head = data_head-fits t.config.life t.config.client (server_end s) short limits.config.client e h.server;
+    accepted = omega (arith, h.moves.accepted, short);
+    control = subst (λ (o : Option ℕ). IfSome o (λ slot. slot < 2 ^ 8)) (sym (no-control t.kinds (Grant ∷ ghost_log s) h.nothing)) tt;
+    blocks = blocks-fit t s limits;
+    events = events-fit t.config.life _ (server_end s) short h.server;
+    ghosts = subst (λ (cs : List Choice). AreListed 128 (IsGhost t.kinds) (ghosts_for t.kinds (Grant ∷ ghost_log s) cs [])) (sym (no-plan t.kinds (Grant ∷ ghost_log s) h.nothing _ _)) (record { few = omega arith; each = tt });
+  }
+
   packs-down : (s : List ServerEvent) (u : List ClientEvent) → Carried t s u → Carried t (server_log.packing t s []) u
   packs-down s u h = go (server_state t.config s) refl
     where
@@ -229,7 +243,7 @@ module _ (t : Terms) (limits : AreTerms t) where
         server = pinged-fits t.config.life (server_end s) _ h.server;
         client = h.client;
         down = all-append (IsDown t.kinds (posted_at (server_end s)) (length (accepted_at t.config s))) (server_datagrams t.kinds s) _ h.down
-            (is-down (posted_at (server_end s)) (length (accepted_at t.config s)) (down.Ping (server_ping t.config s)) (ping_head-fits t.config.life t.config.client (server_end s) short limits.config.client e h.server) tt tt, tt);
+            (is-down (posted_at (server_end s)) (length (accepted_at t.config s)) (down.Ping (server_ping t.config s)) (ping-down s u e h) tt tt, tt);
         up = h.up;
         came_down = h.came_down;
         came_up = h.came_up;
@@ -241,14 +255,7 @@ module _ (t : Terms) (limits : AreTerms t) where
         client = h.client;
         down = all-append (IsDown t.kinds (posted_at (server_end s)) (length (accepted_at t.config s))) (server_datagrams t.kinds s) _ h.down (
           is-down (posted_at (server_end s)) (length (accepted_at t.config s)) (down.Body (next_body t s []))
-              (record {
-                head = data_head-fits t.config.life t.config.client (server_end s) short limits.config.client e h.server;
-                accepted = omega (arith, h.moves.accepted, short);
-                control = subst (λ (o : Option ℕ). IfSome o (λ slot. slot < 2 ^ 8)) (sym (no-control t.kinds (Grant ∷ ghost_log s) h.nothing)) tt;
-                blocks = blocks-fit t s limits;
-                events = events-fit t.config.life _ (server_end s) short h.server;
-                ghosts = subst (λ (cs : List Choice). AreListed 128 (IsGhost t.kinds) (ghosts_for t.kinds (Grant ∷ ghost_log s) cs [])) (sym (no-plan t.kinds (Grant ∷ ghost_log s) h.nothing _ _)) (record { few = omega arith; each = tt });
-              })
+              (body-down s u e h)
               (posted-events _ (server_end s))
               (omega arith),
           tt,
@@ -260,14 +267,27 @@ module _ (t : Terms) (limits : AreTerms t) where
         nothing = packed-nothing (with_plan t s) (next_body t s []) h.nothing;
       }
 
+  -- all sampled moves that the server may lack
+  waiting-moves : (s : List ServerEvent) (u : List ClientEvent) → Carried t s u → length (packet_of (sample_log u)).moves + acked_of (sample_log u) ≡ length (sampled_at u)
+  waiting-moves s u h = omega (arith, length-drop (acked_of (sample_log u)) (sampled_at u), h.moves.acked, h.moves.front.within)
+
+  -- the packets that the client makes
+  pub ping-up : (s : List ServerEvent) (u : List ClientEvent) → client_state t.config u ≡ Held → Carried t s u → IsClient (up.Ping (client_ping t.config u))
+  ping-up s u e h = ping_head-fits t.config.life t.config.client (client_end u) short limits.config.client e h.client
+
+  pub body-up : (s : List ServerEvent) (u : List ClientEvent) → client_state t.config u ≡ Room → Carried t s u → IsClient (up.Body (client_body t.config u))
+  body-up s u e h = record {
+    head = data_head-fits t.config.life t.config.client (client_end u) short limits.config.client e h.client;
+    first = omega (arith, h.moves.acked, h.moves.accepted, short);
+    moves = record { few = omega (arith, waiting-moves s u h, h.moves.few); each = any-moves (packet_of (sample_log u)).moves };
+    events = events-fit t.config.life _ (client_end u) short h.client;
+  }
+
   packs-up : (s : List ServerEvent) (u : List ClientEvent) → Carried t s u → Carried t s (onto (client_log.packing t.config u) u)
   packs-up s u h = go (client_state t.config u) refl
     where
-      waiting : length (packet_of (sample_log u)).moves + acked_of (sample_log u) ≡ length (sampled_at u)
-      waiting = omega (arith, length-drop (acked_of (sample_log u)) (sampled_at u), h.moves.acked, h.moves.front.within)
-
       holds : Holds (packet_of (sample_log u)) (sampled_at u)
-      holds = record { within = omega (arith, waiting); moves = sym (take_all _ _ (omega arith)) }
+      holds = let all = waiting-moves s u h in record { within = omega (arith, all); moves = sym (take_all _ _ (omega arith)) }
 
       go : (state : SendState) → client_state t.config u ≡ state → Carried t s (onto (client_log.pack_event t.config u state) u)
       go Worn e = h
@@ -276,7 +296,7 @@ module _ (t : Terms) (limits : AreTerms t) where
         client = pinged-fits t.config.life (client_end u) _ h.client;
         down = h.down;
         up = all-append (IsUp (posted_at (client_end u)) (sampled_at u)) (client_datagrams u) _ h.up
-            (is-up (posted_at (client_end u)) (sampled_at u) (up.Ping (client_ping t.config u)) (ping_head-fits t.config.life t.config.client (client_end u) short limits.config.client e h.client) tt tt, tt);
+            (is-up (posted_at (client_end u)) (sampled_at u) (up.Ping (client_ping t.config u)) (ping-up s u e h) tt tt, tt);
         came_down = h.came_down;
         came_up = h.came_up;
         moves = h.moves;
@@ -288,12 +308,7 @@ module _ (t : Terms) (limits : AreTerms t) where
         down = h.down;
         up = all-append (IsUp (posted_at (client_end u)) (sampled_at u)) (client_datagrams u) _ h.up (
           is-up (posted_at (client_end u)) (sampled_at u) (up.Body (client_body t.config u))
-              (record {
-                head = data_head-fits t.config.life t.config.client (client_end u) short limits.config.client e h.client;
-                first = omega (arith, h.moves.acked, h.moves.accepted, short);
-                moves = record { few = omega (arith, waiting, h.moves.few); each = any-moves (packet_of (sample_log u)).moves };
-                events = events-fit t.config.life _ (client_end u) short h.client;
-              })
+              (body-up s u e h)
               (posted-events _ (client_end u))
               holds,
           tt,
@@ -342,7 +357,7 @@ module _ (t : Terms) (limits : AreTerms t) where
     pub moves : Moves t.config.life new sampled acked
     pub longer : length old ≤ length new
 
-  moves-up : (p : ClientPacket) (room : ℕ) (log : List moves.Event) (sampled : List Move) (acked : ℕ) → HoldsMoves sampled p → Moves t.config.life (accepted_of t.config.life log) sampled acked
+  pub moves-up : (p : ClientPacket) (room : ℕ) (log : List moves.Event) (sampled : List Move) (acked : ℕ) → HoldsMoves sampled p → Moves t.config.life (accepted_of t.config.life log) sampled acked
       → Accepts (accepted_of t.config.life log) (accepted_of t.config.life (moves_taken p room log)) sampled acked
   moves-up (up.Ping head) room log sampled acked holds m = record { moves = m; longer = omega arith }
   moves-up (up.Body p) room log sampled acked holds m =

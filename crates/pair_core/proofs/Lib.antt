@@ -5,4 +5,14 @@ pub mod Posted
 pub mod Sections
 pub mod NoGhosts
 mod Carried
+mod Windows
+mod Grown
+pub mod VerdictLaw
+mod Reached
+mod Honest
+pub mod RefusalLaw
 pub mod InOrder
+pub mod HeldBlocks
+pub mod Subsequences
+pub mod LooseItems
+pub mod LooseEvents

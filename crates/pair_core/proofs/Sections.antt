@@ -27,21 +27,27 @@ map-push : (f : ℕ → BlockItem) (ns : List ℕ) (n : ℕ) → map f (ns ++ n 
 map-push f [] n = refl
 map-push f (m ∷ ns) n = ap (λ (l : List BlockItem). f m ∷ l) (map-push f ns n)
 
-below-fit : (blocks : List (List ℕ)) (f : ℕ → Bool) (n : ℕ) → n ≤ length blocks → length blocks ≤ 64 → AllByRecursion IsBlockBytes blocks → AllByRecursion IsBlock (map (block_item blocks) (those_below f n))
-below-fit blocks f zero l few h = tt
-below-fit blocks f (suc n) l few h = go (f n) (below-fit blocks f n (omega arith) few h)
+-- what holds of each block of the script holds of those in a packet
+below-all : (P : BlockItem → Type 0) (blocks : List (List ℕ)) (f : ℕ → Bool) (n : ℕ) → n ≤ length blocks → ((b : ℕ) → b < length blocks → P (block_item blocks b)) → AllByRecursion P (map (block_item blocks) (those_below f n))
+below-all P blocks f zero l each = tt
+below-all P blocks f (suc n) l each = go (f n) (below-all P blocks f n (omega arith) each)
   where
-    go : (b : Bool) → AllByRecursion IsBlock (map (block_item blocks) (those_below f n)) → AllByRecursion IsBlock (map (block_item blocks) (if b then those_below f n ++ n ∷ [] else those_below f n))
+    go : (b : Bool) → AllByRecursion P (map (block_item blocks) (those_below f n)) → AllByRecursion P (map (block_item blocks) (if b then those_below f n ++ n ∷ [] else those_below f n))
     go false rest = rest
-    go true rest = rw (map-push (block_item blocks) (those_below f n) n) (all-append IsBlock (map (block_item blocks) (those_below f n)) (block_item blocks n ∷ []) rest (block-fits blocks n (omega arith) few h, tt))
+    go true rest = rw (map-push (block_item blocks) (those_below f n) n) (all-append P (map (block_item blocks) (those_below f n)) (block_item blocks n ∷ []) rest (each n (omega arith), tt))
+
+pub blocks-all : (P : BlockItem → Type 0) (t : Terms) (log : List ServerEvent) → ((b : ℕ) → b < length t.blocks → P (block_item t.blocks b)) → AllByRecursion P (blocks_at t log)
+blocks-all P t log each =
+    let due : List BlockItem = map (block_item t.blocks) (due_of (fates (server_end log)) (block_log log) (length t.blocks)) in
+    fitting-all P block_size (4 * t.config.size - 136) (take 15 due)
+    (all-take P 15 due (below-all P t.blocks (is_due (fates (server_end log)) (block_log log) (length t.blocks)) (length t.blocks) (omega arith) each))
 
 pub blocks-fit : (t : Terms) (log : List ServerEvent) → AreTerms t → AreListed 15 IsBlock (blocks_at t log)
 blocks-fit t log limits =
     let due : List BlockItem = map (block_item t.blocks) (due_of (fates (server_end log)) (block_log log) (length t.blocks)) in
     record {
       few = omega (arith, fitting-short block_size (4 * t.config.size - 136) (take 15 due), length-take 15 due);
-      each = fitting-all IsBlock block_size (4 * t.config.size - 136) (take 15 due)
-          (all-take IsBlock 15 due (below-fit t.blocks (is_due (fates (server_end log)) (block_log log) (length t.blocks)) (length t.blocks) (omega arith) limits.few limits.blocks));
+      each = blocks-all IsBlock t log (λ b l. block-fits t.blocks b l limits.few limits.blocks);
     }
 
 -- ---- moves

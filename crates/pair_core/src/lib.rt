@@ -6,12 +6,20 @@
 
 mod datagrams;
 mod fault;
+mod held_blocks;
 mod laws;
+mod loose_events;
 mod pair;
+mod refusals;
+mod verdicts;
 
 pub use fault::{DownFault, Made, UpFault};
+pub use held_blocks::held_blocks_are_as_given;
 pub use laws::{accepts_in_order, delivers_in_order};
+pub use loose_events::loose_events_in_order;
 pub use pair::Pair;
+pub use refusals::honest_runs_refuse_little;
+pub use verdicts::verdicts_are_true;
 
 /// The most datagrams that are sent one way.
 pub const MAX_DATAGRAMS: u32 = 4_294_967_295;

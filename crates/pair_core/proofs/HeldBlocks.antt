@@ -1,0 +1,149 @@
+-- Each packet on the way down has blocks of the match alone, and so has each that came.
+use Rattle.std.proofs.Common.{◌≡◌, ℕ, zero, suc, ◌<◌, ◌==◌, Bool, true, false, List, [], ◌∷◌, if◌then◌else◌, length, reverse, Option, Some, None, Result, Ok, Err, refl, sym, subst, arith}
+use Rattle.std.specs.Prelude.{slice_get}
+use Rattle.std.specs.Result.{is_ok}
+use Rattle.std.specs.List.{AllByRecursion, slice_index_or}
+use Rattle.std.proofs.lemmas.Grind.{reverse_onto}
+use Rattle.std.proofs.lemmas.Bool.Decides.{nat_tests}
+use Rattle.tn_types.specs.declared.choices.Class.{Class}
+use Rattle.tn_types.specs.declared.choices.Class.TheVariants.{Guaranteed, Loose}
+use Rattle.tn_types.specs.declared.moves.Move.{Move}
+use Rattle.bit_stream.specs.Bits.{datagram}
+use Rattle.notify_window.specs.declared.SendState.{SendState}
+use Rattle.notify_window.specs.declared.SendState.TheVariants.{Held, Worn, Room}
+use Rattle.quantised_fields.specs.declared.kind.Kind.{Kind}
+use Rattle.wire_format.specs.declared.fault.BitsFault.{BitsFault}
+use Rattle.wire_format.specs.declared.blocks.BlockItem.{BlockItem}
+use Rattle.wire_format.specs.declared.client.ClientPacket.{ClientPacket}
+use Rattle.wire_format.specs.declared.server.ServerPacket.{ServerPacket}
+use Rattle.wire_format.specs.declared.server.ServerPacket.TheVariants as down
+use Rattle.wire_format.specs.Server.{server, server_at, server_of, IsServer}
+use Rattle.wire_format.proofs.ServerFormat.{a_server}
+use Rattle.wire_format.proofs.Whole.{whole_again}
+use Rattle.datablocks.specs.Holding.{held_of}
+use Rattle.stream_manager.specs.declared.fault.ArriveFault.{ArriveFault}
+use Rattle.stream_manager.specs.declared.fault.ClientFault.{ClientFault}
+use Rattle.stream_manager.specs.Limits.{Terms, AreTerms}
+use Rattle.stream_manager.specs.Faults.{Checked, checked_packet}
+use Rattle.stream_manager.specs.End.{onto}
+use Rattle.stream_manager.specs.Server as server_log
+use Rattle.stream_manager.specs.Server.{ServerEvent, server_datagrams, server_state, posted_at_server, next_body, server_ping, took_at_server, server_answer}
+use Rattle.stream_manager.specs.Client as client_log
+use Rattle.stream_manager.specs.Client.{ClientEvent, blocks_in, blocks_came, client_datagrams, client_state, posted_at_client, sampled_answer, took_at_client}
+use Rattle.pair_core.specs.History.{Step, Post, ClientPost, Sample, Pack, ClientPack, Down, Up, history, server_posts, client_posts, client_samples, client_gets, server_gets}
+use Rattle.pair_core.specs.Laws.{StepFits}
+use Rattle.pair_core.specs.HeldBlocks.{IsAsGiven, HoldsBlocksAsGiven}
+use Rattle.pair_core.proofs.Lists.{all-append, all-at}
+use Rattle.pair_core.proofs.Sections.{blocks-all}
+use Rattle.pair_core.proofs.Carried.{Carried, carried, ping-down, body-down}
+
+-- bytes that spell a packet whose blocks are all the match's
+record BringsTheMatchs (kinds : List Kind) (blocks : List (List ℕ)) (bytes : List ℕ) : Type 0 where
+  pub packet : ServerPacket
+  pub reads : server_of kinds bytes ≡ Ok packet
+  pub known : AllByRecursion (IsAsGiven blocks) (blocks_in packet)
+
+-- the invariant over the steps
+record Given (t : Terms) (s : List ServerEvent) (u : List ClientEvent) : Type 0 where
+  pub down : AllByRecursion (BringsTheMatchs t.kinds t.blocks) (server_datagrams t.kinds s)
+  pub came : AllByRecursion (IsAsGiven t.blocks) (blocks_came u)
+
+all-reverse : {A : Type 0} (P : A → Type 0) (xs : List A) → AllByRecursion P xs → AllByRecursion P (reverse xs)
+all-reverse {A} P [] h = tt
+all-reverse {A} P (x ∷ xs) h = subst (λ (l : List A). AllByRecursion P l) (sym (reverse_onto xs x [])) (all-append P (reverse xs) (x ∷ []) (all-reverse P xs h.1) (h.0, tt))
+
+-- a block of the script, as a packet has it
+script-block : (blocks : List (List ℕ)) (b : ℕ) → b < length blocks → slice_get blocks b ≡ Some (slice_index_or blocks b [])
+script-block [] b l = absurd (omega arith)
+script-block (x ∷ blocks) zero l = refl
+script-block (x ∷ blocks) (suc b) l = script-block blocks b (omega arith)
+
+held-given : (blocks : List (List ℕ)) (came : List BlockItem) (b : ℕ) (v : List ℕ) → AllByRecursion (IsAsGiven blocks) came → held_of b came ≡ Some v → slice_get blocks b ≡ Some v
+held-given blocks [] b v h e = cc
+held-given blocks (item ∷ came) b v h e = go (item.number == b) refl (held-given blocks came b v h.1) e
+  where
+    go : (same : Bool) → (item.number == b) ≡ same → (held_of b came ≡ Some v → slice_get blocks b ≡ Some v) → (if same then Some item.bytes else held_of b came) ≡ Some v → slice_get blocks b ≡ Some v
+    go true is rest found = let at : item.number ≡ b = grind (arith, nat_tests) in let here : IsAsGiven blocks item = h.0 in cc
+    go false is rest found = rest found
+
+module _ (t : Terms) (limits : AreTerms t) where
+  posts-down : (class : Class) (v : List ℕ) (s : List ServerEvent) (u : List ClientEvent) → Given t s u → Given t (server_posts t.config class v s) u
+  posts-down Loose v s u h = record { down = h.down; came = h.came }
+  posts-down Guaranteed v s u h = go (is_ok (posted_at_server t.config s))
+    where
+      go : (b : Bool) → Given t (if b then server_log.Posted Guaranteed v ∷ s else s) u
+      go false = h
+      go true = record { down = h.down; came = h.came }
+
+  posts-up : (class : Class) (v : List ℕ) (s : List ServerEvent) (u : List ClientEvent) → Given t s u → Given t s (client_posts t.config class v u)
+  posts-up Loose v s u h = record { down = h.down; came = h.came }
+  posts-up Guaranteed v s u h = go (is_ok (posted_at_client t.config u))
+    where
+      go : (b : Bool) → Given t s (if b then client_log.Posted Guaranteed v ∷ u else u)
+      go false = h
+      go true = record { down = h.down; came = h.came }
+
+  samples-up : (m : Move) (s : List ServerEvent) (u : List ClientEvent) → Given t s u → Given t s (client_samples t.config m u)
+  samples-up m s u h = go (is_ok (sampled_answer t.config u))
+    where
+      go : (b : Bool) → Given t s (if b then client_log.Sampled m ∷ u else u)
+      go false = h
+      go true = record { down = h.down; came = h.came }
+
+  brings : (p : ServerPacket) → IsServer t.kinds p → AllByRecursion (IsAsGiven t.blocks) (blocks_in p) → BringsTheMatchs t.kinds t.blocks (datagram (server t.kinds p))
+  brings p fits known = record { packet = p; reads = whole_again (server_at t.kinds) (server t.kinds) (IsServer t.kinds) (a_server t.kinds) p fits; known = known }
+
+  packs-down : (s : List ServerEvent) (u : List ClientEvent) → Carried t s u → Given t s u → Given t (server_log.packing t s []) u
+  packs-down s u c h = go (server_state t.config s) refl
+    where
+      go : (state : SendState) → server_state t.config s ≡ state → Given t (server_log.packed_onto t s [] state) u
+      go Worn e = h
+      go Held e = record {
+        down = all-append (BringsTheMatchs t.kinds t.blocks) (server_datagrams t.kinds s) _ h.down (brings (down.Ping (server_ping t.config s)) (ping-down t limits s u e c) tt, tt);
+        came = h.came;
+      }
+      go Room e = record {
+        down = all-append (BringsTheMatchs t.kinds t.blocks) (server_datagrams t.kinds s) _ h.down
+            (brings (down.Body (next_body t s [])) (body-down t limits s u e c) (blocks-all (IsAsGiven t.blocks) t (server_log.with_plan t s) (script-block t.blocks)), tt);
+        came = h.came;
+      }
+
+  packs-up : (s : List ServerEvent) (u : List ClientEvent) → Given t s u → Given t s (onto (client_log.packing t.config u) u)
+  packs-up s u h = go (client_state t.config u)
+    where
+      go : (state : SendState) → Given t s (onto (client_log.pack_event t.config u state) u)
+      go Worn = h
+      go Held = record { down = h.down; came = h.came }
+      go Room = record { down = h.down; came = h.came }
+
+  took-down : (s : List ServerEvent) (u : List ClientEvent) (p : ServerPacket) (a : Checked ClientFault) → AllByRecursion (IsAsGiven t.blocks) (blocks_in p) → Given t s u → Given t s (took_at_client u (checked_packet p a))
+  took-down s u p (Err e) known h = h
+  took-down s u p (Ok x) known h = record { down = h.down; came = all-append (IsAsGiven t.blocks) (reverse (blocks_in p)) (blocks_came u) (all-reverse (IsAsGiven t.blocks) (blocks_in p) known) h.came }
+
+  gets-down : (s : List ServerEvent) (u : List ClientEvent) (k : ℕ) (o : Option (List ℕ)) → slice_get (server_datagrams t.kinds s) k ≡ o → Given t s u → Given t s (client_gets t o u)
+  gets-down s u k None e h = h
+  gets-down s u k (Some bytes) e h =
+      let d : BringsTheMatchs t.kinds t.blocks bytes = all-at (BringsTheMatchs t.kinds t.blocks) (server_datagrams t.kinds s) k bytes h.down e in
+      subst (λ (r : Result ServerPacket BitsFault). Given t s (took_at_client u (client_log.packet_answer t.config u r))) (sym d.reads)
+      (took-down s u d.packet (client_log.packet_check t.config u d.packet) d.known h)
+
+  took-up : (s : List ServerEvent) (u : List ClientEvent) (room : ℕ) (a : Result ClientPacket ArriveFault) → Given t s u → Given t (took_at_server s room a) u
+  took-up s u room (Err e) h = h
+  took-up s u room (Ok p) h = record { down = h.down; came = h.came }
+
+  gets-up : (s : List ServerEvent) (u : List ClientEvent) (room : ℕ) (o : Option (List ℕ)) → Given t s u → Given t (server_gets t.config room o s) u
+  gets-up s u room None h = h
+  gets-up s u room (Some bytes) h = took-up s u room (server_answer t.config s bytes) h
+
+  given : (steps : List Step) → AllByRecursion StepFits steps → Given t (history t steps).server (history t steps).client
+  given [] fit = record { down = tt; came = tt }
+  given (Post class v ∷ steps) fit = posts-down class v (history t steps).server (history t steps).client (given steps fit.1)
+  given (ClientPost class v ∷ steps) fit = posts-up class v (history t steps).server (history t steps).client (given steps fit.1)
+  given (Sample m ∷ steps) fit = samples-up m (history t steps).server (history t steps).client (given steps fit.1)
+  given (Pack ∷ steps) fit = packs-down (history t steps).server (history t steps).client (carried t limits steps fit.1) (given steps fit.1)
+  given (ClientPack ∷ steps) fit = packs-up (history t steps).server (history t steps).client (given steps fit.1)
+  given (Down k ∷ steps) fit = gets-down (history t steps).server (history t steps).client k (slice_get (server_datagrams t.kinds (history t steps).server) k) refl (given steps fit.1)
+  given (Up k room ∷ steps) fit = gets-up (history t steps).server (history t steps).client room (slice_get (client_datagrams (history t steps).client) k) (given steps fit.1)
+
+pub holds_the_matchs : (t : Terms) (steps : List Step) → AreTerms t → AllByRecursion StepFits steps → HoldsBlocksAsGiven t steps
+holds_the_matchs t steps limits fit b v held = held-given t.blocks (blocks_came (history t steps).client) b v (given t limits steps fit).came held

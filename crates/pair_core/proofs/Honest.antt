@@ -1,0 +1,234 @@
+-- Over every list of steps, what is on its way between the ends is what an honest end sent: its packets name the client, and
+-- their events, blocks and moves fit what the other end has.
+use Rattle.std.proofs.Common.{◌≡◌, ℕ, ◌-◌, ◌*◌, ◌≤◌, Bool, true, false, List, [], ◌∷◌, length, map, take, Option, Some, None, if◌then◌else◌, Result, Ok, Err, refl, sym, ap, subst, arith}
+use Rattle.std.specs.Prelude.{slice_get, reverse}
+use Rattle.std.specs.Result.{is_ok}
+use Rattle.std.specs.List.{AllByRecursion, slice_index_or}
+use Rattle.std.proofs.lemmas.List.{reverse-append}
+use Rattle.tn_types.specs.declared.choices.Choice.{Choice}
+use Rattle.tn_types.specs.declared.choices.Class.{Class}
+use Rattle.tn_types.specs.declared.choices.Class.TheVariants.{Guaranteed, Loose}
+use Rattle.tn_types.specs.declared.moves.Move.{Move}
+use Rattle.bit_stream.specs.Bits.{datagram}
+use Rattle.notify_window.specs.declared.SendState.{SendState}
+use Rattle.notify_window.specs.declared.SendState.TheVariants.{Held, Worn, Room}
+use Rattle.wire_format.specs.declared.fault.BitsFault.{BitsFault}
+use Rattle.wire_format.specs.declared.blocks.BlockItem.{BlockItem}
+use Rattle.wire_format.specs.declared.server.ServerBody.{ServerBody}
+use Rattle.wire_format.specs.declared.server.ServerPacket.{ServerPacket}
+use Rattle.wire_format.specs.declared.server.ServerPacket.TheVariants as down
+use Rattle.wire_format.specs.declared.client.ClientPacket.{ClientPacket}
+use Rattle.wire_format.specs.declared.client.ClientPacket.TheVariants as up
+use Rattle.wire_format.specs.declared.widths.TheConstants.{SERVER_FIXED_BITS, MAX_BLOCKS}
+use Rattle.wire_format.specs.Blocks.{block_size}
+use Rattle.datablocks.specs.Sending.{due_of}
+use Rattle.stream_manager.specs.Shares.{fitting}
+use Rattle.wire_format.specs.Server.{server, server_at, server_of, IsServer}
+use Rattle.wire_format.specs.Client.{client, client_at, client_of, IsClient}
+use Rattle.wire_format.proofs.ServerFormat.{a_server}
+use Rattle.wire_format.proofs.ClientFormat.{a_client}
+use Rattle.wire_format.proofs.Whole.{whole_again}
+use Rattle.ghost_model.specs.Ghosts.{Grant}
+use Rattle.ghost_masks.specs.Carried.{ghosts_for}
+use Rattle.move_manager.specs.Sending.{acked_of}
+use Rattle.stream_manager.specs.declared.fault.ArriveFault.{ArriveFault}
+use Rattle.stream_manager.specs.declared.fault.ClientFault.{ClientFault}
+use Rattle.stream_manager.specs.Limits.{Terms, AreTerms}
+use Rattle.stream_manager.specs.Faults.{Checked, checked_packet}
+use Rattle.event_manager.specs.Receiving.{run_of}
+use Rattle.notify_window.specs.Log.{sent_of}
+use Rattle.stream_manager.specs.End.{window_log, fates, came_of, onto}
+use Rattle.stream_manager.proofs.Fitting.{fitting-all}
+use Rattle.stream_manager.specs.Server as server_log
+use Rattle.stream_manager.specs.Server.{ServerEvent, server_end, block_log, server_datagrams, server_state, posted_at_server, seen_up, next_body, server_ping, took_at_server, block_item, ghost_log, accepted_at, move_log}
+use Rattle.stream_manager.specs.Client as client_log
+use Rattle.stream_manager.specs.Client.{ClientEvent, client_end, client_datagrams, client_state, posted_at_client, sampled_answer, seen_down, client_body, client_ping, took_at_client, blocks_in, blocks_came, sample_log, sampled_at}
+use Rattle.pair_core.specs.History.{Step, Post, ClientPost, Sample, Pack, ClientPack, Down, Up, history, server_posts, client_posts, client_samples, client_gets, server_gets}
+use Rattle.pair_core.specs.Laws.{StepFits, posted_at}
+use Rattle.pair_core.proofs.NoGhosts.{no-plan, no-control}
+use Rattle.pair_core.proofs.Lists.{all-at, all-append, all-take}
+use Rattle.pair_core.proofs.Carried.{Carried, carried, ping-down, body-down, ping-up, body-up, HoldsMoves, IsUp, moves-up}
+use Rattle.pair_core.proofs.VerdictLaw.{Windows, windows, true-verdicts}
+use Rattle.pair_core.proofs.Reached.{events_of, Brings, EventsOn, start-events, near-events, sends-events, pings-events, takes-events, better}
+
+-- a block of the script
+abbrev pub IsOf : List (List ℕ) → BlockItem → Type 0
+IsOf blocks item = item.bytes ≡ slice_index_or blocks item.number []
+
+-- what a data packet of the server holds, where no object was shown to the client
+pub record IsPlainBody (blocks : List (List ℕ)) (p : ServerBody) : Type 0 where
+  pub script : AllByRecursion (IsOf blocks) p.blocks
+  pub ghosts : p.ghosts ≡ []
+  pub control : p.control ≡ None
+
+abbrev pub IsPlain : List (List ℕ) → ServerPacket → Type 0
+IsPlain blocks (down.Ping head) = Unit {0}
+IsPlain blocks (down.Body p) = IsPlainBody blocks p
+
+-- the moves of a packet of the client leave no gap behind so many
+abbrev pub BeginsWithin : ℕ → ClientPacket → Type 0
+BeginsWithin count (up.Ping head) = Unit {0}
+BeginsWithin count (up.Body p) = p.first ≤ count
+
+begins-later : (m n : ℕ) → m ≤ n → (p : ClientPacket) → BeginsWithin m p → BeginsWithin n p
+begins-later m n l (up.Ping head) h = tt
+begins-later m n l (up.Body p) h = omega arith
+
+pub record Honest (t : Terms) (s : List ServerEvent) (u : List ClientEvent) : Type 0 where
+  pub down : EventsOn (server_of t.kinds) seen_down (IsPlain t.blocks) t.config.client (server_end s) (client_end u) (server_datagrams t.kinds s)
+  pub up : EventsOn client_of seen_up (BeginsWithin (length (accepted_at t.config s))) t.config.client (client_end u) (server_end s) (client_datagrams u)
+  pub blocks : AllByRecursion (IsOf t.blocks) (blocks_came u)
+
+all-reverse : {A : Type 0} (P : A → Type 0) (xs : List A) → AllByRecursion P xs → AllByRecursion P (reverse xs)
+all-reverse P [] h = tt
+all-reverse {A} P (x ∷ xs) h = subst (AllByRecursion P) (sym (reverse-append (x ∷ []) xs)) (all-append P (reverse xs) (x ∷ []) (all-reverse P xs h.1) (h.0, tt))
+
+are-of : (blocks : List (List ℕ)) (ns : List ℕ) → AllByRecursion (IsOf blocks) (map (block_item blocks) ns)
+are-of blocks [] = tt
+are-of blocks (n ∷ ns) = (refl, are-of blocks ns)
+
+blocks-in : (blocks : List (List ℕ)) (p : ServerPacket) → IsPlain blocks p → AllByRecursion (IsOf blocks) (blocks_in p)
+blocks-in blocks (down.Ping head) h = tt
+blocks-in blocks (down.Body p) h = h.script
+
+-- what bytes spell is one packet
+pub same-packet : {P : Type 0} (r : Result P BitsFault) (p q : P) → r ≡ Ok p → r ≡ Ok q → p ≡ q
+same-packet r p q e f = cc
+
+module _ (t : Terms) (limits : AreTerms t) where
+  start : Honest t [] []
+  start = record { down = start-events (server_of t.kinds) seen_down (IsPlain t.blocks) t.config.client; up = start-events client_of seen_up (BeginsWithin 0) t.config.client; blocks = tt }
+
+  -- ---- posts and samples
+
+  posts-down : (class : Class) (v : List ℕ) (s : List ServerEvent) (u : List ClientEvent) → Honest t s u → Honest t (server_posts t.config class v s) u
+  posts-down Loose v s u h = record { down = h.down; up = h.up; blocks = h.blocks }
+  posts-down Guaranteed v s u h = go (is_ok (posted_at_server t.config s))
+    where
+      go : (b : Bool) → Honest t (if b then server_log.Posted Guaranteed v ∷ s else s) u
+      go true = record { down = h.down; up = h.up; blocks = h.blocks }
+      go false = h
+
+  posts-up : (class : Class) (v : List ℕ) (s : List ServerEvent) (u : List ClientEvent) → Honest t s u → Honest t s (client_posts t.config class v u)
+  posts-up Loose v s u h = record { down = h.down; up = h.up; blocks = h.blocks }
+  posts-up Guaranteed v s u h = go (is_ok (posted_at_client t.config u))
+    where
+      go : (b : Bool) → Honest t s (if b then client_log.Posted Guaranteed v ∷ u else u)
+      go true = record { down = h.down; up = h.up; blocks = h.blocks }
+      go false = h
+
+  samples-up : (m : Move) (s : List ServerEvent) (u : List ClientEvent) → Honest t s u → Honest t s (client_samples t.config m u)
+  samples-up m s u h = go (is_ok (sampled_answer t.config u))
+    where
+      go : (b : Bool) → Honest t s (if b then client_log.Sampled m ∷ u else u)
+      go true = record { down = h.down; up = h.up; blocks = h.blocks }
+      go false = h
+
+  -- ---- packs
+
+  reads-down : (p : ServerPacket) → IsServer t.kinds p → server_of t.kinds (datagram (server t.kinds p)) ≡ Ok p
+  reads-down p fits = whole_again (server_at t.kinds) (server t.kinds) (IsServer t.kinds) (a_server t.kinds) p fits
+
+  reads-up : (p : ClientPacket) → IsClient p → client_of (datagram (client p)) ≡ Ok p
+  reads-up p fits = whole_again client_at client IsClient a_client p fits
+
+  plain-next : (s : List ServerEvent) (u : List ClientEvent) → Carried t s u → IsPlainBody t.blocks (next_body t s [])
+  plain-next s u c = record {
+    script = script (due_of (fates (server_end s)) (block_log s) (length t.blocks));
+    ghosts = ap (λ (cs : List Choice). ghosts_for t.kinds (Grant ∷ ghost_log s) cs []) (no-plan t.kinds (Grant ∷ ghost_log s) c.nothing _ _);
+    control = no-control t.kinds (Grant ∷ ghost_log s) c.nothing;
+  }
+    where
+      script : (ns : List ℕ) → AllByRecursion (IsOf t.blocks) (fitting block_size (4 * t.config.size - SERVER_FIXED_BITS) (take MAX_BLOCKS (map (block_item t.blocks) ns)))
+      script ns = fitting-all (IsOf t.blocks) block_size (4 * t.config.size - SERVER_FIXED_BITS) (take MAX_BLOCKS (map (block_item t.blocks) ns)) (all-take (IsOf t.blocks) MAX_BLOCKS (map (block_item t.blocks) ns) (are-of t.blocks ns))
+
+  packs-down : (s : List ServerEvent) (u : List ClientEvent) → Carried t s u → Windows t s u → Honest t s u → Honest t (server_log.packing t s []) u
+  packs-down s u c w h = go (server_state t.config s) refl
+    where
+      go : (state : SendState) → server_state t.config s ≡ state → Honest t (server_log.packed_onto t s [] state) u
+      go Worn e = h
+      go Held e = record {
+        down = pings-events (server_of t.kinds) seen_down (IsPlain t.blocks) t.config.client (server_end s) (client_end u) (server_datagrams t.kinds s) h.down (down.Ping (server_ping t.config s)) (datagram (server t.kinds (down.Ping (server_ping t.config s))))
+            refl (reads-down (down.Ping (server_ping t.config s)) (ping-down t limits s u e c)) refl refl refl tt;
+        up = h.up;
+        blocks = h.blocks;
+      }
+      go Room e = record {
+        down = sends-events (server_of t.kinds) seen_down (IsPlain t.blocks) t.config.client (server_end s) (client_end u) (server_datagrams t.kinds s) h.down (down.Body (next_body t s [])) (datagram (server t.kinds (down.Body (next_body t s []))))
+            refl (reads-down (down.Body (next_body t s [])) (body-down t limits s u e c)) refl
+            (near-events (server_of t.kinds) seen_down (IsPlain t.blocks) t.config.client (server_end s) (client_end u) (server_datagrams t.kinds s) h.down
+            (true-verdicts (server_of t.kinds) seen_down (server_end s) (client_end u) (server_datagrams t.kinds s) w.down).0 _)
+            (plain-next s u c) w.down.known;
+        up = h.up;
+        blocks = h.blocks;
+      }
+
+  packs-up : (s : List ServerEvent) (u : List ClientEvent) → Carried t s u → Windows t s u → Honest t s u → Honest t s (onto (client_log.packing t.config u) u)
+  packs-up s u c w h = go (client_state t.config u) refl
+    where
+      go : (state : SendState) → client_state t.config u ≡ state → Honest t s (onto (client_log.pack_event t.config u state) u)
+      go Worn e = h
+      go Held e = record {
+        down = h.down;
+        up = pings-events client_of seen_up (BeginsWithin (length (accepted_at t.config s))) t.config.client (client_end u) (server_end s) (client_datagrams u) h.up (up.Ping (client_ping t.config u)) (datagram (client (up.Ping (client_ping t.config u))))
+            refl (reads-up (up.Ping (client_ping t.config u)) (ping-up t limits s u e c)) refl refl refl tt;
+        blocks = h.blocks;
+      }
+      go Room e = record {
+        down = h.down;
+        up = sends-events client_of seen_up (BeginsWithin (length (accepted_at t.config s))) t.config.client (client_end u) (server_end s) (client_datagrams u) h.up (up.Body (client_body t.config u)) (datagram (client (up.Body (client_body t.config u))))
+            refl (reads-up (up.Body (client_body t.config u)) (body-up t limits s u e c)) refl
+            (near-events client_of seen_up (BeginsWithin (length (accepted_at t.config s))) t.config.client (client_end u) (server_end s) (client_datagrams u) h.up
+            (true-verdicts client_of seen_up (client_end u) (server_end s) (client_datagrams u) w.up).0 _)
+            c.moves.acked w.up.known;
+        blocks = h.blocks;
+      }
+
+  -- ---- arrivals
+
+  took-down : (s : List ServerEvent) (u : List ClientEvent) (bytes : List ℕ) (a : Checked ClientFault) (b : Brings (server_of t.kinds) seen_down (IsPlain t.blocks) t.config.client (λ n. events_of n (server_end s)) (sent_of (window_log (server_end s))) (run_of (came_of (client_end u))) bytes)
+      → Honest t s u → Honest t s (took_at_client u (checked_packet b.packet a))
+  took-down s u bytes (Err e) b h = h
+  took-down s u bytes (Ok x) b h = record {
+    down = takes-events (server_of t.kinds) seen_down (IsPlain t.blocks) t.config.client (server_end s) (client_end u) (server_datagrams t.kinds s) h.down (seen_down b.packet) b.own;
+    up = h.up;
+    blocks = all-append (IsOf t.blocks) (reverse (blocks_in b.packet)) (blocks_came u) (all-reverse (IsOf t.blocks) (blocks_in b.packet) (blocks-in t.blocks b.packet b.good)) h.blocks;
+  }
+
+  took-up : (s : List ServerEvent) (u : List ClientEvent) (room : ℕ) (bytes : List ℕ) (a : Checked ArriveFault) (b : Brings client_of seen_up (BeginsWithin (length (accepted_at t.config s))) t.config.client (λ n. events_of n (client_end u)) (sent_of (window_log (client_end u))) (run_of (came_of (server_end s))) bytes)
+      → HoldsMoves (sampled_at u) b.packet → Carried t s u → Honest t s u → Honest t (took_at_server s room (checked_packet b.packet a)) u
+  took-up s u room bytes (Err e) b holds c h = h
+  took-up s u room bytes (Ok x) b holds c h = record {
+    down = h.down;
+    up = better client_of seen_up (BeginsWithin (length (accepted_at t.config s))) (BeginsWithin (length (accepted_at t.config (server_log.Took b.packet room ∷ s)))) t.config.client (client_end u) (server_end (server_log.Took b.packet room ∷ s)) (client_datagrams u)
+        (begins-later (length (accepted_at t.config s)) (length (accepted_at t.config (server_log.Took b.packet room ∷ s))) (moves-up t limits b.packet room (move_log s) (sampled_at u) (acked_of (sample_log u)) holds c.moves).longer)
+        (takes-events client_of seen_up (BeginsWithin (length (accepted_at t.config s))) t.config.client (client_end u) (server_end s) (client_datagrams u) h.up (seen_up b.packet) b.own);
+    blocks = h.blocks;
+  }
+
+  gets-down : (s : List ServerEvent) (u : List ClientEvent) (k : ℕ) (o : Option (List ℕ)) → slice_get (server_datagrams t.kinds s) k ≡ o → Honest t s u → Honest t s (client_gets t o u)
+  gets-down s u k None e h = h
+  gets-down s u k (Some bytes) e h =
+      let b : Brings (server_of t.kinds) seen_down (IsPlain t.blocks) t.config.client (λ n. events_of n (server_end s)) (sent_of (window_log (server_end s))) (run_of (came_of (client_end u))) bytes = all-at _ (server_datagrams t.kinds s) k bytes h.down.brings e in
+      subst (λ (r : Result ServerPacket BitsFault). Honest t s (took_at_client u (client_log.packet_answer t.config u r))) (sym b.reads)
+      (took-down s u bytes (client_log.packet_check t.config u b.packet) b h)
+
+  gets-up : (s : List ServerEvent) (u : List ClientEvent) (k room : ℕ) (o : Option (List ℕ)) → slice_get (client_datagrams u) k ≡ o → Carried t s u → Honest t s u → Honest t (server_gets t.config room o s) u
+  gets-up s u k room None e c h = h
+  gets-up s u k room (Some bytes) e c h =
+      let b : Brings client_of seen_up (BeginsWithin (length (accepted_at t.config s))) t.config.client (λ n. events_of n (client_end u)) (sent_of (window_log (client_end u))) (run_of (came_of (server_end s))) bytes = all-at _ (client_datagrams u) k bytes h.up.brings e in
+      let d : IsUp (posted_at (client_end u)) (sampled_at u) bytes = all-at (IsUp (posted_at (client_end u)) (sampled_at u)) (client_datagrams u) k bytes c.up e in
+      subst (λ (r : Result ClientPacket BitsFault). Honest t (took_at_server s room (server_log.packet_answer t.config s r)) u) (sym b.reads)
+      (took-up s u room bytes (server_log.packet_check t.config s b.packet) b (subst (HoldsMoves (sampled_at u)) (same-packet (client_of bytes) d.packet b.packet d.reads b.reads) d.moves) c h)
+
+  -- ---- all steps
+
+  pub honest : (steps : List Step) → AllByRecursion StepFits steps → Honest t (history t steps).server (history t steps).client
+  honest [] fit = start
+  honest (Post class v ∷ steps) fit = posts-down class v (history t steps).server (history t steps).client (honest steps fit.1)
+  honest (ClientPost class v ∷ steps) fit = posts-up class v (history t steps).server (history t steps).client (honest steps fit.1)
+  honest (Sample m ∷ steps) fit = samples-up m (history t steps).server (history t steps).client (honest steps fit.1)
+  honest (Pack ∷ steps) fit = packs-down (history t steps).server (history t steps).client (carried t limits steps fit.1) (windows t limits steps fit.1) (honest steps fit.1)
+  honest (ClientPack ∷ steps) fit = packs-up (history t steps).server (history t steps).client (carried t limits steps fit.1) (windows t limits steps fit.1) (honest steps fit.1)
+  honest (Down k ∷ steps) fit = gets-down (history t steps).server (history t steps).client k (slice_get (server_datagrams t.kinds (history t steps).server) k) refl (honest steps fit.1)
+  honest (Up k room ∷ steps) fit = gets-up (history t steps).server (history t steps).client k room (slice_get (client_datagrams (history t steps).client) k) refl (carried t limits steps fit.1) (honest steps fit.1)

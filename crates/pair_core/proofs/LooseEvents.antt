@@ -1,0 +1,241 @@
+-- Each datagram on its way reads as a packet with the unguaranteed events that were written under its number, and what
+-- came was in packets of rising numbers.
+use Rattle.std.proofs.Common.{◌≡◌, ℕ, Bool, true, false, List, [], ◌∷◌, ◌++◌, if◌then◌else◌, Option, Some, None, Result, Ok, Err, refl, sym, subst}
+use Rattle.std.specs.Prelude.{slice_get}
+use Rattle.std.specs.Result.{is_ok}
+use Rattle.std.specs.List.{AllByRecursion}
+use Rattle.tn_types.specs.declared.choices.Class.{Class}
+use Rattle.tn_types.specs.declared.choices.Class.TheVariants.{Guaranteed, Loose}
+use Rattle.tn_types.specs.declared.moves.Move.{Move}
+use Rattle.bit_stream.specs.Bits.{datagram}
+use Rattle.quantised_fields.specs.declared.kind.Kind.{Kind}
+use Rattle.notify_window.specs.declared.SendState.{SendState}
+use Rattle.notify_window.specs.declared.SendState.TheVariants.{Held, Worn, Room}
+use Rattle.notify_window.specs.Log.{horizon_of}
+use Rattle.wire_format.specs.declared.fault.BitsFault.{BitsFault}
+use Rattle.wire_format.specs.declared.server.ServerPacket.{ServerPacket}
+use Rattle.wire_format.specs.declared.server.ServerPacket.TheVariants as down
+use Rattle.wire_format.specs.declared.client.ClientPacket.{ClientPacket}
+use Rattle.wire_format.specs.declared.client.ClientPacket.TheVariants as up
+use Rattle.wire_format.specs.Server.{server, server_at, server_of, IsServer}
+use Rattle.wire_format.specs.Client.{client, client_at, client_of, IsClient}
+use Rattle.wire_format.proofs.ServerFormat.{a_server}
+use Rattle.wire_format.proofs.ClientFormat.{a_client}
+use Rattle.wire_format.proofs.Whole.{whole_again}
+use Rattle.stream_manager.specs.declared.fault.HeadFault.{HeadFault}
+use Rattle.stream_manager.specs.declared.fault.ArriveFault.{ArriveFault}
+use Rattle.stream_manager.specs.declared.fault.ClientFault.{ClientFault}
+use Rattle.stream_manager.specs.Limits.{Terms, AreTerms}
+use Rattle.stream_manager.specs.Faults.{Checked, then_check, head_at_server, head_at_client, checked_packet}
+use Rattle.stream_manager.specs.End.{Seen, window_log, head_answer, onto}
+use Rattle.stream_manager.specs.Server as server_log
+use Rattle.stream_manager.specs.Server.{ServerEvent, server_end, server_datagrams, seen_ping, seen_body, seen_client_body, seen_up, server_state, posted_at_server, with_plan, next_body, server_ping, took_at_server}
+use Rattle.stream_manager.specs.Client as client_log
+use Rattle.stream_manager.specs.Client.{ClientEvent, client_end, client_datagrams, seen_down, client_state, posted_at_client, client_body, client_ping, took_at_client, sampled_answer}
+use Rattle.pair_core.specs.History.{Step, Post, ClientPost, Sample, Pack, ClientPack, Down, Up, history, server_posts, client_posts, client_samples, client_gets, server_gets}
+use Rattle.pair_core.specs.Laws.{StepFits}
+use Rattle.pair_core.specs.LooseEvents.{LooseDown, LooseUp}
+use Rattle.pair_core.proofs.Lists.{all-append, all-map, all-at}
+use Rattle.pair_core.proofs.Carried.{Carried, carried, ping-down, body-down, ping-up, body-up}
+use Rattle.pair_core.proofs.LooseItems.{loose_in, written, Sends, start-sends, posted-sends, loose-sends, packed-sends, pinged-sends, took-sends, Flies, flies-push, flies-last, IsNew, not-old, Gets, gets-push, gets-more, gets-posted}
+
+abbrev SeenFlies : List (List (List ℕ)) → Seen → Type 0
+SeenFlies ws p = Flies ws p.ping p.head.seq (loose_in p.events)
+
+-- bytes that spell a packet with the unguaranteed events of its number
+record FliesDown (kinds : List Kind) (ws : List (List (List ℕ))) (bytes : List ℕ) : Type 0 where
+  pub packet : ServerPacket
+  pub reads : server_of kinds bytes ≡ Ok packet
+  pub flies : SeenFlies ws (seen_down packet)
+
+record FliesUp (ws : List (List (List ℕ))) (bytes : List ℕ) : Type 0 where
+  pub packet : ClientPacket
+  pub reads : client_of bytes ≡ Ok packet
+  pub flies : SeenFlies ws (seen_up packet)
+
+down-push : (kinds : List Kind) (ws : List (List (List ℕ))) (w : List (List ℕ)) (bytes : List ℕ) → FliesDown kinds ws bytes → FliesDown kinds (ws ++ w ∷ []) bytes
+down-push kinds ws w bytes d = let p = seen_down d.packet in record { packet = d.packet; reads = d.reads; flies = flies-push ws w p.ping p.head.seq (loose_in p.events) d.flies }
+
+up-push : (ws : List (List (List ℕ))) (w : List (List ℕ)) (bytes : List ℕ) → FliesUp ws bytes → FliesUp (ws ++ w ∷ []) bytes
+up-push ws w bytes d = let p = seen_up d.packet in record { packet = d.packet; reads = d.reads; flies = flies-push ws w p.ping p.head.seq (loose_in p.events) d.flies }
+
+-- the invariant over the steps
+record Ordered (t : Terms) (s : List ServerEvent) (u : List ClientEvent) : Type 0 where
+  pub server : Sends (server_end s)
+  pub client : Sends (client_end u)
+  pub down : AllByRecursion (FliesDown t.kinds (written (server_end s))) (server_datagrams t.kinds s)
+  pub up : AllByRecursion (FliesUp (written (client_end u))) (client_datagrams u)
+  pub came_down : Gets (written (server_end s)) (client_end u)
+  pub came_up : Gets (written (client_end u)) (server_end s)
+
+-- ---- what is not refused
+
+first-passed : {E : Type 0} (a b : Checked E) → then_check a b ≡ Ok tt → a ≡ Ok tt
+first-passed (Ok x) b e = refl
+first-passed (Err fault) b e = absurd cc
+
+passed-at_client : (a : Checked HeadFault) → head_at_client a ≡ Ok tt → a ≡ Ok tt
+passed-at_client (Ok x) e = refl
+passed-at_client (Err fault) e = absurd cc
+
+passed-at_server : (a : Checked HeadFault) → head_at_server a ≡ Ok tt → a ≡ Ok tt
+passed-at_server (Ok x) e = refl
+passed-at_server (Err fault) e = absurd cc
+
+module _ (t : Terms) (limits : AreTerms t) where
+  new-down : (u : List ClientEvent) (p : ServerPacket) → client_log.packet_check t.config u p ≡ Ok tt → IsNew (seen_down p).ping (seen_down p).head.seq (horizon_of (window_log (client_end u)))
+  new-down u (down.Ping head) e = tt
+  new-down u (down.Body p) e = not-old t.config.client (client_end u) (seen_body p) (passed-at_client (head_answer t.config.client (client_end u) (seen_body p)) (first-passed _ (client_log.body_check u p) e))
+
+  new-up : (s : List ServerEvent) (p : ClientPacket) → server_log.packet_check t.config s p ≡ Ok tt → IsNew (seen_up p).ping (seen_up p).head.seq (horizon_of (window_log (server_end s)))
+  new-up s (up.Ping head) e = tt
+  new-up s (up.Body p) e = not-old t.config.client (server_end s) (seen_client_body p) (passed-at_server (head_answer t.config.client (server_end s) (seen_client_body p)) (first-passed _ (server_log.body_check t.config s p) e))
+
+  -- ---- posts and samples
+
+  posts-down : (class : Class) (v : List ℕ) (s : List ServerEvent) (u : List ClientEvent) → Ordered t s u → Ordered t (server_posts t.config class v s) u
+  posts-down Loose v s u h = record { server = loose-sends (server_end s) v h.server; client = h.client; down = h.down; up = h.up; came_down = h.came_down; came_up = h.came_up }
+  posts-down Guaranteed v s u h = go (is_ok (posted_at_server t.config s))
+    where
+      go : (b : Bool) → Ordered t (if b then server_log.Posted Guaranteed v ∷ s else s) u
+      go false = h
+      go true = record { server = posted-sends (server_end s) v h.server; client = h.client; down = h.down; up = h.up; came_down = h.came_down; came_up = h.came_up }
+
+  posts-up : (class : Class) (v : List ℕ) (s : List ServerEvent) (u : List ClientEvent) → Ordered t s u → Ordered t s (client_posts t.config class v u)
+  posts-up Loose v s u h = record { server = h.server; client = loose-sends (client_end u) v h.client; down = h.down; up = h.up; came_down = h.came_down; came_up = h.came_up }
+  posts-up Guaranteed v s u h = go (is_ok (posted_at_client t.config u))
+    where
+      go : (b : Bool) → Ordered t s (if b then client_log.Posted Guaranteed v ∷ u else u)
+      go false = h
+      go true = record { server = h.server; client = posted-sends (client_end u) v h.client; down = h.down; up = h.up; came_down = h.came_down; came_up = h.came_up }
+
+  samples-up : (m : Move) (s : List ServerEvent) (u : List ClientEvent) → Ordered t s u → Ordered t s (client_samples t.config m u)
+  samples-up m s u h = go (is_ok (sampled_answer t.config u))
+    where
+      go : (b : Bool) → Ordered t s (if b then client_log.Sampled m ∷ u else u)
+      go false = h
+      go true = record { server = h.server; client = h.client; down = h.down; up = h.up; came_down = h.came_down; came_up = h.came_up }
+
+  -- ---- packs
+
+  flies-down : (ws : List (List (List ℕ))) (p : ServerPacket) → IsServer t.kinds p → SeenFlies ws (seen_down p) → FliesDown t.kinds ws (datagram (server t.kinds p))
+  flies-down ws p fits flies = record { packet = p; reads = whole_again (server_at t.kinds) (server t.kinds) (IsServer t.kinds) (a_server t.kinds) p fits; flies = flies }
+
+  flies-up : (ws : List (List (List ℕ))) (p : ClientPacket) → IsClient p → SeenFlies ws (seen_up p) → FliesUp ws (datagram (client p))
+  flies-up ws p fits flies = record { packet = p; reads = whole_again client_at client IsClient a_client p fits; flies = flies }
+
+  packs-down : (s : List ServerEvent) (u : List ClientEvent) → Carried t s u → Ordered t s u → Ordered t (server_log.packing t s []) u
+  packs-down s u c h = go (server_state t.config s) refl
+    where
+      ws : List (List (List ℕ))
+      ws = written (server_end s)
+
+      body : Seen
+      body = seen_body (next_body t s [])
+
+      go : (state : SendState) → server_state t.config s ≡ state → Ordered t (server_log.packed_onto t s [] state) u
+      go Worn e = h
+      go Held e = record {
+        server = pinged-sends (server_end s) (seen_ping (server_ping t.config s)) h.server;
+        client = h.client;
+        down = all-append (FliesDown t.kinds ws) (server_datagrams t.kinds s) _ h.down (flies-down ws (down.Ping (server_ping t.config s)) (ping-down t limits s u e c) refl, tt);
+        up = h.up;
+        came_down = h.came_down;
+        came_up = h.came_up;
+      }
+      go Room e = record {
+        server = packed-sends (server_end s) body (server_log.event_room t (with_plan t s)) refl h.server;
+        client = h.client;
+        down = all-append (FliesDown t.kinds (ws ++ loose_in body.events ∷ [])) (server_datagrams t.kinds s) _
+            (all-map (FliesDown t.kinds ws) (FliesDown t.kinds (ws ++ loose_in body.events ∷ [])) (down-push t.kinds ws (loose_in body.events)) (server_datagrams t.kinds s) h.down)
+            (flies-down (ws ++ loose_in body.events ∷ []) (down.Body (next_body t s [])) (body-down t limits s u e c) (flies-last (server_end s) body.head.seq (loose_in body.events) refl h.server), tt);
+        up = h.up;
+        came_down = gets-push ws (loose_in body.events) (client_end u) h.came_down;
+        came_up = h.came_up;
+      }
+
+  packs-up : (s : List ServerEvent) (u : List ClientEvent) → Carried t s u → Ordered t s u → Ordered t s (onto (client_log.packing t.config u) u)
+  packs-up s u c h = go (client_state t.config u) refl
+    where
+      ws : List (List (List ℕ))
+      ws = written (client_end u)
+
+      body : Seen
+      body = seen_client_body (client_body t.config u)
+
+      go : (state : SendState) → client_state t.config u ≡ state → Ordered t s (onto (client_log.pack_event t.config u state) u)
+      go Worn e = h
+      go Held e = record {
+        server = h.server;
+        client = pinged-sends (client_end u) (seen_ping (client_ping t.config u)) h.client;
+        down = h.down;
+        up = all-append (FliesUp ws) (client_datagrams u) _ h.up (flies-up ws (up.Ping (client_ping t.config u)) (ping-up t limits s u e c) refl, tt);
+        came_down = h.came_down;
+        came_up = h.came_up;
+      }
+      go Room e = record {
+        server = h.server;
+        client = packed-sends (client_end u) body (client_log.event_room t.config u) refl h.client;
+        down = h.down;
+        up = all-append (FliesUp (ws ++ loose_in body.events ∷ [])) (client_datagrams u) _
+            (all-map (FliesUp ws) (FliesUp (ws ++ loose_in body.events ∷ [])) (up-push ws (loose_in body.events)) (client_datagrams u) h.up)
+            (flies-up (ws ++ loose_in body.events ∷ []) (up.Body (client_body t.config u)) (body-up t limits s u e c) (flies-last (client_end u) body.head.seq (loose_in body.events) refl h.client), tt);
+        came_down = h.came_down;
+        came_up = gets-push ws (loose_in body.events) (server_end s) h.came_up;
+      }
+
+  -- ---- arrivals
+
+  took-down : (s : List ServerEvent) (u : List ClientEvent) (p : ServerPacket) (a : Checked ClientFault) → client_log.packet_check t.config u p ≡ a → SeenFlies (written (server_end s)) (seen_down p) → Ordered t s u → Ordered t s (took_at_client u (checked_packet p a))
+  took-down s u p (Err fault) e flies h = h
+  took-down s u p (Ok x) e flies h = record {
+    server = h.server;
+    client = took-sends (client_end u) (seen_down p) h.client;
+    down = h.down;
+    up = h.up;
+    came_down = gets-more (written (server_end s)) (client_end u) (seen_down p) flies (new-down u p e) h.came_down;
+    came_up = h.came_up;
+  }
+
+  took-up : (s : List ServerEvent) (u : List ClientEvent) (room : ℕ) (p : ClientPacket) (a : Checked ArriveFault) → server_log.packet_check t.config s p ≡ a → SeenFlies (written (client_end u)) (seen_up p) → Ordered t s u → Ordered t (took_at_server s room (checked_packet p a)) u
+  took-up s u room p (Err fault) e flies h = h
+  took-up s u room p (Ok x) e flies h = record {
+    server = took-sends (server_end s) (seen_up p) h.server;
+    client = h.client;
+    down = h.down;
+    up = h.up;
+    came_down = h.came_down;
+    came_up = gets-more (written (client_end u)) (server_end s) (seen_up p) flies (new-up s p e) h.came_up;
+  }
+
+  gets-down : (s : List ServerEvent) (u : List ClientEvent) (k : ℕ) (o : Option (List ℕ)) → slice_get (server_datagrams t.kinds s) k ≡ o → Ordered t s u → Ordered t s (client_gets t o u)
+  gets-down s u k None e h = h
+  gets-down s u k (Some bytes) e h =
+      let d : FliesDown t.kinds (written (server_end s)) bytes = all-at (FliesDown t.kinds (written (server_end s))) (server_datagrams t.kinds s) k bytes h.down e in
+      subst (λ (r : Result ServerPacket BitsFault). Ordered t s (took_at_client u (client_log.packet_answer t.config u r))) (sym d.reads)
+      (took-down s u d.packet (client_log.packet_check t.config u d.packet) refl d.flies h)
+
+  gets-up : (s : List ServerEvent) (u : List ClientEvent) (k room : ℕ) (o : Option (List ℕ)) → slice_get (client_datagrams u) k ≡ o → Ordered t s u → Ordered t (server_gets t.config room o s) u
+  gets-up s u k room None e h = h
+  gets-up s u k room (Some bytes) e h =
+      let d : FliesUp (written (client_end u)) bytes = all-at (FliesUp (written (client_end u))) (client_datagrams u) k bytes h.up e in
+      subst (λ (r : Result ClientPacket BitsFault). Ordered t (took_at_server s room (server_log.packet_answer t.config s r)) u) (sym d.reads)
+      (took-up s u room d.packet (server_log.packet_check t.config s d.packet) refl d.flies h)
+
+  -- ---- all steps
+
+  ordered : (steps : List Step) → AllByRecursion StepFits steps → Ordered t (history t steps).server (history t steps).client
+  ordered [] fit = record { server = start-sends; client = start-sends; down = tt; up = tt; came_down = refl; came_up = refl }
+  ordered (Post class v ∷ steps) fit = posts-down class v (history t steps).server (history t steps).client (ordered steps fit.1)
+  ordered (ClientPost class v ∷ steps) fit = posts-up class v (history t steps).server (history t steps).client (ordered steps fit.1)
+  ordered (Sample m ∷ steps) fit = samples-up m (history t steps).server (history t steps).client (ordered steps fit.1)
+  ordered (Pack ∷ steps) fit = packs-down (history t steps).server (history t steps).client (carried t limits steps fit.1) (ordered steps fit.1)
+  ordered (ClientPack ∷ steps) fit = packs-up (history t steps).server (history t steps).client (carried t limits steps fit.1) (ordered steps fit.1)
+  ordered (Down k ∷ steps) fit = gets-down (history t steps).server (history t steps).client k (slice_get (server_datagrams t.kinds (history t steps).server) k) refl (ordered steps fit.1)
+  ordered (Up k room ∷ steps) fit = gets-up (history t steps).server (history t steps).client k room (slice_get (client_datagrams (history t steps).client) k) refl (ordered steps fit.1)
+
+pub loose_down : (t : Terms) (steps : List Step) → AreTerms t → AllByRecursion StepFits steps → LooseDown t steps
+loose_down t steps limits fit = let h = ordered t limits steps fit in gets-posted (server_end (history t steps).server) (client_end (history t steps).client) h.server h.came_down
+
+pub loose_up : (t : Terms) (steps : List Step) → AreTerms t → AllByRecursion StepFits steps → LooseUp t steps
+loose_up t steps limits fit = let h = ordered t limits steps fit in gets-posted (client_end (history t steps).client) (server_end (history t steps).server) h.client h.came_up

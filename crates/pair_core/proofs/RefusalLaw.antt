@@ -1,0 +1,189 @@
+-- The only refusals between honest ends are that nothing was sent and that a packet is old.
+use Rattle.std.proofs.Common.{◌≡◌, ℕ, ◌≤◌, Bool, true, false, not, ◌&&◌, ◌==◌, nat_le, nat_lt, List, [], ◌∷◌, length, Option, Some, None, if◌then◌else◌, Result, Ok, Err, refl, sym, ◌∙◌, ap, subst, arith}
+use Rattle.std.specs.Prelude.{slice_get}
+use Rattle.std.specs.Str.{bytes_eq}
+use Rattle.std.specs.List.{AllByRecursion, slice_index_or}
+use Rattle.std.proofs.lemmas.Bool.Decides.{nat_tests}
+use Rattle.std.proofs.lemmas.Slice.Eq.{bytes_eq-Decides}
+use Rattle.notify_window.specs.Log.{sent_of, horizon_of}
+use Rattle.wire_format.specs.declared.fault.BitsFault.{BitsFault}
+use Rattle.wire_format.specs.declared.blocks.BlockItem.{BlockItem}
+use Rattle.wire_format.specs.declared.events.EventItem.{EventItem}
+use Rattle.wire_format.specs.declared.server.ServerPacket.{ServerPacket}
+use Rattle.wire_format.specs.declared.server.ServerPacket.TheVariants as down
+use Rattle.wire_format.specs.declared.client.ClientPacket.{ClientPacket}
+use Rattle.wire_format.specs.declared.client.ClientPacket.TheVariants as up
+use Rattle.wire_format.specs.Server.{server_of}
+use Rattle.wire_format.specs.Client.{client_of}
+use Rattle.datablocks.specs.Holding.{held_of, differs}
+use Rattle.event_manager.specs.Receiving.{run_of, take_answer}
+use Rattle.stream_manager.specs.declared.fault.HeadFault.{HeadFault}
+use Rattle.stream_manager.specs.declared.fault.HeadFault.TheVariants.{WrongClient, Old, AckAhead}
+use Rattle.stream_manager.specs.declared.fault.ArriveFault.{ArriveFault}
+use Rattle.stream_manager.specs.declared.fault.ClientFault.{ClientFault}
+use Rattle.stream_manager.specs.Limits.{Terms, AreTerms}
+use Rattle.stream_manager.specs.Faults.{Checked, then_check, head_at_server, head_at_client, events_at_server, events_at_client, checked_packet, without_packet}
+use Rattle.stream_manager.specs.End.{Seen, EndEvent, window_log, came_of, head_answer, events_answer}
+use Rattle.stream_manager.specs.Server as server_log
+use Rattle.stream_manager.specs.Server.{ServerEvent, server_end, server_datagrams, seen_up, accepted_at, taken_of}
+use Rattle.stream_manager.specs.Client as client_log
+use Rattle.stream_manager.specs.Client.{ClientEvent, client_end, client_datagrams, seen_down, blocks_check, blocks_came, sampled_at}
+use Rattle.pair_core.specs.History.{Step, history}
+use Rattle.pair_core.specs.Answers.{refused_down, brought_down, down_answer, refused_up, brought_up, up_answer}
+use Rattle.pair_core.specs.Laws.{StepFits, posted_at}
+use Rattle.pair_core.specs.Refusals.{IsOldAtClient, IsOldAtServer, RefusesLittleDown, RefusesLittleUp}
+use Rattle.pair_core.proofs.Lists.{all-at}
+use Rattle.pair_core.proofs.Carried.{Carried, carried, IsDown, TellsAtMost}
+use Rattle.pair_core.proofs.Windows.{Spells, tested}
+use Rattle.pair_core.proofs.VerdictLaw.{Windows, windows}
+use Rattle.pair_core.proofs.Reached.{events_of, IsNear, Brings}
+use Rattle.pair_core.proofs.Honest.{IsOf, IsPlain, BeginsWithin, Honest, honest, same-packet}
+
+-- ---- the header
+
+abbrev HeadOldOnly : Checked HeadFault → Type 0
+HeadOldOnly (Ok u) = Unit {0}
+HeadOldOnly (Err (WrongClient named)) = ⊥
+HeadOldOnly (Err (Old seq horizon)) = Unit {0}
+HeadOldOnly (Err (AckAhead horizon last)) = ⊥
+
+head-little : (client : ℕ) (log : List EndEvent) (p : Seen) → p.head.client ≡ client → p.head.horizon ≤ sent_of (window_log log) → HeadOldOnly (head_answer client log p)
+head-little client log p named within =
+    let same : (p.head.client == client) ≡ true = grind (arith, nat_tests) in
+    let inside : nat_lt (sent_of (window_log log)) p.head.horizon ≡ false = grind (arith, nat_tests) in
+    go (not (p.head.client == client)) (not p.ping && nat_le p.head.seq (horizon_of (window_log log))) (nat_lt (sent_of (window_log log)) p.head.horizon) (ap not same) inside
+  where
+    go : (a b c : Bool) → a ≡ false → c ≡ false → HeadOldOnly (tested log p a b c)
+    go true b c e f = cc
+    go false true c e f = tt
+    go false false true e f = cc
+    go false false false e f = tt
+
+-- ---- the events
+
+events-little : (run : ℕ) (items : List EventItem) → AllByRecursion (IsNear run) items → take_answer run items ≡ Ok tt
+events-little run [] near = refl
+events-little run (item ∷ items) near = rw near.0 (events-little run items near.1)
+
+-- ---- the client
+
+abbrev OldOnlyDown : Checked ClientFault → Type 0
+OldOnlyDown (Ok u) = Unit {0}
+OldOnlyDown (Err e) = IsOldAtClient e
+
+head-down : (r : Checked HeadFault) → HeadOldOnly r → OldOnlyDown (head_at_client r)
+head-down (Ok u) h = tt
+head-down (Err (WrongClient named)) h = absurd h
+head-down (Err (Old seq horizon)) h = tt
+head-down (Err (AckAhead horizon last)) h = absurd h
+
+then-down : (r next : Checked ClientFault) → next ≡ Ok tt → OldOnlyDown r → OldOnlyDown (then_check r next)
+then-down (Ok u) next is h = rw is tt
+then-down (Err e) next is h = h
+
+all-pass : {E : Type 0} (a b c d : Checked E) → a ≡ Ok tt → b ≡ Ok tt → c ≡ Ok tt → d ≡ Ok tt → then_check a (then_check b (then_check c d)) ≡ Ok tt
+all-pass a b c d ea eb ec ed = rw (ea, eb, ec, ed)
+
+-- a block that comes is held with the same bytes, if it is held
+same-held : (blocks : List (List ℕ)) (number : ℕ) (came : List BlockItem) → AllByRecursion (IsOf blocks) came → differs (held_of number came) (slice_index_or blocks number []) ≡ false
+same-held blocks number [] all = refl
+same-held blocks number (item ∷ came) all = go (item.number == number) refl (same-held blocks number came all.1)
+  where
+    itself : (v : List ℕ) → not (bytes_eq v v) ≡ false
+    itself v = ap not ((bytes_eq-Decides v v).1 refl)
+
+    go : (b : Bool) → (item.number == number) ≡ b → differs (held_of number came) (slice_index_or blocks number []) ≡ false → differs (if b then Some item.bytes else held_of number came) (slice_index_or blocks number []) ≡ false
+    go false e rest = rest
+    go true e rest =
+        let same : item.number ≡ number = grind (arith, nat_tests) in
+        let bytes : item.bytes ≡ slice_index_or blocks number [] = all.0 ∙ ap (λ (n : ℕ). slice_index_or blocks n []) same in
+        rw bytes (itself (slice_index_or blocks number []))
+
+blocks-little : (blocks : List (List ℕ)) (came items : List BlockItem) → AllByRecursion (IsOf blocks) came → AllByRecursion (IsOf blocks) items → blocks_check came items ≡ Ok tt
+blocks-little blocks came [] all these = refl
+blocks-little blocks came (item ∷ items) all these =
+    let held : differs (held_of item.number came) item.bytes ≡ false = ap (differs (held_of item.number came)) these.0 ∙ same-held blocks item.number came all in
+    rw held (blocks-little blocks (item ∷ came) items (these.0, all) these.1)
+
+module _ (t : Terms) where
+  check-down : (u : List ClientEvent) (p : ServerPacket) → (seen_down p).head.client ≡ t.config.client → (seen_down p).head.horizon ≤ sent_of (window_log (client_end u)) → TellsAtMost (length (sampled_at u)) p
+      → AllByRecursion (IsNear (run_of (came_of (client_end u)))) (seen_down p).events → IsPlain t.blocks p → AllByRecursion (IsOf t.blocks) (blocks_came u) → OldOnlyDown (client_log.packet_check t.config u p)
+  check-down u (down.Ping head) named within tells near plain came = head-down (head_answer t.config.client (client_end u) (seen_down (down.Ping head))) (head-little t.config.client (client_end u) (seen_down (down.Ping head)) named within)
+  check-down u (down.Body p) named within tells near plain came =
+      let few : nat_lt (length (sampled_at u)) p.accepted ≡ false = grind (arith, nat_tests) in
+      then-down (head_at_client (head_answer t.config.client (client_end u) (seen_down (down.Body p)))) (client_log.body_check u p)
+      (all-pass (client_log.moves_check u p.accepted) (blocks_check (blocks_came u) p.blocks) (events_at_client (events_answer (client_end u) p.events)) (client_log.ghosts_check u p)
+      (rw few) (blocks-little t.blocks (blocks_came u) p.blocks came plain.script) (ap events_at_client (events-little (run_of (came_of (client_end u))) p.events near)) (rw (plain.ghosts, plain.control)))
+      (head-down (head_answer t.config.client (client_end u) (seen_down (down.Body p))) (head-little t.config.client (client_end u) (seen_down (down.Body p)) named within))
+
+  answer-down : (p : ServerPacket) (a : Checked ClientFault) → OldOnlyDown a → RefusesLittleDown (refused_down (without_packet (checked_packet p a)))
+  answer-down p (Ok u) h = tt
+  answer-down p (Err e) h = h
+
+  tells-fewer : (m n : ℕ) (p : ServerPacket) → m ≤ n → TellsAtMost m p → TellsAtMost n p
+  tells-fewer m n (down.Ping head) l h = tt
+  tells-fewer m n (down.Body p) l h = omega arith
+
+  brings-down : (s : List ServerEvent) (u : List ClientEvent) (k : ℕ) (o : Option (List ℕ)) → slice_get (server_datagrams t.kinds s) k ≡ o → Carried t s u → Windows t s u → Honest t s u → RefusesLittleDown (brought_down t (record { server = s; client = u }) o)
+  brings-down s u k None e c w h = tt
+  brings-down s u k (Some bytes) e c w h =
+      let b : Brings (server_of t.kinds) seen_down (IsPlain t.blocks) t.config.client (λ n. events_of n (server_end s)) (sent_of (window_log (server_end s))) (run_of (came_of (client_end u))) bytes = all-at _ (server_datagrams t.kinds s) k bytes h.down.brings e in
+      let d : IsDown t.kinds (posted_at (server_end s)) (length (accepted_at t.config s)) bytes = all-at _ (server_datagrams t.kinds s) k bytes c.down e in
+      let x : Spells (server_of t.kinds) seen_down (window_log (server_end s)) bytes = all-at _ (server_datagrams t.kinds s) k bytes w.down.spelled e in
+      let told : TellsAtMost (length (accepted_at t.config s)) b.packet = subst (TellsAtMost (length (accepted_at t.config s))) (same-packet (server_of t.kinds bytes) d.packet b.packet d.reads b.reads) d.tells in
+      let same : x.packet ≡ b.packet = same-packet (server_of t.kinds bytes) x.packet b.packet x.reads b.reads in
+      let known : (seen_down b.packet).head.horizon ≤ horizon_of (window_log (server_end s)) = subst (λ (p : ServerPacket). (seen_down p).head.horizon ≤ horizon_of (window_log (server_end s))) same x.tells.known in
+      subst (λ (r : Result ServerPacket BitsFault). RefusesLittleDown (refused_down (without_packet (client_log.packet_answer t.config u r)))) (sym b.reads)
+      (answer-down b.packet (client_log.packet_check t.config u b.packet)
+      (check-down u b.packet b.client (omega (arith, known, w.up.known)) (tells-fewer (length (accepted_at t.config s)) (length (sampled_at u)) b.packet c.moves.front.within told) b.near b.good h.blocks))
+
+pub little_down : (t : Terms) (steps : List Step) (k : ℕ) → AreTerms t → AllByRecursion StepFits steps → RefusesLittleDown (down_answer t steps k)
+little_down t steps k limits fit =
+    brings-down t (history t steps).server (history t steps).client k (slice_get (server_datagrams t.kinds (history t steps).server) k) refl (carried t limits steps fit) (windows t limits steps fit) (honest t limits steps fit)
+
+-- ---- the server
+
+abbrev OldOnlyUp : Checked ArriveFault → Type 0
+OldOnlyUp (Ok u) = Unit {0}
+OldOnlyUp (Err e) = IsOldAtServer e
+
+head-up : (r : Checked HeadFault) → HeadOldOnly r → OldOnlyUp (head_at_server r)
+head-up (Ok u) h = tt
+head-up (Err (WrongClient named)) h = absurd h
+head-up (Err (Old seq horizon)) h = tt
+head-up (Err (AckAhead horizon last)) h = absurd h
+
+then-up : (r next : Checked ArriveFault) → next ≡ Ok tt → OldOnlyUp r → OldOnlyUp (then_check r next)
+then-up (Ok u) next is h = rw is tt
+then-up (Err e) next is h = h
+
+both-pass : {E : Type 0} (a b : Checked E) → a ≡ Ok tt → b ≡ Ok tt → then_check a b ≡ Ok tt
+both-pass a b ea eb = rw (ea, eb)
+
+module _ (t : Terms) where
+  check-up : (s : List ServerEvent) (p : ClientPacket) → (seen_up p).head.client ≡ t.config.client → (seen_up p).head.horizon ≤ sent_of (window_log (server_end s))
+      → AllByRecursion (IsNear (run_of (came_of (server_end s)))) (seen_up p).events → BeginsWithin (length (accepted_at t.config s)) p → OldOnlyUp (server_log.packet_check t.config s p)
+  check-up s (up.Ping head) named within near begins = head-up (head_answer t.config.client (server_end s) (seen_up (up.Ping head))) (head-little t.config.client (server_end s) (seen_up (up.Ping head)) named within)
+  check-up s (up.Body p) named within near begins =
+      let no_gap : nat_lt (length (accepted_at t.config s)) p.first ≡ false = grind (arith, nat_tests) in
+      then-up (head_at_server (head_answer t.config.client (server_end s) (seen_up (up.Body p)))) (server_log.body_check t.config s p)
+      (both-pass (server_log.gap_check t.config s p.first) (events_at_server (events_answer (server_end s) p.events)) (rw no_gap) (ap events_at_server (events-little (run_of (came_of (server_end s))) p.events near)))
+      (head-up (head_answer t.config.client (server_end s) (seen_up (up.Body p))) (head-little t.config.client (server_end s) (seen_up (up.Body p)) named within))
+
+  answer-up : (s : List ServerEvent) (room : ℕ) (p : ClientPacket) (a : Checked ArriveFault) → OldOnlyUp a → RefusesLittleUp (refused_up (taken_of t.config s room (checked_packet p a)))
+  answer-up s room p (Ok u) h = tt
+  answer-up s room p (Err e) h = h
+
+  brings-up : (s : List ServerEvent) (u : List ClientEvent) (k room : ℕ) (o : Option (List ℕ)) → slice_get (client_datagrams u) k ≡ o → Windows t s u → Honest t s u → RefusesLittleUp (brought_up t (record { server = s; client = u }) room o)
+  brings-up s u k room None e w h = tt
+  brings-up s u k room (Some bytes) e w h =
+      let b : Brings client_of seen_up (BeginsWithin (length (accepted_at t.config s))) t.config.client (λ n. events_of n (client_end u)) (sent_of (window_log (client_end u))) (run_of (came_of (server_end s))) bytes = all-at _ (client_datagrams u) k bytes h.up.brings e in
+      let x : Spells client_of seen_up (window_log (client_end u)) bytes = all-at _ (client_datagrams u) k bytes w.up.spelled e in
+      let same : x.packet ≡ b.packet = same-packet (client_of bytes) x.packet b.packet x.reads b.reads in
+      let known : (seen_up b.packet).head.horizon ≤ horizon_of (window_log (client_end u)) = subst (λ (p : ClientPacket). (seen_up p).head.horizon ≤ horizon_of (window_log (client_end u))) same x.tells.known in
+      subst (λ (r : Result ClientPacket BitsFault). RefusesLittleUp (refused_up (taken_of t.config s room (server_log.packet_answer t.config s r)))) (sym b.reads)
+      (answer-up s room b.packet (server_log.packet_check t.config s b.packet) (check-up s b.packet b.client (omega (arith, known, w.down.known)) b.near b.good))
+
+pub little_up : (t : Terms) (steps : List Step) (k room : ℕ) → AreTerms t → AllByRecursion StepFits steps → RefusesLittleUp (up_answer t steps k room)
+little_up t steps k room limits fit =
+    brings-up t (history t steps).server (history t steps).client k room (slice_get (client_datagrams (history t steps).client) k) refl (windows t limits steps fit) (honest t limits steps fit)

@@ -1,0 +1,8 @@
+use Rattle.pair_core.proofs.LooseEvents.{loose_down, loose_up}
+use Rattle.pair_core.proofs.loose_events.loose_events_in_order.Goals as goal
+
+pub returns-clause-down : goal.returns-clause-down
+returns-clause-down c t steps limits fit = loose_down t steps limits fit
+
+pub returns-clause-up : goal.returns-clause-up
+returns-clause-up c t steps limits fit = loose_up t steps limits fit
