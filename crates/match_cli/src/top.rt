@@ -5,13 +5,16 @@ ghost use Rattle.match_script.specs.declared.types.Script.{Script as OneScript};
 ghost use Rattle.match_script.specs.Script.{script_of};
 ghost use Rattle.match_engine.specs.Outside.{AddsFront};
 ghost use Rattle.match_engine.specs.Report.{report};
-ghost use Rattle.match_engine.specs.Laws.{Isolation, EventsInOrder, MovesInOrder};
+ghost use Rattle.match_engine.specs.Laws.{Isolation, EventsInOrder, MovesInOrder, LooseInOrder, LittleIsRefused};
 ghost use Rattle.match_cli.specs.Words.{usage_of};
 ghost use Rattle.match_cli.specs.Outcome.{MustNotWrite, MayStopWriting};
 
 use crate::input::{LIMIT, ReadError, read_all};
 use crate::words::usage;
-use match_engine::{RunFault, events_in_order, isolation, moves_in_order, run};
+use match_engine::{
+    RunFault, events_in_order, isolation, little_is_refused, loose_events_in_order, moves_in_order,
+    run,
+};
 use match_script::{ParseFault, ScriptFault, parse};
 use std::alloc::Global;
 use tn_outside::{Sink, Source};
@@ -105,14 +108,19 @@ pub fn top<S: Source, K: Sink>(
     ensures complete { (text : List ℕ) (script : OneScript) → usage_of (map string_bytes words.now.items) ≡ None → S.held source.old ≡ Some text
         → length text ≤ LIMIT → script_of text ≡ Ok script → (Rose (S.faults source.old) (S.faults source.new) → ⊥) → (Rose (K.faults sink.old) (K.faults sink.new) → ⊥)
         → (result ≡ Status.Done) ⊎ (result ≡ Status.NoMemory) }
-    // The report is one in which each client's datagrams are those of a server that serves it alone, and what is delivered
-    // is a front of what was posted, and the accepted moves a front of the sampled ones, at every line.
+    // The report is one in which each client's datagrams are those of a server that serves it alone; at every line what
+    // is delivered is a front of what was posted, of unguaranteed events some in their order, and the accepted moves are a
+    // front of the sampled ones; and no end refuses a datagram but an old one.
     ensures isolation { Isolation }
     ensures events_in_order { EventsInOrder }
     ensures moves_in_order { MovesInOrder }
+    ensures loose_events_in_order { LooseInOrder }
+    ensures little_is_refused { LittleIsRefused }
 {
     isolation();
     events_in_order();
     moves_in_order();
+    loose_events_in_order();
+    little_is_refused();
     answered(alloc, words, source, sink)
 }

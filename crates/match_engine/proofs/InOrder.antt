@@ -11,8 +11,9 @@ use Rattle.match_script.specs.Ranges.{BlockFits}
 use Rattle.stream_manager.specs.Limits.{Terms, IsBlockBytes, AreTerms}
 use Rattle.pair_core.specs.Laws.{StepFits}
 use Rattle.pair_core.proofs.InOrder.{delivers_down, delivers_up, accepts}
+use Rattle.pair_core.proofs.LooseEvents.{loose_down, loose_up}
 use Rattle.match_engine.specs.Journal.{client_of, own, onto, steps_of, journal, terms_of}
-use Rattle.match_engine.specs.Laws.{after, EventsInOrder, MovesInOrder}
+use Rattle.match_engine.specs.Laws.{after, EventsInOrder, MovesInOrder, LooseInOrder}
 
 step-fits : (t : Terms) (clients : ℕ) (line : BodyLine) (lines : List BodyLine) → LineFits clients line → AllByRecursion StepFits (steps_of t lines) → AllByRecursion StepFits (onto t line (steps_of t lines))
 step-fits t clients (script.Post c class payload) lines h rest = (h.1, rest)
@@ -68,7 +69,7 @@ terms-fit head c h l = record {
   blocks = blocks-fit head.blocks (all-by_recursion BlockFits head.blocks h.blocks);
 }
 
-steps-fit : (s : Script) (c n : ℕ) → HasRanges s → AllByRecursion StepFits (journal (terms_of s.head c) c (after n s))
+pub steps-fit : (s : Script) (c n : ℕ) → HasRanges s → AllByRecursion StepFits (journal (terms_of s.head c) c (after n s))
 steps-fit s c n h = journal-fits (terms_of s.head c) s.head.clients c (after n s) (all-reverse (LineFits s.head.clients) (take n s.body) (all-take (LineFits s.head.clients) n s.body (all-by_recursion (LineFits s.head.clients) s.body h.lines)))
 
 pub in_order : EventsInOrder
@@ -79,3 +80,9 @@ in_order s c n h l =
 
 pub moves-in_order : MovesInOrder
 moves-in_order s c n h l = accepts (terms_of s.head c) (journal (terms_of s.head c) c (after n s)) (terms-fit s.head c h.head l) (steps-fit s c n h)
+
+pub loose-in_order : LooseInOrder
+loose-in_order s c n h l =
+    let limits = terms-fit s.head c h.head l in
+    let fit = steps-fit s c n h in
+    (loose_down (terms_of s.head c) (journal (terms_of s.head c) c (after n s)) limits fit, loose_up (terms_of s.head c) (journal (terms_of s.head c) c (after n s)) limits fit)

@@ -1,6 +1,7 @@
 pub mod Streams
 pub mod Isolated
 pub mod InOrder
+pub mod Refused
 pub mod Counted
 pub mod Packs
 pub mod Fed

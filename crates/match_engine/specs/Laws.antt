@@ -8,6 +8,10 @@ use Rattle.match_script.specs.Ranges.{HasRanges}
 use Rattle.match_report.specs.Text.{report_line}
 use Rattle.stream_manager.specs.Limits.{Terms}
 use Rattle.pair_core.specs.Laws.{DeliversDown, DeliversUp, AcceptsInOrder}
+use Rattle.pair_core.specs.LooseEvents.{LooseDown, LooseUp}
+use Rattle.pair_core.specs.Refusals.{IsOldAtClient, IsOldAtServer}
+use Rattle.match_report.specs.declared.told.Told.{Told}
+use Rattle.match_report.specs.declared.told.Told.TheVariants.{ServerRefused, ClientRefused}
 use Rattle.match_engine.specs.Journal.{own, steps_of, journal, terms_of}
 use Rattle.match_engine.specs.Report.{told, told_lines}
 
@@ -50,3 +54,19 @@ EventsInOrder = (s : Script) (c n : ℕ) → HasRanges s → c < s.head.clients 
 -- at every line, the moves that the server accepted are those that the client sampled, as far as they have come
 abbrev pub MovesInOrder : Type 0
 MovesInOrder = (s : Script) (c n : ℕ) → HasRanges s → c < s.head.clients → AcceptsInOrder (terms_of s.head c) (journal (terms_of s.head c) c (after n s))
+
+-- at every line, the unguaranteed events that an end delivered are some of those that the other end posted, in order
+abbrev pub LooseInOrder : Type 0
+LooseInOrder = (s : Script) (c n : ℕ) → HasRanges s → c < s.head.clients → LooseDown (terms_of s.head c) (journal (terms_of s.head c) c (after n s)) × LooseUp (terms_of s.head c) (journal (terms_of s.head c) c (after n s))
+
+-- ---- refusals
+
+-- a line of the report that tells no refusal by an end, or that of an old packet
+abbrev pub TellsLittle : Told → Type 0
+TellsLittle (ServerRefused way c k fault) = IsOldAtServer fault
+TellsLittle (ClientRefused c k fault) = IsOldAtClient fault
+TellsLittle other = Unit {0}
+
+-- whatever line comes next, an end refuses no datagram but an old one
+abbrev pub LittleIsRefused : Type 0
+LittleIsRefused = (s : Script) (c n : ℕ) (line : BodyLine) → HasRanges s → c < s.head.clients → TellsLittle (told (terms_of s.head c) (journal (terms_of s.head c) c (after n s)) line)

@@ -1,6 +1,6 @@
 //! What the report of a script promises.
 
-ghost use Rattle.match_engine.specs.Laws.{Isolation, EventsInOrder, MovesInOrder};
+ghost use Rattle.match_engine.specs.Laws.{Isolation, EventsInOrder, MovesInOrder, LooseInOrder, LittleIsRefused};
 
 /// The `pack c` lines of a report are those of a server that serves client c alone: a function of the client's own lines
 /// and of `client`, `life`, `size` and the blocks (docs/proofs.md, "Isolation").
@@ -18,4 +18,15 @@ pub fn events_in_order()
 /// (docs/proofs.md, "Accepted prefixes").
 pub fn moves_in_order()
     ensures { MovesInOrder }
+{}
+
+/// At every line the unguaranteed events that each end delivered are some of those that the other end posted, in their
+/// order and each once at most (docs/proofs.md, "Unguaranteed events in order").
+pub fn loose_events_in_order()
+    ensures { LooseInOrder }
+{}
+
+/// No end refuses a datagram but an old one, whatever the network brings (docs/proofs.md, "Little is refused").
+pub fn little_is_refused()
+    ensures { LittleIsRefused }
 {}

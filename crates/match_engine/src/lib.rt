@@ -10,6 +10,8 @@ mod running;
 mod seat;
 
 pub use game::Match;
-pub use laws::{events_in_order, isolation, moves_in_order};
+pub use laws::{
+    events_in_order, isolation, little_is_refused, loose_events_in_order, moves_in_order,
+};
 pub use running::{RunFault, run};
 pub use seat::MAX_WAITING_MOVES;

@@ -7,10 +7,12 @@ ghost use Rattle.match_script.specs.Ranges.{HasRanges, LineFits};
 ghost use Rattle.match_engine.specs.Stands.{StandsFor};
 ghost use Rattle.match_engine.specs.Outside.{Adds, AddsFront};
 ghost use Rattle.match_engine.specs.Report.{report, line_text};
-ghost use Rattle.match_engine.specs.Laws.{Isolation, EventsInOrder, MovesInOrder};
+ghost use Rattle.match_engine.specs.Laws.{Isolation, EventsInOrder, MovesInOrder, LooseInOrder, LittleIsRefused};
 
 use crate::game::{MAX_LINES, Match};
-use crate::laws::{events_in_order, isolation, moves_in_order};
+use crate::laws::{
+    events_in_order, isolation, little_is_refused, loose_events_in_order, moves_in_order,
+};
 use crate::output::write_all;
 use match_report::put_line;
 use match_script::{BodyLine, Script};
@@ -70,10 +72,16 @@ pub fn run<K: Sink>(alloc: Global, script: &Script, sink: &mut K) -> Result<(), 
     ensures events_in_order { EventsInOrder }
     // Each accepted move was sampled, once and in order.
     ensures moves_in_order { MovesInOrder }
+    // Delivered unguaranteed events are some of those that were posted, in order.
+    ensures loose_events_in_order { LooseInOrder }
+    // No end refuses a datagram but an old one.
+    ensures little_is_refused { LittleIsRefused }
 {
     isolation();
     events_in_order();
     moves_in_order();
+    loose_events_in_order();
+    little_is_refused();
     let Ok(mut game) = Match::new(alloc, &script.head) else {
         return Err(RunFault::NoMemory);
     };

@@ -15,15 +15,12 @@ use Rattle.wire_format.specs.declared.server.ServerPacket.{ServerPacket}
 use Rattle.wire_format.specs.declared.server.ServerPacket.TheVariants as down
 use Rattle.wire_format.specs.declared.client.ClientPacket.{ClientPacket}
 use Rattle.wire_format.specs.declared.client.ClientPacket.TheVariants as up
-use Rattle.wire_format.specs.Server.{server, server_at, server_of, IsServer}
-use Rattle.wire_format.specs.Client.{client, client_at, client_of, IsClient}
+use Rattle.wire_format.specs.Server.{server, server_of, IsServer}
+use Rattle.wire_format.specs.Client.{client, client_of, IsClient}
 use Rattle.wire_format.specs.Ghosts.{IsGhost}
 use Rattle.wire_format.specs.Reading.{AreListed}
 use Rattle.ghost_model.specs.Ghosts.{Grant}
 use Rattle.ghost_masks.specs.Carried.{ghosts_for}
-use Rattle.wire_format.proofs.ServerFormat.{a_server}
-use Rattle.wire_format.proofs.ClientFormat.{a_client}
-use Rattle.wire_format.proofs.Whole.{whole_again}
 use Rattle.stream_manager.specs.declared.config.Config.{Config}
 use Rattle.move_manager.specs.declared.faults.MoveFault.TheVariants as move_refused
 use Rattle.move_manager.specs.Accepting as moves
@@ -48,6 +45,7 @@ use Rattle.pair_core.specs.History.{Step, Post, ClientPost, Sample, Pack, Client
 use Rattle.pair_core.specs.Laws.{IsPayload, StepFits, posted_at}
 use Rattle.pair_core.specs.Stands.{ShowsNothing}
 use Rattle.pair_core.proofs.NoGhosts.{packed-nothing, took-nothing, no-plan, no-control}
+use Rattle.pair_core.proofs.Spelled.{reads-down, reads-up}
 use Rattle.pair_core.proofs.Lists.{all-append, all-map, all-at}
 use Rattle.pair_core.proofs.Fits.{EndFits, start-fits, posted-fits, loose-fits, packed-fits, pinged-fits, took-fits, data_head-fits, ping_head-fits, events-fit}
 use Rattle.event_manager.specs.Posted.{ArePosted}
@@ -215,10 +213,10 @@ module _ (t : Terms) (limits : AreTerms t) where
   short = omega (arith, limits.config.life)
 
   is-down : (vs : List (List ℕ)) (count : ℕ) (p : ServerPacket) → IsServer t.kinds p → ArePosted vs (seen_down p).events → TellsAtMost count p → IsDown t.kinds vs count (datagram (server t.kinds p))
-  is-down vs count p fits posted tells = record { packet = p; fits = fits; reads = whole_again (server_at t.kinds) (server t.kinds) (IsServer t.kinds) (a_server t.kinds) p fits; posted = posted; tells = tells }
+  is-down vs count p fits posted tells = record { packet = p; fits = fits; reads = reads-down t.kinds p fits; posted = posted; tells = tells }
 
   is-up : (vs : List (List ℕ)) (ms : List Move) (p : ClientPacket) → IsClient p → ArePosted vs (seen_up p).events → HoldsMoves ms p → IsUp vs ms (datagram (client p))
-  is-up vs ms p fits posted holds = record { packet = p; fits = fits; reads = whole_again client_at client IsClient a_client p fits; posted = posted; moves = holds }
+  is-up vs ms p fits posted holds = record { packet = p; fits = fits; reads = reads-up p fits; posted = posted; moves = holds }
 
   -- the packets that the server makes
   pub ping-down : (s : List ServerEvent) (u : List ClientEvent) → server_state t.config s ≡ Held → Carried t s u → IsServer t.kinds (down.Ping (server_ping t.config s))

@@ -17,9 +17,7 @@ use Rattle.wire_format.specs.declared.blocks.BlockItem.{BlockItem}
 use Rattle.wire_format.specs.declared.client.ClientPacket.{ClientPacket}
 use Rattle.wire_format.specs.declared.server.ServerPacket.{ServerPacket}
 use Rattle.wire_format.specs.declared.server.ServerPacket.TheVariants as down
-use Rattle.wire_format.specs.Server.{server, server_at, server_of, IsServer}
-use Rattle.wire_format.proofs.ServerFormat.{a_server}
-use Rattle.wire_format.proofs.Whole.{whole_again}
+use Rattle.wire_format.specs.Server.{server, server_of, IsServer}
 use Rattle.datablocks.specs.Holding.{held_of}
 use Rattle.stream_manager.specs.declared.fault.ArriveFault.{ArriveFault}
 use Rattle.stream_manager.specs.declared.fault.ClientFault.{ClientFault}
@@ -33,6 +31,7 @@ use Rattle.stream_manager.specs.Client.{ClientEvent, blocks_in, blocks_came, cli
 use Rattle.pair_core.specs.History.{Step, Post, ClientPost, Sample, Pack, ClientPack, Down, Up, history, server_posts, client_posts, client_samples, client_gets, server_gets}
 use Rattle.pair_core.specs.Laws.{StepFits}
 use Rattle.pair_core.specs.HeldBlocks.{IsAsGiven, HoldsBlocksAsGiven}
+use Rattle.pair_core.proofs.Spelled.{reads-down}
 use Rattle.pair_core.proofs.Lists.{all-append, all-at}
 use Rattle.pair_core.proofs.Sections.{blocks-all}
 use Rattle.pair_core.proofs.Carried.{Carried, carried, ping-down, body-down}
@@ -91,7 +90,7 @@ module _ (t : Terms) (limits : AreTerms t) where
       go true = record { down = h.down; came = h.came }
 
   brings : (p : ServerPacket) → IsServer t.kinds p → AllByRecursion (IsAsGiven t.blocks) (blocks_in p) → BringsTheMatchs t.kinds t.blocks (datagram (server t.kinds p))
-  brings p fits known = record { packet = p; reads = whole_again (server_at t.kinds) (server t.kinds) (IsServer t.kinds) (a_server t.kinds) p fits; known = known }
+  brings p fits known = record { packet = p; reads = reads-down t.kinds p fits; known = known }
 
   packs-down : (s : List ServerEvent) (u : List ClientEvent) → Carried t s u → Given t s u → Given t (server_log.packing t s []) u
   packs-down s u c h = go (server_state t.config s) refl

@@ -23,11 +23,8 @@ use Rattle.wire_format.specs.declared.widths.TheConstants.{SERVER_FIXED_BITS, MA
 use Rattle.wire_format.specs.Blocks.{block_size}
 use Rattle.datablocks.specs.Sending.{due_of}
 use Rattle.stream_manager.specs.Shares.{fitting}
-use Rattle.wire_format.specs.Server.{server, server_at, server_of, IsServer}
-use Rattle.wire_format.specs.Client.{client, client_at, client_of, IsClient}
-use Rattle.wire_format.proofs.ServerFormat.{a_server}
-use Rattle.wire_format.proofs.ClientFormat.{a_client}
-use Rattle.wire_format.proofs.Whole.{whole_again}
+use Rattle.wire_format.specs.Server.{server, server_of}
+use Rattle.wire_format.specs.Client.{client, client_of}
 use Rattle.ghost_model.specs.Ghosts.{Grant}
 use Rattle.ghost_masks.specs.Carried.{ghosts_for}
 use Rattle.move_manager.specs.Sending.{acked_of}
@@ -46,6 +43,7 @@ use Rattle.stream_manager.specs.Client.{ClientEvent, client_end, client_datagram
 use Rattle.pair_core.specs.History.{Step, Post, ClientPost, Sample, Pack, ClientPack, Down, Up, history, server_posts, client_posts, client_samples, client_gets, server_gets}
 use Rattle.pair_core.specs.Laws.{StepFits, posted_at}
 use Rattle.pair_core.proofs.NoGhosts.{no-plan, no-control}
+use Rattle.pair_core.proofs.Spelled.{reads-down, reads-up}
 use Rattle.pair_core.proofs.Lists.{all-at, all-append, all-take}
 use Rattle.pair_core.proofs.Carried.{Carried, carried, ping-down, body-down, ping-up, body-up, HoldsMoves, IsUp, moves-up}
 use Rattle.pair_core.proofs.VerdictLaw.{Windows, windows, true-verdicts}
@@ -126,12 +124,6 @@ module _ (t : Terms) (limits : AreTerms t) where
 
   -- ---- packs
 
-  reads-down : (p : ServerPacket) → IsServer t.kinds p → server_of t.kinds (datagram (server t.kinds p)) ≡ Ok p
-  reads-down p fits = whole_again (server_at t.kinds) (server t.kinds) (IsServer t.kinds) (a_server t.kinds) p fits
-
-  reads-up : (p : ClientPacket) → IsClient p → client_of (datagram (client p)) ≡ Ok p
-  reads-up p fits = whole_again client_at client IsClient a_client p fits
-
   plain-next : (s : List ServerEvent) (u : List ClientEvent) → Carried t s u → IsPlainBody t.blocks (next_body t s [])
   plain-next s u c = record {
     script = script (due_of (fates (server_end s)) (block_log s) (length t.blocks));
@@ -149,13 +141,13 @@ module _ (t : Terms) (limits : AreTerms t) where
       go Worn e = h
       go Held e = record {
         down = pings-events (server_of t.kinds) seen_down (IsPlain t.blocks) t.config.client (server_end s) (client_end u) (server_datagrams t.kinds s) h.down (down.Ping (server_ping t.config s)) (datagram (server t.kinds (down.Ping (server_ping t.config s))))
-            refl (reads-down (down.Ping (server_ping t.config s)) (ping-down t limits s u e c)) refl refl refl tt;
+            refl (reads-down t.kinds (down.Ping (server_ping t.config s)) (ping-down t limits s u e c)) refl refl refl tt;
         up = h.up;
         blocks = h.blocks;
       }
       go Room e = record {
         down = sends-events (server_of t.kinds) seen_down (IsPlain t.blocks) t.config.client (server_end s) (client_end u) (server_datagrams t.kinds s) h.down (down.Body (next_body t s [])) (datagram (server t.kinds (down.Body (next_body t s []))))
-            refl (reads-down (down.Body (next_body t s [])) (body-down t limits s u e c)) refl
+            refl (reads-down t.kinds (down.Body (next_body t s [])) (body-down t limits s u e c)) refl
             (near-events (server_of t.kinds) seen_down (IsPlain t.blocks) t.config.client (server_end s) (client_end u) (server_datagrams t.kinds s) h.down
             (true-verdicts (server_of t.kinds) seen_down (server_end s) (client_end u) (server_datagrams t.kinds s) w.down).0 _)
             (plain-next s u c) w.down.known;

@@ -4,6 +4,7 @@ pub mod Fits
 pub mod Posted
 pub mod Sections
 pub mod NoGhosts
+mod Spelled
 mod Carried
 mod Windows
 mod Grown
@@ -13,6 +14,7 @@ mod Honest
 pub mod RefusalLaw
 pub mod InOrder
 pub mod HeldBlocks
+pub mod ReceivedBlocks
 pub mod Subsequences
 pub mod LooseItems
 pub mod LooseEvents

@@ -17,11 +17,8 @@ use Rattle.wire_format.specs.declared.server.ServerPacket.{ServerPacket}
 use Rattle.wire_format.specs.declared.server.ServerPacket.TheVariants as down
 use Rattle.wire_format.specs.declared.client.ClientPacket.{ClientPacket}
 use Rattle.wire_format.specs.declared.client.ClientPacket.TheVariants as up
-use Rattle.wire_format.specs.Server.{server, server_at, server_of, IsServer}
-use Rattle.wire_format.specs.Client.{client, client_at, client_of, IsClient}
-use Rattle.wire_format.proofs.ServerFormat.{a_server}
-use Rattle.wire_format.proofs.ClientFormat.{a_client}
-use Rattle.wire_format.proofs.Whole.{whole_again}
+use Rattle.wire_format.specs.Server.{server, server_of, IsServer}
+use Rattle.wire_format.specs.Client.{client, client_of, IsClient}
 use Rattle.stream_manager.specs.declared.fault.HeadFault.{HeadFault}
 use Rattle.stream_manager.specs.declared.fault.ArriveFault.{ArriveFault}
 use Rattle.stream_manager.specs.declared.fault.ClientFault.{ClientFault}
@@ -35,6 +32,7 @@ use Rattle.stream_manager.specs.Client.{ClientEvent, client_end, client_datagram
 use Rattle.pair_core.specs.History.{Step, Post, ClientPost, Sample, Pack, ClientPack, Down, Up, history, server_posts, client_posts, client_samples, client_gets, server_gets}
 use Rattle.pair_core.specs.Laws.{StepFits}
 use Rattle.pair_core.specs.LooseEvents.{LooseDown, LooseUp}
+use Rattle.pair_core.proofs.Spelled.{reads-down, reads-up}
 use Rattle.pair_core.proofs.Lists.{all-append, all-map, all-at}
 use Rattle.pair_core.proofs.Carried.{Carried, carried, ping-down, body-down, ping-up, body-up}
 use Rattle.pair_core.proofs.LooseItems.{loose_in, written, Sends, start-sends, posted-sends, loose-sends, packed-sends, pinged-sends, took-sends, Flies, flies-push, flies-last, IsNew, not-old, Gets, gets-push, gets-more, gets-posted}
@@ -119,10 +117,10 @@ module _ (t : Terms) (limits : AreTerms t) where
   -- ---- packs
 
   flies-down : (ws : List (List (List ℕ))) (p : ServerPacket) → IsServer t.kinds p → SeenFlies ws (seen_down p) → FliesDown t.kinds ws (datagram (server t.kinds p))
-  flies-down ws p fits flies = record { packet = p; reads = whole_again (server_at t.kinds) (server t.kinds) (IsServer t.kinds) (a_server t.kinds) p fits; flies = flies }
+  flies-down ws p fits flies = record { packet = p; reads = reads-down t.kinds p fits; flies = flies }
 
   flies-up : (ws : List (List (List ℕ))) (p : ClientPacket) → IsClient p → SeenFlies ws (seen_up p) → FliesUp ws (datagram (client p))
-  flies-up ws p fits flies = record { packet = p; reads = whole_again client_at client IsClient a_client p fits; flies = flies }
+  flies-up ws p fits flies = record { packet = p; reads = reads-up p fits; flies = flies }
 
   packs-down : (s : List ServerEvent) (u : List ClientEvent) → Carried t s u → Ordered t s u → Ordered t (server_log.packing t s []) u
   packs-down s u c h = go (server_state t.config s) refl

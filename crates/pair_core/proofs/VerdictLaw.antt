@@ -18,11 +18,8 @@ use Rattle.wire_format.specs.declared.server.ServerPacket.{ServerPacket}
 use Rattle.wire_format.specs.declared.server.ServerPacket.TheVariants as down
 use Rattle.wire_format.specs.declared.client.ClientPacket.{ClientPacket}
 use Rattle.wire_format.specs.declared.client.ClientPacket.TheVariants as up
-use Rattle.wire_format.specs.Server.{server, server_at, server_of, IsServer}
-use Rattle.wire_format.specs.Client.{client, client_at, client_of, IsClient}
-use Rattle.wire_format.proofs.ServerFormat.{a_server}
-use Rattle.wire_format.proofs.ClientFormat.{a_client}
-use Rattle.wire_format.proofs.Whole.{whole_again}
+use Rattle.wire_format.specs.Server.{server, server_of, IsServer}
+use Rattle.wire_format.specs.Client.{client, client_of, IsClient}
 use Rattle.stream_manager.specs.declared.config.Config.{Config}
 use Rattle.stream_manager.specs.declared.fault.HeadFault.{HeadFault}
 use Rattle.stream_manager.specs.declared.fault.ArriveFault.{ArriveFault}
@@ -37,6 +34,7 @@ use Rattle.stream_manager.specs.Client.{ClientEvent, client_end, client_datagram
 use Rattle.pair_core.specs.History.{Step, Post, ClientPost, Sample, Pack, ClientPack, Down, Up, history, server_posts, client_posts, client_samples, client_gets, server_gets}
 use Rattle.pair_core.specs.Laws.{StepFits}
 use Rattle.pair_core.specs.Verdicts.{VerdictsAreTrue, VerdictsAreTrueDown, VerdictsAreTrueUp, LostForGoodDown, LostForGoodUp}
+use Rattle.pair_core.proofs.Spelled.{reads-down, reads-up}
 use Rattle.pair_core.proofs.Lists.{all-at}
 use Rattle.pair_core.proofs.Carried.{Carried, carried, ping-down, body-down, ping-up, body-up}
 use Rattle.pair_core.proofs.Grown.{Grew, server-grew, client-grew}
@@ -77,10 +75,10 @@ head-ok_up c log (up.Body p) ok = go (head_answer c.client (server_end log) (see
 
 module _ (t : Terms) (limits : AreTerms t) where
   spells-down : (w : List WindowEvent) (p : ServerPacket) → IsServer t.kinds p → Tells (seen_down p).head w → Spells (server_of t.kinds) seen_down w (datagram (server t.kinds p))
-  spells-down w p fits tells = record { packet = p; reads = whole_again (server_at t.kinds) (server t.kinds) (IsServer t.kinds) (a_server t.kinds) p fits; tells = tells }
+  spells-down w p fits tells = record { packet = p; reads = reads-down t.kinds p fits; tells = tells }
 
   spells-up : (w : List WindowEvent) (p : ClientPacket) → IsClient p → Tells (seen_up p).head w → Spells client_of seen_up w (datagram (client p))
-  spells-up w p fits tells = record { packet = p; reads = whole_again client_at client IsClient a_client p fits; tells = tells }
+  spells-up w p fits tells = record { packet = p; reads = reads-up p fits; tells = tells }
 
   -- ---- posts and samples change no window
 

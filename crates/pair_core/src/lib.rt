@@ -14,7 +14,7 @@ mod refusals;
 mod verdicts;
 
 pub use fault::{DownFault, Made, UpFault};
-pub use held_blocks::held_blocks_are_as_given;
+pub use held_blocks::{held_blocks_are_as_given, received_blocks_are_held};
 pub use laws::{accepts_in_order, delivers_in_order};
 pub use loose_events::loose_events_in_order;
 pub use pair::Pair;

@@ -1,0 +1,5 @@
+use Rattle.pair_core.proofs.ReceivedBlocks.{holds_received}
+use Rattle.pair_core.proofs.held_blocks.received_blocks_are_held.Goals as goal
+
+pub returns : goal.returns
+returns c t steps limits fit = holds_received t steps limits fit
