@@ -36,15 +36,15 @@ use Rattle.pair_core.proofs.Lists.{all-append, all-at}
 use Rattle.pair_core.proofs.Sections.{blocks-all}
 use Rattle.pair_core.proofs.Carried.{Carried, carried, ping-down, body-down}
 
--- bytes that spell a packet whose blocks are all the match's
-record BringsTheMatchs (kinds : List Kind) (blocks : List (List ℕ)) (bytes : List ℕ) : Type 0 where
+-- bytes that spell a packet whose blocks are all as they were given
+pub record BringsGivenBlocks (kinds : List Kind) (blocks : List (List ℕ)) (bytes : List ℕ) : Type 0 where
   pub packet : ServerPacket
   pub reads : server_of kinds bytes ≡ Ok packet
   pub known : AllByRecursion (IsAsGiven blocks) (blocks_in packet)
 
 -- the invariant over the steps
-record Given (t : Terms) (s : List ServerEvent) (u : List ClientEvent) : Type 0 where
-  pub down : AllByRecursion (BringsTheMatchs t.kinds t.blocks) (server_datagrams t.kinds s)
+pub record Given (t : Terms) (s : List ServerEvent) (u : List ClientEvent) : Type 0 where
+  pub down : AllByRecursion (BringsGivenBlocks t.kinds t.blocks) (server_datagrams t.kinds s)
   pub came : AllByRecursion (IsAsGiven t.blocks) (blocks_came u)
 
 all-reverse : {A : Type 0} (P : A → Type 0) (xs : List A) → AllByRecursion P xs → AllByRecursion P (reverse xs)
@@ -89,7 +89,7 @@ module _ (t : Terms) (limits : AreTerms t) where
       go false = h
       go true = record { down = h.down; came = h.came }
 
-  brings : (p : ServerPacket) → IsServer t.kinds p → AllByRecursion (IsAsGiven t.blocks) (blocks_in p) → BringsTheMatchs t.kinds t.blocks (datagram (server t.kinds p))
+  brings : (p : ServerPacket) → IsServer t.kinds p → AllByRecursion (IsAsGiven t.blocks) (blocks_in p) → BringsGivenBlocks t.kinds t.blocks (datagram (server t.kinds p))
   brings p fits known = record { packet = p; reads = reads-down t.kinds p fits; known = known }
 
   packs-down : (s : List ServerEvent) (u : List ClientEvent) → Carried t s u → Given t s u → Given t (server_log.packing t s []) u
@@ -98,11 +98,11 @@ module _ (t : Terms) (limits : AreTerms t) where
       go : (state : SendState) → server_state t.config s ≡ state → Given t (server_log.packed_onto t s [] state) u
       go Worn e = h
       go Held e = record {
-        down = all-append (BringsTheMatchs t.kinds t.blocks) (server_datagrams t.kinds s) _ h.down (brings (down.Ping (server_ping t.config s)) (ping-down t limits s u e c) tt, tt);
+        down = all-append (BringsGivenBlocks t.kinds t.blocks) (server_datagrams t.kinds s) _ h.down (brings (down.Ping (server_ping t.config s)) (ping-down t limits s u e c) tt, tt);
         came = h.came;
       }
       go Room e = record {
-        down = all-append (BringsTheMatchs t.kinds t.blocks) (server_datagrams t.kinds s) _ h.down
+        down = all-append (BringsGivenBlocks t.kinds t.blocks) (server_datagrams t.kinds s) _ h.down
             (brings (down.Body (next_body t s [])) (body-down t limits s u e c) (blocks-all (IsAsGiven t.blocks) t (server_log.with_plan t s) (script-block t.blocks)), tt);
         came = h.came;
       }
@@ -122,7 +122,7 @@ module _ (t : Terms) (limits : AreTerms t) where
   gets-down : (s : List ServerEvent) (u : List ClientEvent) (k : ℕ) (o : Option (List ℕ)) → slice_get (server_datagrams t.kinds s) k ≡ o → Given t s u → Given t s (client_gets t o u)
   gets-down s u k None e h = h
   gets-down s u k (Some bytes) e h =
-      let d : BringsTheMatchs t.kinds t.blocks bytes = all-at (BringsTheMatchs t.kinds t.blocks) (server_datagrams t.kinds s) k bytes h.down e in
+      let d : BringsGivenBlocks t.kinds t.blocks bytes = all-at (BringsGivenBlocks t.kinds t.blocks) (server_datagrams t.kinds s) k bytes h.down e in
       subst (λ (r : Result ServerPacket BitsFault). Given t s (took_at_client u (client_log.packet_answer t.config u r))) (sym d.reads)
       (took-down s u d.packet (client_log.packet_check t.config u d.packet) d.known h)
 
@@ -134,7 +134,7 @@ module _ (t : Terms) (limits : AreTerms t) where
   gets-up s u room None h = h
   gets-up s u room (Some bytes) h = took-up s u room (server_answer t.config s bytes) h
 
-  given : (steps : List Step) → AllByRecursion StepFits steps → Given t (history t steps).server (history t steps).client
+  pub given : (steps : List Step) → AllByRecursion StepFits steps → Given t (history t steps).server (history t steps).client
   given [] fit = record { down = tt; came = tt }
   given (Post class v ∷ steps) fit = posts-down class v (history t steps).server (history t steps).client (given steps fit.1)
   given (ClientPost class v ∷ steps) fit = posts-up class v (history t steps).server (history t steps).client (given steps fit.1)
@@ -144,5 +144,5 @@ module _ (t : Terms) (limits : AreTerms t) where
   given (Down k ∷ steps) fit = gets-down (history t steps).server (history t steps).client k (slice_get (server_datagrams t.kinds (history t steps).server) k) refl (given steps fit.1)
   given (Up k room ∷ steps) fit = gets-up (history t steps).server (history t steps).client room (slice_get (client_datagrams (history t steps).client) k) (given steps fit.1)
 
-pub holds_the_matchs : (t : Terms) (steps : List Step) → AreTerms t → AllByRecursion StepFits steps → HoldsBlocksAsGiven t steps
-holds_the_matchs t steps limits fit b v held = held-given t.blocks (blocks_came (history t steps).client) b v (given t limits steps fit).came held
+pub holds_as_given : (t : Terms) (steps : List Step) → AreTerms t → AllByRecursion StepFits steps → HoldsBlocksAsGiven t steps
+holds_as_given t steps limits fit b v held = held-given t.blocks (blocks_came (history t steps).client) b v (given t limits steps fit).came held

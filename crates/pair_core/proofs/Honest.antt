@@ -1,10 +1,9 @@
 -- Over every list of steps, what is on its way between the ends is what an honest end sent: its packets name the client, and
 -- their events, blocks and moves fit what the other end has.
 use Rattle.std.proofs.Common.{◌≡◌, ℕ, ◌-◌, ◌*◌, ◌≤◌, Bool, true, false, List, [], ◌∷◌, length, map, take, Option, Some, None, if◌then◌else◌, Result, Ok, Err, refl, sym, ap, subst, arith}
-use Rattle.std.specs.Prelude.{slice_get, reverse}
+use Rattle.std.specs.Prelude.{slice_get}
 use Rattle.std.specs.Result.{is_ok}
 use Rattle.std.specs.List.{AllByRecursion, slice_index_or}
-use Rattle.std.proofs.lemmas.List.{reverse-append}
 use Rattle.tn_types.specs.declared.choices.Choice.{Choice}
 use Rattle.tn_types.specs.declared.choices.Class.{Class}
 use Rattle.tn_types.specs.declared.choices.Class.TheVariants.{Guaranteed, Loose}
@@ -44,7 +43,7 @@ use Rattle.pair_core.specs.History.{Step, Post, ClientPost, Sample, Pack, Client
 use Rattle.pair_core.specs.Laws.{StepFits, posted_at}
 use Rattle.pair_core.proofs.NoGhosts.{no-plan, no-control}
 use Rattle.pair_core.proofs.Spelled.{reads-down, reads-up}
-use Rattle.pair_core.proofs.Lists.{all-at, all-append, all-take}
+use Rattle.pair_core.proofs.Lists.{all-at, all-take}
 use Rattle.pair_core.proofs.Carried.{Carried, carried, ping-down, body-down, ping-up, body-up, HoldsMoves, IsUp, moves-up}
 use Rattle.pair_core.proofs.VerdictLaw.{Windows, windows, true-verdicts}
 use Rattle.pair_core.proofs.Reached.{events_of, Brings, EventsOn, start-events, near-events, sends-events, pings-events, takes-events, better}
@@ -75,19 +74,10 @@ begins-later m n l (up.Body p) h = omega arith
 pub record Honest (t : Terms) (s : List ServerEvent) (u : List ClientEvent) : Type 0 where
   pub down : EventsOn (server_of t.kinds) seen_down (IsPlain t.blocks) t.config.client (server_end s) (client_end u) (server_datagrams t.kinds s)
   pub up : EventsOn client_of seen_up (BeginsWithin (length (accepted_at t.config s))) t.config.client (client_end u) (server_end s) (client_datagrams u)
-  pub blocks : AllByRecursion (IsOf t.blocks) (blocks_came u)
-
-all-reverse : {A : Type 0} (P : A → Type 0) (xs : List A) → AllByRecursion P xs → AllByRecursion P (reverse xs)
-all-reverse P [] h = tt
-all-reverse {A} P (x ∷ xs) h = subst (AllByRecursion P) (sym (reverse-append (x ∷ []) xs)) (all-append P (reverse xs) (x ∷ []) (all-reverse P xs h.1) (h.0, tt))
 
 are-of : (blocks : List (List ℕ)) (ns : List ℕ) → AllByRecursion (IsOf blocks) (map (block_item blocks) ns)
 are-of blocks [] = tt
 are-of blocks (n ∷ ns) = (refl, are-of blocks ns)
-
-blocks-in : (blocks : List (List ℕ)) (p : ServerPacket) → IsPlain blocks p → AllByRecursion (IsOf blocks) (blocks_in p)
-blocks-in blocks (down.Ping head) h = tt
-blocks-in blocks (down.Body p) h = h.script
 
 -- what bytes spell is one packet
 pub same-packet : {P : Type 0} (r : Result P BitsFault) (p q : P) → r ≡ Ok p → r ≡ Ok q → p ≡ q
@@ -95,31 +85,31 @@ same-packet r p q e f = cc
 
 module _ (t : Terms) (limits : AreTerms t) where
   start : Honest t [] []
-  start = record { down = start-events (server_of t.kinds) seen_down (IsPlain t.blocks) t.config.client; up = start-events client_of seen_up (BeginsWithin 0) t.config.client; blocks = tt }
+  start = record { down = start-events (server_of t.kinds) seen_down (IsPlain t.blocks) t.config.client; up = start-events client_of seen_up (BeginsWithin 0) t.config.client }
 
   -- ---- posts and samples
 
   posts-down : (class : Class) (v : List ℕ) (s : List ServerEvent) (u : List ClientEvent) → Honest t s u → Honest t (server_posts t.config class v s) u
-  posts-down Loose v s u h = record { down = h.down; up = h.up; blocks = h.blocks }
+  posts-down Loose v s u h = record { down = h.down; up = h.up }
   posts-down Guaranteed v s u h = go (is_ok (posted_at_server t.config s))
     where
       go : (b : Bool) → Honest t (if b then server_log.Posted Guaranteed v ∷ s else s) u
-      go true = record { down = h.down; up = h.up; blocks = h.blocks }
+      go true = record { down = h.down; up = h.up }
       go false = h
 
   posts-up : (class : Class) (v : List ℕ) (s : List ServerEvent) (u : List ClientEvent) → Honest t s u → Honest t s (client_posts t.config class v u)
-  posts-up Loose v s u h = record { down = h.down; up = h.up; blocks = h.blocks }
+  posts-up Loose v s u h = record { down = h.down; up = h.up }
   posts-up Guaranteed v s u h = go (is_ok (posted_at_client t.config u))
     where
       go : (b : Bool) → Honest t s (if b then client_log.Posted Guaranteed v ∷ u else u)
-      go true = record { down = h.down; up = h.up; blocks = h.blocks }
+      go true = record { down = h.down; up = h.up }
       go false = h
 
   samples-up : (m : Move) (s : List ServerEvent) (u : List ClientEvent) → Honest t s u → Honest t s (client_samples t.config m u)
   samples-up m s u h = go (is_ok (sampled_answer t.config u))
     where
       go : (b : Bool) → Honest t s (if b then client_log.Sampled m ∷ u else u)
-      go true = record { down = h.down; up = h.up; blocks = h.blocks }
+      go true = record { down = h.down; up = h.up }
       go false = h
 
   -- ---- packs
@@ -143,7 +133,6 @@ module _ (t : Terms) (limits : AreTerms t) where
         down = pings-events (server_of t.kinds) seen_down (IsPlain t.blocks) t.config.client (server_end s) (client_end u) (server_datagrams t.kinds s) h.down (down.Ping (server_ping t.config s)) (datagram (server t.kinds (down.Ping (server_ping t.config s))))
             refl (reads-down t.kinds (down.Ping (server_ping t.config s)) (ping-down t limits s u e c)) refl refl refl tt;
         up = h.up;
-        blocks = h.blocks;
       }
       go Room e = record {
         down = sends-events (server_of t.kinds) seen_down (IsPlain t.blocks) t.config.client (server_end s) (client_end u) (server_datagrams t.kinds s) h.down (down.Body (next_body t s [])) (datagram (server t.kinds (down.Body (next_body t s []))))
@@ -152,7 +141,6 @@ module _ (t : Terms) (limits : AreTerms t) where
             (true-verdicts (server_of t.kinds) seen_down (server_end s) (client_end u) (server_datagrams t.kinds s) w.down).0 _)
             (plain-next s u c) w.down.known;
         up = h.up;
-        blocks = h.blocks;
       }
 
   packs-up : (s : List ServerEvent) (u : List ClientEvent) → Carried t s u → Windows t s u → Honest t s u → Honest t s (onto (client_log.packing t.config u) u)
@@ -164,7 +152,6 @@ module _ (t : Terms) (limits : AreTerms t) where
         down = h.down;
         up = pings-events client_of seen_up (BeginsWithin (length (accepted_at t.config s))) t.config.client (client_end u) (server_end s) (client_datagrams u) h.up (up.Ping (client_ping t.config u)) (datagram (client (up.Ping (client_ping t.config u))))
             refl (reads-up (up.Ping (client_ping t.config u)) (ping-up t limits s u e c)) refl refl refl tt;
-        blocks = h.blocks;
       }
       go Room e = record {
         down = h.down;
@@ -173,7 +160,6 @@ module _ (t : Terms) (limits : AreTerms t) where
             (near-events client_of seen_up (BeginsWithin (length (accepted_at t.config s))) t.config.client (client_end u) (server_end s) (client_datagrams u) h.up
             (true-verdicts client_of seen_up (client_end u) (server_end s) (client_datagrams u) w.up).0 _)
             c.moves.acked w.up.known;
-        blocks = h.blocks;
       }
 
   -- ---- arrivals
@@ -184,7 +170,6 @@ module _ (t : Terms) (limits : AreTerms t) where
   took-down s u bytes (Ok x) b h = record {
     down = takes-events (server_of t.kinds) seen_down (IsPlain t.blocks) t.config.client (server_end s) (client_end u) (server_datagrams t.kinds s) h.down (seen_down b.packet) b.own;
     up = h.up;
-    blocks = all-append (IsOf t.blocks) (reverse (blocks_in b.packet)) (blocks_came u) (all-reverse (IsOf t.blocks) (blocks_in b.packet) (blocks-in t.blocks b.packet b.good)) h.blocks;
   }
 
   took-up : (s : List ServerEvent) (u : List ClientEvent) (room : ℕ) (bytes : List ℕ) (a : Checked ArriveFault) (b : Brings client_of seen_up (BeginsWithin (length (accepted_at t.config s))) t.config.client (λ n. events_of n (client_end u)) (sent_of (window_log (client_end u))) (run_of (came_of (server_end s))) bytes)
@@ -195,7 +180,6 @@ module _ (t : Terms) (limits : AreTerms t) where
     up = better client_of seen_up (BeginsWithin (length (accepted_at t.config s))) (BeginsWithin (length (accepted_at t.config (server_log.Took b.packet room ∷ s)))) t.config.client (client_end u) (server_end (server_log.Took b.packet room ∷ s)) (client_datagrams u)
         (begins-later (length (accepted_at t.config s)) (length (accepted_at t.config (server_log.Took b.packet room ∷ s))) (moves-up t limits b.packet room (move_log s) (sampled_at u) (acked_of (sample_log u)) holds c.moves).longer)
         (takes-events client_of seen_up (BeginsWithin (length (accepted_at t.config s))) t.config.client (client_end u) (server_end s) (client_datagrams u) h.up (seen_up b.packet) b.own);
-    blocks = h.blocks;
   }
 
   gets-down : (s : List ServerEvent) (u : List ClientEvent) (k : ℕ) (o : Option (List ℕ)) → slice_get (server_datagrams t.kinds s) k ≡ o → Honest t s u → Honest t s (client_gets t o u)

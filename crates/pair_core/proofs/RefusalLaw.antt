@@ -1,5 +1,5 @@
 -- The only refusals between honest ends are that nothing was sent and that a packet is old.
-use Rattle.std.proofs.Common.{◌≡◌, ℕ, ◌≤◌, Bool, true, false, not, ◌&&◌, ◌==◌, nat_le, nat_lt, List, [], ◌∷◌, length, Option, Some, None, if◌then◌else◌, Result, Ok, Err, refl, sym, ◌∙◌, ap, subst, arith}
+use Rattle.std.proofs.Common.{◌≡◌, ℕ, zero, suc, ◌≤◌, Bool, true, false, not, ◌&&◌, ◌==◌, nat_le, nat_lt, List, [], ◌∷◌, length, Option, Some, None, if◌then◌else◌, Result, Ok, Err, refl, sym, ◌∙◌, ap, subst, arith}
 use Rattle.std.specs.Prelude.{slice_get}
 use Rattle.std.specs.Str.{bytes_eq}
 use Rattle.std.specs.List.{AllByRecursion, slice_index_or}
@@ -32,11 +32,13 @@ use Rattle.pair_core.specs.History.{Step, history}
 use Rattle.pair_core.specs.Answers.{refused_down, brought_down, down_answer, refused_up, brought_up, up_answer}
 use Rattle.pair_core.specs.Laws.{StepFits, posted_at}
 use Rattle.pair_core.specs.Refusals.{IsOldAtClient, IsOldAtServer, RefusesLittleDown, RefusesLittleUp}
-use Rattle.pair_core.proofs.Lists.{all-at}
+use Rattle.pair_core.proofs.Lists.{all-at, all-map}
 use Rattle.pair_core.proofs.Carried.{Carried, carried, IsDown, TellsAtMost}
 use Rattle.pair_core.proofs.Windows.{Spells, tested}
 use Rattle.pair_core.proofs.VerdictLaw.{Windows, windows}
 use Rattle.pair_core.proofs.Reached.{events_of, IsNear, Brings}
+use Rattle.pair_core.specs.HeldBlocks.{IsAsGiven}
+use Rattle.pair_core.proofs.HeldBlocks.{given}
 use Rattle.pair_core.proofs.Honest.{IsOf, IsPlain, BeginsWithin, Honest, honest, same-packet}
 
 -- ---- the header
@@ -85,6 +87,11 @@ all-pass : {E : Type 0} (a b c d : Checked E) → a ≡ Ok tt → b ≡ Ok tt �
 all-pass a b c d ea eb ec ed = rw (ea, eb, ec, ed)
 
 -- a block that comes is held with the same bytes, if it is held
+given-bytes : (blocks : List (List ℕ)) (number : ℕ) (bytes : List ℕ) → slice_get blocks number ≡ Some bytes → bytes ≡ slice_index_or blocks number []
+given-bytes [] number bytes is = cc
+given-bytes (block ∷ blocks) zero bytes is = cc
+given-bytes (block ∷ blocks) (suc number) bytes is = given-bytes blocks number bytes is
+
 same-held : (blocks : List (List ℕ)) (number : ℕ) (came : List BlockItem) → AllByRecursion (IsOf blocks) came → differs (held_of number came) (slice_index_or blocks number []) ≡ false
 same-held blocks number [] all = refl
 same-held blocks number (item ∷ came) all = go (item.number == number) refl (same-held blocks number came all.1)
@@ -124,9 +131,9 @@ module _ (t : Terms) where
   tells-fewer m n (down.Ping head) l h = tt
   tells-fewer m n (down.Body p) l h = omega arith
 
-  brings-down : (s : List ServerEvent) (u : List ClientEvent) (k : ℕ) (o : Option (List ℕ)) → slice_get (server_datagrams t.kinds s) k ≡ o → Carried t s u → Windows t s u → Honest t s u → RefusesLittleDown (brought_down t (record { server = s; client = u }) o)
-  brings-down s u k None e c w h = tt
-  brings-down s u k (Some bytes) e c w h =
+  brings-down : (s : List ServerEvent) (u : List ClientEvent) (k : ℕ) (o : Option (List ℕ)) → slice_get (server_datagrams t.kinds s) k ≡ o → Carried t s u → Windows t s u → Honest t s u → AllByRecursion (IsOf t.blocks) (blocks_came u) → RefusesLittleDown (brought_down t (record { server = s; client = u }) o)
+  brings-down s u k None e c w h came = tt
+  brings-down s u k (Some bytes) e c w h came =
       let b : Brings (server_of t.kinds) seen_down (IsPlain t.blocks) t.config.client (λ n. events_of n (server_end s)) (sent_of (window_log (server_end s))) (run_of (came_of (client_end u))) bytes = all-at _ (server_datagrams t.kinds s) k bytes h.down.brings e in
       let d : IsDown t.kinds (posted_at (server_end s)) (length (accepted_at t.config s)) bytes = all-at _ (server_datagrams t.kinds s) k bytes c.down e in
       let x : Spells (server_of t.kinds) seen_down (window_log (server_end s)) bytes = all-at _ (server_datagrams t.kinds s) k bytes w.down.spelled e in
@@ -135,11 +142,12 @@ module _ (t : Terms) where
       let known : (seen_down b.packet).head.horizon ≤ horizon_of (window_log (server_end s)) = subst (λ (p : ServerPacket). (seen_down p).head.horizon ≤ horizon_of (window_log (server_end s))) same x.tells.known in
       subst (λ (r : Result ServerPacket BitsFault). RefusesLittleDown (refused_down (without_packet (client_log.packet_answer t.config u r)))) (sym b.reads)
       (answer-down b.packet (client_log.packet_check t.config u b.packet)
-      (check-down u b.packet b.client (omega (arith, known, w.up.known)) (tells-fewer (length (accepted_at t.config s)) (length (sampled_at u)) b.packet c.moves.front.within told) b.near b.good h.blocks))
+      (check-down u b.packet b.client (omega (arith, known, w.up.known)) (tells-fewer (length (accepted_at t.config s)) (length (sampled_at u)) b.packet c.moves.front.within told) b.near b.good came))
 
 pub little_down : (t : Terms) (steps : List Step) (k : ℕ) → AreTerms t → AllByRecursion StepFits steps → RefusesLittleDown (down_answer t steps k)
 little_down t steps k limits fit =
     brings-down t (history t steps).server (history t steps).client k (slice_get (server_datagrams t.kinds (history t steps).server) k) refl (carried t limits steps fit) (windows t limits steps fit) (honest t limits steps fit)
+    (all-map (IsAsGiven t.blocks) (IsOf t.blocks) (λ item is. given-bytes t.blocks item.number item.bytes is) (blocks_came (history t steps).client) (given t limits steps fit).came)
 
 -- ---- the server
 
