@@ -12,7 +12,11 @@ use Rattle.wire_format.specs.declared.blocks.BlockItem.{BlockItem}
 use Rattle.wire_format.specs.Reading.{◌>>=◌, parts_in_order, part_at, within_at, counted_at}
 
 abbrev pub spell_block : BlockItem → List Bool
-spell_block b = parts_in_order (number BLOCK_NUMBER_WIDTH b.number ∷ number BLOCK_LENGTH_WIDTH (length b.bytes) ∷ flat_map (number BYTE_WIDTH) b.bytes ∷ [])
+spell_block b = parts_in_order (
+    number BLOCK_NUMBER_WIDTH b.number
+    ∷ number BLOCK_LENGTH_WIDTH (length b.bytes)
+    ∷ flat_map (number BYTE_WIDTH) b.bytes
+    ∷ [])
 
 unfoldable pub block_at : Unread → Result (BlockItem × Unread) BitsFault
 block_at s = do

@@ -19,7 +19,11 @@ use Rattle.wire_format.specs.Events.{spell_event, event_at, event_size, IsEvent,
 -- ---- what stands behind the header of a data packet
 
 abbrev pub client_rest : ClientBody → List Bool
-client_rest p = parts_in_order (number NUMBER_WIDTH p.first ∷ listed MOVE_COUNT_WIDTH spell_move p.moves ∷ listed EVENT_COUNT_WIDTH spell_event p.events ∷ [])
+client_rest p = parts_in_order (
+    number NUMBER_WIDTH p.first
+    ∷ listed MOVE_COUNT_WIDTH spell_move p.moves
+    ∷ listed EVENT_COUNT_WIDTH spell_event p.events
+    ∷ [])
 
 unfoldable pub client_body_at : Header → Unread → Result (ClientBody × Unread) BitsFault
 client_body_at head s = do

@@ -13,7 +13,11 @@ use Rattle.wire_format.specs.declared.events.EventItem.{EventItem}
 use Rattle.wire_format.specs.Reading.{◌>>=◌, parts_in_order, part_at, within_at, optional, optional_at, counted_at}
 
 abbrev pub spell_event : EventItem → List Bool
-spell_event e = parts_in_order (optional NUMBER_WIDTH e.number ∷ number EVENT_LENGTH_WIDTH (length e.payload) ∷ flat_map (number BYTE_WIDTH) e.payload ∷ [])
+spell_event e = parts_in_order (
+    optional NUMBER_WIDTH e.number
+    ∷ number EVENT_LENGTH_WIDTH (length e.payload)
+    ∷ flat_map (number BYTE_WIDTH) e.payload
+    ∷ [])
 
 unfoldable pub event_at : Unread → Result (EventItem × Unread) BitsFault
 event_at s = do

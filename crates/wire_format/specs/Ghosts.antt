@@ -63,7 +63,8 @@ abbrev pub create_rest : List Kind → ℕ → ℕ → List ℕ → List Bool
 create_rest kinds kind block ls = number KIND_NUMBER_WIDTH kind ++ (number BLOCK_NUMBER_WIDTH block ++ levels (widths kinds kind) ls)
 
 abbrev pub update_rest : List Kind → ℕ → ℕ → List ℕ → List Bool
-update_rest kinds kind mask ls = number KIND_NUMBER_WIDTH kind ++ (number (length (widths kinds kind)) mask ++ levels (chosen mask (widths kinds kind)) ls)
+update_rest kinds kind mask ls =
+    number KIND_NUMBER_WIDTH kind ++ (number (length (widths kinds kind)) mask ++ levels (chosen mask (widths kinds kind)) ls)
 
 abbrev pub behind_op : List Kind → GhostItem → List Bool
 behind_op kinds (Kill slot) = []
@@ -123,16 +124,21 @@ ghost_at kinds s = do
 -- the kind is one of the table, each number fits its part, and there is a level for each field
 abbrev pub IsGhostInRange : List Kind → GhostItem → Type 0
 IsGhostInRange kinds (Kill slot) = Unit {0}
-IsGhostInRange kinds (Create slot kind block ls) = (kind < length kinds) × (block < 2 ^ BLOCK_NUMBER_WIDTH) × AreLevels (widths kinds kind) ls
-IsGhostInRange kinds (Update slot kind mask ls) = (kind < length kinds) × (mask < 2 ^ length (widths kinds kind)) × (0 < mask) × AreLevels (chosen mask (widths kinds kind)) ls
+IsGhostInRange kinds (Create slot kind block ls) =
+    (kind < length kinds) × (block < 2 ^ BLOCK_NUMBER_WIDTH) × AreLevels (widths kinds kind) ls
+IsGhostInRange kinds (Update slot kind mask ls) =
+    (kind < length kinds) × (mask < 2 ^ length (widths kinds kind)) × (0 < mask) × AreLevels (chosen mask (widths kinds kind)) ls
 
 abbrev pub IsKind : List Kind → ℕ → Type 0
 IsKind kinds kind = (kind < 2 ^ KIND_NUMBER_WIDTH) × (kind < length kinds)
 
 abbrev pub IsGhost : List Kind → GhostItem → Type 0
 IsGhost kinds (Kill slot) = slot < 2 ^ SLOT_WIDTH
-IsGhost kinds (Create slot kind block ls) = (slot < 2 ^ SLOT_WIDTH) × IsKind kinds kind × (block < 2 ^ BLOCK_NUMBER_WIDTH) × AreLevels (widths kinds kind) ls
-IsGhost kinds (Update slot kind mask ls) = (slot < 2 ^ SLOT_WIDTH) × IsKind kinds kind × (mask < 2 ^ length (widths kinds kind)) × (0 < mask) × AreLevels (chosen mask (widths kinds kind)) ls
+IsGhost kinds (Create slot kind block ls) =
+    (slot < 2 ^ SLOT_WIDTH) × IsKind kinds kind × (block < 2 ^ BLOCK_NUMBER_WIDTH) × AreLevels (widths kinds kind) ls
+IsGhost kinds (Update slot kind mask ls) =
+    (slot < 2 ^ SLOT_WIDTH) × IsKind kinds kind × (mask < 2 ^ length (widths kinds kind)) × (0 < mask)
+    × AreLevels (chosen mask (widths kinds kind)) ls
 
 -- ---- how many bits it has
 
@@ -142,8 +148,10 @@ levels_size widths ls = sum (take (length ls) widths)
 
 abbrev pub ghost_size : List Kind → GhostItem → ℕ
 ghost_size kinds (Kill slot) = SLOT_WIDTH + OP_WIDTH
-ghost_size kinds (Create slot kind block ls) = SLOT_WIDTH + OP_WIDTH + KIND_NUMBER_WIDTH + BLOCK_NUMBER_WIDTH + levels_size (widths kinds kind) ls
-ghost_size kinds (Update slot kind mask ls) = SLOT_WIDTH + OP_WIDTH + KIND_NUMBER_WIDTH + length (widths kinds kind) + levels_size (chosen mask (widths kinds kind)) ls
+ghost_size kinds (Create slot kind block ls) =
+    SLOT_WIDTH + OP_WIDTH + KIND_NUMBER_WIDTH + BLOCK_NUMBER_WIDTH + levels_size (widths kinds kind) ls
+ghost_size kinds (Update slot kind mask ls) =
+    SLOT_WIDTH + OP_WIDTH + KIND_NUMBER_WIDTH + length (widths kinds kind) + levels_size (chosen mask (widths kinds kind)) ls
 
 -- ---- examples
 

@@ -9,7 +9,12 @@ use Rattle.wire_format.specs.declared.header.Header.{Header}
 use Rattle.wire_format.specs.Reading.{◌>>=◌, parts_in_order, part_at, within_at}
 
 abbrev pub spell_header : Header → List Bool
-spell_header h = parts_in_order (number CLIENT_WIDTH h.client ∷ number NUMBER_WIDTH h.seq ∷ number NUMBER_WIDTH h.horizon ∷ number MASK_WIDTH h.mask ∷ [])
+spell_header h = parts_in_order (
+    number CLIENT_WIDTH h.client
+    ∷ number NUMBER_WIDTH h.seq
+    ∷ number NUMBER_WIDTH h.horizon
+    ∷ number MASK_WIDTH h.mask
+    ∷ [])
 
 unfoldable pub header_at : Unread → Result (Header × Unread) BitsFault
 header_at s = do

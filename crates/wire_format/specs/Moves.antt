@@ -13,7 +13,12 @@ abbrev pub flag_of : Bool → ℕ
 flag_of b = if b then 1 else 0
 
 abbrev pub spell_move : Move → List Bool
-spell_move m = parts_in_order (number STEP_WIDTH (raised m.dx) ∷ number STEP_WIDTH (raised m.dy) ∷ number FLAG_WIDTH (flag_of m.fire) ∷ number FLAG_WIDTH (flag_of m.act) ∷ [])
+spell_move m = parts_in_order (
+    number STEP_WIDTH (raised m.dx)
+    ∷ number STEP_WIDTH (raised m.dy)
+    ∷ number FLAG_WIDTH (flag_of m.fire)
+    ∷ number FLAG_WIDTH (flag_of m.act)
+    ∷ [])
 
 -- the move of these four numbers
 abbrev pub move_from : ℕ → ℕ → ℕ → ℕ → Move

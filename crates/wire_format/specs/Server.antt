@@ -22,7 +22,13 @@ use Rattle.wire_format.specs.Events.{spell_event, event_at, event_size, IsEvent,
 -- ---- what stands behind the header of a data packet
 
 abbrev pub server_rest : List Kind → ServerBody → List Bool
-server_rest kinds p = parts_in_order (number NUMBER_WIDTH p.accepted ∷ optional SLOT_WIDTH p.control ∷ listed BLOCK_COUNT_WIDTH spell_block p.blocks ∷ listed EVENT_COUNT_WIDTH spell_event p.events ∷ listed GHOST_COUNT_WIDTH (spell_ghost kinds) p.ghosts ∷ [])
+server_rest kinds p = parts_in_order (
+    number NUMBER_WIDTH p.accepted
+    ∷ optional SLOT_WIDTH p.control
+    ∷ listed BLOCK_COUNT_WIDTH spell_block p.blocks
+    ∷ listed EVENT_COUNT_WIDTH spell_event p.events
+    ∷ listed GHOST_COUNT_WIDTH (spell_ghost kinds) p.ghosts
+    ∷ [])
 
 unfoldable pub server_body_at : List Kind → Header → Unread → Result (ServerBody × Unread) BitsFault
 server_body_at kinds head s = do
@@ -95,4 +101,6 @@ IsServer kinds (Body p) = IsServerBody kinds p
 
 abbrev pub server_size : List Kind → ServerPacket → ℕ
 server_size kinds (Ping head) = HEADER_BITS
-server_size kinds (Body p) = SERVER_FIXED_BITS - SLOT_WIDTH + (if is_some p.control then SLOT_WIDTH else 0) + sum_by block_size p.blocks + sum_by event_size p.events + sum_by (ghost_size kinds) p.ghosts
+server_size kinds (Body p) =
+    SERVER_FIXED_BITS - SLOT_WIDTH + (if is_some p.control then SLOT_WIDTH else 0)
+    + sum_by block_size p.blocks + sum_by event_size p.events + sum_by (ghost_size kinds) p.ghosts

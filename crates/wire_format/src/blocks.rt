@@ -1,4 +1,4 @@
-ghost use Rattle.std.specs.Prelude.{◌≡◌, ◌≤◌, length};
+ghost use Rattle.std.specs.Prelude.{◌≡◌, ◌≤◌, length, []};
 ghost use Rattle.bit_stream.specs.Reading.{Gives};
 ghost use Rattle.wire_format.specs.Blocks.{spell_block, block_at, block_size};
 
@@ -20,7 +20,10 @@ pub struct BlockItem {
 }
 
 impl Default for BlockItem {
-    fn default() -> Self {
+    /// Block 0, with no byte.
+    fn default() -> Self
+        ensures { result ≡ record { number = 0; bytes = [] } }
+    {
         BlockItem {
             number: 0,
             bytes: BlockBytes::new(),

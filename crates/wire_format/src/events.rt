@@ -1,4 +1,4 @@
-ghost use Rattle.std.specs.Prelude.{◌≡◌, ◌≤◌, length};
+ghost use Rattle.std.specs.Prelude.{◌≡◌, ◌≤◌, length, [], None};
 ghost use Rattle.bit_stream.specs.Reading.{Gives};
 ghost use Rattle.wire_format.specs.Events.{spell_event, event_at, event_size};
 
@@ -20,7 +20,10 @@ pub struct EventItem {
 }
 
 impl Default for EventItem {
-    fn default() -> Self {
+    /// An unguaranteed event with no byte.
+    fn default() -> Self
+        ensures { result ≡ record { number = None; payload = [] } }
+    {
         EventItem {
             number: None,
             payload: Payload::new(),

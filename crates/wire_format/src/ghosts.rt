@@ -48,7 +48,10 @@ pub enum GhostItem {
 }
 
 impl Default for GhostItem {
-    fn default() -> Self {
+    /// A kill of slot 0.
+    fn default() -> Self
+        ensures { result ≡ GhostItem.Kill 0 }
+    {
         GhostItem::Kill { slot: 0 }
     }
 }
