@@ -18,9 +18,12 @@ pub record StandsFor (s : SenderState) (fate : ℕ → Fate) (log : List SenderE
 
 -- ---- what a call does, whatever the fates of the packets are
 
+abbrev pub StandsUnder : (ℕ → Fate) → SenderState → List SenderEvent → Type 0
+StandsUnder fate s log = StandsFor s fate log
+
 -- the result is what f says of the fates and of what the sender stands for
 abbrev pub SenderAnswers : {R : Type 0} → SenderState → ((ℕ → Fate) → List SenderEvent → R) → R → Type 0
-SenderAnswers s f result = (fate : ℕ → Fate) → Answers (λ (t : SenderState) (log : List SenderEvent). StandsFor t fate log) s (f fate) result
+SenderAnswers s f result = (fate : ℕ → Fate) → Answers (StandsUnder fate) s (f fate) result
 
 -- packet seq, which is unjudged, was sent with this block
 abbrev pub Notes : SenderState → ℕ → ℕ → SenderState → Type 0
