@@ -102,14 +102,18 @@ fn first_event(rt: HostRuntime) -> Result<(), Fail> {
 #[test]
 fn moves_are_written(rt: HostRuntime) -> Result<(), Fail> {
     let mut moves = MoveList::new();
-    for (dx, dy, pressed) in [(1, 0, false), (-8, 7, true)] {
-        moves.push(Move {
-            dx,
-            dy,
-            fire: pressed,
-            act: pressed,
-        });
-    }
+    moves.push(Move {
+        dx: 1,
+        dy: 0,
+        fire: false,
+        act: false,
+    });
+    moves.push(Move {
+        dx: -8,
+        dy: 7,
+        fire: true,
+        act: true,
+    });
     let mut events = EventList::new();
     events.push(EventItem {
         number: None,
