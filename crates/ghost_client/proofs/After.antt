@@ -5,7 +5,8 @@ use Rattle.std.specs.Option.{option_map}
 use Rattle.wire_format.specs.declared.ghosts.GhostItem.{GhostItem}
 use Rattle.wire_format.specs.declared.ghosts.GhostItem.TheVariants.{Kill, Create, Update}
 use Rattle.ghost_client.specs.declared.copy.GhostCopy.{GhostCopy}
-use Rattle.ghost_client.specs.Fields.{has_bit, place_in, slot_of, is_kill, carries, level_in}
+use Rattle.tn_types.specs.BitWords.{has_bit}
+use Rattle.ghost_client.specs.Fields.{place_in, slot_of, is_kill, carries, level_in}
 use Rattle.ghost_client.specs.Copies.{is_there, created_by, or_older, last_create, last_level, fields_from, at_last_levels, copy_of}
 use Rattle.ghost_client.specs.State.{after, merged}
 use Rattle.ghost_client.proofs.Merged.{updated_level, merged_levels, levels_alone}

@@ -8,7 +8,8 @@ use Rattle.wire_format.specs.declared.ghosts.GhostItem.TheVariants.{Kill, Create
 use Rattle.ghost_client.specs.declared.copy.GhostCopy.{GhostCopy}
 use Rattle.ghost_client.specs.declared.fault.GhostFault.{GhostFault}
 use Rattle.ghost_client.specs.declared.fault.GhostFault.TheVariants.{Twice, Unknown, Taken, KindDiffers, BlockMissing}
-use Rattle.ghost_client.specs.Fields.{has_bit, slot_of, names}
+use Rattle.tn_types.specs.BitWords.{has_bit}
+use Rattle.ghost_client.specs.Fields.{slot_of, names}
 use Rattle.ghost_client.specs.State.{copy_in}
 
 -- the fault of an item by the copy of its slot; held has bit b for each held block b

@@ -2,13 +2,9 @@
 -- its mask, and has their levels by rising field. So the level of a field in an update stands at the place that
 -- counts the fields of the mask below it.
 use Rattle.std.specs.Prelude.{ℕ, zero, suc, Bool, true, false, [], ◌∷◌, ◌≡◌, ◌+◌, ◌==◌, refl, if◌then◌else◌, slice_index_or}
-use Rattle.std.specs.Int.{bit_at}
+use Rattle.tn_types.specs.BitWords.{has_bit}
 use Rattle.wire_format.specs.declared.ghosts.GhostItem.{GhostItem}
 use Rattle.wire_format.specs.declared.ghosts.GhostItem.TheVariants.{Kill, Create, Update}
-
--- the mask has the bit of the field
-abbrev pub has_bit : ℕ → ℕ → Bool
-has_bit mask field = bit_at mask field == 1
 
 -- how many fields of the mask are below this one
 abbrev pub place_in : ℕ → ℕ → ℕ

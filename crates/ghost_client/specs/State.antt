@@ -8,7 +8,8 @@ use Rattle.wire_format.specs.declared.ghosts.GhostItem.{GhostItem}
 use Rattle.wire_format.specs.declared.ghosts.GhostItem.TheVariants.{Kill, Create, Update}
 use Rattle.wire_format.specs.Ghosts.{AreLevels, widths}
 use Rattle.ghost_client.specs.declared.copy.GhostCopy.{GhostCopy}
-use Rattle.ghost_client.specs.Fields.{has_bit, slot_of}
+use Rattle.tn_types.specs.BitWords.{has_bit}
+use Rattle.ghost_client.specs.Fields.{slot_of}
 
 pub record State : Type 0 where
   pub kinds : List Kind

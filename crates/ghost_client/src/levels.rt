@@ -1,7 +1,7 @@
 //! The levels of a copy.
 
 ghost use Rattle.std.specs.Prelude.{◌≡◌, ◌<◌, ◌≤◌, length, drop, slice_index_or, if◌then◌else◌};
-ghost use Rattle.ghost_client.specs.Fields.{has_bit};
+ghost use Rattle.tn_types.specs.BitWords.{has_bit};
 ghost use Rattle.ghost_client.specs.State.{merged};
 
 use wire_format::{Levels, MAX_FIELDS};
