@@ -2,11 +2,11 @@
 -- isn't a kill. Its kind and block are those of the last create of the slot, and each field has the level of the
 -- last item that carries it.
 use Rattle.std.specs.Prelude.{ℕ, zero, suc, Bool, false, not, List, [], ◌∷◌, ◌≡◌, ◌&&◌, Option, Some, None, refl, map, length, if◌then◌else◌}
-use Rattle.std.specs.Option.{option_map}
+use Rattle.std.specs.Option.{option_map, option_or}
 use Rattle.wire_format.specs.declared.ghosts.GhostItem.{GhostItem}
 use Rattle.wire_format.specs.declared.ghosts.GhostItem.TheVariants.{Kill, Create, Update}
 use Rattle.ghost_client.specs.declared.copy.GhostCopy.{GhostCopy}
-use Rattle.ghost_client.specs.Fields.{names, is_kill, carries, level_in}
+use Rattle.ghost_client.specs.Fields.{names, is_kill, carries, carried_level}
 
 -- the last item that names the slot isn't a kill
 abbrev pub is_there : List GhostItem → ℕ → Bool
@@ -19,20 +19,16 @@ created_by (Kill s) slot = None
 created_by (Create s kind block levels) slot = if names slot (Create s kind block levels) then Some (record { kind = kind; block = block; levels = levels }) else None
 created_by (Update s kind mask levels) slot = None
 
-abbrev pub or_older : Option GhostCopy → Option GhostCopy → Option GhostCopy
-or_older (Some copy) older = Some copy
-or_older None older = older
-
 -- what the last create of the slot made
 abbrev pub last_create : List GhostItem → ℕ → Option GhostCopy
 last_create [] slot = None
-last_create (item ∷ items) slot = or_older (created_by item slot) (last_create items slot)
+last_create (item ∷ items) slot = option_or (created_by item slot) (last_create items slot)
 
 -- the level in the last item that names the slot and carries the field
 abbrev pub last_level : List GhostItem → ℕ → ℕ → ℕ
 last_level [] slot field = 0
 last_level (item ∷ items) slot field =
-    if names slot item && carries item field then level_in item field (last_level items slot field) else last_level items slot field
+    if names slot item && carries item field then carried_level item field (last_level items slot field) else last_level items slot field
 
 -- `count` fields from `field` on
 abbrev pub fields_from : ℕ → ℕ → List ℕ

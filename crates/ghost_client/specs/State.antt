@@ -9,7 +9,7 @@ use Rattle.wire_format.specs.declared.ghosts.GhostItem.TheVariants.{Kill, Create
 use Rattle.wire_format.specs.Ghosts.{AreLevels, widths}
 use Rattle.ghost_client.specs.declared.copy.GhostCopy.{GhostCopy}
 use Rattle.tn_types.specs.BitWords.{has_bit}
-use Rattle.ghost_client.specs.Fields.{slot_of}
+use Rattle.ghost_client.specs.Fields.{slot_named}
 
 pub record State : Type 0 where
   pub kinds : List Kind
@@ -32,7 +32,7 @@ after (Create slot kind block levels) copy = Some (record { kind = kind; block =
 after (Update slot kind mask levels) copy = option_map (λ (c : GhostCopy). record c { levels = merged 0 mask levels c.levels }) copy
 
 abbrev pub applied : List (Option GhostCopy) → GhostItem → List (Option GhostCopy)
-applied slots item = slice_set slots (slot_of item) (after item (copy_in slots (slot_of item)))
+applied slots item = slice_set slots (slot_named item) (after item (copy_in slots (slot_named item)))
 
 -- a copy's kind is one of the table, and it has a level for each field
 pub record IsInRange (kinds : List Kind) (copy : GhostCopy) : Type 0 where
