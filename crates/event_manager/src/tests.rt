@@ -1,9 +1,9 @@
 ghost use Rattle.std.specs.Prelude.{◌≡◌, All};
 ghost use Rattle.wire_format.specs.Events.{IsEventInRange};
 
-use crate::{EventAhead, EventReceiver, EventSender, MAX_UNACKNOWLEDGED, MAX_WAITING, PostFault};
+use crate::{EventAhead, EventReceiver, EventSender, PostFault};
 use std::test::Fail;
-use tn_types::{Class, Payload, Verdict};
+use tn_types::{Class, MAX_UNACKNOWLEDGED_EVENTS, MAX_WAITING_EVENTS, Payload, Verdict};
 use wire_format::{EventItem, EventList};
 
 /// An event of one byte.
@@ -117,7 +117,7 @@ fn counters_wear_out_and_places_fill(rt: HostRuntime) -> Result<(), Fail> {
     assert_eq!(rt; server.post(event(0)), Ok(1));
     assert_eq!(rt; server.post(event(0)), Err(PostFault::Worn { life: 2 }));
     let mut server = EventSender::new(rt.alloc(), 1000)?;
-    for _ in 0..MAX_UNACKNOWLEDGED {
+    for _ in 0..MAX_UNACKNOWLEDGED_EVENTS {
         assert!(rt; server.post(event(0)).is_ok());
     }
     let full = PostFault::Full {
@@ -133,7 +133,7 @@ fn counters_wear_out_and_places_fill(rt: HostRuntime) -> Result<(), Fail> {
 fn oldest_unguaranteed_event_dropped(rt: HostRuntime) -> Result<(), Fail> {
     let mut server = EventSender::new(rt.alloc(), 1000)?;
     assert!(rt; server.post_loose(event(7)).is_none());
-    for _ in 1..MAX_WAITING {
+    for _ in 1..MAX_WAITING_EVENTS {
         assert!(rt; server.post_loose(event(0)).is_none());
     }
     let dropped = server.post_loose(event(1));

@@ -1,15 +1,14 @@
--- Fates of the packets that carry an event, and the least number that passes.
-use Rattle.std.proofs.Common.{◌≡◌, ◌≢◌, ℕ, zero, suc, ◌<◌, ◌≤◌, Bool, true, false, not, ◌&&◌, ◌||◌, ◌==◌, nat_lt, List, [], ◌∷◌, if◌then◌else◌, refl, sym, ◌∙◌, ap, arith, inl, inr}
+-- Fates of the packets that carry one thing, and what a sender keeps of it.
+use Rattle.std.proofs.Common.{◌≡◌, ◌≢◌, ℕ, Bool, true, false, not, ◌&&◌, ◌||◌, ◌==◌, List, [], ◌∷◌, refl, sym, ◌∙◌, ap, arith, inl, inr}
 use Rattle.std.proofs.lemmas.Bool.Decides.{nat_tests}
-use Rattle.std.proofs.lemmas.Bool.{cases_lt, cases_eq}
+use Rattle.std.proofs.lemmas.Bool.{cases_eq}
 use Rattle.tn_types.specs.declared.choices.Verdict.{Verdict}
 use Rattle.tn_types.specs.declared.choices.Verdict.TheVariants as verdict
 use Rattle.notify_window.specs.Log.{Fate, Unjudged, Received, Lost, is_received}
-use Rattle.event_manager.specs.declared.entries.Progress.{Progress}
-use Rattle.event_manager.specs.declared.entries.Progress.TheVariants.{Due, Carried, Done}
-use Rattle.event_manager.specs.Sending.{is_lost, all_lost, any_received, least, fate_for, judged}
-use Rattle.event_manager.specs.Entries.{progress_after, verdict_progress, is_due_now}
-use Rattle.event_manager.specs.SenderStands.{ProgressIs}
+use Rattle.notify_window.specs.declared.progress.Progress.{Progress}
+use Rattle.notify_window.specs.declared.progress.Progress.TheVariants.{Due, Carried, Done}
+use Rattle.notify_window.specs.Fates.{is_lost, all_lost, any_received, fate_for, judged}
+use Rattle.notify_window.specs.Carriers.{progress_is_due, progress_is_done, progress_after, verdict_progress, ProgressIs}
 
 -- a packet that has its verdict keeps it
 judged_other : (fate : ℕ → Fate) (seq s : ℕ) (f g : Fate) → fate seq ≡ Unjudged → fate s ≡ g → g ≢ Unjudged → judged fate seq f s ≡ g
@@ -74,7 +73,7 @@ lost-none fate (s ∷ ss) h =
     let rest : any_received fate ss ≡ false = lost-none fate ss (and-second (is_lost (fate s)) (all_lost fate ss) h) in
     rw (one, rest)
 
--- one entry and a verdict
+-- one thing and a verdict
 pub progress-settled : (fate : ℕ → Fate) (seq : ℕ) (v : Verdict) (ss : List ℕ) (p : Progress) → fate seq ≡ Unjudged → ProgressIs fate ss p → ProgressIs (judged fate seq (fate_for v)) ss (progress_after seq v p)
 progress-settled fate seq v ss Due o h = lost-stays fate seq (fate_for v) ss o h
 progress-settled fate seq v [] (Carried q) o h = absurd h
@@ -90,54 +89,13 @@ progress-settled fate seq v (s ∷ ss) (Carried q) o h = elim (cases_eq q seq) [
     at verdict.Received e = let one : judged fate seq Received s ≡ Received = judged_same fate seq s Received e in rw one
     at verdict.Lost e = let one : judged fate seq Lost s ≡ Lost = judged_same fate seq s Lost e in rw one (lost-stays fate seq Lost ss o h.2)
 
--- a due entry and a verdict
+-- a due thing and a verdict
 pub progress-due : (fate : ℕ → Fate) (seq : ℕ) (v : Verdict) (ss : List ℕ) (p : Progress) → fate seq ≡ Unjudged → p ≡ Due → ProgressIs fate ss p → ProgressIs (judged fate seq (fate_for v)) ss p
 progress-due fate seq v ss Due o e h = lost-stays fate seq (fate_for v) ss o h
 progress-due fate seq v ss (Carried q) o e h = cc
 progress-due fate seq v ss Done o e h = cc
 
--- the least number that passes
-pub least-is : (f : ℕ → Bool) (n k : ℕ) → k ≤ n → ((j : ℕ) → j < k → f j ≡ false) → (k < n → f k ≡ true) → least f n ≡ k
-least-is f zero k l below here = omega arith
-least-is f (suc n) k l below here = elim (cases_lt k (suc n)) [
-  | inl in_ ↦ elim (cases_eq k n) [
-    | inl e ↦ (let ih : least f n ≡ n = least-is f n k (omega arith) below (λ m. absurd (omega arith)) ∙ e in
-        let t : nat_lt n n ≡ false = grind (arith, nat_tests) in let u : f n ≡ true = ap f (sym e) ∙ here in_ in rw (ih, t, u) (sym e))
-    | inr e ↦ (let ih : least f n ≡ k = least-is f n k (omega arith) below (λ m. here in_) in
-        let t : nat_lt k n ≡ true = grind (arith, nat_tests) in rw (ih, t))
-  ]
-  | inr past ↦ (let ih : least f n ≡ n = least-is f n n (omega arith) (λ j m. below j (omega arith)) (λ m. absurd (omega arith)) in
-      let t : nat_lt n n ≡ false = grind (arith, nat_tests) in let u : f n ≡ false = below n (omega arith) in rw (ih, t, u) (omega arith))
-]
-
-pub least-le : (f : ℕ → Bool) (n : ℕ) → least f n ≤ n
-least-le f zero = omega arith
-least-le f (suc n) = go (nat_lt (least f n) n) (f n) (least-le f n)
-  where
-    go : (b c : Bool) → least f n ≤ n → (if b then least f n else (if c then n else suc n)) ≤ suc n
-    go true c l = omega arith
-    go false true l = omega arith
-    go false false l = omega arith
-
-pub least-below : (f : ℕ → Bool) (n i : ℕ) → i < least f n → f i ≡ false
-least-below f zero i h = absurd (omega arith)
-least-below f (suc n) i h = go (nat_lt (least f n) n) refl (f n) refl (least-below f n i) h
-  where
-    go : (b : Bool) → nat_lt (least f n) n ≡ b → (c : Bool) → f n ≡ c → (i < least f n → f i ≡ false) → i < (if b then least f n else (if c then n else suc n)) → f i ≡ false
-    go true t c e ih l = ih l
-    go false t true e ih l = ih (grind (arith, nat_tests))
-    go false t false e ih l = elim (cases_eq i n) [ inl at ↦ ap f at ∙ e | inr other ↦ ih (grind (arith, nat_tests)) ]
-
-pub least-passes : (f : ℕ → Bool) (n : ℕ) → least f n < n → f (least f n) ≡ true
-least-passes f zero h = absurd (omega arith)
-least-passes f (suc n) h = go (nat_lt (least f n) n) refl (f n) refl (least-passes f n) h
-  where
-    go : (b : Bool) → nat_lt (least f n) n ≡ b → (c : Bool) → f n ≡ c → (least f n < n → f (least f n) ≡ true) → (if b then least f n else (if c then n else suc n)) < suc n → f (if b then least f n else (if c then n else suc n)) ≡ true
-    go true t c e ih l = ih (grind (arith, nat_tests))
-    go false t true e ih l = e
-    go false t false e ih l = absurd (omega arith)
-
--- what an entry's progress says
+-- what the progress says
 pub carried-none : (fate : ℕ → Fate) (ss : List ℕ) (q : ℕ) → ProgressIs fate ss (Carried q) → (any_received fate ss ≡ false) × (all_lost fate ss ≡ false)
 carried-none fate [] q h = absurd h
 carried-none fate (s ∷ ss) q h = let one : fate s ≡ Unjudged = h.1 in rw one (lost-none fate ss h.2, refl)
@@ -157,7 +115,12 @@ pub due-is : (fate : ℕ → Fate) (ss : List ℕ) → ProgressIs fate ss Due �
 due-is fate [] h = h
 due-is fate (s ∷ ss) h = h
 
-pub due-test : (fate : ℕ → Fate) (ss : List ℕ) (p : Progress) → ProgressIs fate ss p → all_lost fate ss ≡ is_due_now p
+pub due-test : (fate : ℕ → Fate) (ss : List ℕ) (p : Progress) → ProgressIs fate ss p → all_lost fate ss ≡ progress_is_due p
 due-test fate ss Due h = due-is fate ss h
 due-test fate ss (Carried q) h = (carried-none fate ss q h).1
 due-test fate ss Done h = done-none fate ss (done-is fate ss h)
+
+pub done-test : (fate : ℕ → Fate) (ss : List ℕ) (p : Progress) → ProgressIs fate ss p → progress_is_done p ≡ any_received fate ss
+done-test fate ss Due h = sym (lost-none fate ss (due-is fate ss h))
+done-test fate ss (Carried q) h = sym (carried-none fate ss q h).0
+done-test fate ss Done h = sym (done-is fate ss h)
