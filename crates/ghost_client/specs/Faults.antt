@@ -11,7 +11,6 @@ use Rattle.ghost_client.specs.declared.fault.GhostFault.TheVariants.{Twice, Unkn
 use Rattle.tn_types.specs.BitWords.{has_bit}
 use Rattle.tn_types.specs.Checks.{first_fault}
 use Rattle.ghost_client.specs.Fields.{slot_named, names}
-use Rattle.ghost_client.specs.State.{copy_in}
 
 -- the fault of an item by the copy of its slot; held has bit b for each held block b
 abbrev pub fault_of : Option GhostCopy → ℕ → GhostItem → Option GhostFault
@@ -28,6 +27,10 @@ item_fault copies held before item =
     if list_any (names (slot_named item)) before then Some (Twice (slot_named item))
     else fault_of (copies (slot_named item)) held item
 
--- a kill and then a create of the same slot in one packet
-twice : first_fault (item_fault (copy_in (Some (record { kind = 1; block = 0; levels = [] }) ∷ [])) 1) [] (Kill 0 ∷ Create 0 1 0 [] ∷ []) ≡ Some (Twice 0)
+-- a copy in slot 0, and a packet with a kill and then a create of that slot
+one_copy : ℕ → Option GhostCopy
+one_copy slot = if slot == 0 then Some (record { kind = 1; block = 0; levels = [] }) else None
+
+twice : first_fault (item_fault one_copy 1) [] (Kill 0 ∷ Create 0 1 0 [] ∷ []) ≡ Some (Twice 0)
+unfolding one_copy
 twice = refl
