@@ -16,12 +16,8 @@ use Rattle.event_manager.specs.Sending as sending
 use Rattle.notify_window.specs.Stands.{StandsFor as WindowStandsFor}
 use Rattle.tn_types.specs.declared.choices.Class.TheVariants.{Guaranteed}
 use Rattle.stream_manager.specs.End.{Seen, EndEvent, Posted, Packed, Took, window_log, sender_log, fates, data_head, came_of}
-use Rattle.stream_manager.specs.EndStands.{EndState, StandsFor}
+use Rattle.stream_manager.specs.EndStands.{EndState, StandsFor, StandsForSome}
 use Rattle.stream_manager.specs.Settling.{Judges}
-
--- some list, for which an end stands
-abbrev pub StandsForSome : EndState → Type 0
-StandsForSome e = (log : List EndEvent) × StandsFor e log
 
 -- a call that adds to the list or refuses
 pub after_answer : {T E : Type 0} (old new : EndState) (event : EndEvent) (result : Result T E) → OnOk result ((log : List EndEvent) → StandsFor old log → StandsFor new (event ∷ log)) → OnErr result (new ≡ old) → StandsForSome old → StandsForSome new
