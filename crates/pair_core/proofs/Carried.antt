@@ -31,7 +31,8 @@ use Rattle.tn_types.specs.declared.moves.Move.{Move}
 use Rattle.stream_manager.specs.declared.fault.ArriveFault.{ArriveFault}
 use Rattle.stream_manager.specs.declared.fault.ClientFault.{ClientFault}
 use Rattle.stream_manager.specs.Limits.{Terms, AreTerms}
-use Rattle.stream_manager.specs.Faults.{Checked, checked_packet}
+use Rattle.tn_types.specs.Checks.{Checked}
+use Rattle.stream_manager.specs.Faults.{checked_packet}
 use Rattle.move_manager.specs.Sending as sending
 use Rattle.move_manager.specs.Sending.{sampled_of, acked_of, packet_of}
 use Rattle.move_manager.specs.Accepting.{accepted_of, accept}

@@ -21,7 +21,7 @@ use Rattle.wire_format.specs.declared.client.ClientPacket.TheVariants as up
 use Rattle.wire_format.specs.declared.widths.TheConstants.{SERVER_FIXED_BITS, MAX_BLOCKS}
 use Rattle.wire_format.specs.Blocks.{block_size}
 use Rattle.datablocks.specs.Sending.{due_of}
-use Rattle.stream_manager.specs.Shares.{fitting}
+use Rattle.tn_types.specs.Fitting.{fitting}
 use Rattle.wire_format.specs.Server.{server, server_of}
 use Rattle.wire_format.specs.Client.{client, client_of}
 use Rattle.ghost_model.specs.Ghosts.{Grant}
@@ -30,7 +30,8 @@ use Rattle.move_manager.specs.Sending.{acked_of}
 use Rattle.stream_manager.specs.declared.fault.ArriveFault.{ArriveFault}
 use Rattle.stream_manager.specs.declared.fault.ClientFault.{ClientFault}
 use Rattle.stream_manager.specs.Limits.{Terms, AreTerms}
-use Rattle.stream_manager.specs.Faults.{Checked, checked_packet}
+use Rattle.tn_types.specs.Checks.{Checked}
+use Rattle.stream_manager.specs.Faults.{checked_packet}
 use Rattle.event_manager.specs.Receiving.{run_of}
 use Rattle.notify_window.specs.Log.{sent_of}
 use Rattle.stream_manager.specs.End.{window_log, fates, came_of, onto}

@@ -14,8 +14,8 @@ use Rattle.event_manager.specs.Sending.{SenderEvent, posted_of, waiting_of, is_d
 use Rattle.event_manager.specs.Receiving.{items_onto, run_of, payloads, guaranteed_event, by_class, news, delivered_of}
 use Rattle.stream_manager.specs.declared.fault.HeadFault.{HeadFault}
 use Rattle.stream_manager.specs.declared.fault.HeadFault.TheVariants.{WrongClient, Old, AckAhead}
-use Rattle.stream_manager.specs.Faults.{Checked}
-use Rattle.stream_manager.specs.Shares.{fitting}
+use Rattle.tn_types.specs.Checks.{Checked}
+use Rattle.tn_types.specs.Fitting.{fitting}
 use Rattle.stream_manager.specs.End.{Seen, EndEvent, Posted, Packed, Pinged, Took, window_log, sender_log, fates, events_for, came_of, delivered_at, head_answer}
 use Rattle.pair_core.specs.Laws.{IsPrefixOf}
 use Rattle.pair_core.specs.LooseEvents.{IsSubsequenceOf, of_loose, loose_of, loose_posted_at}

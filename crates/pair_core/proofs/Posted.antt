@@ -7,7 +7,7 @@ use Rattle.event_manager.specs.Receiving.{items_onto, run_of, delivered_of}
 use Rattle.event_manager.specs.Posted.{ArePosted, guaranteed_of}
 use Rattle.event_manager.proofs.Prefixes.{posted-due, delivered-posted}
 use Rattle.stream_manager.specs.End.{EndEvent, sender_log, fates, events_for}
-use Rattle.stream_manager.specs.Shares.{fitting}
+use Rattle.tn_types.specs.Fitting.{fitting}
 use Rattle.pair_core.specs.Laws.{IsPrefixOf, posted_at}
 
 posted-take : (vs : List (List ℕ)) (n : ℕ) (xs : List EventItem) → ArePosted vs xs → ArePosted vs (take n xs)

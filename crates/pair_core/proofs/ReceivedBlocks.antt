@@ -24,7 +24,8 @@ use Rattle.datablocks.specs.Holding.{held_of}
 use Rattle.stream_manager.specs.declared.fault.ArriveFault.{ArriveFault}
 use Rattle.stream_manager.specs.declared.fault.ClientFault.{ClientFault}
 use Rattle.stream_manager.specs.Limits.{Terms, AreTerms}
-use Rattle.stream_manager.specs.Faults.{Checked, checked_packet}
+use Rattle.tn_types.specs.Checks.{Checked}
+use Rattle.stream_manager.specs.Faults.{checked_packet}
 use Rattle.stream_manager.specs.End.{window_log, fates, onto}
 use Rattle.stream_manager.specs.Server as server_log
 use Rattle.stream_manager.specs.Server.{ServerEvent, server_end, block_log, server_datagrams, server_state, posted_at_server, next_body, server_ping, took_at_server, server_answer}

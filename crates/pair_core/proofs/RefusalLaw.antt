@@ -22,7 +22,8 @@ use Rattle.stream_manager.specs.declared.fault.HeadFault.TheVariants.{WrongClien
 use Rattle.stream_manager.specs.declared.fault.ArriveFault.{ArriveFault}
 use Rattle.stream_manager.specs.declared.fault.ClientFault.{ClientFault}
 use Rattle.stream_manager.specs.Limits.{Terms, AreTerms}
-use Rattle.stream_manager.specs.Faults.{Checked, then_check, head_at_server, head_at_client, events_at_server, events_at_client, checked_packet, without_packet}
+use Rattle.tn_types.specs.Checks.{Checked, then_check}
+use Rattle.stream_manager.specs.Faults.{head_at_server, head_at_client, events_at_server, events_at_client, checked_packet, without_packet}
 use Rattle.stream_manager.specs.End.{Seen, EndEvent, window_log, came_of, head_answer, events_answer}
 use Rattle.stream_manager.specs.Server as server_log
 use Rattle.stream_manager.specs.Server.{ServerEvent, server_end, server_datagrams, seen_up, accepted_at, taken_of}

@@ -25,7 +25,8 @@ use Rattle.stream_manager.specs.declared.fault.HeadFault.{HeadFault}
 use Rattle.stream_manager.specs.declared.fault.ArriveFault.{ArriveFault}
 use Rattle.stream_manager.specs.declared.fault.ClientFault.{ClientFault}
 use Rattle.stream_manager.specs.Limits.{Terms, AreTerms}
-use Rattle.stream_manager.specs.Faults.{Checked, then_check, head_at_server, head_at_client, checked_packet}
+use Rattle.tn_types.specs.Checks.{Checked, then_check}
+use Rattle.stream_manager.specs.Faults.{head_at_server, head_at_client, checked_packet}
 use Rattle.stream_manager.specs.End.{Seen, EndEvent, window_log, fates, head_answer, onto}
 use Rattle.stream_manager.specs.Server as server_log
 use Rattle.stream_manager.specs.Server.{ServerEvent, server_end, server_datagrams, server_state, posted_at_server, seen_up, next_body, server_ping, took_at_server}

@@ -31,7 +31,8 @@ use Rattle.ghost_client.specs.StandsFor.{taken}
 use Rattle.stream_manager.specs.declared.config.Config.{Config}
 use Rattle.stream_manager.specs.declared.fault.ClientFault.{ClientFault}
 use Rattle.stream_manager.specs.declared.fault.ClientFault.TheVariants as refused
-use Rattle.stream_manager.specs.Faults.{Checked, then_check, head_at_client, events_at_client, checked_packet, without_packet}
+use Rattle.tn_types.specs.Checks.{Checked, then_check}
+use Rattle.stream_manager.specs.Faults.{head_at_client, events_at_client, checked_packet, without_packet}
 use Rattle.stream_manager.specs.GhostChecks.{ghosts_fault}
 use Rattle.stream_manager.specs.Wire.{read_down, bytes_up}
 use Rattle.stream_manager.specs.End.{Seen, EndEvent, window_log, sender_log, fates, data_head, ping_head, events_for, head_answer, events_answer}

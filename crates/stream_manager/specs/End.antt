@@ -12,8 +12,8 @@ use Rattle.event_manager.specs.declared.TheConstants.{MAX_WAITING}
 use Rattle.stream_manager.specs.declared.config.Config.{Config}
 use Rattle.stream_manager.specs.declared.fault.HeadFault.{HeadFault}
 use Rattle.stream_manager.specs.declared.fault.HeadFault.TheVariants.{WrongClient, Old, AckAhead}
-use Rattle.stream_manager.specs.Faults.{Checked}
-use Rattle.stream_manager.specs.Shares.{fitting}
+use Rattle.tn_types.specs.Checks.{Checked}
+use Rattle.tn_types.specs.Fitting.{fitting}
 use Rattle.stream_manager.specs.Wire.{event_bits}
 use Rattle.event_manager.specs.declared.receiver.EventAhead.{EventAhead}
 use Rattle.event_manager.specs.Receiving.{items_onto, delivered_of, run_of, take_answer}

@@ -1,4 +1,3 @@
-pub mod Shares
 pub mod Faults
 pub mod Limits
 pub mod Wire

@@ -36,9 +36,10 @@ use Rattle.stream_manager.specs.declared.server.Taken.{Taken}
 use Rattle.stream_manager.specs.declared.fault.ArriveFault.{ArriveFault}
 use Rattle.stream_manager.specs.declared.fault.ArriveFault.TheVariants as refused
 use Rattle.stream_manager.specs.Limits.{Terms}
-use Rattle.stream_manager.specs.Shares.{fitting}
+use Rattle.tn_types.specs.Fitting.{fitting}
 use Rattle.stream_manager.specs.Wire.{event_bits, read_up, bytes_down}
-use Rattle.stream_manager.specs.Faults.{Checked, then_check, head_at_server, events_at_server, checked_packet}
+use Rattle.tn_types.specs.Checks.{Checked, then_check}
+use Rattle.stream_manager.specs.Faults.{head_at_server, events_at_server, checked_packet}
 use Rattle.stream_manager.specs.Settling.{judgements}
 use Rattle.stream_manager.specs.End.{Seen, seen, EndEvent, window_log, sender_log, fates, judged_at, data_head, ping_head, events_for, head_answer, events_answer}
 use Rattle.stream_manager.specs.End as common

@@ -5,7 +5,7 @@ ghost use Rattle.wire_format.specs.Blocks.{block_size, IsBlockInRange};
 ghost use Rattle.datablocks.specs.SenderState.{due_now};
 ghost use Rattle.stream_manager.specs.Blocks.{AreDue, TellsDue, Notes};
 ghost use Rattle.stream_manager.specs.Server.{block_item};
-ghost use Rattle.stream_manager.specs.Shares.{fitting};
+ghost use Rattle.tn_types.specs.Fitting.{fitting};
 
 use datablocks::{BlockSender, MAX_SCRIPT_BLOCKS};
 use wire_format::{BlockItem, BlockList, MAX_BLOCKS, block_bits};

@@ -10,7 +10,7 @@ ghost use Rattle.std.specs.List.{AllByRecursion};
 ghost use Rattle.notify_window.specs.Log.{arrival_of};
 ghost use Rattle.event_manager.specs.Receiving.{take_answer, run_of};
 ghost use Rattle.wire_format.specs.Events.{event_size, IsEventInRange};
-ghost use Rattle.stream_manager.specs.Shares.{fitting};
+ghost use Rattle.tn_types.specs.Fitting.{fitting};
 ghost use Rattle.wire_format.specs.Header.{IsHeaderInRange};
 ghost use Rattle.tn_types.specs.declared.choices.Class.TheVariants.{Guaranteed, Loose};
 
