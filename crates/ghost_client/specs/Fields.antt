@@ -2,26 +2,22 @@
 -- its mask, and has their levels by rising field. So the level of a field in an update stands at the place that
 -- counts the fields of the mask below it.
 use Rattle.std.specs.Prelude.{ℕ, zero, suc, Bool, true, false, [], ◌∷◌, ◌≡◌, ◌+◌, ◌==◌, refl, if◌then◌else◌, slice_index_or}
-use Rattle.std.specs.Int.{bit_at}
+use Rattle.tn_types.specs.BitWords.{has_bit}
 use Rattle.wire_format.specs.declared.ghosts.GhostItem.{GhostItem}
 use Rattle.wire_format.specs.declared.ghosts.GhostItem.TheVariants.{Kill, Create, Update}
-
--- the mask has the bit of the field
-abbrev pub has_bit : ℕ → ℕ → Bool
-has_bit mask field = bit_at mask field == 1
 
 -- how many fields of the mask are below this one
 abbrev pub place_in : ℕ → ℕ → ℕ
 place_in mask zero = 0
 place_in mask (suc field) = place_in mask field + (if has_bit mask field then 1 else 0)
 
-abbrev pub slot_of : GhostItem → ℕ
-slot_of (Kill slot) = slot
-slot_of (Create slot kind block levels) = slot
-slot_of (Update slot kind mask levels) = slot
+abbrev pub slot_named : GhostItem → ℕ
+slot_named (Kill slot) = slot
+slot_named (Create slot kind block levels) = slot
+slot_named (Update slot kind mask levels) = slot
 
 abbrev pub names : ℕ → GhostItem → Bool
-names slot item = slot_of item == slot
+names slot item = slot_named item == slot
 
 abbrev pub is_kill : GhostItem → Bool
 is_kill (Kill slot) = true
@@ -34,11 +30,11 @@ carries (Create slot kind block levels) field = true
 carries (Update slot kind mask levels) field = has_bit mask field
 
 -- the level of a field that the item carries; `older` stands where the item has too few levels, as none in its ranges has
-abbrev pub level_in : GhostItem → ℕ → ℕ → ℕ
-level_in (Kill slot) field older = older
-level_in (Create slot kind block levels) field older = slice_index_or levels field older
-level_in (Update slot kind mask levels) field older = slice_index_or levels (place_in mask field) older
+abbrev pub carried_level : GhostItem → ℕ → ℕ → ℕ
+carried_level (Kill slot) field older = older
+carried_level (Create slot kind block levels) field older = slice_index_or levels field older
+carried_level (Update slot kind mask levels) field older = slice_index_or levels (place_in mask field) older
 
 -- of fields 0 and 2 the second
-third_of_mask : level_in (Update 7 0 5 (11 ∷ 12 ∷ [])) 2 0 ≡ 12
+third_of_mask : carried_level (Update 7 0 5 (11 ∷ 12 ∷ [])) 2 0 ≡ 12
 third_of_mask = refl

@@ -5,7 +5,7 @@ use Rattle.std.proofs.lemmas.List.{get_or-set_same, get_or-set_other}
 use Rattle.std.proofs.lemmas.Bool.{cases_eq, or_right}
 use Rattle.std.proofs.lemmas.Bool.Decides.{nat_tests}
 use Rattle.wire_format.specs.Ghosts.{IsGhostInRange}
-use Rattle.ghost_client.specs.Fields.{slot_of, names}
+use Rattle.ghost_client.specs.Fields.{slot_named, names}
 use Rattle.ghost_client.proofs.Packet.{fault_step, named_more, no_item_fault}
 use Rattle.ghost_client.proofs.copies.Copies.check.Goals as goal
 
@@ -40,7 +40,7 @@ loop-item-preserved c =
     let item = c.item-item.result in
     let slots = c.args.self.now.slots in
     let small : c.slot_named-slot.result < 256 = c.slot_named-slot.type_inv in
-    let first : list_any (names (slot_of item)) (take i items) ≡ false = ap (λ s. list_any (names s) (take i items)) (sym c.slot_named-slot.ensures) ∙ sym (loop.named c.slot_named-slot.result small) ∙ c.if-named-slot.false in
+    let first : list_any (names (slot_named item)) (take i items) ≡ false = ap (λ s. list_any (names s) (take i items)) (sym c.slot_named-slot.ensures) ∙ sym (loop.named c.slot_named-slot.result small) ∙ c.if-named-slot.false in
     record {
       fault = loop.fault ∙ fault_step slots c.args.held items i item c.loop-item-test.true c.item-item.is (no_item_fault slots c.args.held (take i items) item first (sym c.fault.ensures ∙ c.in_default.is));
       named = λ slot lt.
