@@ -1,3 +1,3 @@
-pub mod Outside
-pub mod Words
+pub mod Command
 pub mod Outcome
+pub mod Said

@@ -1,16 +1,116 @@
--- How a call ended, and what that leaves.
-use Rattle.match_cli.specs.declared.top.Status.{Status}
-use Rattle.match_cli.specs.declared.top.Status.TheVariants.{Done, Usage, Script, TooLong, ReadFault, WriteFault, NoMemory}
+-- How a call ends, and what it leaves of its source and its sink. A call reads a text of at most 1,048,576 bytes to its
+-- end, and where that is a script it writes the text that the command makes of it. Every other end has its cause.
+use Rattle.std.specs.Prelude.{ℕ, ◌≡◌, ◌+◌, ◌≤◌, ◌⊎◌, List, length, Bool, true, false, nat_le, Option, Result, Ok, Err}
+use Rattle.tn_outside.specs.Causes.{Rose}
+use Rattle.tn_outside.specs.Totals.{Drained, GaveFront, Adds, AddsFront}
+use Rattle.match_script.specs.Script.{Fault, script_of}
+use Rattle.match_script.specs.declared.types.Script.{Script as OneScript}
+use Rattle.match_engine.specs.Report.{report}
+use Rattle.match_cli.specs.declared.input.TheConstants.{MAX_SCRIPT_BYTES}
+use Rattle.match_cli.specs.declared.command.Command.{Command}
+use Rattle.match_cli.specs.declared.command.Command.TheVariants.{Run}
+use Rattle.match_cli.specs.declared.status.Status.{Status}
+use Rattle.match_cli.specs.declared.status.Status.TheVariants.{Done, Usage, Script, TooLong, ReadFault, WriteFault, NoMemory}
 
--- an answer that comes before the report
-abbrev pub MustNotWrite : Status → Type 0
-MustNotWrite Done = ⊥
-MustNotWrite WriteFault = ⊥
-MustNotWrite NoMemory = ⊥
-MustNotWrite s = Unit {0}
+-- what a command writes for a script
+abbrev pub text_of : Command → OneScript → List ℕ
+text_of Run script = report script
 
--- an answer that may come in the midst of the report
-abbrev pub MayStopWriting : Status → Type 0
-MayStopWriting WriteFault = Unit {0}
-MayStopWriting NoMemory = Unit {0}
-MayStopWriting s = ⊥
+-- what is told of a source or a sink before a call and after it: its bytes, and how often it has failed
+pub record Seen : Type 0 where
+  pub old : Option (List ℕ)
+  pub new : Option (List ℕ)
+  pub faults : ℕ
+  pub faults_after : ℕ
+
+abbrev pub seen : Option (List ℕ) → Option (List ℕ) → ℕ → ℕ → Seen
+seen old new faults faults_after = record { old = old; new = new; faults = faults; faults_after = faults_after }
+
+abbrev pub HasFailed : Seen → Type 0
+HasFailed s = Rose s.faults s.faults_after
+
+abbrev pub IsUntouched : Seen → Type 0
+IsUntouched s = (s.new ≡ s.old) × (s.faults_after ≡ s.faults)
+
+-- ---- reading
+
+-- all that the source held was this text, which is not too long
+pub record GaveText (old new : Option (List ℕ)) (text : List ℕ) : Type 0 where
+  pub all : Drained old new text
+  pub few : length text ≤ MAX_SCRIPT_BYTES
+
+-- the source gave a whole text, which is read so
+abbrev pub ReadAs : Option (List ℕ) → Option (List ℕ) → Result OneScript Fault → Type 0
+ReadAs old new read = (text : List ℕ) × GaveText old new text × (script_of text ≡ read)
+
+-- the source gave so many bytes, and keeps the rest
+abbrev pub GaveBytes : ℕ → Option (List ℕ) → Option (List ℕ) → Type 0
+GaveBytes n old new = (bytes : List ℕ) × (length bytes ≡ n) × GaveFront old new bytes
+
+abbrev pub GaveAtMost : ℕ → Option (List ℕ) → Option (List ℕ) → Type 0
+GaveAtMost n old new = (k : ℕ) × (k ≤ n) × GaveBytes k old new
+
+-- why no script was read
+abbrev pub NotRead : Seen → Status → Type 0
+NotRead source (Script line fault) = ReadAs source.old source.new (Err (line, fault))
+NotRead source TooLong = GaveBytes (MAX_SCRIPT_BYTES + 1) source.old source.new
+NotRead source ReadFault = HasFailed source × GaveAtMost MAX_SCRIPT_BYTES source.old source.new
+NotRead source NoMemory = Unit {0}
+NotRead source s = ⊥
+
+-- ---- the whole call
+
+-- a script was read, and of the command's text for it a front was written
+abbrev pub WroteFront : Result Command ℕ → Seen → Seen → Type 0
+WroteFront (Ok c) source sink =
+    (script : OneScript) × ReadAs source.old source.new (Ok script) × AddsFront sink.old sink.new (text_of c script)
+WroteFront (Err place) source sink = ⊥
+
+-- the cause of the answer to a command
+abbrev pub Cause : Command → Seen → Seen → Status → Type 0
+Cause c source sink Done =
+    (script : OneScript) × ReadAs source.old source.new (Ok script) × Adds sink.old sink.new (text_of c script)
+Cause c source sink WriteFault = HasFailed sink × WroteFront (Ok c) source sink
+Cause c source sink NoMemory = Unit {0}
+Cause c source sink s = NotRead source s × IsUntouched sink
+
+-- where the words are no command, the answer is `Usage` and nothing was touched
+abbrev pub AnswerTo : Result Command ℕ → Seen → Seen → Status → Type 0
+AnswerTo (Err place) source sink s = (s ≡ Usage place) × IsUntouched source × IsUntouched sink
+AnswerTo (Ok c) source sink s = Cause c source sink s
+
+pub record Outcome (command : Result Command ℕ) (source sink : Seen) (s : Status) : Type 0 where
+  pub answer : AnswerTo command source sink s
+  -- one byte past the limit tells that a text is too long, and no further byte is taken
+  pub taken : GaveAtMost (MAX_SCRIPT_BYTES + 1) source.old source.new
+  -- whatever the answer, nothing was written, or a front of the text of a script that was read
+  pub written : (sink.new ≡ sink.old) ⊎ WroteFront command source sink
+  -- no count of faults fell
+  pub reads : source.faults ≤ source.faults_after
+  pub writes : sink.faults ≤ sink.faults_after
+
+-- ---- which answer it is
+
+abbrev pub answer_to : Result OneScript Fault → Status
+answer_to (Ok script) = Done
+answer_to (Err (line, fault)) = Script line fault
+
+abbrev pub answer_within : (short : Bool) → List ℕ → Status
+answer_within true text = answer_to (script_of text)
+answer_within false text = TooLong
+
+-- the answer that words and a text ask for
+abbrev pub wanted : Result Command ℕ → List ℕ → Status
+wanted (Err place) text = Usage place
+wanted (Ok c) text = answer_within (nat_le (length text) MAX_SCRIPT_BYTES) text
+
+abbrev pub IsCommand : Result Command ℕ → Type 0
+IsCommand (Ok c) = Unit {0}
+IsCommand (Err place) = ⊥
+
+-- the wanted answer, or that of a fault of the outside or of want of memory, which came before it
+abbrev pub IsWanted : Result Command ℕ → List ℕ → Seen → Seen → Status → Type 0
+IsWanted command text source sink ReadFault = IsCommand command × HasFailed source
+IsWanted command text source sink WriteFault = (wanted command text ≡ Done) × HasFailed sink
+IsWanted command text source sink NoMemory = IsCommand command
+IsWanted command text source sink s = s ≡ wanted command text

@@ -1,45 +1,56 @@
-//! Reading a whole script.
-ghost use Rattle.std.specs.Prelude.{◌≡◌, ◌<◌, ◌≤◌, length, vec_len, IfOk, OnErr, IfSome};
-ghost use Rattle.tn_outside.specs.Causes.{Rose};
-ghost use Rattle.match_cli.specs.Outside.{Drained, Taken};
+//! Reading a script, as every command does.
+ghost use Rattle.std.specs.Prelude.{◌≡◌, ◌+◌, ◌≤◌, IfOk, IfErr, Ok};
+ghost use Rattle.match_script.specs.Ranges.{HasRanges};
+ghost use Rattle.match_cli.specs.Outcome.{seen, GaveText, GaveAtMost, ReadAs, NotRead};
 
+use crate::status::Status;
+use match_script::{ParseFault, Script, parse};
 use std::alloc::Global;
 use tn_outside::Source;
 
-/// Why a text was not read.
-#[derive(Clone, Copy, Debug, PartialEq, Eq)]
-pub enum ReadError {
-    /// The source failed.
-    Failed,
-    /// It gave more than 1,048,576 bytes.
-    TooLong,
-    /// Memory was not to be had.
-    NoMemory,
-}
+/// The most bytes of a script.
+pub const MAX_SCRIPT_BYTES: usize = 1_048_576;
 
-/// The most bytes that a script has.
-pub const LIMIT: usize = 1_048_576;
+/// Bytes that are read in one go.
+const BUFFER_BYTES: usize = 4096;
 
-/// All bytes of a source, a buffer of 4,096 at a time.
-pub fn read_all<S: Source>(alloc: Global, source: &mut S) -> Result<Vec<u8>, ReadError>
-    ensures ok { IfOk result (λ text. Drained (S.held source.old) (S.held source.new) text.items) }
-    ensures few { IfOk result (λ text. vec_len text ≤ LIMIT) }
-    ensures long { result ≡ Err ReadError.TooLong → IfSome (S.held source.old) (λ bytes. LIMIT < length bytes) }
-    ensures failed { result ≡ Err ReadError.Failed → Rose (S.faults source.old) (S.faults source.new) }
+/// All bytes of a source, and never more than one past the limit.
+fn read_all<S: Source>(alloc: Global, source: &mut S) -> Result<Vec<u8>, Status>
+    ensures ok { IfOk result (λ text. GaveText (S.held source.old) (S.held source.new) text.items) }
+    ensures err { IfErr result (NotRead (seen (S.held source.old) (S.held source.new) (S.faults source.old) (S.faults source.new))) }
+    ensures taken { GaveAtMost (MAX_SCRIPT_BYTES + 1) (S.held source.old) (S.held source.new) }
     ensures later { S.faults source.old ≤ S.faults source.new }
 {
     let mut text = Vec::new(alloc);
-    let mut buf = [0u8; 4096];
-    'reads: while text.len() <= LIMIT {
-        let Ok(count) = source.read(&mut buf) else {
-            return Err(ReadError::Failed);
+    let mut buffer = [0u8; BUFFER_BYTES];
+    'reads: while text.len() <= MAX_SCRIPT_BYTES {
+        let room = (MAX_SCRIPT_BYTES + 1 - text.len()).min(BUFFER_BYTES);
+        let (piece, _) = buffer.split_at_mut(room);
+        let Ok(count) = source.read(piece) else {
+            return Err(Status::ReadFault);
         };
         if count == 0 {
             return Ok(text);
         }
-        if text.extend_from_slice(&buf[..count]).is_err() {
-            return Err(ReadError::NoMemory);
+        if text.extend_from_slice(&piece[..count]).is_err() {
+            return Err(Status::NoMemory);
         }
     }
-    Err(ReadError::TooLong)
+    Err(Status::TooLong)
+}
+
+/// The script of a source, or why there is none.
+pub fn read_script<S: Source>(alloc: Global, source: &mut S) -> Result<Script, Status>
+    ensures ok { IfOk result (λ script. ReadAs (S.held source.old) (S.held source.new) (Ok script)) }
+    ensures err { IfErr result (NotRead (seen (S.held source.old) (S.held source.new) (S.faults source.old) (S.faults source.new))) }
+    ensures ranges { IfOk result HasRanges }
+    ensures taken { GaveAtMost (MAX_SCRIPT_BYTES + 1) (S.held source.old) (S.held source.new) }
+    ensures later { S.faults source.old ≤ S.faults source.new }
+{
+    let text = read_all(alloc, source)?;
+    match parse(alloc, text.as_slice()) {
+        Ok(script) => Ok(script),
+        Err(ParseFault::Bad { line, fault }) => Err(Status::Script(line, fault)),
+        Err(ParseFault::NoMemory) => Err(Status::NoMemory),
+    }
 }

@@ -1,7 +1,8 @@
 //! Whole calls: scripts with the reports that were worked out for them, and what is left behind by each fault.
 ghost use Rattle.std.specs.Prelude.{◌<◌};
 
-use crate::top::{Status, top};
+use crate::status::{Status, exit_of};
+use crate::top::top;
 use match_script::ScriptFault;
 use std::alloc::AllocError;
 use std::test::Fail;
@@ -440,6 +441,33 @@ fn other_words(rt: HostRuntime) -> Result<(), Fail> {
     assert_eq!(rt; status, Status::Usage(0));
     let (status, _) = served(&rt, &["run", "x"], HEADER.as_bytes(), ALL, &[], &[])?;
     assert_eq!(rt; status, Status::Usage(1));
+    Ok(())
+}
+
+#[test]
+fn exit_statuses_and_words(rt: HostRuntime) -> Result<(), Fail> {
+    for (status, exit, words) in [
+        (Status::Done, 0, ""),
+        (Status::Usage(1), 2, "usage 1"),
+        (
+            Status::Script(4, ScriptFault::NotText),
+            3,
+            "script 4 NotText",
+        ),
+        (
+            Status::Script(100_067, ScriptFault::TooManyLines),
+            3,
+            "script 100067 TooManyLines",
+        ),
+        (Status::TooLong, 4, "toolong"),
+        (Status::ReadFault, 5, "readfault"),
+        (Status::WriteFault, 6, "writefault"),
+        (Status::NoMemory, 7, "nomemory"),
+    ] {
+        assert_eq!(rt; exit_of(status), exit, "{words}");
+        let said = format!(in rt.alloc(); "{status}")?;
+        assert_eq!(rt; said.as_str(), words, "{words}");
+    }
     Ok(())
 }
 

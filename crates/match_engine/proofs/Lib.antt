@@ -1,4 +1,3 @@
-pub mod Streams
 pub mod Isolated
 pub mod InOrder
 pub mod Refused

@@ -3,4 +3,3 @@ pub mod Journal
 pub mod Report
 pub mod Laws
 pub mod Stands
-pub mod Outside

@@ -1,7 +1,7 @@
 //! Writing whole pieces.
 ghost use Rattle.std.specs.Prelude.{◌≡◌, ◌≤◌, length, OnOk, OnErr};
 ghost use Rattle.tn_outside.specs.Causes.{HasCause};
-ghost use Rattle.match_engine.specs.Outside.{Adds, AddsFront};
+ghost use Rattle.tn_outside.specs.Totals.{Adds, AddsFront};
 
 use tn_outside::{Failed, Sink};
 

@@ -5,7 +5,7 @@ ghost use Rattle.std.specs.Prelude.{◌<◌, List, ◌∷◌};
 ghost use Rattle.match_script.specs.declared.types.BodyLine.{BodyLine as OneLine};
 ghost use Rattle.match_script.specs.Ranges.{HasRanges, LineFits};
 ghost use Rattle.match_engine.specs.Stands.{StandsFor};
-ghost use Rattle.match_engine.specs.Outside.{Adds, AddsFront};
+ghost use Rattle.tn_outside.specs.Totals.{Adds, AddsFront};
 ghost use Rattle.match_engine.specs.Report.{report, line_text};
 ghost use Rattle.match_engine.specs.Laws.{Isolation, EventsInOrder, MovesInOrder, LooseInOrder, LittleIsRefused};
 

@@ -1,12 +1,14 @@
-use Rattle.std.proofs.Common.{◌≤◌, ◌-◌, ◌+◌, length, take, vec_len}
-use Rattle.match_cli.specs.Outside.{Taken}
+use Rattle.std.proofs.Common.{◌≤◌, ◌-◌, ◌+◌, vec_len}
+use Rattle.tn_outside.specs.Totals.{GaveFront}
+use Rattle.match_cli.specs.declared.input.TheConstants.{MAX_SCRIPT_BYTES}
 use Rattle.match_cli.proofs.input.read_all.Given as goal
 
 abbrev pub invariant-reads : goal.invariant-reads
 invariant-reads g l = record {
-  taken : Taken (g.S.Source.held l.fn.source) (g.S.Source.held l.source) l.text.items;
+  gave : GaveFront (g.S.Source.held l.fn.source) (g.S.Source.held l.source) l.text.items;
+  few : vec_len l.text ≤ MAX_SCRIPT_BYTES + 1;
   later : g.S.Source.faults l.fn.source ≤ g.S.Source.faults l.source;
 }
 
 abbrev pub decreases-reads : goal.decreases-reads
-decreases-reads g l = 1048577 - vec_len l.text
+decreases-reads g l = MAX_SCRIPT_BYTES + 1 - vec_len l.text

@@ -1,6 +1,6 @@
 use Rattle.std.proofs.Common.{length, drop, Ok, arith, length-drop, ap}
 use Rattle.tn_outside.specs.Streams.{WriteAdds}
-use Rattle.match_engine.proofs.Streams.{adds_more}
+use Rattle.tn_outside.proofs.Totals.{adds_more}
 use Rattle.match_engine.proofs.output.write_all.Goals as goal
 
 pub loop-done-preserved : goal.loop-done-preserved

@@ -1,5 +1,5 @@
 use Rattle.std.proofs.Common.{◌≤◌, ◌-◌, length, take}
-use Rattle.match_engine.specs.Outside.{Adds}
+use Rattle.tn_outside.specs.Totals.{Adds}
 use Rattle.match_engine.proofs.output.write_all.Given as goal
 
 abbrev pub invariant-loop-done : goal.invariant-loop-done

@@ -4,9 +4,9 @@ use Rattle.std.proofs.lemmas.Result.{err_from_is_err_and}
 use Rattle.match_script.specs.declared.types.BodyLine.{BodyLine}
 use Rattle.match_script.specs.declared.types.Head.{Head}
 use Rattle.match_script.specs.Ranges.{LineFits}
-use Rattle.match_engine.specs.Outside.{Adds, AddsFront}
+use Rattle.tn_outside.specs.Totals.{Adds, AddsFront}
 use Rattle.match_engine.specs.Report.{line_text, report_so_far, report}
-use Rattle.match_engine.proofs.Streams.{adds_nothing, adds_then, front_more}
+use Rattle.tn_outside.proofs.Totals.{adds_nothing, adds_then, front_more}
 use Rattle.match_engine.proofs.Written.{reverse_next, one_line_more, split_at_line}
 use Rattle.match_engine.proofs.running.run.Goals as goal
 

@@ -1,5 +1,5 @@
 use Rattle.std.proofs.Common.{◌≡◌, ◌≤◌, reverse, take}
-use Rattle.match_engine.specs.Outside.{Adds}
+use Rattle.tn_outside.specs.Totals.{Adds}
 use Rattle.match_engine.specs.Report.{report_so_far}
 use Rattle.match_engine.specs.Stands.{StandsFor}
 use Rattle.match_engine.proofs.running.run.Given as goal
