@@ -5,7 +5,7 @@ use Rattle.std.specs.List.{list_all}
 use Rattle.std.proofs.lemmas.Nat.{pow_pos, mod_below, div-add-mod'}
 use Rattle.std.proofs.lemmas.List.{append-nil}
 use Rattle.std.proofs.Math.Nat.{pow-suc}
-use Rattle.bit_stream.specs.Bits.{number, value_of}
+use Rattle.bit_stream.specs.Bits.{number, number_from}
 
 pub length-number : (w n : ℕ) → length (number w n) ≡ w
 unfolding number
@@ -31,24 +31,24 @@ number-join (suc a) b c x y n ec en h =
     let below : x / 2 < 2 ^ a = omega arith in
     rw (w, odd, number-join a b (a + b) (x / 2) y (n / 2) refl half below) refl
 
-pub value_of-number : (w n : ℕ) → n < 2 ^ w → value_of (number w n) ≡ n
-unfolding number value_of
-value_of-number zero n h = omega arith
-value_of-number (suc w) n h =
+pub number_from-number : (w n : ℕ) → n < 2 ^ w → number_from (number w n) ≡ n
+unfolding number number_from
+number_from-number zero n h = omega arith
+number_from-number (suc w) n h =
     let p : 2 ^ suc w ≡ 2 * 2 ^ w = grind (arith, pow-suc) in
-    let half = value_of-number w (n / 2) (omega arith) in
+    let half = number_from-number w (n / 2) (omega arith) in
     rw half (bit n)
   where
     bit : (n : ℕ) → (if nat_eq (n % 2) 1 then 1 else 0) + 2 * (n / 2) ≡ n
     bit n = grind arith
 
-pub value_of_below : (bits : List Bool) → value_of bits < 2 ^ length bits
-unfolding value_of
-value_of_below [] = omega arith
-value_of_below (b ∷ bits) =
+pub number_from_below : (bits : List Bool) → number_from bits < 2 ^ length bits
+unfolding number_from
+number_from_below [] = omega arith
+number_from_below (b ∷ bits) =
     let p : 2 ^ suc (length bits) ≡ 2 * 2 ^ length bits = grind (arith, pow-suc) in
-    let rest = value_of_below bits in
-    elim b as (λ c. (if c then 1 else 0) + 2 * value_of bits < 2 ^ suc (length bits)) [ true ↦ omega arith | false ↦ omega arith ]
+    let rest = number_from_below bits in
+    elim b as (λ c. (if c then 1 else 0) + 2 * number_from bits < 2 ^ suc (length bits)) [ true ↦ omega arith | false ↦ omega arith ]
 
 number-zero : (k : ℕ) → number k 0 ≡ replicate k false
 unfolding number
@@ -56,15 +56,15 @@ number-zero zero = refl
 number-zero (suc k) = ap (λ (bits : List Bool). false ∷ bits) (number-zero k)
 
 -- the bits of their number, at a width that is no less
-pub number-value_of_wide : (bits : List Bool) (k w : ℕ) → w ≡ length bits + k → number w (value_of bits) ≡ bits ++ replicate k false
-unfolding number value_of
-number-value_of_wide [] k w e =
+pub number-number_from_wide : (bits : List Bool) (k w : ℕ) → w ≡ length bits + k → number w (number_from bits) ≡ bits ++ replicate k false
+unfolding number number_from
+number-number_from_wide [] k w e =
     let same : w ≡ k = omega arith in
     rw same (number-zero k)
-number-value_of_wide (b ∷ bits) k w e =
+number-number_from_wide (b ∷ bits) k w e =
     let more : w ≡ suc (length bits + k) = omega (arith, e) in
-    let rest = number-value_of_wide bits k (length bits + k) refl in
-    rw more (first b (value_of bits) (length bits + k) (bits ++ replicate k false) rest)
+    let rest = number-number_from_wide bits k (length bits + k) refl in
+    rw more (first b (number_from bits) (length bits + k) (bits ++ replicate k false) rest)
   where
     first : (b : Bool) (v w : ℕ) (bits : List Bool) → number w v ≡ bits → number (suc w) ((if b then 1 else 0) + 2 * v) ≡ b ∷ bits
     first true v w bits e =
@@ -76,8 +76,8 @@ number-value_of_wide (b ∷ bits) k w e =
         let half : (0 + 2 * v) / 2 ≡ v = omega arith in
         rw (odd, half, e) refl
 
-pub number-value_of : (bits : List Bool) (w : ℕ) → length bits ≡ w → number w (value_of bits) ≡ bits
-number-value_of bits w e = number-value_of_wide bits 0 w (omega arith) ∙ append-nil bits
+pub number-number_from : (bits : List Bool) (w : ℕ) → length bits ≡ w → number w (number_from bits) ≡ bits
+number-number_from bits w e = number-number_from_wide bits 0 w (omega arith) ∙ append-nil bits
 
 -- the low a bits, and then the rest
 pub number-split : (a b c n : ℕ) → c ≡ a + b → number c n ≡ number a (n % 2 ^ a) ++ number b (n / 2 ^ a)
@@ -104,16 +104,16 @@ all_clear [] e = refl
 all_clear (true ∷ bits) e = absurd cc
 all_clear (false ∷ bits) e = ap (λ (bits : List Bool). false ∷ bits) (all_clear bits e)
 
-pub value_of-clear : (bits : List Bool) (k : ℕ) → value_of (bits ++ replicate k false) ≡ value_of bits
-unfolding value_of
-value_of-clear [] zero = refl
-value_of-clear [] (suc k) = ap (λ n. 0 + 2 * n) (value_of-clear [] k)
-value_of-clear (b ∷ bits) k = ap (λ n. (if b then 1 else 0) + 2 * n) (value_of-clear bits k)
+pub number_from-clear : (bits : List Bool) (k : ℕ) → number_from (bits ++ replicate k false) ≡ number_from bits
+unfolding number_from
+number_from-clear [] zero = refl
+number_from-clear [] (suc k) = ap (λ n. 0 + 2 * n) (number_from-clear [] k)
+number_from-clear (b ∷ bits) k = ap (λ n. (if b then 1 else 0) + 2 * n) (number_from-clear bits k)
 
-pub value_of-append : (bits more : List Bool) → value_of (bits ++ more) ≡ value_of bits + 2 ^ length bits * value_of more
-unfolding value_of
-value_of-append [] more = omega arith
-value_of-append (b ∷ bits) more =
-    let rest = value_of-append bits more in
-    let t = twice (length bits) (value_of more) in
-    elim b as (λ c. (if c then 1 else 0) + 2 * value_of (bits ++ more) ≡ ((if c then 1 else 0) + 2 * value_of bits) + 2 ^ suc (length bits) * value_of more) [ true ↦ omega arith | false ↦ omega arith ]
+pub number_from-append : (bits more : List Bool) → number_from (bits ++ more) ≡ number_from bits + 2 ^ length bits * number_from more
+unfolding number_from
+number_from-append [] more = omega arith
+number_from-append (b ∷ bits) more =
+    let rest = number_from-append bits more in
+    let t = twice (length bits) (number_from more) in
+    elim b as (λ c. (if c then 1 else 0) + 2 * number_from (bits ++ more) ≡ ((if c then 1 else 0) + 2 * number_from bits) + 2 ^ suc (length bits) * number_from more) [ true ↦ omega arith | false ↦ omega arith ]

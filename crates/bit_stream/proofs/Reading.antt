@@ -4,9 +4,9 @@ use Rattle.std.specs.Prelude.{nat_lt, nat_eq, cond, not, ◌⊎◌}
 use Rattle.std.proofs.lemmas.Bool.{ltb-false, le-ltb, lt-ltb}
 use Rattle.std.proofs.lemmas.Nat.{pow_pos, mod_below}
 use Rattle.std.proofs.lemmas.List.{append-nil, nil_from_length, take_at, drop_at, take-append-drop, length-take}
-use Rattle.bit_stream.specs.Bits.{number, value_of, bits_of}
+use Rattle.bit_stream.specs.Bits.{number, number_from, bits_of}
 use Rattle.bit_stream.specs.Reading.{number_at, is_padding, end_at, Unread}
-use Rattle.bit_stream.proofs.Numbers.{number-split, length-number, value_of-number, number-value_of, value_of_below, all_clear-number}
+use Rattle.bit_stream.proofs.Numbers.{number-split, length-number, number_from-number, number-number_from, number_from_below, all_clear-number}
 use Rattle.std.specs.List.{list_all}
 use Rattle.bit_stream.specs.Reader.{unread, IsReader}
 use Rattle.bit_stream.specs.declared.reader.BitReader.TheInside.{Inside}
@@ -21,7 +21,7 @@ pub number_at-again : (w n place : ℕ) (rest : List Bool) → n < 2 ^ w → num
 unfolding number_at
 number_at-again w n place rest lt =
     let long : nat_lt (length (number w n ++ rest)) w ≡ false = le-ltb _ _ (omega (arith, length-append (number w n) rest, length-number w n)) in
-    rw (long, take_at (number w n) rest w (length-number w n), drop_at (number w n) rest w (length-number w n), value_of-number w n lt) refl
+    rw (long, take_at (number w n) rest w (length-number w n), drop_at (number w n) rest w (length-number w n), number_from-number w n lt) refl
 
 pub number_at-short : (w : ℕ) (s : Unread) → length s.rest < w → number_at w s ≡ Err (record { place = s.place })
 unfolding number_at
@@ -37,12 +37,12 @@ pub record Takes (s : Unread) (bits : List Bool) (t : Unread) : Type 0 where
 pub number_at-takes : (w n : ℕ) (s t : Unread) → number_at w s ≡ Ok (n, t) → Takes s (number w n) t × (n < 2 ^ w)
 unfolding number_at
 number_at-takes w n s t e =
-    let g = guard_ok (nat_lt (length s.rest) w) (record { place = s.place }) (value_of (take w s.rest), record { place = s.place + w; rest = drop w s.rest }) (n, t) e in
+    let g = guard_ok (nat_lt (length s.rest) w) (record { place = s.place }) (number_from (take w s.rest), record { place = s.place + w; rest = drop w s.rest }) (n, t) e in
     let long : w ≤ length s.rest = ltb-false _ _ g.0 in
     let len : length (take w s.rest) ≡ w = omega (arith, length-take w s.rest) in
-    let front : number w (value_of (take w s.rest)) ≡ take w s.rest = number-value_of (take w s.rest) w len in
-    let below : value_of (take w s.rest) < 2 ^ w = rw len at (value_of_below (take w s.rest)) in
-    let made : Takes s (number w (value_of (take w s.rest))) (record { place = s.place + w; rest = drop w s.rest }) = record {
+    let front : number w (number_from (take w s.rest)) ≡ take w s.rest = number-number_from (take w s.rest) w len in
+    let below : number_from (take w s.rest) < 2 ^ w = rw len at (number_from_below (take w s.rest)) in
+    let made : Takes s (number w (number_from (take w s.rest))) (record { place = s.place + w; rest = drop w s.rest }) = record {
       rest = rw front (sym (take-append-drop w s.rest));
       place = rw length-number refl;
     } in

@@ -3,13 +3,15 @@ use Rattle.std.proofs.Common.{◌≡◌, ℕ, zero, suc, ◌+◌, ◌-◌, ◌*�
 use Rattle.std.proofs.lemmas.Nat.{shl_whole, pow-add, shr_below, pow_below}
 use Rattle.std.proofs.lemmas.List.{append-nil}
 use Rattle.std.proofs.Math.Nat.{mul-le-mul_left}
-use Rattle.bit_stream.specs.Bits.{IsBytes, number, value_of, bits_of, low_bytes, datagram, bytes_for}
+use Rattle.bit_stream.specs.Bits.{number, number_from, bits_of, low_bytes, datagram, bytes_for}
 use Rattle.bit_stream.specs.Writer.{written}
+use Rattle.tn_types.specs.Bytes.{AreBytes}
+use Rattle.tn_types.specs.declared.limits.TheConstants.{MAX_WORD_BITS}
 use Rattle.bit_stream.specs.declared.writer.BitWriter.TheInside.{Inside}
-use Rattle.bit_stream.proofs.Numbers.{number-split, length-number, value_of-number}
+use Rattle.bit_stream.proofs.Numbers.{number-split, length-number, number_from-number}
 use Rattle.bit_stream.proofs.Datagrams.{bits_of-push, low_bytes-whole, length-bits_of}
 
-pub shifted : (value width count : ℕ) → value < 2 ^ width → count + width ≤ 40 → (value * 2 ^ count) % 2 ^ 64 ≡ 2 ^ count * value
+pub shifted : (value width count : ℕ) → value < 2 ^ width → count + width ≤ MAX_WORD_BITS + 8 → (value * 2 ^ count) % 2 ^ 64 ≡ 2 ^ count * value
 shifted value width count fits few =
     shl_whole value width count 64 fits (omega arith) ∙ grind arith
 
@@ -30,7 +32,7 @@ flushed_below pending count h lt =
     let e : count ≡ (count - 8) + 8 = omega arith in
     shr_below pending (count - 8) 8 (rw (← e) lt)
 
-pub finished : (whole : List ℕ) (pending count : ℕ) → IsBytes whole → 0 < count → count < 8 → pending < 2 ^ count → datagram (bits_of whole ++ number count pending) ≡ whole ++ pending ∷ []
+pub finished : (whole : List ℕ) (pending count : ℕ) → AreBytes whole → 0 < count → count < 8 → pending < 2 ^ count → datagram (bits_of whole ++ number count pending) ≡ whole ++ pending ∷ []
 unfolding datagram low_bytes
 finished whole pending count fits some few lt =
     let bits = bits_of whole ++ number count pending in
@@ -38,10 +40,10 @@ finished whole pending count fits some few lt =
     let p : 2 ^ count < 2 ^ 8 = pow_below count 8 few in
     let low : pending % 256 ≡ pending = omega arith in
     low_bytes-whole whole (number count pending) (bytes_for bits) 1 fits m
-    ∙ ap (λ n. whole ++ low_bytes 1 n) (value_of-number count pending lt)
+    ∙ ap (λ n. whole ++ low_bytes 1 n) (number_from-number count pending lt)
     ∙ ap (λ n. whole ++ n ∷ []) low
 
-pub finished_even : (whole : List ℕ) (pending count : ℕ) → IsBytes whole → count ≡ 0 → datagram (bits_of whole ++ number count pending) ≡ whole
+pub finished_even : (whole : List ℕ) (pending count : ℕ) → AreBytes whole → count ≡ 0 → datagram (bits_of whole ++ number count pending) ≡ whole
 unfolding datagram low_bytes
 finished_even whole pending count fits none =
     let bits = bits_of whole ++ number count pending in
@@ -58,4 +60,4 @@ length-low_bytes (suc count) n = ap suc (length-low_bytes count (n / 256))
 
 pub length-datagram : (bits : List Bool) → length (datagram bits) ≡ bytes_for bits
 unfolding datagram
-length-datagram bits = length-low_bytes (bytes_for bits) (value_of bits)
+length-datagram bits = length-low_bytes (bytes_for bits) (number_from bits)

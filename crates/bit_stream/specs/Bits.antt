@@ -11,13 +11,9 @@ number zero n = []
 number (suc width) n = (n % 2 == 1) ∷ number width (n / 2)
 
 -- the number whose bits these are, the least first
-unfoldable pub value_of : List Bool → ℕ
-value_of [] = 0
-value_of (bit ∷ bits) = (if bit then 1 else 0) + 2 * value_of bits
-
--- each is below 256, as those of a slice of bytes are
-abbrev pub IsBytes : List ℕ → Type 0
-IsBytes bytes = (i : ℕ) → slice_index bytes i < 256
+unfoldable pub number_from : List Bool → ℕ
+number_from [] = 0
+number_from (bit ∷ bits) = (if bit then 1 else 0) + 2 * number_from bits
 
 -- the bits of bytes, one byte after the other
 unfoldable pub bits_of : List ℕ → List Bool
@@ -34,7 +30,7 @@ bytes_for bits = (length bits + 7) / 8
 
 -- these bits in as few bytes as they take, the last one filled with zero bits
 unfoldable pub datagram : List Bool → List ℕ
-datagram bits = low_bytes (bytes_for bits) (value_of bits)
+datagram bits = low_bytes (bytes_for bits) (number_from bits)
 
 -- a writer: the bits so far, and the bytes that there is room for in all
 pub record Written : Type 0 where
@@ -47,11 +43,11 @@ five_in_four_bits : number 4 5 ≡ true ∷ false ∷ true ∷ false ∷ []
 unfolding number
 five_in_four_bits = refl
 
-five_again : value_of (true ∷ false ∷ true ∷ false ∷ []) ≡ 5
-unfolding value_of
+five_again : number_from (true ∷ false ∷ true ∷ false ∷ []) ≡ 5
+unfolding number_from
 five_again = refl
 
 -- the header of a first datagram, up to its sequence number: bit 6 is the least bit of seq
 sequence_number_one : datagram (number 2 0 ++ number 4 0 ++ number 24 1) ≡ 64 ∷ 0 ∷ 0 ∷ 0 ∷ []
-unfolding datagram number value_of low_bytes
+unfolding datagram number number_from low_bytes
 sequence_number_one = refl

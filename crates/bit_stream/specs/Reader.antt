@@ -2,7 +2,7 @@
 use Rattle.std.specs.Prelude.{◌+◌, ◌*◌, ◌^◌, ◌<◌, ◌≤◌, ◌++◌, length}
 use Rattle.bit_stream.specs.Bits.{bits_of, number}
 use Rattle.bit_stream.specs.Reading.{Unread}
-use Rattle.bit_stream.specs.declared.TheConstants.{MAX_READ_BYTES}
+use Rattle.tn_types.specs.declared.limits.TheConstants.{MAX_READ_BYTES}
 use Rattle.bit_stream.specs.declared.reader.BitReader.TheInside.{Inside}
 
 abbrev pub unread : Inside → Unread

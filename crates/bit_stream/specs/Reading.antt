@@ -4,7 +4,7 @@
 use Rattle.std.proofs.Common.{refl}
 use Rattle.std.specs.Prelude.{ℕ, ◌+◌, ◌≡◌, Bool, true, false, not, ◌&&◌, nat_lt, if◌then◌else◌, List, [], ◌∷◌, length, take, drop, Result, Ok, Err}
 use Rattle.std.specs.List.{list_all}
-use Rattle.bit_stream.specs.Bits.{value_of}
+use Rattle.bit_stream.specs.Bits.{number_from}
 use Rattle.bit_stream.specs.declared.reader.Short.{Short}
 use Rattle.bit_stream.specs.declared.reader.PaddingFault.{PaddingFault}
 
@@ -17,7 +17,7 @@ pub record Unread : Type 0 where
 unfoldable pub number_at : ℕ → Unread → Result (ℕ × Unread) Short
 number_at width s =
     if nat_lt (length s.rest) width then Err (record { place = s.place })
-    else Ok (value_of (take width s.rest), record { place = s.place + width; rest = drop width s.rest })
+    else Ok (number_from (take width s.rest), record { place = s.place + width; rest = drop width s.rest })
 
 -- less than a byte is left, and no bit of it is set
 unfoldable pub is_padding : List Bool → Bool
@@ -35,7 +35,7 @@ Gives (Err e) left read = read ≡ Err e
 -- ---- examples
 
 two_of_three_bits : number_at 2 (record { place = 6; rest = false ∷ true ∷ true ∷ [] }) ≡ Ok (2, record { place = 8; rest = true ∷ [] })
-unfolding number_at value_of
+unfolding number_at number_from
 two_of_three_bits = refl
 
 four_of_three_bits : number_at 4 (record { place = 6; rest = false ∷ true ∷ true ∷ [] }) ≡ Err (record { place = 6 })

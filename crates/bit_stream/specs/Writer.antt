@@ -1,7 +1,8 @@
 -- What a writer's fields mean: whole bytes, and then fewer than eight bits as a number.
 use Rattle.std.specs.Prelude.{◌+◌, ◌*◌, ◌^◌, ◌<◌, ◌≤◌, ◌++◌, length}
-use Rattle.bit_stream.specs.Bits.{Written, bits_of, number, IsBytes}
-use Rattle.bit_stream.specs.declared.TheConstants.{MAX_WRITTEN_BYTES}
+use Rattle.bit_stream.specs.Bits.{Written, bits_of, number}
+use Rattle.tn_types.specs.declared.limits.TheConstants.{MAX_DATAGRAM_BYTES}
+use Rattle.tn_types.specs.Bytes.{AreBytes}
 use Rattle.bit_stream.specs.declared.writer.BitWriter.TheInside.{Inside}
 
 abbrev pub written : Inside → Written
@@ -11,5 +12,5 @@ pub record IsWriter (w : Inside) : Type 0 where
   pub below : w.pending < 2 ^ w.count
   pub few : w.count < 8
   pub room : 8 * length w.whole.items + w.count ≤ 8 * w.size
-  pub size : w.size ≤ MAX_WRITTEN_BYTES
-  pub bytes : IsBytes w.whole.items
+  pub size : w.size ≤ MAX_DATAGRAM_BYTES
+  pub bytes : AreBytes w.whole.items

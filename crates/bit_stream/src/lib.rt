@@ -15,12 +15,3 @@ mod writer;
 pub use laws::{bit_of_bytes, bits_come_back, number_comes_back};
 pub use reader::{BitReader, PaddingFault, Short};
 pub use writer::BitWriter;
-
-/// The most bytes that a [`BitWriter`] has room for.
-pub const MAX_WRITTEN_BYTES: usize = 1200;
-
-/// The most bytes that a [`BitReader`] goes over.
-pub const MAX_READ_BYTES: usize = 65_536;
-
-/// The most bits of one number.
-pub const MAX_WIDTH: u32 = 32;

@@ -3,8 +3,8 @@ ghost use Rattle.bit_stream.specs.Bits.{number, bits_of};
 ghost use Rattle.bit_stream.specs.Reading.{number_at, end_at, Gives};
 
 use crate::accumulator::joined;
-use crate::{MAX_READ_BYTES, MAX_WIDTH};
 use std::marker::Model;
+use tn_types::{MAX_READ_BYTES, MAX_WORD_BITS};
 
 /// Fewer bits are left than a number has.
 #[derive(Clone, Copy, Debug, PartialEq, Eq)]
@@ -46,7 +46,7 @@ impl<'a> Model for BitReader<'a> {
 fn fill(rest: &[u8], pending: u64, count: u32, width: u32) -> (&[u8], u64, u32)
     requires below { pending < 2 ^ count }
     requires few { count < 8 }
-    requires narrow { width ≤ MAX_WIDTH }
+    requires narrow { width ≤ MAX_WORD_BITS }
     requires enough { width ≤ count + 8 * length rest.now }
     ensures bits { number result.2 result.1 ++ bits_of result.0.now ≡ number count pending ++ bits_of rest.now }
     ensures below { result.1 < 2 ^ result.2 }
@@ -68,7 +68,7 @@ fn fill(rest: &[u8], pending: u64, count: u32, width: u32) -> (&[u8], u64, u32)
 
 /// The lowest `width` bits, and what is above them.
 fn split(pending: u64, width: u32) -> (u32, u64)
-    requires { width ≤ MAX_WIDTH }
+    requires { width ≤ MAX_WORD_BITS }
     ensures low { result.0 ≡ pending % 2 ^ width }
     ensures high { result.1 ≡ pending / 2 ^ width }
 {
@@ -102,7 +102,7 @@ impl<'a> BitReader<'a> {
     ///
     /// Answers [`Short`] exactly where fewer bits are left, and the reader then stays as it was.
     pub fn take(&mut self, width: u32) -> Result<u32, Short>
-        requires { width ≤ MAX_WIDTH }
+        requires { width ≤ MAX_WORD_BITS }
         ensures read { Gives result self.new (number_at width self.old) }
         ensures short { IsErr result ↔ (length self.old.rest < width) }
         ensures fits { IfOk result (λ n. n < 2 ^ width) }

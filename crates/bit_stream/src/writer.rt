@@ -1,16 +1,17 @@
 ghost use Rattle.std.specs.Prelude.{◌≡◌, ◌+◌, ◌*◌, ◌^◌, ◌<◌, ◌≤◌, ◌-◌, [], ◌++◌, length};
-ghost use Rattle.bit_stream.specs.Bits.{IsBytes, number, bits_of, datagram, bytes_for};
+ghost use Rattle.bit_stream.specs.Bits.{number, bits_of, datagram, bytes_for};
+ghost use Rattle.tn_types.specs.Bytes.{AreBytes};
 
 use crate::accumulator::joined;
-use crate::{MAX_WIDTH, MAX_WRITTEN_BYTES};
 use arrayvec::ArrayVec;
 use std::marker::Model;
+use tn_types::{MAX_DATAGRAM_BYTES, MAX_WORD_BITS};
 
 /// A buffer that takes numbers of a few bits each. A contract sees the bits so far and the bytes
 /// that there is room for in all.
 #[derive(Drop)]
 pub struct BitWriter {
-    whole: ArrayVec<u8, MAX_WRITTEN_BYTES>,
+    whole: ArrayVec<u8, MAX_DATAGRAM_BYTES>,
     pending: u64,
     count: u32,
     size: u32,
@@ -29,14 +30,14 @@ impl Model for BitWriter {
 }
 
 /// Moves the whole bytes out of the pending bits, and gives the bits that are left.
-fn flush(whole: &mut ArrayVec<u8, MAX_WRITTEN_BYTES>, pending: u64, count: u32) -> (u64, u32)
+fn flush(whole: &mut ArrayVec<u8, MAX_DATAGRAM_BYTES>, pending: u64, count: u32) -> (u64, u32)
     requires below { pending < 2 ^ count }
-    requires few { count < 40 }
-    requires room { 8 * length whole.old.items + count ≤ 8 * MAX_WRITTEN_BYTES }
+    requires few { count < MAX_WORD_BITS + 8 }
+    requires room { 8 * length whole.old.items + count ≤ 8 * MAX_DATAGRAM_BYTES }
     ensures bits { bits_of whole.new.items ++ number result.1 result.0 ≡ bits_of whole.old.items ++ number count pending }
     ensures below { result.0 < 2 ^ result.1 }
     ensures few { result.1 < 8 }
-    ensures bytes { IsBytes whole.old.items → IsBytes whole.new.items }
+    ensures bytes { AreBytes whole.old.items → AreBytes whole.new.items }
     ensures len { 8 * length whole.new.items + result.1 ≡ 8 * length whole.old.items + count }
 {
     let mut pending = pending;
@@ -52,7 +53,7 @@ fn flush(whole: &mut ArrayVec<u8, MAX_WRITTEN_BYTES>, pending: u64, count: u32) 
 impl BitWriter {
     /// An empty buffer with room for `size` bytes, at most 1,200.
     pub fn new(size: u32) -> Self
-        requires { size ≤ MAX_WRITTEN_BYTES }
+        requires { size ≤ MAX_DATAGRAM_BYTES }
         ensures bits { result.bits ≡ [] }
         ensures size { result.size ≡ size }
     {
@@ -74,7 +75,7 @@ impl BitWriter {
     /// Appends a number as `width` bits, at most 32, the least bit first. The caller sees to it that
     /// the number fits the width and the width fits [`room`](Self::room).
     pub fn put(&mut self, value: u32, width: u32)
-        requires width { width ≤ MAX_WIDTH }
+        requires width { width ≤ MAX_WORD_BITS }
         requires fits { value < 2 ^ width }
         requires room { length self.old.bits + width ≤ 8 * self.old.size }
         ensures bits { self.new.bits ≡ self.old.bits ++ number width value }
@@ -88,7 +89,7 @@ impl BitWriter {
     }
 
     /// The bytes used, the last one filled with zero bits.
-    pub fn finish(self) -> ArrayVec<u8, MAX_WRITTEN_BYTES>
+    pub fn finish(self) -> ArrayVec<u8, MAX_DATAGRAM_BYTES>
         ensures bytes { result.items ≡ datagram self.bits }
         ensures len { length result.items ≡ bytes_for self.bits }
     {

@@ -1,4 +1,3 @@
-pub mod Below
 pub mod Bits
 pub mod Progressing
 pub mod Taking

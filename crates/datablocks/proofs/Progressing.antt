@@ -6,136 +6,41 @@ use Rattle.std.proofs.lemmas.Bool.Decides.{nat_tests}
 use Rattle.std.proofs.lemmas.Nat.Bits.{bit_at-zero}
 use Rattle.std.proofs.lemmas.Bool.{cases_lt, cases_eq}
 use Rattle.std.proofs.lemmas.List.{get_or-set_same, get_or-set_other, get_or-replicate, get_or_past, length-replicate}
-use Rattle.notify_window.specs.Log.{Fate, Unjudged, Received, Lost, is_received}
+use Rattle.notify_window.specs.Log.{Fate, Unjudged}
 use Rattle.tn_types.specs.declared.choices.Verdict.{Verdict}
-use Rattle.tn_types.specs.declared.choices.Verdict.TheVariants as verdict
-use Rattle.datablocks.specs.declared.progress.Progress.{Progress}
-use Rattle.datablocks.specs.declared.progress.Progress.TheVariants.{Due, Carried, Done}
-use Rattle.datablocks.specs.Sending.{SenderEvent, carriers, is_lost, all_lost, any_received, least, those_below, is_unacked, first_unacked, is_due, due_of, fate_for, judged}
-use Rattle.datablocks.specs.ProgressWords.{progress_at, is_due_at, is_open, is_done, done_bit, TellsDone, verdict_progress, progress_after}
-use Rattle.datablocks.specs.ProgressWords as now
+use Rattle.notify_window.specs.declared.progress.Progress.{Progress}
+use Rattle.notify_window.specs.declared.progress.Progress.TheVariants.{Due, Carried, Done}
+use Rattle.notify_window.specs.Fates.{any_received, fate_for, judged}
+use Rattle.notify_window.specs.Carriers.{progress_is_due, progress_is_done, progress_after, ProgressIs}
+use Rattle.notify_window.proofs.Fates.{done-test, due-test, progress-settled}
+use Rattle.notify_window.proofs.Least.{same_below, none_behind, least_is, least_same, least_le, least_below, least_rises}
+use Rattle.tn_types.specs.Least.{least, those_below}
+use Rattle.datablocks.specs.Sending.{SenderEvent, carriers, is_unacked, first_unacked, is_due, due_of}
+use Rattle.datablocks.specs.ProgressWords.{progress_at, is_due_at, is_open, done_bit, TellsDone}
 use Rattle.datablocks.specs.SenderState.{SenderState, first_open, is_due_now, due_now, IsKept}
-use Rattle.datablocks.specs.SenderStands.{ProgressIs, StandsFor}
-use Rattle.datablocks.proofs.Below.{same_below, none_behind, least_is, least_same, least_le, least_below, least_passes}
-
--- ---- fates
-
--- a packet that has its verdict keeps it
-judged_other : (fate : ℕ → Fate) (seq s : ℕ) (f g : Fate) → fate seq ≡ Unjudged → fate s ≡ g → g ≢ Unjudged → judged fate seq f s ≡ g
-judged_other fate seq s f g unjudged e other = elim (cases_eq s seq) [
-  | inl same ↦ absurd (other (sym e ∙ ap fate same ∙ unjudged))
-  | inr apart ↦ (let t : (s == seq) ≡ false = grind (arith, nat_tests) in rw t e)
-]
-
-judged_same : (fate : ℕ → Fate) (seq s : ℕ) (f : Fate) → s ≡ seq → judged fate seq f s ≡ f
-judged_same fate seq s f e = let t : (s == seq) ≡ true = grind (arith, nat_tests) in rw t refl
-
-lost-is : (f : Fate) → is_lost f ≡ true → f ≡ Lost
-lost-is Unjudged h = cc
-lost-is Received h = cc
-lost-is Lost h = refl
-
-received-is : (f : Fate) → is_received f ≡ true → f ≡ Received
-received-is Unjudged h = cc
-received-is Received h = refl
-received-is Lost h = cc
-
-and-first : (a b : Bool) → (a && b) ≡ true → a ≡ true
-and-first true b h = refl
-and-first false b h = cc
-
-and-second : (a b : Bool) → (a && b) ≡ true → b ≡ true
-and-second true b h = h
-and-second false b h = cc
-
-or_true : (b : Bool) → (b || true) ≡ true
-or_true true = refl
-or_true false = refl
-
--- what is lost stays lost, and what is received stays received
-lost-stays : (fate : ℕ → Fate) (seq : ℕ) (f : Fate) (ss : List ℕ) → fate seq ≡ Unjudged → all_lost fate ss ≡ true → all_lost (judged fate seq f) ss ≡ true
-lost-stays fate seq f [] o h = refl
-lost-stays fate seq f (s ∷ ss) o h =
-    let one : judged fate seq f s ≡ Lost = judged_other fate seq s f Lost o (lost-is (fate s) (and-first (is_lost (fate s)) (all_lost fate ss) h)) (λ e. cc) in
-    let rest : all_lost (judged fate seq f) ss ≡ true = lost-stays fate seq f ss o (and-second (is_lost (fate s)) (all_lost fate ss) h) in
-    rw (one, rest) refl
-
-received-stays : (fate : ℕ → Fate) (seq : ℕ) (f : Fate) (ss : List ℕ) → fate seq ≡ Unjudged → any_received fate ss ≡ true → any_received (judged fate seq f) ss ≡ true
-received-stays fate seq f [] o h = cc
-received-stays fate seq f (s ∷ ss) o h = go (is_received (fate s)) refl h (received-stays fate seq f ss o)
-  where
-    go : (b : Bool) → is_received (fate s) ≡ b → (b || any_received fate ss) ≡ true → (any_received fate ss ≡ true → any_received (judged fate seq f) ss ≡ true) → (is_received (judged fate seq f s) || any_received (judged fate seq f) ss) ≡ true
-    go true e k ih = let one : judged fate seq f s ≡ Received = judged_other fate seq s f Received o (received-is (fate s) e) (λ u. cc) in rw one refl
-    go false e k ih = let rest : any_received (judged fate seq f) ss ≡ true = ih k in rw rest (or_true (is_received (judged fate seq f s)))
-
-lost-none : (fate : ℕ → Fate) (ss : List ℕ) → all_lost fate ss ≡ true → any_received fate ss ≡ false
-lost-none fate [] h = refl
-lost-none fate (s ∷ ss) h =
-    let one : fate s ≡ Lost = lost-is (fate s) (and-first (is_lost (fate s)) (all_lost fate ss) h) in
-    let rest : any_received fate ss ≡ false = lost-none fate ss (and-second (is_lost (fate s)) (all_lost fate ss) h) in
-    rw (one, rest) refl
-
-received-none : (fate : ℕ → Fate) (ss : List ℕ) → any_received fate ss ≡ true → all_lost fate ss ≡ false
-received-none fate ss h = go (all_lost fate ss) (lost-none fate ss)
-  where
-    go : (b : Bool) → (b ≡ true → any_received fate ss ≡ false) → b ≡ false
-    go false k = refl
-    go true k = let never : any_received fate ss ≡ false = k refl in absurd cc
+use Rattle.datablocks.specs.SenderStands.{StandsFor}
 
 -- ---- one block
 
-pub done-is : (fate : ℕ → Fate) (ss : List ℕ) (p : Progress) → ProgressIs fate ss p → is_done p ≡ any_received fate ss
-done-is fate ss Due h = sym (lost-none fate ss h)
-done-is fate [] (Carried q) h = absurd h
-done-is fate (s ∷ ss) (Carried q) h = let one : fate s ≡ Unjudged = h.1 in rw one (sym (lost-none fate ss h.2))
-done-is fate [] Done h = cc
-done-is fate (s ∷ ss) Done h = sym h
-
-pub due-is : (fate : ℕ → Fate) (ss : List ℕ) (p : Progress) → ProgressIs fate ss p → now.is_due p ≡ all_lost fate ss
-due-is fate ss Due h = sym h
-due-is fate [] (Carried q) h = absurd h
-due-is fate (s ∷ ss) (Carried q) h = let one : fate s ≡ Unjudged = h.1 in rw one refl
-due-is fate [] Done h = cc
-due-is fate (s ∷ ss) Done h = sym (received-none fate (s ∷ ss) h)
-
-pub done_bit-is : (p : Progress) → done_bit p ≡ (if is_done p then 1 else 0)
+pub done_bit-is : (p : Progress) → done_bit p ≡ (if progress_is_done p then 1 else 0)
 done_bit-is Due = refl
 done_bit-is (Carried q) = refl
 done_bit-is Done = refl
 
--- one block and a verdict
-pub progress-settled : (fate : ℕ → Fate) (seq : ℕ) (v : Verdict) (ss : List ℕ) (p : Progress) → fate seq ≡ Unjudged → ProgressIs fate ss p → ProgressIs (judged fate seq (fate_for v)) ss (progress_after seq v p)
-progress-settled fate seq v ss Due o h = lost-stays fate seq (fate_for v) ss o h
-progress-settled fate seq v [] (Carried q) o h = absurd h
-progress-settled fate seq v [] Done o h = cc
-progress-settled fate seq v (s ∷ ss) Done o h = received-stays fate seq (fate_for v) (s ∷ ss) o h
-progress-settled fate seq v (s ∷ ss) (Carried q) o h = elim (cases_eq q seq) [
-  | inl e ↦ (let t : (q == seq) ≡ true = grind (arith, nat_tests) in rw t (at v (h.0 ∙ e)))
-  | inr e ↦ (let t : (q == seq) ≡ false = grind (arith, nat_tests) in let u : (s == seq) ≡ false = apart s q (h.0) e in
-      rw t (h.0, rw u h.1, lost-stays fate seq (fate_for v) ss o h.2))
-]
-  where
-    apart : (s q : ℕ) → s ≡ q → (q ≡ seq → ⊥) → (s == seq) ≡ false
-    apart s q e other = grind (arith, nat_tests)
-
-    at : (v : Verdict) → s ≡ seq → ProgressIs (judged fate seq (fate_for v)) (s ∷ ss) (verdict_progress v)
-    at verdict.Received e = let one : judged fate seq Received s ≡ Received = judged_same fate seq s Received e in rw one refl
-    at verdict.Lost e = let one : judged fate seq Lost s ≡ Lost = judged_same fate seq s Lost e in rw one (lost-stays fate seq Lost ss o h.2)
-
-closed_is_done : (p : Progress) → not (is_done p) ≡ false → p ≡ Done
+closed_is_done : (p : Progress) → not (progress_is_done p) ≡ false → p ≡ Done
 closed_is_done Due h = cc
 closed_is_done (Carried q) h = cc
 closed_is_done Done h = refl
 
-pub closed_not_due : (p : Progress) → not (is_done p) ≡ false → now.is_due p ≡ false
-closed_not_due p h = ap now.is_due (closed_is_done p h)
+pub closed_not_due : (p : Progress) → not (progress_is_done p) ≡ false → progress_is_due p ≡ false
+closed_not_due p h = ap progress_is_due (closed_is_done p h)
 
-pub closed_stays : (seq : ℕ) (v : Verdict) (p : Progress) → not (is_done p) ≡ false → progress_after seq v p ≡ p
+pub closed_stays : (seq : ℕ) (v : Verdict) (p : Progress) → not (progress_is_done p) ≡ false → progress_after seq v p ≡ p
 closed_stays seq v Due h = refl
 closed_stays seq v (Carried q) h = cc
 closed_stays seq v Done h = refl
 
-pub due_stays : (seq : ℕ) (v : Verdict) (p : Progress) → now.is_due p ≡ true → progress_after seq v p ≡ p
+pub due_stays : (seq : ℕ) (v : Verdict) (p : Progress) → progress_is_due p ≡ true → progress_after seq v p ≡ p
 due_stays seq v Due h = refl
 due_stays seq v (Carried q) h = cc
 due_stays seq v Done h = cc
@@ -154,13 +59,13 @@ module _ (seq : ℕ) (v : Verdict) (old xs : List Progress) (i : ℕ) (p : Progr
       let other : b ≡ i → ⊥ = λ same. omega arith in
       get_or-set_other xs i b p Due other ∙ rest b (omega arith)
 
-  pub step-told_done : (word more : ℕ) → is_done p ≡ true → TellsDone word xs → bit_at more i ≡ 1 → ((b : ℕ) → (b ≡ i → ⊥) → bit_at more b ≡ bit_at word b) → TellsDone more (set xs i p)
+  pub step-told_done : (word more : ℕ) → progress_is_done p ≡ true → TellsDone word xs → bit_at more i ≡ 1 → ((b : ℕ) → (b ≡ i → ⊥) → bit_at more b ≡ bit_at word b) → TellsDone more (set xs i p)
   step-told_done word more done told here others b l = elim (cases_eq b i) [
     | inl at ↦ subst (λ k. bit_at more k ≡ done_bit (progress_at (set xs i p) k)) (sym at) (here ∙ sym (ap done_bit (get_or-set_same xs i p Due within) ∙ done_bit-is p ∙ ap (λ (t : Bool). if t then 1 else 0) done))
     | inr other ↦ others b other ∙ told b l ∙ sym (ap done_bit (get_or-set_other xs i b p Due other))
   ]
 
-  pub step-told_open : (word : ℕ) → is_done p ≡ false → i < 64 → TellsDone word xs → TellsDone word (set xs i p)
+  pub step-told_open : (word : ℕ) → progress_is_done p ≡ false → i < 64 → TellsDone word xs → TellsDone word (set xs i p)
   step-told_open word not_done small told b l = elim (cases_eq b i) [
     | inl at ↦ subst (λ k. bit_at word k ≡ done_bit (progress_at (set xs i p) k)) (sym at) (told i small ∙ before (progress_at xs i) e ∙ sym (ap done_bit (get_or-set_same xs i p Due within)))
     | inr other ↦ told b l ∙ sym (ap done_bit (get_or-set_other xs i b p Due other))
@@ -218,22 +123,16 @@ module _ (blocks : List (List ℕ)) (progress : List Progress) (lowest received 
   ]
 
 pub now_is_due : (s : SenderState) (fate : ℕ → Fate) (log : List SenderEvent) → StandsFor s fate log → due_now s ≡ due_of fate log (length s.blocks)
-now_is_due s fate log h = same_below (is_due_now s) (is_due fate log (length s.blocks)) (length s.blocks) (λ b l. rw (first, due-is fate (carriers b log) (progress_at s.progress b) (h.progress b)) refl)
+now_is_due s fate log h = same_below (is_due_now s) (is_due fate log (length s.blocks)) (length s.blocks) (λ b l. rw (first, sym (due-test fate (carriers b log) (progress_at s.progress b) (h.progress b))) refl)
   where
     first : first_open s ≡ first_unacked fate log (length s.blocks)
-    first = least_same (is_open s.progress) (is_unacked fate log) (length s.blocks) (λ b. ap not (done-is fate (carriers b log) (progress_at s.progress b) (h.progress b)))
-
-least_rises : (f : ℕ → Bool) (n k : ℕ) → k ≤ n → ((j : ℕ) → j < k → f j ≡ false) → k ≤ least f n
-least_rises f n k l below = elim (cases_lt (least f n) k) [
-  | inl under ↦ (let passes = least_passes f n (omega arith) in let fails = below (least f n) under in absurd cc)
-  | inr at ↦ at
-]
+    first = least_same (is_open s.progress) (is_unacked fate log) (length s.blocks) (λ b. ap not (done-test fate (carriers b log) (progress_at s.progress b) (h.progress b)))
 
 pub closed_settled : (blocks : List (List ℕ)) (progress after : List Progress) (lowest received seq : ℕ) (v : Verdict) → IsKept blocks progress lowest received →
     ((b : ℕ) → progress_at after b ≡ progress_after seq v (progress_at progress b)) → (b : ℕ) → b < lowest → is_open after b ≡ false
 closed_settled blocks progress after lowest received seq v k settled b l =
     let was = before_closed blocks progress lowest received k b l in
-    ap (λ (p : Progress). not (is_done p)) (settled b ∙ closed_stays seq v (progress_at progress b) was) ∙ was
+    ap (λ (p : Progress). not (progress_is_done p)) (settled b ∙ closed_stays seq v (progress_at progress b) was) ∙ was
 
 -- a sender after a verdict
 pub kept_settled : (blocks : List (List ℕ)) (progress after : List Progress) (lowest received first word seq : ℕ) (v : Verdict) → IsKept blocks progress lowest received → length after ≡ length progress →
@@ -246,8 +145,8 @@ kept_settled blocks progress after lowest received first word seq v k size settl
       places = size ∙ k.places;
       within = omega (arith, at, least_le (is_open after) (length blocks));
       first = at;
-      near = λ b l. let was = k.near b (omega (arith, at, rises)) in ap now.is_due (settled b ∙ due_stays seq v (progress_at progress b) was) ∙ was;
-      past = λ b l. let was = k.past b l in ap now.is_due (settled b ∙ due_stays seq v (progress_at progress b) was) ∙ was;
+      near = λ b l. let was = k.near b (omega (arith, at, rises)) in ap progress_is_due (settled b ∙ due_stays seq v (progress_at progress b) was) ∙ was;
+      past = λ b l. let was = k.past b l in ap progress_is_due (settled b ∙ due_stays seq v (progress_at progress b) was) ∙ was;
       told = told;
     }
 
@@ -258,7 +157,7 @@ stands_settled s t fate log seq v settled o h = record {
 
 pub told_received : (s : SenderState) (word : ℕ) (fate : ℕ → Fate) (log : List SenderEvent) → TellsDone word s.progress → StandsFor s fate log → (b : ℕ) → b < 64 → bit_at word b ≡ (if any_received fate (carriers b log) then 1 else 0)
 told_received s word fate log told h b l =
-    told b l ∙ done_bit-is (progress_at s.progress b) ∙ ap (λ (t : Bool). if t then 1 else 0) (done-is fate (carriers b log) (progress_at s.progress b) (h.progress b))
+    told b l ∙ done_bit-is (progress_at s.progress b) ∙ ap (λ (t : Bool). if t then 1 else 0) (done-test fate (carriers b log) (progress_at s.progress b) (h.progress b))
 
 pub due_everywhere : (n b : ℕ) → progress_at (replicate n Due) b ≡ Due
 due_everywhere n b = elim (cases_lt b n) [
@@ -272,8 +171,8 @@ kept_unsent blocks progress few places due = record {
   few = few;
   places = places;
   within = omega arith;
-  first = least_is (is_open progress) (length blocks) 0 (omega arith) (λ j l. absurd (omega arith)) (λ l. ap (λ (p : Progress). not (is_done p)) (due 0));
-  near = λ b l. ap now.is_due (due b);
-  past = λ b l. ap now.is_due (due b);
+  first = least_is (is_open progress) (length blocks) 0 (omega arith) (λ j l. absurd (omega arith)) (λ l. ap (λ (p : Progress). not (progress_is_done p)) (due 0));
+  near = λ b l. ap progress_is_due (due b);
+  past = λ b l. ap progress_is_due (due b);
   told = λ b l. bit_at-zero b ∙ sym (ap done_bit (due b));
 }

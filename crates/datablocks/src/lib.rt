@@ -9,6 +9,5 @@ mod sender;
 mod tests;
 mod words;
 
-pub use progress::{BLOCK_WINDOW, MAX_SCRIPT_BLOCKS, Progress};
 pub use receiver::{BlockFault, BlockReceiver};
 pub use sender::{BlockSender, DueBlocks};

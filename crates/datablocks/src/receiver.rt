@@ -1,14 +1,13 @@
 //! The client's side: the blocks that it holds, whose bytes never change.
-ghost use Rattle.std.specs.Prelude.{◌≡◌, ℕ, List, [], ◌∷◌, ◌<◌, Some, length, is_some, IfOk, OnOk, OnErr, if◌then◌else◌};
+ghost use Rattle.std.specs.Prelude.{◌≡◌, ℕ, List, [], ◌<◌, ◌≤◌, Some, None, false, length, is_some, IfOk, OnOk, OnErr};
 ghost use Rattle.std.specs.List.{All};
-ghost use Rattle.datablocks.specs.Holding.{block_at, differs_then};
-ghost use Rattle.std.specs.Int.{bit_at};
+ghost use Rattle.datablocks.specs.Holding.{held_at, differs_then};
+ghost use Rattle.tn_types.specs.Histories.{Does, Answers};
 
-use crate::progress::MAX_SCRIPT_BLOCKS;
 use crate::words::with_bit;
 use std::alloc::{AllocError, Global};
 use std::marker::Model;
-use tn_types::{BlockBytes, NoMemory};
+use tn_types::{BlockBytes, MAX_BLOCKS, NoMemory};
 use wire_format::{BlockItem, BlockList};
 
 /// A block came with other bytes than those that are held of it.
@@ -36,7 +35,7 @@ impl Model for BlockReceiver {
 }
 
 impl BlockReceiver {
-    ghost use Rattle.datablocks.specs.Holding.{block_at, held_bit, held_of, take_answer, after_take, check_answer, differs, after_all, StandsFor};
+    ghost use Rattle.datablocks.specs.Holding.{held_at, held_of, take_answer, after_take, check_answer, bytes_differ, after_all, TellsHeld, StandsFor};
     ghost use Rattle.wire_format.specs.declared.blocks.BlockItem.{BlockItem};
 
     /// No block is held.
@@ -49,27 +48,27 @@ impl BlockReceiver {
         }
     }
 
-    /// Whether a block is held.
+    /// Whether a block is held; false for a number from 64 on, which no block has.
     pub fn has(&self, number: u8) -> bool
-        requires { number < MAX_SCRIPT_BLOCKS }
-        ensures value { result ≡ is_some (block_at self.now number) }
-        ensures log { (log : List BlockItem) → StandsFor self.now log → result ≡ is_some (held_of number log) }
+        ensures value { result ≡ is_some (held_at self.now number) }
+        ensures none { MAX_BLOCKS ≤ number → result ≡ false }
+        ensures log { number < MAX_BLOCKS → Answers StandsFor self.now (λ log. is_some (held_of number log)) result }
     {
-        self.blocks[usize::from(number)].is_some()
+        usize::from(number) < MAX_BLOCKS && self.blocks[usize::from(number)].is_some()
     }
 
     /// Bit b is set where block b is held.
     pub fn held(&self) -> u64
-        ensures value { (b : ℕ) → b < MAX_SCRIPT_BLOCKS → bit_at result b ≡ held_bit (block_at self.now b) }
-        ensures log { (log : List BlockItem) → StandsFor self.now log → (b : ℕ) → b < MAX_SCRIPT_BLOCKS → bit_at result b ≡ held_bit (held_of b log) }
+        ensures value { TellsHeld result (held_at self.now) }
+        ensures log { (log : List BlockItem) → StandsFor self.now log → TellsHeld result (λ b. held_of b log) }
     {
         self.held
     }
 
     /// Bit b is set where block b is held once these blocks were taken; nothing changes.
     pub fn held_after(&self, list: &BlockList) -> u64
-        requires { All (λ item. item.number < MAX_SCRIPT_BLOCKS) list.now }
-        ensures { (b : ℕ) → b < MAX_SCRIPT_BLOCKS → bit_at result b ≡ held_bit (block_at (after_all self.now list.now) b) }
+        requires { All (λ item. item.number < MAX_BLOCKS) list.now }
+        ensures { TellsHeld result (held_at (after_all self.now list.now)) }
     {
         let mut held = self.held;
         'items: for item in list.as_slice() {
@@ -81,12 +80,12 @@ impl BlockReceiver {
     /// Takes a block of a packet. `BlockDiffers` comes exactly where its number is held with other bytes, and
     /// nothing changes then; so no block's bytes ever change (docs/connection.md, "Blocks").
     pub fn take(&mut self, item: &BlockItem) -> Result<(), BlockFault>
-        requires { item.now.number < MAX_SCRIPT_BLOCKS }
+        requires { item.now.number < MAX_BLOCKS }
         ensures answer { result ≡ take_answer self.old item.now }
         ensures taken { OnOk result (self.new ≡ after_take self.old item.now) }
-        ensures kept { (b : ℕ) (bytes : List ℕ) → block_at self.old b ≡ Some bytes → block_at self.new b ≡ Some bytes }
+        ensures kept { (b : ℕ) (bytes : List ℕ) → held_at self.old b ≡ Some bytes → held_at self.new b ≡ Some bytes }
         ensures refused { OnErr result (self.new ≡ self.old) }
-        ensures log { (log : List BlockItem) → StandsFor self.old log → OnOk result (StandsFor self.new (item.now ∷ log)) }
+        ensures log { OnOk result (Does StandsFor self.old item.now self.new) }
     {
         let number = usize::from(item.number);
         if self.differs(item) {
@@ -103,7 +102,7 @@ impl BlockReceiver {
     /// later ones.
     #[tactic(auto, using(crate::proofs::Taking::check_goes_on, crate::proofs::Taking::check_stops, crate::proofs::Taking::check_ends, crate::proofs::Taking::all_taken))]
     pub fn check(&self, list: &BlockList) -> Result<(), BlockFault>
-        requires { All (λ item. item.number < MAX_SCRIPT_BLOCKS) list.now }
+        requires { All (λ item. item.number < MAX_BLOCKS) list.now }
         ensures { result ≡ check_answer self.now list.now }
     {
         let items = list.as_slice();
@@ -120,9 +119,9 @@ impl BlockReceiver {
 
     // Whether the block is held with other bytes.
     fn differs(&self, item: &BlockItem) -> bool
-        requires { item.now.number < MAX_SCRIPT_BLOCKS }
-        ensures value { result ≡ differs (block_at self.now item.now.number) item.now.bytes }
-        ensures places { length self.now ≡ MAX_SCRIPT_BLOCKS }
+        requires { item.now.number < MAX_BLOCKS }
+        ensures value { result ≡ bytes_differ (held_at self.now item.now.number) item.now.bytes }
+        ensures places { length self.now ≡ MAX_BLOCKS }
     {
         match &self.blocks[usize::from(item.number)] {
             Some(bytes) => bytes.as_slice() != item.bytes.as_slice(),
@@ -133,9 +132,9 @@ impl BlockReceiver {
     // The same once the blocks before were taken.
     #[tactic(auto, using(crate::proofs::Taking::differs_more))]
     fn differs_after(&self, before: &[BlockItem], item: &BlockItem) -> bool
-        requires before { All (λ item. item.number < MAX_SCRIPT_BLOCKS) before.now }
-        requires number { item.now.number < MAX_SCRIPT_BLOCKS }
-        ensures { result ≡ differs (block_at (after_all self.now before.now) item.now.number) item.now.bytes }
+        requires before { All (λ item. item.number < MAX_BLOCKS) before.now }
+        requires number { item.now.number < MAX_BLOCKS }
+        ensures { result ≡ bytes_differ (held_at (after_all self.now before.now) item.now.number) item.now.bytes }
     {
         let mut differs = self.differs(item);
         for earlier in before {
@@ -159,11 +158,11 @@ fn differs_then(before: bool, earlier: &BlockItem, item: &BlockItem) -> bool
 // A place for each block.
 #[tactic(auto, using(crate::proofs::Taking::none_more))]
 fn places(alloc: Global) -> Result<Vec<Option<BlockBytes>>, AllocError>
-    ensures places { IfOk result (λ places. length places.items ≡ MAX_SCRIPT_BLOCKS) }
-    ensures none { IfOk result (λ places. (b : ℕ) → block_at places.items b ≡ None) }
+    ensures places { IfOk result (λ places. length places.items ≡ MAX_BLOCKS) }
+    ensures none { IfOk result (λ places. (b : ℕ) → held_at places.items b ≡ None) }
 {
-    let mut places = Vec::with_capacity(alloc, MAX_SCRIPT_BLOCKS)?;
-    for _ in 0..MAX_SCRIPT_BLOCKS {
+    let mut places = Vec::with_capacity(alloc, MAX_BLOCKS)?;
+    for _ in 0..MAX_BLOCKS {
         places.push(None)?;
     }
     Ok(places)

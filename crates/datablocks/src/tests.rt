@@ -2,10 +2,10 @@
 ghost use Rattle.std.specs.Prelude.{◌≡◌, ◌<◌};
 ghost use Rattle.std.specs.List.{All};
 
-use crate::{BlockFault, BlockReceiver, BlockSender, MAX_SCRIPT_BLOCKS};
+use crate::{BlockFault, BlockReceiver, BlockSender};
 use std::alloc::{AllocError, Global};
 use std::test::Fail;
-use tn_types::{BlockBytes, Verdict};
+use tn_types::{BlockBytes, MAX_BLOCKS, Verdict};
 use wire_format::{BlockItem, BlockList};
 
 // Blocks of one byte each.
@@ -56,8 +56,8 @@ fn lost_blocks_are_due_again(rt: HostRuntime) -> Result<(), Fail> {
 // Two blocks of one number.
 #[tactic(auto, using(crate::proofs::Taking::numbered_none, crate::proofs::Taking::numbered_more))]
 fn twice(number: u8, first: u8, second: u8) -> BlockList
-    requires { number < MAX_SCRIPT_BLOCKS }
-    ensures { All (λ item. item.number < MAX_SCRIPT_BLOCKS) result }
+    requires { number < MAX_BLOCKS }
+    ensures { All (λ item. item.number < MAX_BLOCKS) result }
 {
     let mut list = BlockList::new();
     list.push(item(number, first));

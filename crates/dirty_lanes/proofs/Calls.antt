@@ -3,7 +3,8 @@ use Rattle.std.proofs.Common.{◌≡◌, ℕ, ◌+◌, ◌*◌, ◌/◌, ◌%◌
 use Rattle.std.specs.Prelude.{bit_or, replicate, slice_index}
 use Rattle.std.proofs.lemmas.List.{get_or_default}
 use Rattle.std.proofs.lemmas.Nat.{or_lt}
-use Rattle.dirty_lanes.specs.declared.words.TheConstants.{FIELDS, MAX_CLIENTS, WORDS, VERSION}
+use Rattle.tn_types.specs.declared.limits.TheConstants.{MAX_FIELDS, MAX_CLIENTS}
+use Rattle.dirty_lanes.specs.declared.words.TheConstants.{WORDS, VERSION}
 use Rattle.dirty_lanes.specs.Words.{Words, field_word, mask_word, packed, version_at, value_at, mask_at, with_word, new_words, after_write, after_raise, after_drain, SizesStay, FieldsStay, MasksStay, OtherFieldsStay, OtherMasksStay, IsLaidOut}
 use Rattle.dirty_lanes.specs.Log.{LaneEvent, Wrote, Raised, Drained, StandsFor}
 use Rattle.dirty_lanes.proofs.Places.{all_zero, field_there, mask_there}
@@ -28,7 +29,7 @@ pub new_mask : (objects clients c o : ℕ) → mask_at (new_words objects client
 unfolding new_words mask_at
 new_mask objects clients c o = all_zero (WORDS * objects + 1) (mask_word c o)
 
-field_within : (w : Words) (o f : ℕ) → IsLaidOut w → o < w.objects → f < FIELDS → field_word o f < length w.words
+field_within : (w : Words) (o f : ℕ) → IsLaidOut w → o < w.objects → f < MAX_FIELDS → field_word o f < length w.words
 field_within w o f laid there inside = rw laid.long (field_there w.objects o f there inside)
 
 mask_within : (w : Words) (c o : ℕ) → IsLaidOut w → c < w.clients → o < w.objects → mask_word c o < length w.words
@@ -44,7 +45,7 @@ pub mask_read : (v w : Words) (c o i word : ℕ) → v ≡ w → IsLaidOut v →
 unfolding mask_at
 mask_read v w c o i word same laid named there at read = read_at v w i (mask_word c o) word same at (mask_within w c o (subst IsLaidOut same laid) named there) read
 
-pub field_read : (v w : Words) (o f i word : ℕ) → v ≡ w → IsLaidOut v → o < w.objects → f < FIELDS → i ≡ field_word o f → word ≡ get_or v.words i word → word ≡ slice_index w.words (field_word o f)
+pub field_read : (v w : Words) (o f i word : ℕ) → v ≡ w → IsLaidOut v → o < w.objects → f < MAX_FIELDS → i ≡ field_word o f → word ≡ get_or v.words i word → word ≡ slice_index w.words (field_word o f)
 field_read v w o f i word same laid there inside at read = read_at v w i (field_word o f) word same at (field_within w o f (subst IsLaidOut same laid) there inside) read
 
 pub version_is : (w : Words) (o f word version : ℕ) → word ≡ slice_index w.words (field_word o f) → version ≡ word / VERSION → version ≡ version_at w o f
@@ -70,7 +71,7 @@ pub record Writes (old new : Words) (o f v : ℕ) : Type 0 where
   pub masks : MasksStay old new
   pub log : (log : List LaneEvent) → StandsFor old log → StandsFor new (Wrote o f v ∷ log)
 
-writes-after : (w : Words) (o f v : ℕ) → IsLaidOut w → o < w.objects → f < FIELDS → v < VERSION → Writes w (after_write w o f v) o f v
+writes-after : (w : Words) (o f v : ℕ) → IsLaidOut w → o < w.objects → f < MAX_FIELDS → v < VERSION → Writes w (after_write w o f v) o f v
 unfolding after_write version_at value_at
 writes-after w o f v laid there inside small =
     let new = after_write w o f v in
@@ -89,7 +90,7 @@ writes-after w o f v laid there inside small =
       log = λ log stands. stands-write w (after_write w o f v) log o f v (sizes_stay w (field_word o f) word) version value (other_fields_stay w o f word inside) (masks_stay w o f word inside) there inside laid.few_clients stands;
     }
 
-pub writes : (v w : Words) (o f value i word version n : ℕ) → v ≡ w → IsLaidOut v → o < w.objects → f < FIELDS → value < VERSION → i ≡ field_word o f → word ≡ get_or v.words i word → version ≡ word / VERSION → n ≡ packed (version + 1) value
+pub writes : (v w : Words) (o f value i word version n : ℕ) → v ≡ w → IsLaidOut v → o < w.objects → f < MAX_FIELDS → value < VERSION → i ≡ field_word o f → word ≡ get_or v.words i word → version ≡ word / VERSION → n ≡ packed (version + 1) value
     → Writes w (with_word v i n) o f value
 unfolding after_write
 writes v w o f value i word version n same laid there inside small at read is put =
@@ -108,7 +109,7 @@ pub record Raises (old new : Words) (c o bits : ℕ) : Type 0 where
   pub fields : FieldsStay old new
   pub log : (log : List LaneEvent) → StandsFor old log → StandsFor new (Raised c o bits ∷ log)
 
-raises-after : (w : Words) (c o bits : ℕ) → IsLaidOut w → c < w.clients → o < w.objects → bits < 2 ^ FIELDS → Raises w (after_raise w c o bits) c o bits
+raises-after : (w : Words) (c o bits : ℕ) → IsLaidOut w → c < w.clients → o < w.objects → bits < 2 ^ MAX_FIELDS → Raises w (after_raise w c o bits) c o bits
 unfolding after_raise
 raises-after w c o bits laid named there small =
     let word = bit_or (mask_at w c o) bits in
@@ -124,7 +125,7 @@ raises-after w c o bits laid named there small =
       log = λ log stands. stands-raise w (after_raise w c o bits) log c o bits (sizes_stay w (mask_word c o) word) mask (other_masks_stay w c o word few) (fields_stay w c o word few) named there laid.few_clients stands;
     }
 
-pub raises : (v w : Words) (c o bits i word n : ℕ) → v ≡ w → IsLaidOut v → c < w.clients → o < w.objects → bits < 2 ^ FIELDS → i ≡ mask_word c o → word ≡ get_or v.words i word → n ≡ bit_or word bits
+pub raises : (v w : Words) (c o bits i word n : ℕ) → v ≡ w → IsLaidOut v → c < w.clients → o < w.objects → bits < 2 ^ MAX_FIELDS → i ≡ mask_word c o → word ≡ get_or v.words i word → n ≡ bit_or word bits
     → Raises w (with_word v i n) c o bits
 unfolding after_raise
 raises v w c o bits i word n same laid named there small at read put =

@@ -3,7 +3,7 @@
 -- the last drain.
 use Rattle.std.specs.Prelude.{ℕ, ◌≡◌, ◌<◌, Bool, false, not, ◌&&◌, ◌==◌, if◌then◌else◌, List, [], ◌∷◌, length, slice_index, bit_or, Option, Some, None, refl}
 use Rattle.std.specs.List.{filter_map, take_while}
-use Rattle.dirty_lanes.specs.declared.words.TheConstants.{FIELDS}
+use Rattle.tn_types.specs.declared.limits.TheConstants.{MAX_FIELDS}
 use Rattle.dirty_lanes.specs.Words.{Words, version_at, value_at, mask_at}
 
 pub data LaneEvent : Type 0 where
@@ -56,8 +56,10 @@ unfoldable pub mask_of : List LaneEvent → ℕ → ℕ → ℕ
 mask_of log client object = or_of (raised_since_drain log client object)
 
 pub record StandsFor (w : Words) (log : List LaneEvent) : Type 0 where
-  pub versions : (object field : ℕ) → object < w.objects → field < FIELDS → version_at w object field ≡ version_of log object field
-  pub values : (object field : ℕ) → object < w.objects → field < FIELDS → value_at w object field ≡ last_value log object field
+  pub versions : (object field : ℕ) → object < w.objects → field < MAX_FIELDS
+      → version_at w object field ≡ version_of log object field
+  pub values : (object field : ℕ) → object < w.objects → field < MAX_FIELDS
+      → value_at w object field ≡ last_value log object field
   pub masks : (client object : ℕ) → client < w.clients → object < w.objects → mask_at w client object ≡ mask_of log client object
 
 -- field 0 of object 3 was written twice and raised for client 1 each time; client 0 was told of it in between

@@ -13,4 +13,3 @@ mod words;
 
 pub use laws::each_bit_was_raised;
 pub use plain::PlainLanes;
-pub use words::{FIELDS, MAX_CLIENTS, MAX_OBJECTS};

@@ -6,24 +6,17 @@
 ghost use Rattle.std.specs.Prelude.{◌≡◌, ◌*◌, ◌+◌, ◌/◌, ◌%◌, ◌<◌};
 ghost use Rattle.dirty_lanes.specs.Words.{field_word, mask_word, packed};
 
-/// The fields of an object, numbered from 0.
-pub const FIELDS: u8 = 16;
+use tn_types::{MAX_CLIENTS, MAX_FIELDS};
 
-/// The most clients, numbered from 0.
-pub const MAX_CLIENTS: u32 = 16;
-
-/// The most objects, numbered from 0.
-pub const MAX_OBJECTS: u32 = 1024;
-
-/// The words of an object.
-pub(crate) const WORDS: usize = 32;
+/// The words of an object: one for each field and one for each client.
+pub(crate) const WORDS: usize = MAX_FIELDS + MAX_CLIENTS as usize;
 
 /// What one version adds to a field's word: the value stands in the 32 bits below it.
 pub(crate) const VERSION: u64 = 4_294_967_296;
 
 // The place of a field's word.
 pub(crate) fn field_word(object: u32, field: u8) -> usize
-    requires { field < FIELDS }
+    requires { field < MAX_FIELDS }
     ensures { result ≡ field_word object field }
 {
     WORDS * object as usize + field as usize + 1
@@ -34,7 +27,7 @@ pub(crate) fn mask_word(client: u8, object: u32) -> usize
     requires { client < MAX_CLIENTS }
     ensures { result ≡ mask_word client object }
 {
-    WORDS * object as usize + (FIELDS as usize + client as usize) + 1
+    WORDS * object as usize + (MAX_FIELDS + client as usize) + 1
 }
 
 // A field's word with this version and value.

@@ -11,11 +11,11 @@ use Rattle.tn_types.specs.declared.choices.Class.{Class}
 use Rattle.tn_types.specs.declared.choices.Class.TheVariants.{Loose}
 use Rattle.wire_format.specs.declared.events.EventItem.{EventItem}
 use Rattle.wire_format.specs.Events.{IsEventInRange}
-use Rattle.event_manager.specs.Receiving.{items_onto, first_of, run_of, payloads, guaranteed_event, by_class, news, delivered_of, is_ahead, take_answer}
+use Rattle.event_manager.specs.Receiving.{items_onto, first_payload, run_of, payloads, guaranteed_event, by_class, news, delivered_of, is_ahead, take_answer}
 use Rattle.event_manager.specs.ReceiverState.{ReceiverState, IsBounded, held_count, lead, filled, moved_on, ran, came_at, took_number, took, took_all, IsNumber}
-use Rattle.event_manager.specs.ReceiverStands.{held_of, IsEndOf, StandsFor}
+use Rattle.event_manager.specs.ReceiverStands.{held_places, IsEndOf, StandsFor}
 use Rattle.event_manager.proofs.Places.{length-lead, held_count-filled, held_count-moved_on, bounded-loose, bounded-came}
-use Rattle.event_manager.proofs.Runs.{has-more, run-below, run-is, run-same, held_of-same, first-again, first-loose, filled-held_of, lead-held_of, lead-has, lead-ends, length-held_of, drop-held_of, held_of-none}
+use Rattle.event_manager.proofs.Runs.{has-more, run-below, run-is, run-same, held_places-same, first-again, first-loose, filled-held_places, lead-held_places, lead-has, lead-ends, length-held_places, drop-held_places, held_places-none}
 
 -- ---- the end of a list
 
@@ -48,13 +48,13 @@ news-loose item came e = ap (λ o. by_class o ((Loose, item.payload) ∷ []) (ma
 took-loose : (item : EventItem) (r : ReceiverState) (came : List EventItem) → item.number ≡ None → length r.ready < 95 → StandsFor r came →
     StandsFor (took_number None item.payload r) (item ∷ came) × ((took_number None item.payload r).ready ≡ r.ready ++ news item came)
 took-loose item r came e room s =
-    let same : (i : ℕ) → first_of i (item ∷ came) ≡ first_of i came = λ i. first-loose item came i e in
+    let same : (i : ℕ) → first_payload i (item ∷ came) ≡ first_payload i came = λ i. first-loose item came i e in
     let run : run_of (item ∷ came) ≡ run_of came = run-same came (item ∷ came) same in
     let all : r.ready ++ (Loose, item.payload) ∷ [] ≡ r.ready ++ news item came = ap (λ es. r.ready ++ es) (sym (news-loose item came e)) in (
       record {
         bounded = bounded-loose r item.payload s.bounded room;
         delivered = s.delivered ∙ sym run;
-        held = s.held ∙ ap (λ n. held_of came n 64) (sym run) ∙ sym (held_of-same came (item ∷ came) (run_of (item ∷ came)) 64 same);
+        held = s.held ∙ ap (λ n. held_places came n 64) (sym run) ∙ sym (held_places-same came (item ∷ came) (run_of (item ∷ came)) 64 same);
         none_ahead = λ i l. same i ∙ s.none_ahead i (omega (arith, run, l));
         ready = subst (λ es. IsEndOf es (delivered_of came ++ news item came)) (sym all) (end-append r.ready (delivered_of came) (news item came) s.ready);
       },
@@ -72,13 +72,13 @@ news-again item came n e run =
 took-again : (item : EventItem) (r : ReceiverState) (came : List EventItem) (n : ℕ) → item.number ≡ Some n → n < r.delivered → StandsFor r came →
     StandsFor r (item ∷ came) × (r.ready ≡ r.ready ++ news item came)
 took-again item r came n e old s =
-    let same : (i : ℕ) → first_of i (item ∷ came) ≡ first_of i came = λ i. first-again item came n i e (run-below came n (omega (arith, old, s.delivered))) in
+    let same : (i : ℕ) → first_payload i (item ∷ came) ≡ first_payload i came = λ i. first-again item came n i e (run-below came n (omega (arith, old, s.delivered))) in
     let run : run_of (item ∷ came) ≡ run_of came = run-same came (item ∷ came) same in
     let none : news item came ≡ [] = news-again item came n e run in (
       record {
         bounded = s.bounded;
         delivered = s.delivered ∙ sym run;
-        held = s.held ∙ ap (λ k. held_of came k 64) (sym run) ∙ sym (held_of-same came (item ∷ came) (run_of (item ∷ came)) 64 same);
+        held = s.held ∙ ap (λ k. held_places came k 64) (sym run) ∙ sym (held_places-same came (item ∷ came) (run_of (item ∷ came)) 64 same);
         none_ahead = λ i l. same i ∙ s.none_ahead i (omega (arith, run, l));
         ready = subst (λ es. IsEndOf r.ready (delivered_of came ++ es)) (sym none) (subst (λ es. IsEndOf r.ready es) (sym (append-nil (delivered_of came))) s.ready);
       },
@@ -88,55 +88,55 @@ took-again item r came n e old s =
 -- ---- a new number
 
 module _ (item : EventItem) (r : ReceiverState) (came : List EventItem) (n : ℕ) (e : item.number ≡ Some n) (new : r.delivered ≤ n) (near : n < r.delivered + 64) (s : StandsFor r came) where
-  filled_is : filled (n - r.delivered) item.payload r.held ≡ held_of (item ∷ came) (run_of came) 64
-  filled_is = ap (filled (n - r.delivered) item.payload) s.held ∙ filled-held_of item came n (run_of came) (n - r.delivered) 64 e (omega (arith, new, s.delivered))
+  filled_is : filled (n - r.delivered) item.payload r.held ≡ held_places (item ∷ came) (run_of came) 64
+  filled_is = ap (filled (n - r.delivered) item.payload) s.held ∙ filled-held_places item came n (run_of came) (n - r.delivered) 64 e (omega (arith, new, s.delivered))
 
-  none_ahead' : (i : ℕ) → run_of came + 64 ≤ i → first_of i (item ∷ came) ≡ None
+  none_ahead' : (i : ℕ) → run_of came + 64 ≤ i → first_payload i (item ∷ came) ≡ None
   none_ahead' i l =
       let t : (n == i) ≡ false = grind (arith, nat_tests, s.delivered) in
       rw (e, t, s.none_ahead i l) refl
 
-  few : length (lead (held_of (item ∷ came) (run_of came) 64)) ≤ 64
-  few = omega (arith, length-lead (held_of (item ∷ came) (run_of came) 64), length-held_of (item ∷ came) (run_of came) 64)
+  few : length (lead (held_places (item ∷ came) (run_of came) 64)) ≤ 64
+  few = omega (arith, length-lead (held_places (item ∷ came) (run_of came) 64), length-held_places (item ∷ came) (run_of came) 64)
 
-  run' : run_of (item ∷ came) ≡ run_of came + length (lead (held_of (item ∷ came) (run_of came) 64))
-  run' = run-is (item ∷ came) (run_of came + length (lead (held_of (item ∷ came) (run_of came) 64)))
+  run' : run_of (item ∷ came) ≡ run_of came + length (lead (held_places (item ∷ came) (run_of came) 64))
+  run' = run-is (item ∷ came) (run_of came + length (lead (held_places (item ∷ came) (run_of came) 64)))
       (λ i l. elim (cases_lt i (run_of came)) [
         | inl before ↦ has-more item came i (run-below came i before)
         | inr after ↦ lead-has (item ∷ came) (run_of came) 64 i after l
       ])
-      (elim (cases_lt (length (lead (held_of (item ∷ came) (run_of came) 64))) 64) [
+      (elim (cases_lt (length (lead (held_places (item ∷ came) (run_of came) 64))) 64) [
         | inl some ↦ lead-ends (item ∷ came) (run_of came) 64 some
-        | inr all ↦ ap is_some (none_ahead' (run_of came + length (lead (held_of (item ∷ came) (run_of came) 64))) (omega arith))
+        | inr all ↦ ap is_some (none_ahead' (run_of came + length (lead (held_places (item ∷ came) (run_of came) 64))) (omega arith))
       ])
 
-  moved_is : moved_on (held_of (item ∷ came) (run_of came) 64) ≡ held_of (item ∷ came) (run_of (item ∷ came)) 64
+  moved_is : moved_on (held_places (item ∷ came) (run_of came) 64) ≡ held_places (item ∷ came) (run_of (item ∷ came)) 64
   moved_is =
-      let whole : length (lead (held_of (item ∷ came) (run_of came) 64)) + (64 - length (lead (held_of (item ∷ came) (run_of came) 64))) ≡ 64 = omega (arith, few) in
-      let back : 64 - length (lead (held_of (item ∷ came) (run_of came) 64)) + length (lead (held_of (item ∷ came) (run_of came) 64)) ≡ 64 = omega (arith, few) in
-      ap (λ ps. ps ++ replicate (length (lead (held_of (item ∷ came) (run_of came) 64))) None)
-      (ap (λ k. drop (length (lead (held_of (item ∷ came) (run_of came) 64))) (held_of (item ∷ came) (run_of came) k)) (sym whole)
-      ∙ drop-held_of (item ∷ came) (run_of came) (length (lead (held_of (item ∷ came) (run_of came) 64))) (64 - length (lead (held_of (item ∷ came) (run_of came) 64))))
-      ∙ held_of-none (item ∷ came) (run_of came + length (lead (held_of (item ∷ came) (run_of came) 64))) (64 - length (lead (held_of (item ∷ came) (run_of came) 64))) (length (lead (held_of (item ∷ came) (run_of came) 64)))
+      let whole : length (lead (held_places (item ∷ came) (run_of came) 64)) + (64 - length (lead (held_places (item ∷ came) (run_of came) 64))) ≡ 64 = omega (arith, few) in
+      let back : 64 - length (lead (held_places (item ∷ came) (run_of came) 64)) + length (lead (held_places (item ∷ came) (run_of came) 64)) ≡ 64 = omega (arith, few) in
+      ap (λ ps. ps ++ replicate (length (lead (held_places (item ∷ came) (run_of came) 64))) None)
+      (ap (λ k. drop (length (lead (held_places (item ∷ came) (run_of came) 64))) (held_places (item ∷ came) (run_of came) k)) (sym whole)
+      ∙ drop-held_places (item ∷ came) (run_of came) (length (lead (held_places (item ∷ came) (run_of came) 64))) (64 - length (lead (held_places (item ∷ came) (run_of came) 64))))
+      ∙ held_places-none (item ∷ came) (run_of came + length (lead (held_places (item ∷ came) (run_of came) 64))) (64 - length (lead (held_places (item ∷ came) (run_of came) 64))) (length (lead (held_places (item ∷ came) (run_of came) 64)))
       (λ j l. none_ahead' j (omega (arith, few, l)))
-      ∙ ap (held_of (item ∷ came) (run_of came + length (lead (held_of (item ∷ came) (run_of came) 64)))) back
-      ∙ ap (λ k. held_of (item ∷ came) k 64) (sym run')
+      ∙ ap (held_places (item ∷ came) (run_of came + length (lead (held_places (item ∷ came) (run_of came) 64)))) back
+      ∙ ap (λ k. held_places (item ∷ came) k 64) (sym run')
 
-  news_is : map guaranteed_event (lead (held_of (item ∷ came) (run_of came) 64)) ≡ news item came
+  news_is : map guaranteed_event (lead (held_places (item ∷ came) (run_of came) 64)) ≡ news item came
   news_is =
-      let count : run_of (item ∷ came) - run_of came ≡ length (lead (held_of (item ∷ came) (run_of came) 64)) = omega (arith, run') in
-      ap (map guaranteed_event) (lead-held_of (item ∷ came) (run_of came) 64 ∙ ap (payloads (item ∷ came) (run_of came)) (sym count))
+      let count : run_of (item ∷ came) - run_of came ≡ length (lead (held_places (item ∷ came) (run_of came) 64)) = omega (arith, run') in
+      ap (map guaranteed_event) (lead-held_places (item ∷ came) (run_of came) 64 ∙ ap (payloads (item ∷ came) (run_of came)) (sym count))
       ∙ sym (ap (λ o. by_class o ((Loose, item.payload) ∷ []) (map guaranteed_event (payloads (item ∷ came) (run_of came) (run_of (item ∷ came) - run_of came)))) e)
 
   took-new : n < 16777216 → length r.ready + held_count r.held < 95 → StandsFor (came_at (n - r.delivered) item.payload r) (item ∷ came) × ((came_at (n - r.delivered) item.payload r).ready ≡ r.ready ++ news item came)
   took-new fits room =
       let P : List (Option (List ℕ)) → Type 0 = λ held. IsBounded (ran (record { delivered = r.delivered; held = held; ready = r.ready })) in
       let Q : List (Option (List ℕ)) → Type 0 = λ held. StandsFor (ran (record { delivered = r.delivered; held = held; ready = r.ready })) (item ∷ came) × ((ran (record { delivered = r.delivered; held = held; ready = r.ready })).ready ≡ r.ready ++ news item came) in
-      let all : r.ready ++ map guaranteed_event (lead (held_of (item ∷ came) (run_of came) 64)) ≡ r.ready ++ news item came = ap (λ es. r.ready ++ es) news_is in
+      let all : r.ready ++ map guaranteed_event (lead (held_places (item ∷ came) (run_of came) 64)) ≡ r.ready ++ news item came = ap (λ es. r.ready ++ es) news_is in
       subst Q (sym filled_is) (
         record {
           bounded = subst P filled_is (bounded-came r (n - r.delivered) item.payload s.bounded (omega (arith, new, fits)) room);
-          delivered = ap (λ k. k + length (lead (held_of (item ∷ came) (run_of came) 64))) s.delivered ∙ sym run';
+          delivered = ap (λ k. k + length (lead (held_places (item ∷ came) (run_of came) 64))) s.delivered ∙ sym run';
           held = moved_is;
           none_ahead = λ i l. none_ahead' i (omega (arith, run', l));
           ready = subst (λ es. IsEndOf es (delivered_of came ++ news item came)) (sym all) (end-append r.ready (delivered_of came) (news item came) s.ready);

@@ -1,5 +1,4 @@
 pub mod Walks
-pub mod Fates
 pub mod Standing
 pub mod Writing
 pub mod Bounds

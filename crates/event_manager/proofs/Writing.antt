@@ -8,15 +8,19 @@ use Rattle.std.proofs.lemmas.List.Elements.{All-from_recursion}
 use Rattle.wire_format.specs.Events.{IsEventInRange}
 use Rattle.notify_window.specs.Log.{Fate, Unjudged}
 use Rattle.wire_format.specs.declared.events.EventItem.{EventItem}
-use Rattle.event_manager.specs.declared.entries.Progress.{Progress}
-use Rattle.event_manager.specs.declared.entries.Progress.TheVariants.{Due, Carried, Done}
+use Rattle.notify_window.specs.declared.progress.Progress.{Progress}
+use Rattle.notify_window.specs.declared.progress.Progress.TheVariants.{Due, Carried, Done}
 use Rattle.event_manager.specs.declared.entries.Entry.{Entry}
-use Rattle.event_manager.specs.Sending.{SenderEvent, Wrote, posted_of, is_number, is_loose, holds, carriers, all_lost, any_received, least, is_unacked, first_unacked, is_due, guaranteed_item, loose_item, items_that, due_guaranteed, loose_count, waiting_of, due_of}
-use Rattle.event_manager.specs.Entries.{is_due_now, due_items, due_count, marked}
+use Rattle.event_manager.specs.Sending.{SenderEvent, Wrote, posted_of, has_number, is_loose, holds, carriers, is_unacked, first_unacked, is_due, guaranteed_item, loose_item, items_that, due_guaranteed, loose_count, waiting_of, due_of}
+use Rattle.event_manager.specs.Entries.{due_items, due_count, marked}
 use Rattle.event_manager.specs.SenderState.{SenderState, IsBounded, due_now}
-use Rattle.event_manager.specs.SenderStands.{ProgressIs, EntriesAre, StandsFor}
+use Rattle.event_manager.specs.SenderStands.{EntriesAre, StandsFor}
+use Rattle.notify_window.specs.Fates.{all_lost, any_received}
+use Rattle.tn_types.specs.Least.{least}
+use Rattle.notify_window.specs.Carriers.{progress_is_due}
+use Rattle.notify_window.specs.Carriers.{ProgressIs}
+use Rattle.notify_window.proofs.Fates.{not-false, done-none, due-is, due-test}
 use Rattle.event_manager.proofs.Standing.{first-le, first-below}
-use Rattle.event_manager.proofs.Fates.{not-false, done-none, due-is, due-test}
 
 -- ---- what is due
 
@@ -39,7 +43,7 @@ due-entries fate log (suc n) i [] (e ∷ es) at h = absurd h
 due-entries fate log (suc n) i (v ∷ vs) [] at h = absurd h
 due-entries fate log (suc n) i (v ∷ vs) (e ∷ es) at h =
     let t : nat_lt i (first_unacked fate log + 64) ≡ true = grind (arith, nat_tests) in
-    let u : all_lost fate (carriers i log) ≡ is_due_now e.progress = due-test fate (carriers i log) e.progress h.1 in
+    let u : all_lost fate (carriers i log) ≡ progress_is_due e.progress = due-test fate (carriers i log) e.progress h.1 in
     let w : e.payload ≡ v = h.0 in
     rw (t, u, w, due-entries fate log n (suc i) vs es (omega arith) h.2)
 
@@ -66,7 +70,7 @@ due_now-is s fate log h =
 pub length-due_items : (near i : ℕ) (es : List Entry) → length (due_items near i es) ≡ due_count near es
 length-due_items zero i es = refl
 length-due_items (suc near) i [] = refl
-length-due_items (suc near) i (e ∷ es) = go (is_due_now e.progress) (length-due_items near (suc i) es)
+length-due_items (suc near) i (e ∷ es) = go (progress_is_due e.progress) (length-due_items near (suc i) es)
   where
     go : (b : Bool) → length (due_items near (suc i) es) ≡ due_count near es →
         length (if b then guaranteed_item i e.payload ∷ due_items near (suc i) es else due_items near (suc i) es) ≡ (if b then suc (due_count near es) else due_count near es)
@@ -77,7 +81,7 @@ length-due_items (suc near) i (e ∷ es) = go (is_due_now e.progress) (length-du
 
 holds-append : (j : ℕ) (xs ys : List EventItem) → holds j (xs ++ ys) ≡ (holds j xs || holds j ys)
 holds-append j [] ys = refl
-holds-append j (x ∷ xs) ys = ap (λ b. is_number j x.number || b) (holds-append j xs ys) ∙ regroup (is_number j x.number)
+holds-append j (x ∷ xs) ys = ap (λ b. has_number j x.number || b) (holds-append j xs ys) ∙ regroup (has_number j x.number)
   where
     regroup : (b : Bool) → (b || (holds j xs || holds j ys)) ≡ ((b || holds j xs) || holds j ys)
     regroup true = refl
@@ -101,7 +105,7 @@ holds-due : (j i near count : ℕ) (es : List Entry) → j < i → holds j (take
 holds-due j i near zero es l = refl
 holds-due j i zero (suc count) es l = refl
 holds-due j i (suc near) (suc count) [] l = refl
-holds-due j i (suc near) (suc count) (e ∷ es) l = go (is_due_now e.progress) (holds-due j (suc i) near count es (omega arith)) (holds-due j (suc i) near (suc count) es (omega arith))
+holds-due j i (suc near) (suc count) (e ∷ es) l = go (progress_is_due e.progress) (holds-due j (suc i) near count es (omega arith)) (holds-due j (suc i) near (suc count) es (omega arith))
   where
     go : (b : Bool) → holds j (take count (due_items near (suc i) es)) ≡ false → holds j (take (suc count) (due_items near (suc i) es)) ≡ false →
         holds j (take (suc count) (if b then guaranteed_item i e.payload ∷ due_items near (suc i) es else due_items near (suc i) es)) ≡ false
@@ -115,7 +119,7 @@ holds-past j i zero (suc count) fate log vs es h l = refl
 holds-past j i (suc near) (suc count) fate log [] [] h l = refl
 holds-past j i (suc near) (suc count) fate log [] (e ∷ es) h l = absurd h
 holds-past j i (suc near) (suc count) fate log (v ∷ vs) [] h l = absurd h
-holds-past j i (suc near) (suc count) fate log (v ∷ vs) (e ∷ es) h l = go (is_due_now e.progress) (holds-past j (suc i) near count fate log vs es h.2 (omega arith)) (holds-past j (suc i) near (suc count) fate log vs es h.2 (omega arith))
+holds-past j i (suc near) (suc count) fate log (v ∷ vs) (e ∷ es) h l = go (progress_is_due e.progress) (holds-past j (suc i) near count fate log vs es h.2 (omega arith)) (holds-past j (suc i) near (suc count) fate log vs es h.2 (omega arith))
   where
     go : (b : Bool) → holds j (take count (due_items near (suc i) es)) ≡ false → holds j (take (suc count) (due_items near (suc i) es)) ≡ false →
         holds j (take (suc count) (if b then guaranteed_item i e.payload ∷ due_items near (suc i) es else due_items near (suc i) es)) ≡ false
@@ -171,22 +175,22 @@ entries-marked fate log (suc near) seq (suc count) i pre (v ∷ vs) (e ∷ es) o
         EntriesAre fate (Wrote seq (pre ++ take (suc count) (due_items near (suc i) es)) ∷ log) (suc i) vs (marked near seq (suc count) es) →
         EntriesAre fate (Wrote seq (pre ++ take (suc count) (due_items (suc near) i (e ∷ es))) ∷ log) i (v ∷ vs) (marked (suc near) seq (suc count) (e ∷ es))
     go Due p k with_it without =
-        let t : is_due_now e.progress ≡ true = ap is_due_now p in
+        let t : progress_is_due e.progress ≡ true = ap progress_is_due p in
         let w : (pre ++ guaranteed_item i e.payload ∷ []) ++ take count (due_items near (suc i) es) ≡ pre ++ guaranteed_item i e.payload ∷ take count (due_items near (suc i) es) = append_assoc pre _ _ in
         let n : holds i (pre ++ guaranteed_item i e.payload ∷ take count (due_items near (suc i) es)) ≡ true = on (take count (due_items near (suc i) es)) in
         rw (t, n) (h.0, (refl, o, due-is fate (carriers i log) k), subst (λ items. EntriesAre fate (Wrote seq items ∷ log) (suc i) vs (marked near seq count es)) w with_it)
     go (Carried q) p k with_it without =
-        let t : is_due_now e.progress ≡ false = ap is_due_now p in
+        let t : progress_is_due e.progress ≡ false = ap progress_is_due p in
         rw t (h.0, rw off h.1, without)
     go Done p k with_it without =
-        let t : is_due_now e.progress ≡ false = ap is_due_now p in
+        let t : progress_is_due e.progress ≡ false = ap progress_is_due p in
         rw t (h.0, rw off h.1, without)
 
 pub length-marked : (near seq count : ℕ) (es : List Entry) → length (marked near seq count es) ≡ length es
 length-marked zero seq count es = refl
 length-marked (suc near) seq zero es = refl
 length-marked (suc near) seq (suc count) [] = refl
-length-marked (suc near) seq (suc count) (e ∷ es) = go (is_due_now e.progress) (length-marked near seq count es) (length-marked near seq (suc count) es)
+length-marked (suc near) seq (suc count) (e ∷ es) = go (progress_is_due e.progress) (length-marked near seq count es) (length-marked near seq (suc count) es)
   where
     go : (b : Bool) → length (marked near seq count es) ≡ length es → length (marked near seq (suc count) es) ≡ length es → length (if b then record { payload = e.payload; progress = Carried seq } ∷ marked near seq count es else e ∷ marked near seq (suc count) es) ≡ suc (length es)
     go true h k = ap suc h
@@ -229,7 +233,7 @@ loose_count-due : (near i count : ℕ) (es : List Entry) → loose_count (take c
 loose_count-due near i zero es = refl
 loose_count-due zero i (suc count) es = refl
 loose_count-due (suc near) i (suc count) [] = refl
-loose_count-due (suc near) i (suc count) (e ∷ es) = go (is_due_now e.progress) (loose_count-due near (suc i) count es) (loose_count-due near (suc i) (suc count) es)
+loose_count-due (suc near) i (suc count) (e ∷ es) = go (progress_is_due e.progress) (loose_count-due near (suc i) count es) (loose_count-due near (suc i) (suc count) es)
   where
     go : (b : Bool) → loose_count (take count (due_items near (suc i) es)) ≡ 0 → loose_count (take (suc count) (due_items near (suc i) es)) ≡ 0 →
         loose_count (take (suc count) (if b then guaranteed_item i e.payload ∷ due_items near (suc i) es else due_items near (suc i) es)) ≡ 0
@@ -292,7 +296,7 @@ all-loose (v ∷ vs) = (tt, all-loose vs)
 all-due : (near i : ℕ) (es : List Entry) → i + length es ≤ 16777216 → AllByRecursion IsEventInRange (due_items near i es)
 all-due zero i es l = tt
 all-due (suc near) i [] l = tt
-all-due (suc near) i (e ∷ es) l = go (is_due_now e.progress) (all-due near (suc i) es (omega arith))
+all-due (suc near) i (e ∷ es) l = go (progress_is_due e.progress) (all-due near (suc i) es (omega arith))
   where
     go : (b : Bool) → AllByRecursion IsEventInRange (due_items near (suc i) es) → AllByRecursion IsEventInRange (if b then guaranteed_item i e.payload ∷ due_items near (suc i) es else due_items near (suc i) es)
     go true rest = (omega arith, rest)

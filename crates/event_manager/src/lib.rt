@@ -16,19 +16,10 @@ mod tests;
 pub use laws::{delivered_in_order, due_was_posted};
 pub use receiver::{EventAhead, EventReceiver};
 pub use sender::{EventSender, PostFault};
-use wire_format::MAX_EVENTS;
-
-/// How far a due event may be from the first unacknowledged one, and a held one from the first undelivered.
-pub const EVENT_WINDOW: usize = 64;
-
-/// The most guaranteed events that may be unacknowledged.
-pub const MAX_UNACKNOWLEDGED: usize = 256;
-
-/// The most unguaranteed events that wait.
-pub const MAX_WAITING: usize = 64;
+use tn_types::{MAX_EVENTS_AHEAD, MAX_LIFE, MAX_PACKET_EVENTS};
 
 /// The most delivered events that one packet leaves waiting: what is held, and the packet's own.
-pub const MAX_READY: usize = EVENT_WINDOW + MAX_EVENTS;
+pub const MAX_READY_EVENTS: usize = MAX_EVENTS_AHEAD + MAX_PACKET_EVENTS;
 
-/// Above all numbers of events: a number has 24 bits.
-pub const NUMBER_LIMIT: u32 = 1 << 24;
+/// The most guaranteed events that an end can be sent, whose numbers are 0 to `MAX_LIFE`.
+pub const MAX_DELIVERED_EVENTS: u32 = MAX_LIFE + 1;

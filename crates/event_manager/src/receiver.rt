@@ -4,11 +4,11 @@ ghost use Rattle.std.specs.Prelude.{◌≡◌, ℕ, ◌+◌, ◌-◌, ◌<◌, �
 ghost use Rattle.event_manager.specs.Receiving.{take_answer};
 
 use crate::held::{deliver_run, hold};
-use crate::{EVENT_WINDOW, MAX_READY, NUMBER_LIMIT};
+use crate::{MAX_DELIVERED_EVENTS, MAX_READY_EVENTS};
 use std::alloc::Global;
 use std::collections::VecDeque;
 use std::marker::Model;
-use tn_types::{Class, NoMemory, Payload};
+use tn_types::{Class, MAX_EVENTS_AHEAD, NoMemory, Payload};
 use wire_format::{EventItem, EventList};
 
 /// An event whose number is 64 or more above what is delivered. Nothing changed.
@@ -31,7 +31,8 @@ pub struct EventReceiver {
 impl Model for EventReceiver {
     ghost use Rattle.std.specs.Prelude.{◌≡◌, ◌≤◌};
     ghost use Rattle.std.specs.VecDeque.{deque_capacity};
-    ghost use Rattle.event_manager.specs.declared.TheConstants.{EVENT_WINDOW, MAX_READY};
+    ghost use Rattle.tn_types.specs.declared.limits.TheConstants.{MAX_EVENTS_AHEAD};
+    ghost use Rattle.event_manager.specs.declared.TheConstants.{MAX_READY_EVENTS};
     ghost use Rattle.event_manager.specs.ReceiverState.{ReceiverState, IsBounded};
 
     ghost Value = { ReceiverState };
@@ -40,15 +41,15 @@ impl Model for EventReceiver {
 
     ghost invariant = { λ r. record {
       bounded : IsBounded (record { delivered = r.delivered; held = r.held.items; ready = r.ready.items });
-      places : EVENT_WINDOW ≤ deque_capacity r.held;
-      queue : MAX_READY ≤ deque_capacity r.ready;
+      places : MAX_EVENTS_AHEAD ≤ deque_capacity r.held;
+      queue : MAX_READY_EVENTS ≤ deque_capacity r.ready;
     } };
 }
 
 impl EventReceiver {
-    ghost use Rattle.event_manager.specs.Receiving.{items_onto, delivered_of, is_ahead};
+    ghost use Rattle.event_manager.specs.Receiving.{is_ahead};
     ghost use Rattle.event_manager.specs.ReceiverState.{IsBounded, took, held_count};
-    ghost use Rattle.event_manager.specs.ReceiverStands.{StandsFor};
+    ghost use Rattle.event_manager.specs.ReceiverStands.{StandsFor, TakesIn, HandsOver};
     ghost use Rattle.wire_format.specs.declared.events.EventItem.{EventItem};
     ghost use Rattle.wire_format.specs.Events.{IsEventInRange};
     ghost use Rattle.std.specs.Prelude.{false};
@@ -58,13 +59,13 @@ impl EventReceiver {
         ensures stands { IfOk result (λ r. StandsFor r []) }
         ensures empty { IfOk result (λ r. r.ready ≡ []) }
     {
-        let Ok(mut held) = VecDeque::with_capacity(alloc, EVENT_WINDOW) else {
+        let Ok(mut held) = VecDeque::with_capacity(alloc, MAX_EVENTS_AHEAD) else {
             return Err(NoMemory);
         };
-        for _ in 0..EVENT_WINDOW {
+        for _ in 0..MAX_EVENTS_AHEAD {
             held.push_back_reserved(None);
         }
-        let Ok(ready) = VecDeque::with_capacity(alloc, MAX_READY) else {
+        let Ok(ready) = VecDeque::with_capacity(alloc, MAX_READY_EVENTS) else {
             return Err(NoMemory);
         };
         Ok(EventReceiver {
@@ -93,8 +94,8 @@ impl EventReceiver {
         requires numbers { All IsEventInRange list.now }
         ensures answer { result ≡ take_answer self.old.delivered list.now }
         ensures unchanged { OnErr result (self.new ≡ self.old) }
-        ensures stands { OnOk result ((came : List EventItem) → StandsFor self.old came → StandsFor self.new (items_onto list.now came)) }
-        ensures handed { OnOk result ((came : List EventItem) → StandsFor self.old came → delivered_of (items_onto list.now came) ≡ delivered_of came ++ self.new.ready) }
+        ensures stands { OnOk result (TakesIn self.old list.now self.new) }
+        ensures handed { OnOk result (HandsOver self.old list.now self.new) }
     {
         self.check(list)?;
         for item in list.as_slice() {
@@ -106,7 +107,7 @@ impl EventReceiver {
     /// How many delivered events wait to be handed out, 95 at most.
     pub fn waiting(&self) -> u32
         ensures count { result ≡ length self.now.ready }
-        ensures few { result ≤ MAX_READY }
+        ensures few { result ≤ MAX_READY_EVENTS }
     {
         self.ready.len() as u32
     }
@@ -130,7 +131,7 @@ impl EventReceiver {
     fn take_one(&mut self, item: &EventItem)
         requires near { is_ahead self.old.delivered item.now.number ≡ false }
         requires number { IsEventInRange item.now }
-        requires room { length self.old.ready + held_count self.old.held < MAX_READY }
+        requires room { length self.old.ready + held_count self.old.held < MAX_READY_EVENTS }
         ensures { self.new ≡ took item.now self.old }
     {
         match item.number {
@@ -150,12 +151,12 @@ impl EventReceiver {
 
 /// The first item that is too far ahead.
 fn check_items(delivered: u32, items: &[EventItem]) -> Result<(), EventAhead>
-    requires { delivered ≤ NUMBER_LIMIT }
+    requires { delivered ≤ MAX_DELIVERED_EVENTS }
     ensures { result ≡ take_answer delivered items.now }
 {
     for item in items {
         if let Some(number) = item.number
-            && number >= delivered + EVENT_WINDOW as u32
+            && number >= delivered + MAX_EVENTS_AHEAD as u32
         {
             return Err(EventAhead { number, delivered });
         }

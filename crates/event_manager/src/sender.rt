@@ -2,17 +2,17 @@
 
 ghost use Rattle.std.specs.Prelude.{◌≡◌, ℕ, ◌+◌, ◌-◌, ◌<◌, ◌≤◌, ◌==◌, List, [], ◌∷◌, ◌++◌, IfOk, OnErr, OnOk, length, take, slice_get, if◌then◌else◌, None, All};
 
-use crate::entries::{
-    Entry, Progress, add_waiting, drop_waiting, due_entries, forget, mark, settle_near,
-};
-use crate::{EVENT_WINDOW, MAX_UNACKNOWLEDGED, MAX_WAITING};
+use crate::entries::{Entry, add_waiting, drop_waiting, due_entries, forget, mark, settle_near};
 use circular_buffer::HeapCircularBuffer;
-use notify_window::MAX_LIFE;
+use notify_window::Progress;
 use std::alloc::Global;
 use std::collections::VecDeque;
 use std::marker::Model;
-use tn_types::{NoMemory, Payload, Verdict};
-use wire_format::{EventList, MAX_EVENTS};
+use tn_types::{
+    MAX_LIFE, MAX_PACKET_EVENTS, MAX_UNACKNOWLEDGED_EVENTS, MAX_WAITING_EVENTS, NoMemory, Payload,
+    Verdict,
+};
+use wire_format::EventList;
 
 /// Why a guaranteed event was not taken. Nothing changed.
 #[derive(Clone, Copy, Debug, PartialEq, Eq)]
@@ -38,7 +38,7 @@ pub struct EventSender {
 impl Model for EventSender {
     ghost use Rattle.std.specs.Prelude.{◌≡◌, ◌≤◌};
     ghost use Rattle.std.specs.VecDeque.{deque_capacity};
-    ghost use Rattle.event_manager.specs.declared.TheConstants.{MAX_UNACKNOWLEDGED, MAX_WAITING};
+    ghost use Rattle.tn_types.specs.declared.limits.TheConstants.{MAX_UNACKNOWLEDGED_EVENTS, MAX_WAITING_EVENTS};
     ghost use Rattle.event_manager.specs.SenderState.{SenderState, IsBounded};
 
     ghost Value = { SenderState };
@@ -47,16 +47,16 @@ impl Model for EventSender {
 
     ghost invariant = { λ s. record {
       bounded : IsBounded (record { posted = s.posted; life = s.life; entries = s.entries.items; waiting = s.waiting.items });
-      place : MAX_UNACKNOWLEDGED ≤ deque_capacity s.entries;
-      queue : s.waiting.capacity ≡ MAX_WAITING;
+      place : MAX_UNACKNOWLEDGED_EVENTS ≤ deque_capacity s.entries;
+      queue : s.waiting.capacity ≡ MAX_WAITING_EVENTS;
     } };
 }
 
 impl EventSender {
-    ghost use Rattle.notify_window.specs.Log.{Fate, Unjudged};
-    ghost use Rattle.event_manager.specs.Sending.{SenderEvent, Posted, PostedLoose, Wrote, due_of, judged, fate_for, post_answer_of};
+    ghost use Rattle.notify_window.specs.Log.{Fate};
+    ghost use Rattle.event_manager.specs.Sending.{SenderEvent, Posted, PostedLoose, due_of, post_answer_of, first_due_of};
     ghost use Rattle.event_manager.specs.SenderState.{due_now, post_answer};
-    ghost use Rattle.event_manager.specs.SenderStands.{StandsFor};
+    ghost use Rattle.event_manager.specs.SenderStands.{StandsFor, SenderDoes, SenderAnswers, Notes, Settles};
     ghost use Rattle.wire_format.specs.Events.{IsEventInRange};
 
     /// The sender of a new connection, each end of which posts at most `life` guaranteed events.
@@ -65,10 +65,10 @@ impl EventSender {
         ensures stands { IfOk result (λ s. (fate : ℕ → Fate) → StandsFor s fate []) }
         ensures life { IfOk result (λ s. s.life ≡ life) }
     {
-        let Ok(entries) = VecDeque::with_capacity(alloc, MAX_UNACKNOWLEDGED) else {
+        let Ok(entries) = VecDeque::with_capacity(alloc, MAX_UNACKNOWLEDGED_EVENTS) else {
             return Err(NoMemory);
         };
-        let Ok(waiting) = HeapCircularBuffer::with_capacity(alloc, MAX_WAITING) else {
+        let Ok(waiting) = HeapCircularBuffer::with_capacity(alloc, MAX_WAITING_EVENTS) else {
             return Err(NoMemory);
         };
         Ok(EventSender {
@@ -85,17 +85,17 @@ impl EventSender {
     /// nothing changes then.
     pub fn post(&mut self, payload: Payload) -> Result<u32, PostFault>
         ensures answer { result ≡ post_answer self.old }
-        ensures log_answer { (fate : ℕ → Fate) (log : List SenderEvent) → StandsFor self.old fate log → result ≡ post_answer_of self.old.life fate log }
-        ensures stands { OnOk result ((fate : ℕ → Fate) (log : List SenderEvent) → StandsFor self.old fate log → StandsFor self.new fate (Posted payload ∷ log)) }
+        ensures log_answer { SenderAnswers self.old (post_answer_of self.old.life) result }
+        ensures stands { OnOk result (SenderDoes self.old (Posted payload) self.new) }
         ensures unchanged { OnErr result (self.new ≡ self.old) }
         ensures life { self.new.life ≡ self.old.life }
     {
         if self.posted == self.life {
             return Err(PostFault::Worn { life: self.life });
         }
-        if self.entries.len() == MAX_UNACKNOWLEDGED {
+        if self.entries.len() == MAX_UNACKNOWLEDGED_EVENTS {
             return Err(PostFault::Full {
-                first: self.posted - MAX_UNACKNOWLEDGED as u32,
+                first: self.posted - MAX_UNACKNOWLEDGED_EVENTS as u32,
                 last: self.posted - 1,
             });
         }
@@ -111,8 +111,8 @@ impl EventSender {
     /// Posts an unguaranteed event. It never refuses: where 64 wait, the oldest of them is dropped and given
     /// back, and else `None` comes.
     pub fn post_loose(&mut self, payload: Payload) -> Option<Payload>
-        ensures dropped { result ≡ (if length self.old.waiting == MAX_WAITING then slice_get self.old.waiting 0 else None) }
-        ensures stands { (fate : ℕ → Fate) (log : List SenderEvent) → StandsFor self.old fate log → StandsFor self.new fate (PostedLoose payload ∷ log) }
+        ensures dropped { result ≡ (if length self.old.waiting == MAX_WAITING_EVENTS then slice_get self.old.waiting 0 else None) }
+        ensures stands { SenderDoes self.old (PostedLoose payload) self.new }
         ensures life { self.new.life ≡ self.old.life }
     {
         self.waiting.push_back(payload)
@@ -121,8 +121,8 @@ impl EventSender {
     /// What the next packet may carry, in sending order: the first 31 at most of the due guaranteed events by
     /// rising number and then the waiting unguaranteed ones, the oldest first.
     pub fn due(&self) -> EventList
-        ensures list { result ≡ take MAX_EVENTS (due_now self.now) }
-        ensures log { (fate : ℕ → Fate) (log : List SenderEvent) → StandsFor self.now fate log → result ≡ take MAX_EVENTS (due_of fate log) }
+        ensures list { result ≡ take MAX_PACKET_EVENTS (due_now self.now) }
+        ensures log { SenderAnswers self.now first_due_of result }
         ensures numbers { All IsEventInRange result }
     {
         let first = self.posted - self.entries.len() as u32;
@@ -134,7 +134,7 @@ impl EventSender {
     /// Notes that the first `count` of the due events were written in packet `seq`, which is unjudged.
     pub fn note(&mut self, count: u32, seq: u32)
         requires { count ≤ length (due_now self.old) }
-        ensures stands { (fate : ℕ → Fate) (log : List SenderEvent) → StandsFor self.old fate log → fate seq ≡ Unjudged → StandsFor self.new fate (Wrote seq (take count (due_of fate log)) ∷ log) }
+        ensures stands { Notes self.old count seq self.new }
         ensures life { self.new.life ≡ self.old.life }
     {
         let left = mark(&mut self.entries, seq, count);
@@ -144,7 +144,7 @@ impl EventSender {
     /// Takes the verdict of packet `seq`, which was unjudged: the guaranteed events that it carries are done,
     /// or due again.
     pub fn settle(&mut self, seq: u32, verdict: Verdict)
-        ensures stands { (fate : ℕ → Fate) (log : List SenderEvent) → StandsFor self.old fate log → fate seq ≡ Unjudged → StandsFor self.new (judged fate seq (fate_for verdict)) log }
+        ensures stands { Settles self.old seq verdict self.new }
         ensures life { self.new.life ≡ self.old.life }
     {
         settle_near(&mut self.entries, seq, verdict);

@@ -1,10 +1,10 @@
 ghost use Rattle.std.specs.Prelude.{◌≡◌, All};
 ghost use Rattle.wire_format.specs.Events.{IsEventInRange};
 
-use crate::{EventAhead, EventReceiver, EventSender, MAX_UNACKNOWLEDGED, MAX_WAITING, PostFault};
+use crate::{EventReceiver, EventSender, PostFault};
 use std::test::Fail;
-use tn_types::{Class, Payload, Verdict};
-use wire_format::{EventItem, EventList};
+use tn_types::{Class, MAX_PACKET_EVENTS, MAX_UNACKNOWLEDGED_EVENTS, Payload, Verdict};
+use wire_format::EventList;
 
 /// An event of one byte.
 fn event(byte: u8) -> Payload {
@@ -117,7 +117,7 @@ fn counters_wear_out_and_places_fill(rt: HostRuntime) -> Result<(), Fail> {
     assert_eq!(rt; server.post(event(0)), Ok(1));
     assert_eq!(rt; server.post(event(0)), Err(PostFault::Worn { life: 2 }));
     let mut server = EventSender::new(rt.alloc(), 1000)?;
-    for _ in 0..MAX_UNACKNOWLEDGED {
+    for _ in 0..MAX_UNACKNOWLEDGED_EVENTS {
         assert!(rt; server.post(event(0)).is_ok());
     }
     let full = PostFault::Full {
@@ -125,39 +125,6 @@ fn counters_wear_out_and_places_fill(rt: HostRuntime) -> Result<(), Fail> {
         last: 255,
     };
     assert_eq!(rt; server.post(event(0)), Err(full));
-    assert_eq!(rt; server.due().len(), 31);
-    Ok(())
-}
-
-#[test]
-fn oldest_unguaranteed_event_dropped(rt: HostRuntime) -> Result<(), Fail> {
-    let mut server = EventSender::new(rt.alloc(), 1000)?;
-    assert!(rt; server.post_loose(event(7)).is_none());
-    for _ in 1..MAX_WAITING {
-        assert!(rt; server.post_loose(event(0)).is_none());
-    }
-    let dropped = server.post_loose(event(1));
-    assert_eq!(rt; dropped.and_then(|payload| only_byte(&payload)), Some(7));
-    Ok(())
-}
-
-#[test]
-fn event_far_ahead_is_refused(rt: HostRuntime) -> Result<(), Fail> {
-    let mut client = EventReceiver::new(rt.alloc())?;
-    for number in [63, 64] {
-        let mut list = EventList::new();
-        list.push(EventItem {
-            number: Some(number),
-            payload: event(0),
-        });
-        let ahead = EventAhead {
-            number: 64,
-            delivered: 0,
-        };
-        let answer = if number == 63 { Ok(()) } else { Err(ahead) };
-        assert_eq!(rt; client.check(&list), answer);
-    }
-    assert_eq!(rt; client.delivered(), 0);
-    assert_eq!(rt; client.waiting(), 0);
+    assert_eq!(rt; server.due().len(), MAX_PACKET_EVENTS);
     Ok(())
 }

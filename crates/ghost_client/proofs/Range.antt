@@ -8,7 +8,7 @@ use Rattle.wire_format.specs.declared.ghosts.GhostItem.{GhostItem}
 use Rattle.wire_format.specs.declared.ghosts.GhostItem.TheVariants.{Kill, Create, Update}
 use Rattle.wire_format.specs.Ghosts.{AreLevels, chosen, widths, IsGhostInRange}
 use Rattle.ghost_client.specs.declared.copy.GhostCopy.{GhostCopy}
-use Rattle.ghost_client.specs.Fields.{slot_of}
+use Rattle.ghost_client.specs.Fields.{slot_named}
 use Rattle.ghost_client.specs.State.{copy_in, after, applied, IsInRange, AreInRange, FitsCopy}
 use Rattle.ghost_client.proofs.Merged.{merged_fits}
 
@@ -24,12 +24,12 @@ after_in_range kinds (Update s kind mask levels) (Some c) old range fits =
     subst (λ n. AreLevels (chosen n (widths kinds c.kind)) levels) (by_one mask) (subst (λ k. AreLevels (chosen mask (widths kinds k)) levels) (sym fits) range.3) in
     record { kind = old.kind; levels = merged_fits 0 mask (widths kinds c.kind) c.levels levels old.levels its }
 
-pub applied_in_range : (kinds : List Kind) (slots : List (Option GhostCopy)) (item : GhostItem) → AreInRange kinds slots → IsGhostInRange kinds item → FitsCopy item (copy_in slots (slot_of item)) → slot_of item < length slots → AreInRange kinds (applied slots item)
-applied_in_range kinds slots item old range fits lt t = elim (cases_eq t (slot_of item)) [
+pub applied_in_range : (kinds : List Kind) (slots : List (Option GhostCopy)) (item : GhostItem) → AreInRange kinds slots → IsGhostInRange kinds item → FitsCopy item (copy_in slots (slot_named item)) → slot_named item < length slots → AreInRange kinds (applied slots item)
+applied_in_range kinds slots item old range fits lt t = elim (cases_eq t (slot_named item)) [
   | inl same ↦
-      subst (λ o. IfSome o (IsInRange kinds)) (sym (ap (copy_in (applied slots item)) same ∙ get_or-set_same slots (slot_of item) (after item (copy_in slots (slot_of item))) None lt))
-      (after_in_range kinds item (copy_in slots (slot_of item)) (old (slot_of item)) range fits)
-  | inr other ↦ subst (λ o. IfSome o (IsInRange kinds)) (sym (get_or-set_other slots (slot_of item) t (after item (copy_in slots (slot_of item))) None other)) (old t)
+      subst (λ o. IfSome o (IsInRange kinds)) (sym (ap (copy_in (applied slots item)) same ∙ get_or-set_same slots (slot_named item) (after item (copy_in slots (slot_named item))) None lt))
+      (after_in_range kinds item (copy_in slots (slot_named item)) (old (slot_named item)) range fits)
+  | inr other ↦ subst (λ o. IfSome o (IsInRange kinds)) (sym (get_or-set_other slots (slot_named item) t (after item (copy_in slots (slot_named item))) None other)) (old t)
 ]
 
 pub set_twice : {X : Type 0} (xs : List X) (i : ℕ) (x y : X) → set (set xs i x) i y ≡ set xs i y

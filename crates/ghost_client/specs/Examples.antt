@@ -3,4 +3,8 @@ use Rattle.std.specs.Prelude.{pos, false, List, [], ◌∷◌}
 use Rattle.quantised_fields.specs.declared.kind.Kind.{Kind}
 
 abbrev pub one_kind : List Kind
-one_kind = record { fields = record { lo = pos 0; hi = pos 10; bits = 2 } ∷ record { lo = pos 0; hi = pos 100; bits = 7 } ∷ []; weight = 1; always = false } ∷ []
+one_kind = record {
+  fields = record { lo = pos 0; hi = pos 10; bits = 2 } ∷ record { lo = pos 0; hi = pos 100; bits = 7 } ∷ [];
+  weight = 1;
+  always = false;
+} ∷ []

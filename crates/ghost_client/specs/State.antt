@@ -8,7 +8,8 @@ use Rattle.wire_format.specs.declared.ghosts.GhostItem.{GhostItem}
 use Rattle.wire_format.specs.declared.ghosts.GhostItem.TheVariants.{Kill, Create, Update}
 use Rattle.wire_format.specs.Ghosts.{AreLevels, widths}
 use Rattle.ghost_client.specs.declared.copy.GhostCopy.{GhostCopy}
-use Rattle.ghost_client.specs.Fields.{has_bit, slot_of}
+use Rattle.tn_types.specs.BitWords.{has_bit}
+use Rattle.ghost_client.specs.Fields.{slot_named}
 
 pub record State : Type 0 where
   pub kinds : List Kind
@@ -31,7 +32,7 @@ after (Create slot kind block levels) copy = Some (record { kind = kind; block =
 after (Update slot kind mask levels) copy = option_map (λ (c : GhostCopy). record c { levels = merged 0 mask levels c.levels }) copy
 
 abbrev pub applied : List (Option GhostCopy) → GhostItem → List (Option GhostCopy)
-applied slots item = slice_set slots (slot_of item) (after item (copy_in slots (slot_of item)))
+applied slots item = slice_set slots (slot_named item) (after item (copy_in slots (slot_named item)))
 
 -- a copy's kind is one of the table, and it has a level for each field
 pub record IsInRange (kinds : List Kind) (copy : GhostCopy) : Type 0 where
@@ -44,7 +45,9 @@ AreInRange kinds slots = (slot : ℕ) → IfSome (copy_in slots slot) (IsInRange
 -- the value that a level of the copy shows
 abbrev pub field_value : List Kind → ℕ → GhostCopy → Option ℤ
 field_value kinds field copy =
-    option_and_then (λ kind. option_and_then (λ spec. option_map (shown_of spec) (slice_get copy.levels field)) (slice_get kind.fields field)) (slice_get kinds copy.kind)
+    option_and_then (λ kind.
+      option_and_then (λ spec. option_map (shown_of spec) (slice_get copy.levels field)) (slice_get kind.fields field))
+      (slice_get kinds copy.kind)
 
 abbrev pub value_of : State → ℕ → ℕ → Option ℤ
 value_of c slot field = option_and_then (field_value c.kinds field) (copy_in c.slots slot)

@@ -6,10 +6,12 @@ ghost use Rattle.std.specs.Result.{result_err};
 ghost use Rattle.std.specs.List.{AllByRecursion};
 ghost use Rattle.wire_format.specs.declared.ghosts.GhostItem.{GhostItem};
 ghost use Rattle.wire_format.specs.Ghosts.{IsGhostInRange};
-ghost use Rattle.ghost_client.specs.Fields.{slot_of, has_bit};
+ghost use Rattle.tn_types.specs.BitWords.{has_bit};
+ghost use Rattle.ghost_client.specs.Fields.{slot_named};
 ghost use Rattle.ghost_client.specs.Copies.{copy_of};
 ghost use Rattle.ghost_client.specs.State.{copy_in, after, applied, field_value, value_of, IsInRange, FitsCopy};
-ghost use Rattle.ghost_client.specs.Faults.{fault_of, first_fault};
+ghost use Rattle.ghost_client.specs.Faults.{fault_of, item_fault};
+ghost use Rattle.tn_types.specs.Checks.{first_fault};
 ghost use Rattle.ghost_client.specs.StandsFor.{StandsFor, taken};
 
 use crate::copy::GhostCopy;
@@ -18,10 +20,8 @@ use crate::levels::{copied, is_held, merge};
 use quantised_fields::{KindTable, shown};
 use std::alloc::{AllocError, Global};
 use std::marker::Model;
-use tn_types::NoMemory;
+use tn_types::{MAX_BLOCKS, MAX_SLOTS, NoMemory};
 use wire_format::{GhostItem, GhostList};
-
-const SLOTS: usize = 256;
 
 /// The copies of one client, by slot.
 #[derive(Drop)]
@@ -32,13 +32,14 @@ pub struct Copies {
 
 impl Model for Copies {
     ghost use Rattle.std.specs.Prelude.{◌≡◌, length};
+    ghost use Rattle.tn_types.specs.declared.limits.TheConstants.{MAX_SLOTS};
     ghost use Rattle.ghost_client.specs.State.{State, AreInRange};
 
     ghost Value = { State };
 
     ghost view = { λ c. record { kinds = c.kinds; slots = c.slots.items } };
 
-    ghost invariant = { λ c. (length c.slots.items ≡ 256) × AreInRange c.kinds c.slots.items };
+    ghost invariant = { λ c. (length c.slots.items ≡ MAX_SLOTS) × AreInRange c.kinds c.slots.items };
 }
 
 impl Copies {
@@ -76,7 +77,7 @@ impl Copies {
     /// held datablock b.
     pub fn check(&self, list: &GhostList, held: u64) -> Result<(), GhostFault>
         requires { AllByRecursion (IsGhostInRange self.now.kinds) list.now }
-        ensures { result_err result ≡ first_fault self.now.slots held [] list.now }
+        ensures { result_err result ≡ first_fault (item_fault (copy_in self.now.slots) held) [] list.now }
     {
         let mut named = none_named();
         for item in list.as_slice() {
@@ -95,7 +96,7 @@ impl Copies {
     // The fault of an item by the copy of its slot.
     fn fault(&self, item: &GhostItem, held: u64) -> Option<GhostFault>
         requires { IsGhostInRange self.now.kinds item.now }
-        ensures { result ≡ fault_of (copy_in self.now.slots (slot_of item.now)) held item.now }
+        ensures { result ≡ fault_of (copy_in self.now.slots (slot_named item.now)) held item.now }
     {
         match item {
             GhostItem::Kill { slot } => match self.get(*slot) {
@@ -116,7 +117,7 @@ impl Copies {
     /// Takes the ghosts of a packet, or refuses them whole by the first fault.
     pub fn take(&mut self, list: &GhostList, held: u64) -> Result<(), GhostFault>
         requires { AllByRecursion (IsGhostInRange self.old.kinds) list.now }
-        ensures fault { result_err result ≡ first_fault self.old.slots held [] list.now }
+        ensures fault { result_err result ≡ first_fault (item_fault (copy_in self.old.slots) held) [] list.now }
         ensures unchanged { OnErr result (self.new ≡ self.old) }
         ensures kinds { self.new.kinds ≡ self.old.kinds }
         ensures taken { OnOk result ((items : List GhostItem) → StandsFor self.old items → StandsFor self.new (taken list.now items)) }
@@ -131,10 +132,10 @@ impl Copies {
     // Does what an item says to its slot.
     fn apply(&mut self, item: &GhostItem)
         requires range { IsGhostInRange self.old.kinds item.now }
-        requires fits { FitsCopy item.now (copy_in self.old.slots (slot_of item.now)) }
+        requires fits { FitsCopy item.now (copy_in self.old.slots (slot_named item.now)) }
         ensures applied { self.new ≡ record self.old { slots = applied self.old.slots item.now } }
-        ensures len { length self.old.slots ≡ SLOTS }
-        ensures slot { slot_of item.now < SLOTS }
+        ensures len { length self.old.slots ≡ MAX_SLOTS }
+        ensures slot { slot_named item.now < MAX_SLOTS }
     {
         let slot = slot_named(item) as usize;
         let old = self.slots[slot].take();
@@ -163,20 +164,20 @@ fn shown_field(kinds: &KindTable, copy: &GhostCopy, field: u8) -> Option<i64>
 }
 
 // No slot is named yet.
-fn none_named() -> [bool; SLOTS]
-    ensures len { length result ≡ SLOTS }
-    ensures none { (slot : ℕ) → slot < SLOTS → slice_index_or result slot false ≡ false }
+fn none_named() -> [bool; MAX_SLOTS]
+    ensures len { length result ≡ MAX_SLOTS }
+    ensures none { (slot : ℕ) → slot < MAX_SLOTS → slice_index_or result slot false ≡ false }
 {
-    [false; SLOTS]
+    [false; MAX_SLOTS]
 }
 
 // No copy in any slot.
 fn empty_slots(alloc: Global) -> Result<Vec<Option<GhostCopy>>, AllocError>
-    ensures len { IfOk result (λ slots. length slots.items ≡ SLOTS) }
+    ensures len { IfOk result (λ slots. length slots.items ≡ MAX_SLOTS) }
     ensures empty { IfOk result (λ slots. (slot : ℕ) → copy_in slots.items slot ≡ None) }
 {
-    let mut slots = Vec::with_capacity(alloc, SLOTS)?;
-    while slots.len() < SLOTS {
+    let mut slots = Vec::with_capacity(alloc, MAX_SLOTS)?;
+    while slots.len() < MAX_SLOTS {
         slots.push(None)?;
     }
     Ok(slots)
@@ -184,7 +185,7 @@ fn empty_slots(alloc: Global) -> Result<Vec<Option<GhostCopy>>, AllocError>
 
 // The slot that the item names.
 fn slot_named(item: &GhostItem) -> u8
-    ensures { result ≡ slot_of item.now }
+    ensures { result ≡ slot_named item.now }
 {
     match item {
         GhostItem::Kill { slot } => *slot,
@@ -219,7 +220,7 @@ fn copy_after(item: &GhostItem, old: Option<GhostCopy>) -> Option<GhostCopy>
 
 // The fault of a create on an empty slot.
 fn block_fault(slot: u8, block: u8, held: u64) -> Option<GhostFault>
-    requires { block < 64 }
+    requires { block < MAX_BLOCKS }
     ensures { result ≡ (if has_bit held block then None else Some (GhostFault.BlockMissing slot block)) }
 {
     if is_held(held, block) {

@@ -1,14 +1,15 @@
 //! The levels of a copy.
 
 ghost use Rattle.std.specs.Prelude.{◌≡◌, ◌<◌, ◌≤◌, length, drop, slice_index_or, if◌then◌else◌};
-ghost use Rattle.ghost_client.specs.Fields.{has_bit};
+ghost use Rattle.tn_types.specs.BitWords.{has_bit};
 ghost use Rattle.ghost_client.specs.State.{merged};
 
-use wire_format::{Levels, MAX_FIELDS};
+use tn_types::{MAX_BLOCKS, MAX_FIELDS};
+use wire_format::Levels;
 
 // Whether the mask has the bit of the field.
 fn has_field(mask: u32, field: usize) -> bool
-    requires { field < 32 }
+    requires { field < MAX_FIELDS }
     ensures { result ≡ has_bit mask field }
 {
     (mask >> field) % 2 == 1
@@ -16,7 +17,7 @@ fn has_field(mask: u32, field: usize) -> bool
 
 // Whether the block's bit is set.
 pub(crate) fn is_held(held: u64, block: u8) -> bool
-    requires { block < 64 }
+    requires { block < MAX_BLOCKS }
     ensures { result ≡ has_bit held block }
 {
     (held >> block) % 2 == 1

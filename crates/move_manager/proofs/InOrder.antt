@@ -8,7 +8,8 @@ use Rattle.std.proofs.Math.Seq.{take-add}
 use Rattle.tn_types.specs.declared.moves.Move.{Move}
 use Rattle.move_manager.specs.Sending.{Packet, sampled_of, acked_of, packet_of}
 use Rattle.move_manager.specs.Accepting.{new_count, accept, accepted_of}
-use Rattle.move_manager.specs.InOrder.{Ends, Step, Sample, ClientPack, Pack, Up, Down, came_up, came_down, happens, history, IsPrefixOf}
+use Rattle.move_manager.specs.InOrder.{Ends, Step, Sample, ClientPack, Pack, Up, Down, came_up, came_down, happens, history}
+use Rattle.tn_types.specs.Prefix.{IsPrefixOf}
 
 -- a packet holds the sampled moves from its first one on
 pub record Holds (p : Packet) (sampled : List Move) : Type 0 where

@@ -8,17 +8,17 @@ use Rattle.move_manager.specs.Sending as sending
 use Rattle.move_manager.specs.Accepting.{Receiver, Took, accepted_of, accept, new_count}
 use Rattle.move_manager.specs.Accepting as accepting
 
-pub sampled_more : (s : Sender) (m : Move) (log : List sending.Event) → sending.StandsFor s log → sending.StandsFor (record s { waiting = s.waiting ++ m ∷ [] }) (Sampled m ∷ log)
+pub sampled_more : (s : Sender) (m : Move) (log : List sending.SenderEvent) → sending.StandsFor s log → sending.StandsFor (record s { waiting = s.waiting ++ m ∷ [] }) (Sampled m ∷ log)
 sampled_more s m log h = record {
   first = h.first;
   within = omega (arith, h.within, length-append (sampled_of log) (m ∷ []));
   waiting = ap (λ t. t ++ m ∷ []) h.waiting ∙ sym (drop-append-le (acked_of log) (sampled_of log) (m ∷ []) (omega (arith, h.first, h.within)));
 }
 
-pub count_sampled : (s : Sender) (log : List sending.Event) → sending.StandsFor s log → s.first + length s.waiting ≡ length (sampled_of log)
+pub count_sampled : (s : Sender) (log : List sending.SenderEvent) → sending.StandsFor s log → s.first + length s.waiting ≡ length (sampled_of log)
 count_sampled s log h = omega (arith, h.first, h.within, ap length h.waiting, length-drop (acked_of log) (sampled_of log))
 
-pub acked_more : (s : Sender) (count : ℕ) (log : List sending.Event) → count ≤ s.first + length s.waiting → sending.StandsFor s log → sending.StandsFor (record s { first = max s.first count; waiting = drop (count - s.first) s.waiting }) (Acked count ∷ log)
+pub acked_more : (s : Sender) (count : ℕ) (log : List sending.SenderEvent) → count ≤ s.first + length s.waiting → sending.StandsFor s log → sending.StandsFor (record s { first = max s.first count; waiting = drop (count - s.first) s.waiting }) (Acked count ∷ log)
 acked_more s count log few h =
     let all = count_sampled s log h in
     record {
@@ -36,7 +36,7 @@ length-accept life room p acc l =
     let rest = drop (length acc - p.first) p.moves in
     rw e (omega (arith, length-append acc (take n rest), length-take n rest, length-drop (length acc - p.first) p.moves))
 
-pub accepted_more : (r : Receiver) (p : Packet) (room : ℕ) (log : List accepting.Event) → p.first ≤ r.accepted → accepting.StandsFor r log → accepting.StandsFor (record r { accepted = r.accepted + new_count r.life room r.accepted p }) (Took p room ∷ log)
+pub accepted_more : (r : Receiver) (p : Packet) (room : ℕ) (log : List accepting.ReceiverEvent) → p.first ≤ r.accepted → accepting.StandsFor r log → accepting.StandsFor (record r { accepted = r.accepted + new_count r.life room r.accepted p }) (Took p room ∷ log)
 accepted_more r p room log l h =
     let few : p.first ≤ length (accepted_of r.life log) = omega (arith, h.accepted) in
     record { accepted = rw h.accepted (sym (length-accept r.life room p (accepted_of r.life log) few)) }

@@ -5,8 +5,8 @@ use Rattle.tn_types.specs.declared.moves.Move.{Move}
 use Rattle.move_manager.specs.declared.faults.MoveGap.{MoveGap}
 use Rattle.move_manager.specs.Sending.{Packet}
 
-pub data Event : Type 0 where
-  Took : Packet → (room : ℕ) → Event
+pub data ReceiverEvent : Type 0 where
+  Took : Packet → (room : ℕ) → ReceiverEvent
 
 -- how many of a packet's moves are new, have room and fit the life, where so many were accepted before
 abbrev pub new_count : ℕ → ℕ → ℕ → Packet → ℕ
@@ -15,11 +15,12 @@ new_count life room accepted p = min (min (p.first + length p.moves - accepted) 
 -- the accepted moves with those that a packet adds; a packet behind the next move adds none
 abbrev pub accept : ℕ → ℕ → Packet → List Move → List Move
 accept life room p accepted =
-    if nat_le p.first (length accepted) then accepted ++ take (new_count life room (length accepted) p) (drop (length accepted - p.first) p.moves)
+    if nat_le p.first (length accepted)
+    then accepted ++ take (new_count life room (length accepted) p) (drop (length accepted - p.first) p.moves)
     else accepted
 
 -- the moves accepted so far, the oldest first: move n stands at place n
-abbrev pub accepted_of : ℕ → List Event → List Move
+abbrev pub accepted_of : ℕ → List ReceiverEvent → List Move
 accepted_of life [] = []
 accepted_of life (Took p room ∷ log) = accept life room p (accepted_of life log)
 
@@ -28,7 +29,7 @@ pub record Receiver : Type 0 where
   pub life : ℕ
   pub accepted : ℕ
 
-pub record StandsFor (r : Receiver) (log : List Event) : Type 0 where
+pub record StandsFor (r : Receiver) (log : List ReceiverEvent) : Type 0 where
   pub accepted : r.accepted ≡ length (accepted_of r.life log)
 
 abbrev pub take_answer : Receiver → Packet → ℕ → Result ℕ MoveGap

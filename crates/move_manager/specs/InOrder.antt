@@ -1,9 +1,10 @@
 -- A client and a server over a network that repeats, loses and delays what was sent: each datagram is named by its
 -- place among all that were sent that way. Steps stand the newest first.
-use Rattle.std.specs.Prelude.{ℕ, ◌≡◌, List, [], ◌∷◌, ◌++◌, length, slice_get, Option, Some, None}
+use Rattle.std.specs.Prelude.{ℕ, ◌≡◌, ◌≤◌, List, [], ◌∷◌, ◌++◌, length, slice_get, Option, Some, None}
 use Rattle.tn_types.specs.declared.moves.Move.{Move}
 use Rattle.move_manager.specs.Sending as sending
-use Rattle.move_manager.specs.Sending.{Packet, packet_of}
+use Rattle.tn_types.specs.Prefix.{IsPrefixOf}
+use Rattle.move_manager.specs.Sending.{Packet, packet_of, sampled_of}
 use Rattle.move_manager.specs.Accepting as accepting
 use Rattle.move_manager.specs.Accepting.{accepted_of}
 
@@ -16,8 +17,8 @@ pub data Step : Type 0 where
 
 -- the two ends' logs, the packets sent up and the counts told down, the oldest first
 pub record Ends : Type 0 where
-  pub client : List sending.Event
-  pub server : List accepting.Event
+  pub client : List sending.SenderEvent
+  pub server : List accepting.ReceiverEvent
   pub up : List Packet
   pub down : List ℕ
 
@@ -40,5 +41,16 @@ abbrev pub history : ℕ → List Step → Ends
 history life [] = record { client = []; server = []; up = []; down = [] }
 history life (step ∷ steps) = happens life step (history life steps)
 
-abbrev pub IsPrefixOf : {A : Type 0} → List A → List A → Type 0
-IsPrefixOf {A} xs ys = (rest : List A) × (xs ++ rest ≡ ys)
+-- ---- what holds of every history
+
+-- the accepted moves are the first of those sampled
+abbrev pub AcceptsInOrder : ℕ → Ends → Type 0
+AcceptsInOrder life e = IsPrefixOf (accepted_of life e.server) (sampled_of e.client)
+
+-- no packet that was sent begins behind the next move
+abbrev pub LeavesNoGap : ℕ → Ends → Type 0
+LeavesNoGap life e = (k : ℕ) (p : Packet) → slice_get e.up k ≡ Some p → p.first ≤ length (accepted_of life e.server)
+
+-- no count that was told is above the moves sampled
+abbrev pub TellsNoneAhead : Ends → Type 0
+TellsNoneAhead e = (k n : ℕ) → slice_get e.down k ≡ Some n → n ≤ length (sampled_of e.client)

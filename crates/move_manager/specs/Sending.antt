@@ -1,23 +1,25 @@
 -- Moves at the client. All that was sampled is one list, of which the server told that it has some first part; what
 -- waits is the rest, and a packet carries all of it. A log has what happened, the newest first.
-use Rattle.std.specs.Prelude.{ℕ, ◌≡◌, ◌+◌, ◌≤◌, ◌==◌, nat_lt, max, List, [], ◌∷◌, ◌++◌, length, drop, if◌then◌else◌, Result, Ok, Err}
+use Rattle.std.specs.Prelude.{ℕ, ◌≡◌, ◌+◌, ◌-◌, ◌≤◌, ◌==◌, nat_lt, max, List, [], ◌∷◌, ◌++◌, length, drop, if◌then◌else◌, Result, Ok, Err}
 use Rattle.tn_types.specs.declared.moves.Move.{Move}
+use Rattle.tn_types.specs.declared.limits.TheConstants.{MAX_UNACKNOWLEDGED_MOVES}
+use Rattle.tn_types.specs.Checks.{Checked}
 use Rattle.move_manager.specs.declared.faults.MoveFault.{MoveFault}
 use Rattle.move_manager.specs.declared.faults.MoveFault.TheVariants.{Worn, Full}
 use Rattle.move_manager.specs.declared.faults.MoveAhead.{MoveAhead}
 
-pub data Event : Type 0 where
-  Sampled : Move → Event
-  Acked : (count : ℕ) → Event
+pub data SenderEvent : Type 0 where
+  Sampled : Move → SenderEvent
+  Acked : (count : ℕ) → SenderEvent
 
 -- the moves sampled so far, the oldest first: move n stands at place n
-abbrev pub sampled_of : List Event → List Move
+abbrev pub sampled_of : List SenderEvent → List Move
 sampled_of [] = []
 sampled_of (Sampled m ∷ log) = sampled_of log ++ m ∷ []
 sampled_of (Acked count ∷ log) = sampled_of log
 
 -- how many of them the server told that it has, at the most
-abbrev pub acked_of : List Event → ℕ
+abbrev pub acked_of : List SenderEvent → ℕ
 acked_of [] = 0
 acked_of (Sampled m ∷ log) = acked_of log
 acked_of (Acked count ∷ log) = max (acked_of log) count
@@ -28,8 +30,12 @@ pub record Packet : Type 0 where
   pub moves : List Move
 
 -- what a packet carries: all from the first that the server may lack
-abbrev pub packet_of : List Event → Packet
+abbrev pub packet_of : List SenderEvent → Packet
 packet_of log = record { first = acked_of log; moves = drop (acked_of log) (sampled_of log) }
+
+-- its parts: the number of the first move, and the moves
+abbrev pub pending_of : List SenderEvent → ℕ × List Move
+pending_of log = (acked_of log, drop (acked_of log) (sampled_of log))
 
 -- what a sender shows: the number of its first waiting move, and all that wait
 pub record Sender : Type 0 where
@@ -37,7 +43,7 @@ pub record Sender : Type 0 where
   pub first : ℕ
   pub waiting : List Move
 
-pub record StandsFor (s : Sender) (log : List Event) : Type 0 where
+pub record StandsFor (s : Sender) (log : List SenderEvent) : Type 0 where
   pub first : s.first ≡ acked_of log
   pub within : s.first ≤ length (sampled_of log)
   pub waiting : s.waiting ≡ drop (acked_of log) (sampled_of log)
@@ -45,10 +51,14 @@ pub record StandsFor (s : Sender) (log : List Event) : Type 0 where
 abbrev pub sample_answer : Sender → Result ℕ MoveFault
 sample_answer s =
     if s.first + length s.waiting == s.life then Err (Worn s.life)
-    else if length s.waiting == 32 then Err (Full s.first (s.first + 31))
+    else if length s.waiting == MAX_UNACKNOWLEDGED_MOVES then Err (Full s.first (s.first + length s.waiting - 1))
     else Ok (s.first + length s.waiting)
 
-abbrev pub acked_answer : ℕ → Sender → Result (Unit {0}) MoveAhead
+-- a sender after the server told that it has so many moves
+abbrev pub after_acked : ℕ → Sender → Sender
+after_acked count s = record s { first = max s.first count; waiting = drop (count - s.first) s.waiting }
+
+abbrev pub acked_answer : ℕ → Sender → Checked MoveAhead
 acked_answer count s =
     if nat_lt (s.first + length s.waiting) count then Err (record { count = count; sampled = s.first + length s.waiting })
     else Ok tt

@@ -1,9 +1,10 @@
 //! The server's side: each move is accepted once, in order, however often its packets come.
-ghost use Rattle.std.specs.Prelude.{◌≡◌, ℕ, List, [], ◌∷◌, ◌+◌, ◌≤◌, length, IfOk, OnOk, OnErr};
+ghost use Rattle.std.specs.Prelude.{◌≡◌, [], ◌+◌, ◌≤◌, length, IfOk, OnOk, OnErr};
+ghost use Rattle.tn_types.specs.Histories.{Does, Answers};
 
 use crate::faults::MoveGap;
-use notify_window::MAX_LIFE;
 use std::marker::Model;
+use tn_types::MAX_LIFE;
 use wire_format::MoveList;
 
 /// How many moves of a client the server accepted. No call takes memory.
@@ -15,18 +16,18 @@ pub struct MoveReceiver {
 
 impl Model for MoveReceiver {
     ghost use Rattle.std.specs.Prelude.{◌≤◌};
+    ghost use Rattle.tn_types.specs.declared.limits.TheConstants.{MAX_LIFE};
     ghost use Rattle.move_manager.specs.Accepting.{Receiver};
 
     ghost Value = { Receiver };
 
     ghost view = { λ r. record { life = r.life; accepted = r.accepted } };
 
-    ghost invariant = { λ r. (r.accepted ≤ r.life) × (r.life ≤ 16777215) };
+    ghost invariant = { λ r. (r.accepted ≤ r.life) × (r.life ≤ MAX_LIFE) };
 }
 
 impl MoveReceiver {
-    ghost use Rattle.move_manager.specs.Sending.{Packet};
-    ghost use Rattle.move_manager.specs.Accepting.{Event, Took, accepted_of, take_answer, StandsFor};
+    ghost use Rattle.move_manager.specs.Accepting.{Took, accepted_of, take_answer, StandsFor};
 
     /// No move yet. `life` is 1 to 16,777,215.
     pub fn new(life: u32) -> MoveReceiver
@@ -47,7 +48,7 @@ impl MoveReceiver {
         ensures answer { result ≡ take_answer self.old (record { first = first; moves = list.now }) room }
         ensures accepted { IfOk result (λ n. self.new ≡ record self.old { accepted = self.old.accepted + n }) }
         ensures refused { OnErr result (self.new ≡ self.old) }
-        ensures log { (log : List Event) → StandsFor self.old log → OnOk result (StandsFor self.new (Took (record { first = first; moves = list.now }) room ∷ log)) }
+        ensures log { OnOk result (Does StandsFor self.old (Took (record { first = first; moves = list.now }) room) self.new) }
     {
         if first > self.accepted {
             return Err(MoveGap {
@@ -68,7 +69,7 @@ impl MoveReceiver {
     pub fn accepted(&self) -> u32
         ensures value { result ≡ self.now.accepted }
         ensures within { result ≤ self.now.life }
-        ensures log { (log : List Event) → StandsFor self.now log → result ≡ length (accepted_of self.now.life log) }
+        ensures log { Answers StandsFor self.now (λ log. length (accepted_of self.now.life log)) result }
     {
         self.accepted
     }

@@ -1,14 +1,11 @@
 //! The client's side: moves wait until the server tells that it has them.
-ghost use Rattle.std.specs.Prelude.{◌≡◌, ℕ, List, [], ◌∷◌, ◌++◌, ◌+◌, ◌-◌, ◌≤◌, length, drop, max, OnOk, OnErr};
+ghost use Rattle.std.specs.Prelude.{◌≡◌, [], ◌∷◌, ◌++◌, ◌+◌, ◌≤◌, length, OnOk, OnErr};
+ghost use Rattle.tn_types.specs.Histories.{Does, Answers};
 
 use crate::faults::{MoveAhead, MoveFault};
-use notify_window::MAX_LIFE;
 use std::marker::Model;
-use tn_types::Move;
-use wire_format::{MAX_MOVES, MoveList};
-
-/// Moves that may wait at a client until the server has them: as many as a packet carries.
-pub const MAX_WAITING_MOVES: usize = MAX_MOVES;
+use tn_types::{MAX_LIFE, MAX_PACKET_MOVES, MAX_UNACKNOWLEDGED_MOVES, Move};
+use wire_format::MoveList;
 
 /// The moves of a client that the server may lack. Each packet carries all of them, so a lost packet costs nothing.
 /// No call takes memory.
@@ -21,17 +18,18 @@ pub struct MoveSender {
 
 impl Model for MoveSender {
     ghost use Rattle.std.specs.Prelude.{◌≤◌, ◌+◌, length};
+    ghost use Rattle.tn_types.specs.declared.limits.TheConstants.{MAX_LIFE};
     ghost use Rattle.move_manager.specs.Sending.{Sender};
 
     ghost Value = { Sender };
 
     ghost view = { λ s. record { life = s.life; first = s.first; waiting = s.waiting } };
 
-    ghost invariant = { λ s. (s.first + length s.waiting ≤ s.life) × (s.life ≤ 16777215) };
+    ghost invariant = { λ s. (s.first + length s.waiting ≤ s.life) × (s.life ≤ MAX_LIFE) };
 }
 
 impl MoveSender {
-    ghost use Rattle.move_manager.specs.Sending.{Event, Sampled, Acked, sampled_of, acked_of, sample_answer, acked_answer, StandsFor};
+    ghost use Rattle.move_manager.specs.Sending.{Sampled, Acked, sampled_of, pending_of, sample_answer, acked_answer, after_acked, StandsFor};
 
     /// No move yet. `life` is 1 to 16,777,215.
     pub fn new(life: u32) -> MoveSender
@@ -54,13 +52,13 @@ impl MoveSender {
         ensures answer { result ≡ sample_answer self.old }
         ensures sampled { OnOk result (self.new ≡ record self.old { waiting = self.old.waiting ++ m ∷ [] }) }
         ensures refused { OnErr result (self.new ≡ self.old) }
-        ensures log { (log : List Event) → StandsFor self.old log → OnOk result (StandsFor self.new (Sampled m ∷ log)) }
+        ensures log { OnOk result (Does StandsFor self.old (Sampled m) self.new) }
     {
         let number = self.first + self.waiting.len() as u32;
         if number == self.life {
             return Err(MoveFault::Worn { life: self.life });
         }
-        if self.waiting.is_full() {
+        if self.waiting.len() == MAX_UNACKNOWLEDGED_MOVES {
             return Err(MoveFault::Full {
                 first: self.first,
                 last: number - 1,
@@ -75,9 +73,9 @@ impl MoveSender {
     #[tactic(auto, using(crate::proofs::Logs::acked_more, crate::proofs::Logs::count_sampled))]
     pub fn acked(&mut self, count: u32) -> Result<(), MoveAhead>
         ensures answer { result ≡ acked_answer count self.old }
-        ensures acked { OnOk result (self.new ≡ record self.old { first = max self.old.first count; waiting = drop (count - self.old.first) self.old.waiting }) }
+        ensures acked { OnOk result (self.new ≡ after_acked count self.old) }
         ensures refused { OnErr result (self.new ≡ self.old) }
-        ensures log { (log : List Event) → StandsFor self.old log → OnOk result (StandsFor self.new (Acked count ∷ log)) }
+        ensures log { OnOk result (Does StandsFor self.old (Acked count) self.new) }
     {
         let sampled = self.first + self.waiting.len() as u32;
         if count > sampled {
@@ -98,7 +96,7 @@ impl MoveSender {
     pub fn pending(&self) -> (u32, MoveList)
         ensures value { result ≡ (self.now.first, self.now.waiting) }
         ensures within { result.0 ≤ self.now.life }
-        ensures log { (log : List Event) → StandsFor self.now log → result ≡ (acked_of log, drop (acked_of log) (sampled_of log)) }
+        ensures log { Answers StandsFor self.now pending_of result }
     {
         (self.first, listed(self.waiting.as_slice()))
     }
@@ -108,7 +106,7 @@ impl MoveSender {
     pub fn sampled(&self) -> u32
         ensures value { result ≡ self.now.first + length self.now.waiting }
         ensures within { result ≤ self.now.life }
-        ensures log { (log : List Event) → StandsFor self.now log → result ≡ length (sampled_of log) }
+        ensures log { Answers StandsFor self.now (λ log. length (sampled_of log)) result }
     {
         self.first + self.waiting.len() as u32
     }
@@ -116,7 +114,7 @@ impl MoveSender {
 
 // These moves as a list.
 fn listed(moves: &[Move]) -> MoveList
-    requires { length moves.now ≤ MAX_WAITING_MOVES }
+    requires { length moves.now ≤ MAX_PACKET_MOVES }
     ensures { result ≡ moves.now }
 {
     let mut list = MoveList::new();

@@ -4,7 +4,8 @@ use Rattle.std.specs.Int.{bit_at}
 use Rattle.std.proofs.lemmas.Bool.Decides.{nat_tests}
 use Rattle.std.proofs.lemmas.Bool.{cases_lt, cases_eq}
 use Rattle.notify_window.specs.declared.Arrival.TheVariants.{Old, Fresh}
-use Rattle.notify_window.specs.Bits.{bit_of, moved_bit}
+use Rattle.tn_types.specs.BitWords.{bit_of}
+use Rattle.notify_window.specs.Bits.{moved_bit}
 use Rattle.notify_window.specs.Log.{WindowEvent, Sent, Came, Told, horizon_of, is_processed, mask_bit, mask_of, arrival_of, AreFresh}
 use Rattle.notify_window.proofs.Words.{bit_at-from_bits, is_from_bits}
 

@@ -4,7 +4,7 @@ use Rattle.std.specs.Int.{bit_at}
 use Rattle.std.proofs.lemmas.Bool.Decides.{nat_tests}
 use Rattle.std.proofs.lemmas.Bool.{cases_lt, cases_eq}
 use Rattle.std.proofs.lemmas.Nat.Bits.{bit_at-lt, bit_at-zero}
-use Rattle.notify_window.specs.Bits.{bit_of}
+use Rattle.tn_types.specs.BitWords.{bit_of}
 use Rattle.notify_window.specs.Log.{WindowEvent, Sent, Came, Told, judged_of, Unjudged, Received, Lost, is_received, fate_of, fate_of_bit, notices_of}
 use Rattle.notify_window.proofs.Words.{is_from_bits}
 

@@ -8,7 +8,8 @@ use Rattle.std.proofs.Math.Nat.{mod-lt}
 use Rattle.std.proofs.Math.Pow.{pow_pos}
 use Rattle.std.proofs.lemmas.Bool.Decides.{nat_tests}
 use Rattle.std.proofs.lemmas.Bool.{cases_lt, cases_eq}
-use Rattle.notify_window.specs.Bits.{bit_of, from_bits, moved_bit}
+use Rattle.tn_types.specs.BitWords.{bit_of, from_bits}
+use Rattle.notify_window.specs.Bits.{moved_bit}
 
 double : (n : ℕ) → 2 ^ suc n ≡ 2 * 2 ^ n
 double n = grind arith

@@ -1,15 +1,15 @@
 -- What a window saw, the newest first, and what follows from it. A packet of the other end is processed
 -- where it was taken as a data packet, and the horizon is the greatest number that came. A packet of this
 -- end has no verdict until the first acknowledgement whose horizon reaches it, and keeps that one's for good.
-use Rattle.std.specs.Prelude.{◌≡◌, ℕ, ◌+◌, ◌-◌, max, Bool, true, false, not, ◌&&◌, ◌||◌, ◌==◌, nat_le, nat_lt, List, [], ◌∷◌, ◌++◌, if◌then◌else◌, refl}
+use Rattle.std.specs.Prelude.{◌≡◌, ℕ, ◌+◌, ◌-◌, ◌<◌, max, Bool, true, false, not, ◌&&◌, ◌||◌, ◌==◌, nat_le, nat_lt, List, [], ◌∷◌, ◌++◌, if◌then◌else◌, refl}
 use Rattle.std.specs.Int.{bit_at}
-use Rattle.notify_window.specs.declared.TheConstants.{WINDOW}
+use Rattle.tn_types.specs.declared.limits.TheConstants.{MAX_UNJUDGED_PACKETS}
 use Rattle.notify_window.specs.declared.SendState.{SendState}
 use Rattle.notify_window.specs.declared.SendState.TheVariants.{Held, Worn, Room}
 use Rattle.notify_window.specs.declared.Arrival.{Arrival}
 use Rattle.notify_window.specs.declared.Arrival.TheVariants.{Old, Fresh}
 use Rattle.notify_window.specs.declared.Notices.{Notices}
-use Rattle.notify_window.specs.Bits.{from_bits}
+use Rattle.tn_types.specs.BitWords.{from_bits}
 
 pub data WindowEvent : Type 0 where
   Sent : WindowEvent  -- a data packet was sent
@@ -42,7 +42,7 @@ abbrev pub mask_bit : List WindowEvent → ℕ → Bool
 mask_bit log i = nat_lt i (horizon_of log) && is_processed (horizon_of log - i) log
 
 abbrev pub mask_of : List WindowEvent → ℕ
-mask_of log = from_bits (mask_bit log) WINDOW
+mask_of log = from_bits (mask_bit log) MAX_UNJUDGED_PACKETS
 
 -- the greatest number of this end that has a verdict
 abbrev pub judged_of : List WindowEvent → ℕ
@@ -75,7 +75,7 @@ fate_of s (Told horizon mask ∷ log) =
 
 abbrev pub send_state_of : ℕ → List WindowEvent → SendState
 send_state_of life log =
-    if sent_of log == judged_of log + WINDOW then Held
+    if sent_of log == judged_of log + MAX_UNJUDGED_PACKETS then Held
     else (if sent_of log == life then Worn else Room)
 
 abbrev pub arrival_of : Bool → ℕ → ℕ → Arrival
@@ -88,8 +88,12 @@ abbrev pub notices_of : ℕ → ℕ → List WindowEvent → Notices
 notices_of horizon mask log = record {
   first = judged_of log + 1;
   count = horizon - judged_of log;
-  bits = from_bits (λ i. is_received (fate_of (judged_of log + 1 + i) (Told horizon mask ∷ log))) WINDOW;
+  bits = from_bits (λ i. is_received (fate_of (judged_of log + 1 + i) (Told horizon mask ∷ log))) MAX_UNJUDGED_PACKETS;
 }
+
+-- each of the notices says the fate of its packet
+abbrev pub AreVerdicts : Notices → List WindowEvent → Type 0
+AreVerdicts n log = (i : ℕ) → i < n.count → fate_of (n.first + i) log ≡ fate_of_bit (bit_at n.bits i)
 
 -- each arrival of `later`, which came after those of `log`, was fresh when it came
 abbrev pub AreFresh : List WindowEvent → List WindowEvent → Type 0
@@ -97,6 +101,10 @@ AreFresh [] log = Unit {0}
 AreFresh (Sent ∷ later) log = AreFresh later log
 AreFresh (Came ping seq ∷ later) log = (arrival_of ping seq (horizon_of (later ++ log)) ≡ Fresh) × AreFresh later log
 AreFresh (Told horizon mask ∷ later) log = AreFresh later log
+
+-- what was processed of packet s is the same after `later`
+abbrev pub KeepsProcessed : ℕ → List WindowEvent → List WindowEvent → Type 0
+KeepsProcessed s later log = is_processed s (later ++ log) ≡ is_processed s log
 
 -- Packets 1 and 3 of the other end came, 2 was skipped by a ping, and this end's 1 and 2 were judged.
 abbrev told : List WindowEvent

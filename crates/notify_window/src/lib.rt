@@ -1,22 +1,19 @@
-//! The window of one end of a connection: which packets were sent, which came, and what became of each.
+//! The window of one end of a connection: which packets were sent, which came, and what became of each. Beside it
+//! stand the words on fates, and how far something is on its way that is sent until it is received.
 //!
 //! No call takes memory, and none loops. The rules are those of docs/connection.md, "The window".
 #![tactic(auto)]
 
 mod laws;
 mod masks;
+mod progress;
 #[cfg(test)]
 mod tests;
 mod window;
 
 pub use laws::{horizon_is_final, verdict_is_final};
+pub use progress::Progress;
 pub use window::Window;
-
-/// The most packets that may be unjudged, and the bits of a mask.
-pub const WINDOW: u32 = 32;
-
-/// The greatest `life`: the most data packets that one end of a connection sends.
-pub const MAX_LIFE: u32 = 16_777_215;
 
 /// What a pack makes now.
 #[derive(Clone, Copy, Debug, PartialEq, Eq)]

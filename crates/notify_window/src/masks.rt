@@ -4,21 +4,21 @@ ghost use Rattle.std.specs.Prelude.{◌≡◌, ℕ, ◌-◌, ◌<◌, ◌≤◌,
 ghost use Rattle.std.specs.Int.{bit_at};
 ghost use Rattle.notify_window.specs.Bits.{moved_bit};
 
-use crate::WINDOW;
+use tn_types::MAX_UNJUDGED_PACKETS;
 
 /// The lowest `count` bits the other way round, and no other bit.
 pub fn turned(mask: u32, count: u32) -> u32
     requires some { 0 < count }
-    requires few { count ≤ WINDOW }
-    ensures { (i : ℕ) → i < WINDOW → bit_at result i ≡ (if nat_lt i count then bit_at mask (count - 1 - i) else 0) }
+    requires few { count ≤ MAX_UNJUDGED_PACKETS }
+    ensures { (i : ℕ) → i < MAX_UNJUDGED_PACKETS → bit_at result i ≡ (if nat_lt i count then bit_at mask (count - 1 - i) else 0) }
 {
-    mask.reverse_bits() >> (WINDOW - count)
+    mask.reverse_bits() >> (MAX_UNJUDGED_PACKETS - count)
 }
 
 /// The mask for a horizon that is `by` above the old one. The lowest bit, which tells of the horizon itself,
 /// is set where `processed` is.
 pub fn moved(mask: u32, by: u32, processed: bool) -> u32
-    ensures { (i : ℕ) → i < WINDOW → bit_at result i ≡ moved_bit mask by processed i }
+    ensures { (i : ℕ) → i < MAX_UNJUDGED_PACKETS → bit_at result i ≡ moved_bit mask by processed i }
 {
     let higher = raised(mask, by);
     if processed { higher | 1 } else { higher }
@@ -26,7 +26,11 @@ pub fn moved(mask: u32, by: u32, processed: bool) -> u32
 
 /// The mask with each bit that many places up.
 fn raised(mask: u32, by: u32) -> u32
-    ensures { (i : ℕ) → i < WINDOW → bit_at result i ≡ (if nat_lt i by then 0 else bit_at mask (i - by)) }
+    ensures { (i : ℕ) → i < MAX_UNJUDGED_PACKETS → bit_at result i ≡ (if nat_lt i by then 0 else bit_at mask (i - by)) }
 {
-    if by < WINDOW { mask << by } else { 0 }
+    if by < MAX_UNJUDGED_PACKETS {
+        mask << by
+    } else {
+        0
+    }
 }

@@ -1,6 +1,7 @@
 ghost use Rattle.std.specs.Prelude.{◌≤◌};
 
-use crate::{AckAhead, Arrival, MAX_LIFE, Notices, SendState, Window};
+use crate::{AckAhead, Arrival, Notices, SendState, Window};
+use tn_types::MAX_LIFE;
 
 /// A window that sends as long as it may, `most` packets at the most.
 fn after_sends(life: u32, most: u32) -> Window

@@ -1,11 +1,12 @@
 //! The window and its calls.
 
 ghost use Rattle.std.specs.Prelude.{◌≡◌, ◌≢◌, ℕ, ◌+◌, ◌-◌, ◌<◌, ◌≤◌, ◌↔◌, List, [], ◌∷◌, IfOk, OnErr, OnOk, IfErr, IsErr};
-ghost use Rattle.std.specs.Int.{bit_at};
+ghost use Rattle.tn_types.specs.Histories.{Does, Answers};
 
 use crate::masks::{moved, turned};
-use crate::{AckAhead, Arrival, MAX_LIFE, Notices, SendState, WINDOW};
+use crate::{AckAhead, Arrival, Notices, SendState};
 use std::marker::Model;
+use tn_types::{MAX_LIFE, MAX_UNJUDGED_PACKETS};
 
 /// What one end knows of the packets of both.
 ///
@@ -24,14 +25,16 @@ impl Model for Window {
 
     ghost Value = { WindowState };
 
-    ghost view = { λ w. record { sent = w.sent; first_unjudged = w.first_unjudged; horizon = w.horizon; mask = w.mask; life = w.life } };
+    ghost use Rattle.notify_window.specs.View.{state_of};
 
-    ghost invariant = { λ w. IsBounded (record { sent = w.sent; first_unjudged = w.first_unjudged; horizon = w.horizon; mask = w.mask; life = w.life }) };
+    ghost view = { state_of };
+
+    ghost invariant = { λ w. IsBounded (state_of w) };
 }
 
 impl Window {
     ghost use Rattle.notify_window.specs.State.{send_state};
-    ghost use Rattle.notify_window.specs.Log.{WindowEvent, Sent, Came, Told, fate_of, fate_of_bit, send_state_of, arrival_of, notices_of};
+    ghost use Rattle.notify_window.specs.Log.{WindowEvent, Sent, Came, Told, AreVerdicts, send_state_of, arrival_of, notices_of};
     ghost use Rattle.notify_window.specs.Stands.{StandsFor};
 
     /// The window of a new connection, whose two ends each send at most `life` data packets.
@@ -53,9 +56,9 @@ impl Window {
     /// and `life` were sent (docs/connection.md, "Sending").
     pub fn can_send(&self) -> SendState
         ensures state { result ≡ send_state self.now }
-        ensures log { (log : List WindowEvent) → StandsFor self.now log → result ≡ send_state_of self.now.life log }
+        ensures log { Answers StandsFor self.now (send_state_of self.now.life) result }
     {
-        if self.sent + 1 == self.first_unjudged + WINDOW {
+        if self.sent + 1 == self.first_unjudged + MAX_UNJUDGED_PACKETS {
             SendState::Held
         } else if self.sent == self.life {
             SendState::Worn
@@ -68,7 +71,7 @@ impl Window {
     pub fn send(&mut self) -> u32
         requires { send_state self.old ≡ SendState.Room }
         ensures number { result ≡ self.old.sent + 1 }
-        ensures stands { (log : List WindowEvent) → StandsFor self.old log → StandsFor self.new (Sent ∷ log) }
+        ensures stands { Does StandsFor self.old Sent self.new }
         ensures life { self.new.life ≡ self.old.life }
     {
         self.sent += 1;
@@ -105,7 +108,7 @@ impl Window {
     pub fn receive(&mut self, ping: bool, seq: u32) -> Arrival
         ensures answer { result ≡ arrival_of ping seq self.old.horizon }
         ensures old { result ≢ Arrival.Fresh → self.new ≡ self.old }
-        ensures fresh { result ≡ Arrival.Fresh → (log : List WindowEvent) → StandsFor self.old log → StandsFor self.new (Came ping seq ∷ log) }
+        ensures fresh { result ≡ Arrival.Fresh → Does StandsFor self.old (Came ping seq) self.new }
         ensures life { self.new.life ≡ self.old.life }
     {
         if !ping && seq <= self.horizon {
@@ -128,11 +131,11 @@ impl Window {
         ensures ahead { IsErr result ↔ (self.old.sent < horizon) }
         ensures names { IfErr result (λ e. (e.horizon ≡ horizon) × (e.last ≡ self.old.sent)) }
         ensures unchanged { OnErr result (self.new ≡ self.old) }
-        ensures stands { OnOk result ((log : List WindowEvent) → StandsFor self.old log → StandsFor self.new (Told horizon mask ∷ log)) }
+        ensures stands { OnOk result (Does StandsFor self.old (Told horizon mask) self.new) }
         ensures first { IfOk result (λ n. n.first ≡ self.old.first_unjudged) }
         ensures count { IfOk result (λ n. n.count ≡ horizon + 1 - self.old.first_unjudged) }
-        ensures notices { IfOk result (λ n. (log : List WindowEvent) → StandsFor self.old log → n ≡ notices_of horizon mask log) }
-        ensures verdicts { IfOk result (λ n. (log : List WindowEvent) → StandsFor self.old log → (i : ℕ) → i < n.count → fate_of (n.first + i) (Told horizon mask ∷ log) ≡ fate_of_bit (bit_at n.bits i)) }
+        ensures notices { IfOk result (λ n. Answers StandsFor self.old (notices_of horizon mask) n) }
+        ensures verdicts { IfOk result (λ n. (log : List WindowEvent) → StandsFor self.old log → AreVerdicts n (Told horizon mask ∷ log)) }
         ensures life { self.new.life ≡ self.old.life }
     {
         if horizon > self.sent {

@@ -8,36 +8,36 @@ use Rattle.stream_manager.specs.declared.fault.ArriveFault.{ArriveFault}
 use Rattle.stream_manager.specs.declared.fault.ClientFault.{ClientFault}
 use Rattle.quantised_fields.specs.declared.kind.Kind.{Kind}
 use Rattle.stream_manager.specs.Limits.{Terms}
-use Rattle.stream_manager.specs.Calls.{ClientKeeps}
+use Rattle.stream_manager.specs.ClientCalls.{KeepsTerms}
 use Rattle.stream_manager.specs.Stands.{ConnState, ConnStandsFor, terms_of, ClientState, ClientStandsFor}
 use Rattle.stream_manager.specs.Server.{ServerEvent, server_datagrams, server_answer, took_at_server, accepted_at}
 use Rattle.stream_manager.specs.Client.{ClientEvent, client_datagrams, client_answer, took_at_client}
-use Rattle.pair_core.specs.History.{Step, Down, Up, history, client_gets, server_gets}
+use Rattle.pair_core.specs.History.{PairStep, Down, Up, history, client_gets, server_gets}
 use Rattle.pair_core.specs.Answers.{accepted_in}
 use Rattle.pair_core.specs.Stands.{PairState, StandsFor}
 
 -- an arrival sends nothing
-took_sends_up : (log : List ClientEvent) (a : Result ServerPacket ClientFault) → client_datagrams (took_at_client log a) ≡ client_datagrams log
-took_sends_up log (Ok p) = refl
-took_sends_up log (Err e) = refl
+took_sends_up : (c : Config) (log : List ClientEvent) (a : Result ServerPacket ClientFault) → client_datagrams c (took_at_client log a) ≡ client_datagrams c log
+took_sends_up c log (Ok p) = refl
+took_sends_up c log (Err e) = refl
 
-took_sends_down : (kinds : List Kind) (log : List ServerEvent) (room : ℕ) (a : Result ClientPacket ArriveFault) → server_datagrams kinds (took_at_server log room a) ≡ server_datagrams kinds log
-took_sends_down kinds log room (Ok p) = refl
-took_sends_down kinds log room (Err e) = refl
+took_sends_down : (t : Terms) (log : List ServerEvent) (room : ℕ) (a : Result ClientPacket ArriveFault) → server_datagrams t (took_at_server log room a) ≡ server_datagrams t log
+took_sends_down t log room (Ok p) = refl
+took_sends_down t log room (Err e) = refl
 
-pub gets_sends_up : (t : Terms) (o : Option (List ℕ)) (log : List ClientEvent) → client_datagrams (client_gets t o log) ≡ client_datagrams log
+pub gets_sends_up : (t : Terms) (o : Option (List ℕ)) (log : List ClientEvent) → client_datagrams t.config (client_gets t o log) ≡ client_datagrams t.config log
 gets_sends_up t None log = refl
-gets_sends_up t (Some bytes) log = took_sends_up log (client_answer t.config t.kinds log bytes)
+gets_sends_up t (Some bytes) log = took_sends_up t.config log (client_answer t.config t.kinds log bytes)
 
-pub gets_sends_down : (t : Terms) (room : ℕ) (o : Option (List ℕ)) (log : List ServerEvent) → server_datagrams t.kinds (server_gets t.config room o log) ≡ server_datagrams t.kinds log
+pub gets_sends_down : (t : Terms) (room : ℕ) (o : Option (List ℕ)) (log : List ServerEvent) → server_datagrams t (server_gets t.config room o log) ≡ server_datagrams t log
 gets_sends_down t room None log = refl
-gets_sends_down t room (Some bytes) log = took_sends_down t.kinds log room (server_answer t.config log bytes)
+gets_sends_down t room (Some bytes) log = took_sends_down t log room (server_answer t.config log bytes)
 
-pub down_stands : (p : PairState) (new : ClientState) (t : Terms) (steps : List Step) (k : ℕ) (bytes : List ℕ) → slice_get p.down k ≡ Some bytes → ClientKeeps p.client new
+pub down_stands : (p : PairState) (new : ClientState) (t : Terms) (steps : List PairStep) (k : ℕ) (bytes : List ℕ) → slice_get p.down k ≡ Some bytes → KeepsTerms p.client new
     → ((log : List ClientEvent) → ClientStandsFor p.client log → ClientStandsFor new (took_at_client log (client_answer p.client.common.config p.client.copies.kinds log bytes)))
     → StandsFor p t steps → StandsFor (record { conn = p.conn; client = new; down = p.down; up = p.up }) t (Down k ∷ steps)
 down_stands p new t steps k bytes there keeps gets s =
-    let sent : slice_get (server_datagrams t.kinds (history t steps).server) k ≡ Some bytes = ap (λ (l : List (List ℕ)). slice_get l k) (sym s.down) ∙ there in
+    let sent : slice_get (server_datagrams t (history t steps).server) k ≡ Some bytes = ap (λ (l : List (List ℕ)). slice_get l k) (sym s.down) ∙ there in
     let kinds : ClientStandsFor new (took_at_client (history t steps).client (client_answer p.client.common.config t.kinds (history t steps).client bytes)) =
     subst (λ (x : List Kind). ClientStandsFor new (took_at_client (history t steps).client (client_answer p.client.common.config x (history t steps).client bytes))) s.client_kinds (gets (history t steps).client s.client) in
     let now : ClientStandsFor new (client_gets t (Some bytes) (history t steps).client) =
@@ -49,14 +49,14 @@ down_stands p new t steps k bytes there keeps gets s =
       conn = s.conn;
       client = subst (λ (o : Option (List ℕ)). ClientStandsFor new (client_gets t o (history t steps).client)) (sym sent) now;
       down = s.down;
-      up = s.up ∙ sym (gets_sends_up t (slice_get (server_datagrams t.kinds (history t steps).server) k) (history t steps).client);
+      up = s.up ∙ sym (gets_sends_up t (slice_get (server_datagrams t (history t steps).server) k) (history t steps).client);
     }
 
-pub up_stands : (p : PairState) (new : ConnState) (t : Terms) (steps : List Step) (k room : ℕ) (bytes : List ℕ) → slice_get p.up k ≡ Some bytes → terms_of new ≡ terms_of p.conn
+pub up_stands : (p : PairState) (new : ConnState) (t : Terms) (steps : List PairStep) (k room : ℕ) (bytes : List ℕ) → slice_get p.up k ≡ Some bytes → terms_of new ≡ terms_of p.conn
     → ((log : List ServerEvent) → ConnStandsFor p.conn log → ConnStandsFor new (took_at_server log room (server_answer p.conn.common.config log bytes)))
     → StandsFor p t steps → StandsFor (record { conn = new; client = p.client; down = p.down; up = p.up }) t (Up k room ∷ steps)
 up_stands p new t steps k room bytes there terms gets s =
-    let sent : slice_get (client_datagrams (history t steps).client) k ≡ Some bytes = ap (λ (l : List (List ℕ)). slice_get l k) (sym s.up) ∙ there in
+    let sent : slice_get (client_datagrams t.config (history t steps).client) k ≡ Some bytes = ap (λ (l : List (List ℕ)). slice_get l k) (sym s.up) ∙ there in
     let config : p.conn.common.config ≡ t.config = ap (λ (x : Terms). x.config) s.terms in
     let now : ConnStandsFor new (server_gets t.config room (Some bytes) (history t steps).server) =
     subst (λ (x : Config). ConnStandsFor new (took_at_server (history t steps).server room (server_answer x (history t steps).server bytes))) config (gets (history t steps).server s.conn) in
@@ -66,17 +66,17 @@ up_stands p new t steps k room bytes there terms gets s =
       client_kinds = s.client_kinds;
       conn = subst (λ (o : Option (List ℕ)). ConnStandsFor new (server_gets t.config room o (history t steps).server)) (sym sent) now;
       client = s.client;
-      down = s.down ∙ sym (gets_sends_down t room (slice_get (client_datagrams (history t steps).client) k) (history t steps).server);
+      down = s.down ∙ sym (gets_sends_down t room (slice_get (client_datagrams t.config (history t steps).client) k) (history t steps).server);
       up = s.up;
     }
 
 -- the moves that the server newly accepts are those that its end lends
-pub up_moves : (p : PairState) (new : ConnState) (t : Terms) (steps : List Step) (k room : ℕ) (bytes : List ℕ) → slice_get p.up k ≡ Some bytes
+pub up_moves : (p : PairState) (new : ConnState) (t : Terms) (steps : List PairStep) (k room : ℕ) (bytes : List ℕ) → slice_get p.up k ≡ Some bytes
     → ((log : List ServerEvent) → ConnStandsFor p.conn log → accepted_at p.conn.common.config (took_at_server log room (server_answer p.conn.common.config log bytes)) ≡ accepted_at p.conn.common.config log ++ new.taken)
     → StandsFor p t steps → accepted_in t (Up k room ∷ steps) ≡ accepted_in t steps ++ new.taken
 up_moves p new t steps k room bytes there moves s =
     let before = (history t steps).server in
-    let sent : slice_get (client_datagrams (history t steps).client) k ≡ Some bytes = ap (λ (l : List (List ℕ)). slice_get l k) (sym s.up) ∙ there in
+    let sent : slice_get (client_datagrams t.config (history t steps).client) k ≡ Some bytes = ap (λ (l : List (List ℕ)). slice_get l k) (sym s.up) ∙ there in
     let config : p.conn.common.config ≡ t.config = ap (λ (x : Terms). x.config) s.terms in
     let now : accepted_at t.config (server_gets t.config room (Some bytes) before) ≡ accepted_at t.config before ++ new.taken =
     subst (λ (x : Config). accepted_at x (took_at_server before room (server_answer x before bytes)) ≡ accepted_at x before ++ new.taken) config (moves before s.conn) in

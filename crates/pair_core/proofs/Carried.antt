@@ -15,8 +15,8 @@ use Rattle.wire_format.specs.declared.server.ServerPacket.{ServerPacket}
 use Rattle.wire_format.specs.declared.server.ServerPacket.TheVariants as down
 use Rattle.wire_format.specs.declared.client.ClientPacket.{ClientPacket}
 use Rattle.wire_format.specs.declared.client.ClientPacket.TheVariants as up
-use Rattle.wire_format.specs.Server.{server, server_of, IsServer}
-use Rattle.wire_format.specs.Client.{client, client_of, IsClient}
+use Rattle.wire_format.specs.Server.{IsServer}
+use Rattle.wire_format.specs.Client.{IsClient}
 use Rattle.wire_format.specs.Ghosts.{IsGhost}
 use Rattle.wire_format.specs.Reading.{AreListed}
 use Rattle.ghost_model.specs.Ghosts.{Grant}
@@ -31,17 +31,19 @@ use Rattle.tn_types.specs.declared.moves.Move.{Move}
 use Rattle.stream_manager.specs.declared.fault.ArriveFault.{ArriveFault}
 use Rattle.stream_manager.specs.declared.fault.ClientFault.{ClientFault}
 use Rattle.stream_manager.specs.Limits.{Terms, AreTerms}
-use Rattle.stream_manager.specs.Faults.{Checked, checked_packet}
+use Rattle.stream_manager.specs.Wire.{read_down, read_up, bytes_down, bytes_up}
+use Rattle.tn_types.specs.Checks.{Checked}
+use Rattle.stream_manager.specs.Faults.{checked_packet}
 use Rattle.move_manager.specs.Sending as sending
 use Rattle.move_manager.specs.Sending.{sampled_of, acked_of, packet_of}
 use Rattle.move_manager.specs.Accepting.{accepted_of, accept}
 use Rattle.move_manager.proofs.InOrder.{Holds, IsFront, holds-push, front-push, front-accept}
-use Rattle.stream_manager.specs.End.{came_of, onto}
+use Rattle.stream_manager.specs.End.{came_of, with_event}
 use Rattle.stream_manager.specs.Server as server_log
 use Rattle.stream_manager.specs.Server.{ServerEvent, server_end, server_datagrams, seen_up, server_state, posted_at_server, with_plan, next_body, server_ping, ghost_log, took_at_server, server_answer, packet_answer, accepted_at, move_log, moves_taken}
 use Rattle.stream_manager.specs.Client as client_log
 use Rattle.stream_manager.specs.Client.{ClientEvent, client_end, client_datagrams, seen_down, client_state, posted_at_client, client_body, client_ping, took_at_client, client_answer, sampled_answer, sampled_at, sample_log, moves_acked}
-use Rattle.pair_core.specs.History.{Step, Post, ClientPost, Sample, Pack, ClientPack, Down, Up, history, server_posts, client_posts, client_samples, client_gets, server_gets}
+use Rattle.pair_core.specs.History.{PairStep, Post, ClientPost, Sample, Pack, ClientPack, Down, Up, history, server_posts, client_posts, client_samples, client_gets, server_gets}
 use Rattle.pair_core.specs.Laws.{IsPayload, StepFits, posted_at}
 use Rattle.pair_core.specs.Stands.{ShowsNothing}
 use Rattle.pair_core.proofs.NoGhosts.{packed-nothing, took-nothing, no-plan, no-control}
@@ -50,7 +52,7 @@ use Rattle.pair_core.proofs.Lists.{all-append, all-map, all-at}
 use Rattle.pair_core.proofs.Fits.{EndFits, start-fits, posted-fits, loose-fits, packed-fits, pinged-fits, took-fits, data_head-fits, ping_head-fits, events-fit}
 use Rattle.event_manager.specs.Posted.{ArePosted}
 use Rattle.event_manager.proofs.Prefixes.{posted-push}
-use Rattle.pair_core.proofs.Posted.{posted-events, posted-onto}
+use Rattle.pair_core.proofs.Posted.{posted-events, posted-items}
 use Rattle.pair_core.proofs.Sections.{blocks-fit, any-moves}
 
 -- a move that is taken up finds room
@@ -76,18 +78,18 @@ HoldsMoves ms (up.Ping head) = Unit {0}
 HoldsMoves ms (up.Body p) = Holds (record { first = p.first; moves = p.moves }) ms
 
 -- bytes that spell a packet of the server whose guaranteed events are these, and which tells of so many moves at most
-pub record IsDown (kinds : List Kind) (vs : List (List ℕ)) (count : ℕ) (bytes : List ℕ) : Type 0 where
+pub record IsDown (t : Terms) (vs : List (List ℕ)) (count : ℕ) (bytes : List ℕ) : Type 0 where
   pub packet : ServerPacket
-  pub fits : IsServer kinds packet
-  pub reads : server_of kinds bytes ≡ Ok packet
+  pub fits : IsServer t.kinds packet
+  pub reads : read_down t.config t.kinds bytes ≡ Ok packet
   pub posted : ArePosted vs (seen_down packet).events
   pub tells : TellsAtMost count packet
 
 -- bytes that spell a packet of the client with these events and moves
-pub record IsUp (vs : List (List ℕ)) (ms : List Move) (bytes : List ℕ) : Type 0 where
+pub record IsUp (c : Config) (vs : List (List ℕ)) (ms : List Move) (bytes : List ℕ) : Type 0 where
   pub packet : ClientPacket
   pub fits : IsClient packet
-  pub reads : client_of bytes ≡ Ok packet
+  pub reads : read_up c bytes ≡ Ok packet
   pub posted : ArePosted vs (seen_up packet).events
   pub moves : HoldsMoves ms packet
 
@@ -99,17 +101,17 @@ holds-more : (ms : List Move) (m : Move) (p : ClientPacket) → HoldsMoves ms p 
 holds-more ms m (up.Ping head) h = tt
 holds-more ms m (up.Body p) h = holds-push (record { first = p.first; moves = p.moves }) ms m h
 
-down-push : (kinds : List Kind) (vs : List (List ℕ)) (w : List ℕ) (count : ℕ) (bytes : List ℕ) → IsDown kinds vs count bytes → IsDown kinds (vs ++ w ∷ []) count bytes
-down-push kinds vs w count bytes d = record { packet = d.packet; fits = d.fits; reads = d.reads; posted = posted-push vs w (seen_down d.packet).events d.posted; tells = d.tells }
+down-push : (t : Terms) (vs : List (List ℕ)) (w : List ℕ) (count : ℕ) (bytes : List ℕ) → IsDown t vs count bytes → IsDown t (vs ++ w ∷ []) count bytes
+down-push t vs w count bytes d = record { packet = d.packet; fits = d.fits; reads = d.reads; posted = posted-push vs w (seen_down d.packet).events d.posted; tells = d.tells }
 
-down-told : (kinds : List Kind) (vs : List (List ℕ)) (m n : ℕ) → m ≤ n → (bytes : List ℕ) → IsDown kinds vs m bytes → IsDown kinds vs n bytes
-down-told kinds vs m n l bytes d = record { packet = d.packet; fits = d.fits; reads = d.reads; posted = d.posted; tells = tells-more m n d.packet l d.tells }
+down-told : (t : Terms) (vs : List (List ℕ)) (m n : ℕ) → m ≤ n → (bytes : List ℕ) → IsDown t vs m bytes → IsDown t vs n bytes
+down-told t vs m n l bytes d = record { packet = d.packet; fits = d.fits; reads = d.reads; posted = d.posted; tells = tells-more m n d.packet l d.tells }
 
-up-push : (vs : List (List ℕ)) (w : List ℕ) (ms : List Move) (bytes : List ℕ) → IsUp vs ms bytes → IsUp (vs ++ w ∷ []) ms bytes
-up-push vs w ms bytes d = record { packet = d.packet; fits = d.fits; reads = d.reads; posted = posted-push vs w (seen_up d.packet).events d.posted; moves = d.moves }
+up-push : (c : Config) (vs : List (List ℕ)) (w : List ℕ) (ms : List Move) (bytes : List ℕ) → IsUp c vs ms bytes → IsUp c (vs ++ w ∷ []) ms bytes
+up-push c vs w ms bytes d = record { packet = d.packet; fits = d.fits; reads = d.reads; posted = posted-push vs w (seen_up d.packet).events d.posted; moves = d.moves }
 
-up-sampled : (vs : List (List ℕ)) (ms : List Move) (m : Move) (bytes : List ℕ) → IsUp vs ms bytes → IsUp vs (ms ++ m ∷ []) bytes
-up-sampled vs ms m bytes d = record { packet = d.packet; fits = d.fits; reads = d.reads; posted = d.posted; moves = holds-more ms m d.packet d.moves }
+up-sampled : (c : Config) (vs : List (List ℕ)) (ms : List Move) (m : Move) (bytes : List ℕ) → IsUp c vs ms bytes → IsUp c vs (ms ++ m ∷ []) bytes
+up-sampled c vs ms m bytes d = record { packet = d.packet; fits = d.fits; reads = d.reads; posted = d.posted; moves = holds-more ms m d.packet d.moves }
 
 -- the moves of both ends
 pub record Moves (life : ℕ) (server client : List Move) (told : ℕ) : Type 0 where
@@ -123,8 +125,8 @@ pub record Moves (life : ℕ) (server client : List Move) (told : ℕ) : Type 0 
 pub record Carried (t : Terms) (s : List ServerEvent) (u : List ClientEvent) : Type 0 where
   pub server : EndFits t.config.life (server_end s)
   pub client : EndFits t.config.life (client_end u)
-  pub down : AllByRecursion (IsDown t.kinds (posted_at (server_end s)) (length (accepted_at t.config s))) (server_datagrams t.kinds s)
-  pub up : AllByRecursion (IsUp (posted_at (client_end u)) (sampled_at u)) (client_datagrams u)
+  pub down : AllByRecursion (IsDown t (posted_at (server_end s)) (length (accepted_at t.config s))) (server_datagrams t s)
+  pub up : AllByRecursion (IsUp t.config (posted_at (client_end u)) (sampled_at u)) (client_datagrams t.config u)
   pub came_down : ArePosted (posted_at (server_end s)) (came_of (client_end u))
   pub came_up : ArePosted (posted_at (client_end u)) (came_of (server_end s))
   pub moves : Moves t.config.life (accepted_at t.config s) (sampled_at u) (acked_of (sample_log u))
@@ -154,8 +156,8 @@ module _ (t : Terms) (limits : AreTerms t) where
       go true e = record {
         server = posted-fits t.config.life (server_end s) v e fits h.server;
         client = h.client;
-        down = all-map (IsDown t.kinds (posted_at (server_end s)) (length (accepted_at t.config s))) (IsDown t.kinds (posted_at (server_end s) ++ v ∷ []) (length (accepted_at t.config s)))
-            (down-push t.kinds (posted_at (server_end s)) v (length (accepted_at t.config s))) (server_datagrams t.kinds s) h.down;
+        down = all-map (IsDown t (posted_at (server_end s)) (length (accepted_at t.config s))) (IsDown t (posted_at (server_end s) ++ v ∷ []) (length (accepted_at t.config s)))
+            (down-push t (posted_at (server_end s)) v (length (accepted_at t.config s))) (server_datagrams t s) h.down;
         up = h.up;
         came_down = posted-push (posted_at (server_end s)) v (came_of (client_end u)) h.came_down;
         came_up = h.came_up;
@@ -173,7 +175,7 @@ module _ (t : Terms) (limits : AreTerms t) where
         server = h.server;
         client = posted-fits t.config.life (client_end u) v e fits h.client;
         down = h.down;
-        up = all-map (IsUp (posted_at (client_end u)) (sampled_at u)) (IsUp (posted_at (client_end u) ++ v ∷ []) (sampled_at u)) (up-push (posted_at (client_end u)) v (sampled_at u)) (client_datagrams u) h.up;
+        up = all-map (IsUp t.config (posted_at (client_end u)) (sampled_at u)) (IsUp t.config (posted_at (client_end u) ++ v ∷ []) (sampled_at u)) (up-push t.config (posted_at (client_end u)) v (sampled_at u)) (client_datagrams t.config u) h.up;
         came_down = h.came_down;
         came_up = posted-push (posted_at (client_end u)) v (came_of (server_end s)) h.came_up;
         moves = h.moves;
@@ -194,7 +196,7 @@ module _ (t : Terms) (limits : AreTerms t) where
             server = h.server;
             client = h.client;
             down = h.down;
-            up = all-map (IsUp (posted_at (client_end u)) (sampled_at u)) (IsUp (posted_at (client_end u)) (sampled_at u ++ m ∷ [])) (up-sampled (posted_at (client_end u)) (sampled_at u) m) (client_datagrams u) h.up;
+            up = all-map (IsUp t.config (posted_at (client_end u)) (sampled_at u)) (IsUp t.config (posted_at (client_end u)) (sampled_at u ++ m ∷ [])) (up-sampled t.config (posted_at (client_end u)) (sampled_at u) m) (client_datagrams t.config u) h.up;
             came_down = h.came_down;
             came_up = h.came_up;
             moves = record {
@@ -212,11 +214,11 @@ module _ (t : Terms) (limits : AreTerms t) where
   short : t.config.life < 2 ^ 24
   short = omega (arith, limits.config.life)
 
-  is-down : (vs : List (List ℕ)) (count : ℕ) (p : ServerPacket) → IsServer t.kinds p → ArePosted vs (seen_down p).events → TellsAtMost count p → IsDown t.kinds vs count (datagram (server t.kinds p))
-  is-down vs count p fits posted tells = record { packet = p; fits = fits; reads = reads-down t.kinds p fits; posted = posted; tells = tells }
+  is-down : (vs : List (List ℕ)) (count : ℕ) (p : ServerPacket) → IsServer t.kinds p → ArePosted vs (seen_down p).events → TellsAtMost count p → IsDown t vs count (bytes_down t p)
+  is-down vs count p fits posted tells = record { packet = p; fits = fits; reads = reads-down t p fits; posted = posted; tells = tells }
 
-  is-up : (vs : List (List ℕ)) (ms : List Move) (p : ClientPacket) → IsClient p → ArePosted vs (seen_up p).events → HoldsMoves ms p → IsUp vs ms (datagram (client p))
-  is-up vs ms p fits posted holds = record { packet = p; fits = fits; reads = reads-up p fits; posted = posted; moves = holds }
+  is-up : (vs : List (List ℕ)) (ms : List Move) (p : ClientPacket) → IsClient p → ArePosted vs (seen_up p).events → HoldsMoves ms p → IsUp t.config vs ms (bytes_up t.config p)
+  is-up vs ms p fits posted holds = record { packet = p; fits = fits; reads = reads-up t.config p fits; posted = posted; moves = holds }
 
   -- the packets that the server makes
   pub ping-down : (s : List ServerEvent) (u : List ClientEvent) → server_state t.config s ≡ Held → Carried t s u → IsServer t.kinds (down.Ping (server_ping t.config s))
@@ -228,7 +230,7 @@ module _ (t : Terms) (limits : AreTerms t) where
     accepted = omega (arith, h.moves.accepted, short);
     control = subst (λ (o : Option ℕ). IfSome o (λ slot. slot < 2 ^ 8)) (sym (no-control t.kinds (Grant ∷ ghost_log s) h.nothing)) tt;
     blocks = blocks-fit t s limits;
-    events = events-fit t.config.life _ (server_end s) short h.server;
+    events = events-fit t.config t.config.life _ (server_end s) short h.server;
     ghosts = subst (λ (cs : List Choice). AreListed 128 (IsGhost t.kinds) (ghosts_for t.kinds (Grant ∷ ghost_log s) cs [])) (sym (no-plan t.kinds (Grant ∷ ghost_log s) h.nothing _ _)) (record { few = omega arith; each = tt });
   }
 
@@ -240,7 +242,7 @@ module _ (t : Terms) (limits : AreTerms t) where
       go Held e = record {
         server = pinged-fits t.config.life (server_end s) _ h.server;
         client = h.client;
-        down = all-append (IsDown t.kinds (posted_at (server_end s)) (length (accepted_at t.config s))) (server_datagrams t.kinds s) _ h.down
+        down = all-append (IsDown t (posted_at (server_end s)) (length (accepted_at t.config s))) (server_datagrams t s) _ h.down
             (is-down (posted_at (server_end s)) (length (accepted_at t.config s)) (down.Ping (server_ping t.config s)) (ping-down s u e h) tt tt, tt);
         up = h.up;
         came_down = h.came_down;
@@ -251,10 +253,10 @@ module _ (t : Terms) (limits : AreTerms t) where
       go Room e = record {
         server = packed-fits t.config.life (server_end s) _ e h.server;
         client = h.client;
-        down = all-append (IsDown t.kinds (posted_at (server_end s)) (length (accepted_at t.config s))) (server_datagrams t.kinds s) _ h.down (
+        down = all-append (IsDown t (posted_at (server_end s)) (length (accepted_at t.config s))) (server_datagrams t s) _ h.down (
           is-down (posted_at (server_end s)) (length (accepted_at t.config s)) (down.Body (next_body t s []))
               (body-down s u e h)
-              (posted-events _ (server_end s))
+              (posted-events t.config _ (server_end s))
               (omega arith),
           tt,
         );
@@ -278,22 +280,22 @@ module _ (t : Terms) (limits : AreTerms t) where
     head = data_head-fits t.config.life t.config.client (client_end u) short limits.config.client e h.client;
     first = omega (arith, h.moves.acked, h.moves.accepted, short);
     moves = record { few = omega (arith, waiting-moves s u h, h.moves.few); each = any-moves (packet_of (sample_log u)).moves };
-    events = events-fit t.config.life _ (client_end u) short h.client;
+    events = events-fit t.config t.config.life _ (client_end u) short h.client;
   }
 
-  packs-up : (s : List ServerEvent) (u : List ClientEvent) → Carried t s u → Carried t s (onto (client_log.packing t.config u) u)
+  packs-up : (s : List ServerEvent) (u : List ClientEvent) → Carried t s u → Carried t s (with_event (client_log.packing t.config u) u)
   packs-up s u h = go (client_state t.config u) refl
     where
       holds : Holds (packet_of (sample_log u)) (sampled_at u)
       holds = let all = waiting-moves s u h in record { within = omega (arith, all); moves = sym (take_all _ _ (omega arith)) }
 
-      go : (state : SendState) → client_state t.config u ≡ state → Carried t s (onto (client_log.pack_event t.config u state) u)
+      go : (state : SendState) → client_state t.config u ≡ state → Carried t s (with_event (client_log.pack_event t.config u state) u)
       go Worn e = h
       go Held e = record {
         server = h.server;
         client = pinged-fits t.config.life (client_end u) _ h.client;
         down = h.down;
-        up = all-append (IsUp (posted_at (client_end u)) (sampled_at u)) (client_datagrams u) _ h.up
+        up = all-append (IsUp t.config (posted_at (client_end u)) (sampled_at u)) (client_datagrams t.config u) _ h.up
             (is-up (posted_at (client_end u)) (sampled_at u) (up.Ping (client_ping t.config u)) (ping-up s u e h) tt tt, tt);
         came_down = h.came_down;
         came_up = h.came_up;
@@ -304,10 +306,10 @@ module _ (t : Terms) (limits : AreTerms t) where
         server = h.server;
         client = packed-fits t.config.life (client_end u) _ e h.client;
         down = h.down;
-        up = all-append (IsUp (posted_at (client_end u)) (sampled_at u)) (client_datagrams u) _ h.up (
+        up = all-append (IsUp t.config (posted_at (client_end u)) (sampled_at u)) (client_datagrams t.config u) _ h.up (
           is-up (posted_at (client_end u)) (sampled_at u) (up.Body (client_body t.config u))
               (body-up s u e h)
-              (posted-events _ (client_end u))
+              (posted-events t.config _ (client_end u))
               holds,
           tt,
         );
@@ -339,8 +341,8 @@ module _ (t : Terms) (limits : AreTerms t) where
     server = h.server;
     client = took-fits t.config.life (client_end u) (seen_down p) (seq-down p fits) h.client;
     down = h.down;
-    up = subst (λ (ms : List Move). AllByRecursion (IsUp (posted_at (client_end u)) ms) (client_datagrams u)) (same-sampled p) h.up;
-    came_down = posted-onto (posted_at (server_end s)) (seen_down p).events (came_of (client_end u)) posted h.came_down;
+    up = subst (λ (ms : List Move). AllByRecursion (IsUp t.config (posted_at (client_end u)) ms) (client_datagrams t.config u)) (same-sampled p) h.up;
+    came_down = posted-items (posted_at (server_end s)) (seen_down p).events (came_of (client_end u)) posted h.came_down;
     came_up = h.came_up;
     moves = moves-down p (accepted_at t.config s) (sample_log u) tells h.moves;
     nothing = h.nothing;
@@ -373,37 +375,37 @@ module _ (t : Terms) (limits : AreTerms t) where
       record {
         server = took-fits t.config.life (server_end s) (seen_up p) (seq-up p fits) h.server;
         client = h.client;
-        down = all-map (IsDown t.kinds (posted_at (server_end s)) (length (accepted_at t.config s))) (IsDown t.kinds (posted_at (server_end s)) (length (accepted_of t.config.life (moves_taken p room (move_log s)))))
-            (down-told t.kinds (posted_at (server_end s)) _ _ accepts.longer) (server_datagrams t.kinds s) h.down;
+        down = all-map (IsDown t (posted_at (server_end s)) (length (accepted_at t.config s))) (IsDown t (posted_at (server_end s)) (length (accepted_of t.config.life (moves_taken p room (move_log s)))))
+            (down-told t (posted_at (server_end s)) _ _ accepts.longer) (server_datagrams t s) h.down;
         up = h.up;
         came_down = h.came_down;
-        came_up = posted-onto (posted_at (client_end u)) (seen_up p).events (came_of (server_end s)) posted h.came_up;
+        came_up = posted-items (posted_at (client_end u)) (seen_up p).events (came_of (server_end s)) posted h.came_up;
         moves = accepts.moves;
         nothing = took-nothing s p room h.nothing;
       }
 
-  gets-down : (s : List ServerEvent) (u : List ClientEvent) (k : ℕ) (o : Option (List ℕ)) → slice_get (server_datagrams t.kinds s) k ≡ o → Carried t s u → Carried t s (client_gets t o u)
+  gets-down : (s : List ServerEvent) (u : List ClientEvent) (k : ℕ) (o : Option (List ℕ)) → slice_get (server_datagrams t s) k ≡ o → Carried t s u → Carried t s (client_gets t o u)
   gets-down s u k None e h = h
   gets-down s u k (Some bytes) e h =
-      let d : IsDown t.kinds (posted_at (server_end s)) (length (accepted_at t.config s)) bytes = all-at (IsDown t.kinds (posted_at (server_end s)) (length (accepted_at t.config s))) (server_datagrams t.kinds s) k bytes h.down e in
+      let d : IsDown t (posted_at (server_end s)) (length (accepted_at t.config s)) bytes = all-at (IsDown t (posted_at (server_end s)) (length (accepted_at t.config s))) (server_datagrams t s) k bytes h.down e in
       subst (λ (r : Result ServerPacket BitsFault). Carried t s (took_at_client u (client_log.packet_answer t.config u r))) (sym d.reads)
       (took-down s u d.packet (client_log.packet_check t.config u d.packet) d.fits d.posted d.tells h)
 
-  gets-up : (s : List ServerEvent) (u : List ClientEvent) (k room : ℕ) (o : Option (List ℕ)) → slice_get (client_datagrams u) k ≡ o → Carried t s u → Carried t (server_gets t.config room o s) u
+  gets-up : (s : List ServerEvent) (u : List ClientEvent) (k room : ℕ) (o : Option (List ℕ)) → slice_get (client_datagrams t.config u) k ≡ o → Carried t s u → Carried t (server_gets t.config room o s) u
   gets-up s u k room None e h = h
   gets-up s u k room (Some bytes) e h =
-      let d : IsUp (posted_at (client_end u)) (sampled_at u) bytes = all-at (IsUp (posted_at (client_end u)) (sampled_at u)) (client_datagrams u) k bytes h.up e in
+      let d : IsUp t.config (posted_at (client_end u)) (sampled_at u) bytes = all-at (IsUp t.config (posted_at (client_end u)) (sampled_at u)) (client_datagrams t.config u) k bytes h.up e in
       subst (λ (r : Result ClientPacket BitsFault). Carried t (took_at_server s room (server_log.packet_answer t.config s r)) u) (sym d.reads)
       (took-up s u room d.packet (server_log.packet_check t.config s d.packet) d.fits d.posted d.moves h)
 
   -- ---- all steps
 
-  pub carried : (steps : List Step) → AllByRecursion StepFits steps → Carried t (history t steps).server (history t steps).client
+  pub carried : (steps : List PairStep) → AllByRecursion StepFits steps → Carried t (history t steps).server (history t steps).client
   carried [] fit = start
   carried (Post class v ∷ steps) fit = posts-down class v (history t steps).server (history t steps).client fit.0 (carried steps fit.1)
   carried (ClientPost class v ∷ steps) fit = posts-up class v (history t steps).server (history t steps).client fit.0 (carried steps fit.1)
   carried (Sample m ∷ steps) fit = samples-up m (history t steps).server (history t steps).client (carried steps fit.1)
   carried (Pack ∷ steps) fit = packs-down (history t steps).server (history t steps).client (carried steps fit.1)
   carried (ClientPack ∷ steps) fit = packs-up (history t steps).server (history t steps).client (carried steps fit.1)
-  carried (Down k ∷ steps) fit = gets-down (history t steps).server (history t steps).client k (slice_get (server_datagrams t.kinds (history t steps).server) k) refl (carried steps fit.1)
-  carried (Up k room ∷ steps) fit = gets-up (history t steps).server (history t steps).client k room (slice_get (client_datagrams (history t steps).client) k) refl (carried steps fit.1)
+  carried (Down k ∷ steps) fit = gets-down (history t steps).server (history t steps).client k (slice_get (server_datagrams t (history t steps).server) k) refl (carried steps fit.1)
+  carried (Up k room ∷ steps) fit = gets-up (history t steps).server (history t steps).client k room (slice_get (client_datagrams t.config (history t steps).client) k) refl (carried steps fit.1)

@@ -7,10 +7,12 @@ use Rattle.tn_types.specs.declared.choices.Class.TheVariants.{Guaranteed, Loose}
 use Rattle.notify_window.specs.Log.{WindowEvent, sent_of, judged_of, horizon_of, mask_bit, Fate, send_state_of}
 use Rattle.notify_window.specs.declared.SendState.TheVariants.{Held, Worn, Room}
 use Rattle.notify_window.proofs.Words.{from_bits-lt}
-use Rattle.wire_format.specs.Events.{IsEvent, event_size}
+use Rattle.wire_format.specs.Events.{IsEvent}
 use Rattle.wire_format.specs.Header.{IsHeader}
 use Rattle.wire_format.specs.Reading.{AreListed}
 use Rattle.event_manager.specs.Sending.{SenderEvent, posted_of, waiting_of, guaranteed_item, loose_item, loose_count, items_that, is_due, due_guaranteed, due_of, post_answer_of}
+use Rattle.stream_manager.specs.declared.config.Config.{Config}
+use Rattle.stream_manager.specs.Wire.{event_bits}
 use Rattle.stream_manager.specs.End.{Seen, EndEvent, Posted, Packed, Pinged, Took, window_log, sender_log, fates, data_head, ping_head, events_for}
 use Rattle.stream_manager.proofs.Fitting.{fitting-all, fitting-short}
 use Rattle.pair_core.specs.Laws.{IsPayload}
@@ -130,8 +132,8 @@ due-are_events life log short h =
     (guaranteed-are_events (is_due (fates log) (sender_log log)) 0 (posted_of (sender_log log)) (omega (arith, h.posted)) h.payloads)
     (loose-are_events (waiting_of (sender_log log)) h.waiting)
 
-pub events-fit : (life room : ℕ) (log : List EndEvent) → life < 2 ^ 24 → EndFits life log → AreListed 31 IsEvent (events_for room log)
-events-fit life room log short h = record {
-  few = omega (arith, fitting-short event_size room (take 31 (due_of (fates log) (sender_log log))), length-take 31 (due_of (fates log) (sender_log log)));
-  each = fitting-all IsEvent event_size room (take 31 (due_of (fates log) (sender_log log))) (all-take IsEvent 31 (due_of (fates log) (sender_log log)) (due-are_events life log short h));
+pub events-fit : (c : Config) (life room : ℕ) (log : List EndEvent) → life < 2 ^ 24 → EndFits life log → AreListed 31 IsEvent (events_for c room log)
+events-fit c life room log short h = record {
+  few = omega (arith, fitting-short (event_bits c) room (take 31 (due_of (fates log) (sender_log log))), length-take 31 (due_of (fates log) (sender_log log)));
+  each = fitting-all IsEvent (event_bits c) room (take 31 (due_of (fates log) (sender_log log))) (all-take IsEvent 31 (due_of (fates log) (sender_log log)) (due-are_events life log short h));
 }

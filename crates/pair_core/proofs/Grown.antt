@@ -13,12 +13,12 @@ use Rattle.wire_format.specs.declared.client.ClientPacket.{ClientPacket}
 use Rattle.stream_manager.specs.declared.fault.ArriveFault.{ArriveFault}
 use Rattle.stream_manager.specs.declared.fault.ClientFault.{ClientFault}
 use Rattle.stream_manager.specs.Limits.{Terms}
-use Rattle.stream_manager.specs.End.{window_log, onto}
+use Rattle.stream_manager.specs.End.{window_log, with_event}
 use Rattle.stream_manager.specs.Server as server_log
 use Rattle.stream_manager.specs.Server.{ServerEvent, server_end, server_datagrams, server_state, server_answer, posted_at_server, took_at_server}
 use Rattle.stream_manager.specs.Client as client_log
 use Rattle.stream_manager.specs.Client.{ClientEvent, client_end, client_datagrams, client_state, client_answer, posted_at_client, sampled_answer, took_at_client}
-use Rattle.pair_core.specs.History.{Step, Post, ClientPost, Sample, Pack, ClientPack, Down, Up, history, server_posts, client_posts, client_samples, client_gets, server_gets}
+use Rattle.pair_core.specs.History.{PairStep, Post, ClientPost, Sample, Pack, ClientPack, Down, Up, history, server_posts, client_posts, client_samples, client_gets, server_gets}
 
 -- new is old with more events
 abbrev pub Grew : List WindowEvent → List WindowEvent → Type 0
@@ -65,10 +65,10 @@ module _ (t : Terms) (old : List WindowEvent) where
       go Worn = g
       go Room = grew-more _ old (window_log (server_end s)) g
 
-  client-packs : (u : List ClientEvent) → ClientGrew u → ClientGrew (onto (client_log.packing t.config u) u)
+  client-packs : (u : List ClientEvent) → ClientGrew u → ClientGrew (with_event (client_log.packing t.config u) u)
   client-packs u g = go (client_state t.config u)
     where
-      go : (state : SendState) → ClientGrew (onto (client_log.pack_event t.config u state) u)
+      go : (state : SendState) → ClientGrew (with_event (client_log.pack_event t.config u state) u)
       go Held = g
       go Worn = g
       go Room = grew-more _ old (window_log (client_end u)) g
@@ -89,7 +89,7 @@ module _ (t : Terms) (old : List WindowEvent) where
       go (Ok p) = grew-more _ old _ (grew-more _ old (window_log (client_end u)) g)
       go (Err e) = g
 
-pub server-grew : (t : Terms) (later steps : List Step) → Grew (window_log (server_end (history t steps).server)) (window_log (server_end (history t (later ++ steps)).server))
+pub server-grew : (t : Terms) (later steps : List PairStep) → Grew (window_log (server_end (history t steps).server)) (window_log (server_end (history t (later ++ steps)).server))
 server-grew t [] steps = ([], refl)
 server-grew t (Post class v ∷ later) steps = server-posts t _ class v (history t (later ++ steps)).server (server-grew t later steps)
 server-grew t (ClientPost class v ∷ later) steps = server-grew t later steps
@@ -97,14 +97,14 @@ server-grew t (Sample m ∷ later) steps = server-grew t later steps
 server-grew t (Pack ∷ later) steps = server-packs t _ (history t (later ++ steps)).server (server-grew t later steps)
 server-grew t (ClientPack ∷ later) steps = server-grew t later steps
 server-grew t (Down k ∷ later) steps = server-grew t later steps
-server-grew t (Up k room ∷ later) steps = server-takes t _ (history t (later ++ steps)).server room (slice_get (client_datagrams (history t (later ++ steps)).client) k) (server-grew t later steps)
+server-grew t (Up k room ∷ later) steps = server-takes t _ (history t (later ++ steps)).server room (slice_get (client_datagrams t.config (history t (later ++ steps)).client) k) (server-grew t later steps)
 
-pub client-grew : (t : Terms) (later steps : List Step) → Grew (window_log (client_end (history t steps).client)) (window_log (client_end (history t (later ++ steps)).client))
+pub client-grew : (t : Terms) (later steps : List PairStep) → Grew (window_log (client_end (history t steps).client)) (window_log (client_end (history t (later ++ steps)).client))
 client-grew t [] steps = ([], refl)
 client-grew t (Post class v ∷ later) steps = client-grew t later steps
 client-grew t (ClientPost class v ∷ later) steps = client-posts t _ class v (history t (later ++ steps)).client (client-grew t later steps)
 client-grew t (Sample m ∷ later) steps = client-samples t _ m (history t (later ++ steps)).client (client-grew t later steps)
 client-grew t (Pack ∷ later) steps = client-grew t later steps
 client-grew t (ClientPack ∷ later) steps = client-packs t _ (history t (later ++ steps)).client (client-grew t later steps)
-client-grew t (Down k ∷ later) steps = client-takes t _ (history t (later ++ steps)).client (slice_get (server_datagrams t.kinds (history t (later ++ steps)).server) k) (client-grew t later steps)
+client-grew t (Down k ∷ later) steps = client-takes t _ (history t (later ++ steps)).client (slice_get (server_datagrams t (history t (later ++ steps)).server) k) (client-grew t later steps)
 client-grew t (Up k room ∷ later) steps = client-grew t later steps

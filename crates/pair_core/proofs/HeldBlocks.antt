@@ -8,7 +8,6 @@ use Rattle.std.proofs.lemmas.Bool.Decides.{nat_tests}
 use Rattle.tn_types.specs.declared.choices.Class.{Class}
 use Rattle.tn_types.specs.declared.choices.Class.TheVariants.{Guaranteed, Loose}
 use Rattle.tn_types.specs.declared.moves.Move.{Move}
-use Rattle.bit_stream.specs.Bits.{datagram}
 use Rattle.notify_window.specs.declared.SendState.{SendState}
 use Rattle.notify_window.specs.declared.SendState.TheVariants.{Held, Worn, Room}
 use Rattle.quantised_fields.specs.declared.kind.Kind.{Kind}
@@ -17,18 +16,20 @@ use Rattle.wire_format.specs.declared.blocks.BlockItem.{BlockItem}
 use Rattle.wire_format.specs.declared.client.ClientPacket.{ClientPacket}
 use Rattle.wire_format.specs.declared.server.ServerPacket.{ServerPacket}
 use Rattle.wire_format.specs.declared.server.ServerPacket.TheVariants as down
-use Rattle.wire_format.specs.Server.{server, server_of, IsServer}
+use Rattle.wire_format.specs.Server.{IsServer}
 use Rattle.datablocks.specs.Holding.{held_of}
 use Rattle.stream_manager.specs.declared.fault.ArriveFault.{ArriveFault}
 use Rattle.stream_manager.specs.declared.fault.ClientFault.{ClientFault}
 use Rattle.stream_manager.specs.Limits.{Terms, AreTerms}
-use Rattle.stream_manager.specs.Faults.{Checked, checked_packet}
-use Rattle.stream_manager.specs.End.{onto}
+use Rattle.stream_manager.specs.Wire.{read_down, bytes_down}
+use Rattle.tn_types.specs.Checks.{Checked}
+use Rattle.stream_manager.specs.Faults.{checked_packet}
+use Rattle.stream_manager.specs.End.{with_event}
 use Rattle.stream_manager.specs.Server as server_log
 use Rattle.stream_manager.specs.Server.{ServerEvent, server_datagrams, server_state, posted_at_server, next_body, server_ping, took_at_server, server_answer}
 use Rattle.stream_manager.specs.Client as client_log
 use Rattle.stream_manager.specs.Client.{ClientEvent, blocks_in, blocks_came, client_datagrams, client_state, posted_at_client, sampled_answer, took_at_client}
-use Rattle.pair_core.specs.History.{Step, Post, ClientPost, Sample, Pack, ClientPack, Down, Up, history, server_posts, client_posts, client_samples, client_gets, server_gets}
+use Rattle.pair_core.specs.History.{PairStep, Post, ClientPost, Sample, Pack, ClientPack, Down, Up, history, server_posts, client_posts, client_samples, client_gets, server_gets}
 use Rattle.pair_core.specs.Laws.{StepFits}
 use Rattle.pair_core.specs.HeldBlocks.{IsAsGiven, HoldsBlocksAsGiven}
 use Rattle.pair_core.proofs.Spelled.{reads-down}
@@ -37,14 +38,14 @@ use Rattle.pair_core.proofs.Sections.{blocks-all}
 use Rattle.pair_core.proofs.Carried.{Carried, carried, ping-down, body-down}
 
 -- bytes that spell a packet whose blocks are all as they were given
-pub record BringsGivenBlocks (kinds : List Kind) (blocks : List (List ℕ)) (bytes : List ℕ) : Type 0 where
+pub record BringsGivenBlocks (t : Terms) (bytes : List ℕ) : Type 0 where
   pub packet : ServerPacket
-  pub reads : server_of kinds bytes ≡ Ok packet
-  pub known : AllByRecursion (IsAsGiven blocks) (blocks_in packet)
+  pub reads : read_down t.config t.kinds bytes ≡ Ok packet
+  pub known : AllByRecursion (IsAsGiven t.blocks) (blocks_in packet)
 
 -- the invariant over the steps
 pub record Given (t : Terms) (s : List ServerEvent) (u : List ClientEvent) : Type 0 where
-  pub down : AllByRecursion (BringsGivenBlocks t.kinds t.blocks) (server_datagrams t.kinds s)
+  pub down : AllByRecursion (BringsGivenBlocks t) (server_datagrams t s)
   pub came : AllByRecursion (IsAsGiven t.blocks) (blocks_came u)
 
 all-reverse : {A : Type 0} (P : A → Type 0) (xs : List A) → AllByRecursion P xs → AllByRecursion P (reverse xs)
@@ -89,8 +90,8 @@ module _ (t : Terms) (limits : AreTerms t) where
       go false = h
       go true = record { down = h.down; came = h.came }
 
-  brings : (p : ServerPacket) → IsServer t.kinds p → AllByRecursion (IsAsGiven t.blocks) (blocks_in p) → BringsGivenBlocks t.kinds t.blocks (datagram (server t.kinds p))
-  brings p fits known = record { packet = p; reads = reads-down t.kinds p fits; known = known }
+  brings : (p : ServerPacket) → IsServer t.kinds p → AllByRecursion (IsAsGiven t.blocks) (blocks_in p) → BringsGivenBlocks t (bytes_down t p)
+  brings p fits known = record { packet = p; reads = reads-down t p fits; known = known }
 
   packs-down : (s : List ServerEvent) (u : List ClientEvent) → Carried t s u → Given t s u → Given t (server_log.packing t s []) u
   packs-down s u c h = go (server_state t.config s) refl
@@ -98,19 +99,19 @@ module _ (t : Terms) (limits : AreTerms t) where
       go : (state : SendState) → server_state t.config s ≡ state → Given t (server_log.packed_onto t s [] state) u
       go Worn e = h
       go Held e = record {
-        down = all-append (BringsGivenBlocks t.kinds t.blocks) (server_datagrams t.kinds s) _ h.down (brings (down.Ping (server_ping t.config s)) (ping-down t limits s u e c) tt, tt);
+        down = all-append (BringsGivenBlocks t) (server_datagrams t s) _ h.down (brings (down.Ping (server_ping t.config s)) (ping-down t limits s u e c) tt, tt);
         came = h.came;
       }
       go Room e = record {
-        down = all-append (BringsGivenBlocks t.kinds t.blocks) (server_datagrams t.kinds s) _ h.down
+        down = all-append (BringsGivenBlocks t) (server_datagrams t s) _ h.down
             (brings (down.Body (next_body t s [])) (body-down t limits s u e c) (blocks-all (IsAsGiven t.blocks) t (server_log.with_plan t s) (script-block t.blocks)), tt);
         came = h.came;
       }
 
-  packs-up : (s : List ServerEvent) (u : List ClientEvent) → Given t s u → Given t s (onto (client_log.packing t.config u) u)
+  packs-up : (s : List ServerEvent) (u : List ClientEvent) → Given t s u → Given t s (with_event (client_log.packing t.config u) u)
   packs-up s u h = go (client_state t.config u)
     where
-      go : (state : SendState) → Given t s (onto (client_log.pack_event t.config u state) u)
+      go : (state : SendState) → Given t s (with_event (client_log.pack_event t.config u state) u)
       go Worn = h
       go Held = record { down = h.down; came = h.came }
       go Room = record { down = h.down; came = h.came }
@@ -119,10 +120,10 @@ module _ (t : Terms) (limits : AreTerms t) where
   took-down s u p (Err e) known h = h
   took-down s u p (Ok x) known h = record { down = h.down; came = all-append (IsAsGiven t.blocks) (reverse (blocks_in p)) (blocks_came u) (all-reverse (IsAsGiven t.blocks) (blocks_in p) known) h.came }
 
-  gets-down : (s : List ServerEvent) (u : List ClientEvent) (k : ℕ) (o : Option (List ℕ)) → slice_get (server_datagrams t.kinds s) k ≡ o → Given t s u → Given t s (client_gets t o u)
+  gets-down : (s : List ServerEvent) (u : List ClientEvent) (k : ℕ) (o : Option (List ℕ)) → slice_get (server_datagrams t s) k ≡ o → Given t s u → Given t s (client_gets t o u)
   gets-down s u k None e h = h
   gets-down s u k (Some bytes) e h =
-      let d : BringsGivenBlocks t.kinds t.blocks bytes = all-at (BringsGivenBlocks t.kinds t.blocks) (server_datagrams t.kinds s) k bytes h.down e in
+      let d : BringsGivenBlocks t bytes = all-at (BringsGivenBlocks t) (server_datagrams t s) k bytes h.down e in
       subst (λ (r : Result ServerPacket BitsFault). Given t s (took_at_client u (client_log.packet_answer t.config u r))) (sym d.reads)
       (took-down s u d.packet (client_log.packet_check t.config u d.packet) d.known h)
 
@@ -134,15 +135,15 @@ module _ (t : Terms) (limits : AreTerms t) where
   gets-up s u room None h = h
   gets-up s u room (Some bytes) h = took-up s u room (server_answer t.config s bytes) h
 
-  pub given : (steps : List Step) → AllByRecursion StepFits steps → Given t (history t steps).server (history t steps).client
+  pub given : (steps : List PairStep) → AllByRecursion StepFits steps → Given t (history t steps).server (history t steps).client
   given [] fit = record { down = tt; came = tt }
   given (Post class v ∷ steps) fit = posts-down class v (history t steps).server (history t steps).client (given steps fit.1)
   given (ClientPost class v ∷ steps) fit = posts-up class v (history t steps).server (history t steps).client (given steps fit.1)
   given (Sample m ∷ steps) fit = samples-up m (history t steps).server (history t steps).client (given steps fit.1)
   given (Pack ∷ steps) fit = packs-down (history t steps).server (history t steps).client (carried t limits steps fit.1) (given steps fit.1)
   given (ClientPack ∷ steps) fit = packs-up (history t steps).server (history t steps).client (given steps fit.1)
-  given (Down k ∷ steps) fit = gets-down (history t steps).server (history t steps).client k (slice_get (server_datagrams t.kinds (history t steps).server) k) refl (given steps fit.1)
-  given (Up k room ∷ steps) fit = gets-up (history t steps).server (history t steps).client room (slice_get (client_datagrams (history t steps).client) k) (given steps fit.1)
+  given (Down k ∷ steps) fit = gets-down (history t steps).server (history t steps).client k (slice_get (server_datagrams t (history t steps).server) k) refl (given steps fit.1)
+  given (Up k room ∷ steps) fit = gets-up (history t steps).server (history t steps).client room (slice_get (client_datagrams t.config (history t steps).client) k) (given steps fit.1)
 
-pub holds_as_given : (t : Terms) (steps : List Step) → AreTerms t → AllByRecursion StepFits steps → HoldsBlocksAsGiven t steps
+pub holds_as_given : (t : Terms) (steps : List PairStep) → AreTerms t → AllByRecursion StepFits steps → HoldsBlocksAsGiven t steps
 holds_as_given t steps limits fit b v held = held-given t.blocks (blocks_came (history t steps).client) b v (given t limits steps fit).came held

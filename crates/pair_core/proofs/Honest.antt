@@ -8,7 +8,6 @@ use Rattle.tn_types.specs.declared.choices.Choice.{Choice}
 use Rattle.tn_types.specs.declared.choices.Class.{Class}
 use Rattle.tn_types.specs.declared.choices.Class.TheVariants.{Guaranteed, Loose}
 use Rattle.tn_types.specs.declared.moves.Move.{Move}
-use Rattle.bit_stream.specs.Bits.{datagram}
 use Rattle.notify_window.specs.declared.SendState.{SendState}
 use Rattle.notify_window.specs.declared.SendState.TheVariants.{Held, Worn, Room}
 use Rattle.wire_format.specs.declared.fault.BitsFault.{BitsFault}
@@ -21,25 +20,25 @@ use Rattle.wire_format.specs.declared.client.ClientPacket.TheVariants as up
 use Rattle.wire_format.specs.declared.widths.TheConstants.{SERVER_FIXED_BITS, MAX_BLOCKS}
 use Rattle.wire_format.specs.Blocks.{block_size}
 use Rattle.datablocks.specs.Sending.{due_of}
-use Rattle.stream_manager.specs.Shares.{fitting}
-use Rattle.wire_format.specs.Server.{server, server_of}
-use Rattle.wire_format.specs.Client.{client, client_of}
+use Rattle.tn_types.specs.Fitting.{fitting}
 use Rattle.ghost_model.specs.Ghosts.{Grant}
 use Rattle.ghost_masks.specs.Carried.{ghosts_for}
 use Rattle.move_manager.specs.Sending.{acked_of}
 use Rattle.stream_manager.specs.declared.fault.ArriveFault.{ArriveFault}
 use Rattle.stream_manager.specs.declared.fault.ClientFault.{ClientFault}
 use Rattle.stream_manager.specs.Limits.{Terms, AreTerms}
-use Rattle.stream_manager.specs.Faults.{Checked, checked_packet}
+use Rattle.stream_manager.specs.Wire.{read_down, read_up, bytes_down, bytes_up}
+use Rattle.tn_types.specs.Checks.{Checked}
+use Rattle.stream_manager.specs.Faults.{checked_packet}
 use Rattle.event_manager.specs.Receiving.{run_of}
 use Rattle.notify_window.specs.Log.{sent_of}
-use Rattle.stream_manager.specs.End.{window_log, fates, came_of, onto}
+use Rattle.stream_manager.specs.End.{window_log, fates, came_of, with_event}
 use Rattle.stream_manager.proofs.Fitting.{fitting-all}
 use Rattle.stream_manager.specs.Server as server_log
 use Rattle.stream_manager.specs.Server.{ServerEvent, server_end, block_log, server_datagrams, server_state, posted_at_server, seen_up, next_body, server_ping, took_at_server, block_item, ghost_log, accepted_at, move_log}
 use Rattle.stream_manager.specs.Client as client_log
 use Rattle.stream_manager.specs.Client.{ClientEvent, client_end, client_datagrams, client_state, posted_at_client, sampled_answer, seen_down, client_body, client_ping, took_at_client, blocks_in, blocks_came, sample_log, sampled_at}
-use Rattle.pair_core.specs.History.{Step, Post, ClientPost, Sample, Pack, ClientPack, Down, Up, history, server_posts, client_posts, client_samples, client_gets, server_gets}
+use Rattle.pair_core.specs.History.{PairStep, Post, ClientPost, Sample, Pack, ClientPack, Down, Up, history, server_posts, client_posts, client_samples, client_gets, server_gets}
 use Rattle.pair_core.specs.Laws.{StepFits, posted_at}
 use Rattle.pair_core.proofs.NoGhosts.{no-plan, no-control}
 use Rattle.pair_core.proofs.Spelled.{reads-down, reads-up}
@@ -72,8 +71,8 @@ begins-later m n l (up.Ping head) h = tt
 begins-later m n l (up.Body p) h = omega arith
 
 pub record Honest (t : Terms) (s : List ServerEvent) (u : List ClientEvent) : Type 0 where
-  pub down : EventsOn (server_of t.kinds) seen_down (IsPlain t.blocks) t.config.client (server_end s) (client_end u) (server_datagrams t.kinds s)
-  pub up : EventsOn client_of seen_up (BeginsWithin (length (accepted_at t.config s))) t.config.client (client_end u) (server_end s) (client_datagrams u)
+  pub down : EventsOn (read_down t.config t.kinds) seen_down (IsPlain t.blocks) t.config.client (server_end s) (client_end u) (server_datagrams t s)
+  pub up : EventsOn (read_up t.config) seen_up (BeginsWithin (length (accepted_at t.config s))) t.config.client (client_end u) (server_end s) (client_datagrams t.config u)
 
 are-of : (blocks : List (List ℕ)) (ns : List ℕ) → AllByRecursion (IsOf blocks) (map (block_item blocks) ns)
 are-of blocks [] = tt
@@ -85,7 +84,7 @@ same-packet r p q e f = cc
 
 module _ (t : Terms) (limits : AreTerms t) where
   start : Honest t [] []
-  start = record { down = start-events (server_of t.kinds) seen_down (IsPlain t.blocks) t.config.client; up = start-events client_of seen_up (BeginsWithin 0) t.config.client }
+  start = record { down = start-events (read_down t.config t.kinds) seen_down (IsPlain t.blocks) t.config.client; up = start-events (read_up t.config) seen_up (BeginsWithin 0) t.config.client }
 
   -- ---- posts and samples
 
@@ -130,81 +129,81 @@ module _ (t : Terms) (limits : AreTerms t) where
       go : (state : SendState) → server_state t.config s ≡ state → Honest t (server_log.packed_onto t s [] state) u
       go Worn e = h
       go Held e = record {
-        down = pings-events (server_of t.kinds) seen_down (IsPlain t.blocks) t.config.client (server_end s) (client_end u) (server_datagrams t.kinds s) h.down (down.Ping (server_ping t.config s)) (datagram (server t.kinds (down.Ping (server_ping t.config s))))
-            refl (reads-down t.kinds (down.Ping (server_ping t.config s)) (ping-down t limits s u e c)) refl refl refl tt;
+        down = pings-events (read_down t.config t.kinds) seen_down (IsPlain t.blocks) t.config.client (server_end s) (client_end u) (server_datagrams t s) h.down (down.Ping (server_ping t.config s)) (bytes_down t (down.Ping (server_ping t.config s)))
+            refl (reads-down t (down.Ping (server_ping t.config s)) (ping-down t limits s u e c)) refl refl refl tt;
         up = h.up;
       }
       go Room e = record {
-        down = sends-events (server_of t.kinds) seen_down (IsPlain t.blocks) t.config.client (server_end s) (client_end u) (server_datagrams t.kinds s) h.down (down.Body (next_body t s [])) (datagram (server t.kinds (down.Body (next_body t s []))))
-            refl (reads-down t.kinds (down.Body (next_body t s [])) (body-down t limits s u e c)) refl
-            (near-events (server_of t.kinds) seen_down (IsPlain t.blocks) t.config.client (server_end s) (client_end u) (server_datagrams t.kinds s) h.down
-            (true-verdicts (server_of t.kinds) seen_down (server_end s) (client_end u) (server_datagrams t.kinds s) w.down).0 _)
+        down = sends-events (read_down t.config t.kinds) seen_down (IsPlain t.blocks) t.config.client (server_end s) (client_end u) (server_datagrams t s) h.down (down.Body (next_body t s [])) (bytes_down t (down.Body (next_body t s [])))
+            refl (reads-down t (down.Body (next_body t s [])) (body-down t limits s u e c)) refl
+            (near-events (read_down t.config t.kinds) seen_down (IsPlain t.blocks) t.config.client (server_end s) (client_end u) (server_datagrams t s) h.down
+            (true-verdicts (read_down t.config t.kinds) seen_down (server_end s) (client_end u) (server_datagrams t s) w.down).0 t.config _)
             (plain-next s u c) w.down.known;
         up = h.up;
       }
 
-  packs-up : (s : List ServerEvent) (u : List ClientEvent) → Carried t s u → Windows t s u → Honest t s u → Honest t s (onto (client_log.packing t.config u) u)
+  packs-up : (s : List ServerEvent) (u : List ClientEvent) → Carried t s u → Windows t s u → Honest t s u → Honest t s (with_event (client_log.packing t.config u) u)
   packs-up s u c w h = go (client_state t.config u) refl
     where
-      go : (state : SendState) → client_state t.config u ≡ state → Honest t s (onto (client_log.pack_event t.config u state) u)
+      go : (state : SendState) → client_state t.config u ≡ state → Honest t s (with_event (client_log.pack_event t.config u state) u)
       go Worn e = h
       go Held e = record {
         down = h.down;
-        up = pings-events client_of seen_up (BeginsWithin (length (accepted_at t.config s))) t.config.client (client_end u) (server_end s) (client_datagrams u) h.up (up.Ping (client_ping t.config u)) (datagram (client (up.Ping (client_ping t.config u))))
-            refl (reads-up (up.Ping (client_ping t.config u)) (ping-up t limits s u e c)) refl refl refl tt;
+        up = pings-events (read_up t.config) seen_up (BeginsWithin (length (accepted_at t.config s))) t.config.client (client_end u) (server_end s) (client_datagrams t.config u) h.up (up.Ping (client_ping t.config u)) (bytes_up t.config (up.Ping (client_ping t.config u)))
+            refl (reads-up t.config (up.Ping (client_ping t.config u)) (ping-up t limits s u e c)) refl refl refl tt;
       }
       go Room e = record {
         down = h.down;
-        up = sends-events client_of seen_up (BeginsWithin (length (accepted_at t.config s))) t.config.client (client_end u) (server_end s) (client_datagrams u) h.up (up.Body (client_body t.config u)) (datagram (client (up.Body (client_body t.config u))))
-            refl (reads-up (up.Body (client_body t.config u)) (body-up t limits s u e c)) refl
-            (near-events client_of seen_up (BeginsWithin (length (accepted_at t.config s))) t.config.client (client_end u) (server_end s) (client_datagrams u) h.up
-            (true-verdicts client_of seen_up (client_end u) (server_end s) (client_datagrams u) w.up).0 _)
+        up = sends-events (read_up t.config) seen_up (BeginsWithin (length (accepted_at t.config s))) t.config.client (client_end u) (server_end s) (client_datagrams t.config u) h.up (up.Body (client_body t.config u)) (bytes_up t.config (up.Body (client_body t.config u)))
+            refl (reads-up t.config (up.Body (client_body t.config u)) (body-up t limits s u e c)) refl
+            (near-events (read_up t.config) seen_up (BeginsWithin (length (accepted_at t.config s))) t.config.client (client_end u) (server_end s) (client_datagrams t.config u) h.up
+            (true-verdicts (read_up t.config) seen_up (client_end u) (server_end s) (client_datagrams t.config u) w.up).0 t.config _)
             c.moves.acked w.up.known;
       }
 
   -- ---- arrivals
 
-  took-down : (s : List ServerEvent) (u : List ClientEvent) (bytes : List ℕ) (a : Checked ClientFault) (b : Brings (server_of t.kinds) seen_down (IsPlain t.blocks) t.config.client (λ n. events_of n (server_end s)) (sent_of (window_log (server_end s))) (run_of (came_of (client_end u))) bytes)
+  took-down : (s : List ServerEvent) (u : List ClientEvent) (bytes : List ℕ) (a : Checked ClientFault) (b : Brings (read_down t.config t.kinds) seen_down (IsPlain t.blocks) t.config.client (λ n. events_of n (server_end s)) (sent_of (window_log (server_end s))) (run_of (came_of (client_end u))) bytes)
       → Honest t s u → Honest t s (took_at_client u (checked_packet b.packet a))
   took-down s u bytes (Err e) b h = h
   took-down s u bytes (Ok x) b h = record {
-    down = takes-events (server_of t.kinds) seen_down (IsPlain t.blocks) t.config.client (server_end s) (client_end u) (server_datagrams t.kinds s) h.down (seen_down b.packet) b.own;
+    down = takes-events (read_down t.config t.kinds) seen_down (IsPlain t.blocks) t.config.client (server_end s) (client_end u) (server_datagrams t s) h.down (seen_down b.packet) b.own;
     up = h.up;
   }
 
-  took-up : (s : List ServerEvent) (u : List ClientEvent) (room : ℕ) (bytes : List ℕ) (a : Checked ArriveFault) (b : Brings client_of seen_up (BeginsWithin (length (accepted_at t.config s))) t.config.client (λ n. events_of n (client_end u)) (sent_of (window_log (client_end u))) (run_of (came_of (server_end s))) bytes)
+  took-up : (s : List ServerEvent) (u : List ClientEvent) (room : ℕ) (bytes : List ℕ) (a : Checked ArriveFault) (b : Brings (read_up t.config) seen_up (BeginsWithin (length (accepted_at t.config s))) t.config.client (λ n. events_of n (client_end u)) (sent_of (window_log (client_end u))) (run_of (came_of (server_end s))) bytes)
       → HoldsMoves (sampled_at u) b.packet → Carried t s u → Honest t s u → Honest t (took_at_server s room (checked_packet b.packet a)) u
   took-up s u room bytes (Err e) b holds c h = h
   took-up s u room bytes (Ok x) b holds c h = record {
     down = h.down;
-    up = better client_of seen_up (BeginsWithin (length (accepted_at t.config s))) (BeginsWithin (length (accepted_at t.config (server_log.Took b.packet room ∷ s)))) t.config.client (client_end u) (server_end (server_log.Took b.packet room ∷ s)) (client_datagrams u)
+    up = better (read_up t.config) seen_up (BeginsWithin (length (accepted_at t.config s))) (BeginsWithin (length (accepted_at t.config (server_log.Took b.packet room ∷ s)))) t.config.client (client_end u) (server_end (server_log.Took b.packet room ∷ s)) (client_datagrams t.config u)
         (begins-later (length (accepted_at t.config s)) (length (accepted_at t.config (server_log.Took b.packet room ∷ s))) (moves-up t limits b.packet room (move_log s) (sampled_at u) (acked_of (sample_log u)) holds c.moves).longer)
-        (takes-events client_of seen_up (BeginsWithin (length (accepted_at t.config s))) t.config.client (client_end u) (server_end s) (client_datagrams u) h.up (seen_up b.packet) b.own);
+        (takes-events (read_up t.config) seen_up (BeginsWithin (length (accepted_at t.config s))) t.config.client (client_end u) (server_end s) (client_datagrams t.config u) h.up (seen_up b.packet) b.own);
   }
 
-  gets-down : (s : List ServerEvent) (u : List ClientEvent) (k : ℕ) (o : Option (List ℕ)) → slice_get (server_datagrams t.kinds s) k ≡ o → Honest t s u → Honest t s (client_gets t o u)
+  gets-down : (s : List ServerEvent) (u : List ClientEvent) (k : ℕ) (o : Option (List ℕ)) → slice_get (server_datagrams t s) k ≡ o → Honest t s u → Honest t s (client_gets t o u)
   gets-down s u k None e h = h
   gets-down s u k (Some bytes) e h =
-      let b : Brings (server_of t.kinds) seen_down (IsPlain t.blocks) t.config.client (λ n. events_of n (server_end s)) (sent_of (window_log (server_end s))) (run_of (came_of (client_end u))) bytes = all-at _ (server_datagrams t.kinds s) k bytes h.down.brings e in
+      let b : Brings (read_down t.config t.kinds) seen_down (IsPlain t.blocks) t.config.client (λ n. events_of n (server_end s)) (sent_of (window_log (server_end s))) (run_of (came_of (client_end u))) bytes = all-at _ (server_datagrams t s) k bytes h.down.brings e in
       subst (λ (r : Result ServerPacket BitsFault). Honest t s (took_at_client u (client_log.packet_answer t.config u r))) (sym b.reads)
       (took-down s u bytes (client_log.packet_check t.config u b.packet) b h)
 
-  gets-up : (s : List ServerEvent) (u : List ClientEvent) (k room : ℕ) (o : Option (List ℕ)) → slice_get (client_datagrams u) k ≡ o → Carried t s u → Honest t s u → Honest t (server_gets t.config room o s) u
+  gets-up : (s : List ServerEvent) (u : List ClientEvent) (k room : ℕ) (o : Option (List ℕ)) → slice_get (client_datagrams t.config u) k ≡ o → Carried t s u → Honest t s u → Honest t (server_gets t.config room o s) u
   gets-up s u k room None e c h = h
   gets-up s u k room (Some bytes) e c h =
-      let b : Brings client_of seen_up (BeginsWithin (length (accepted_at t.config s))) t.config.client (λ n. events_of n (client_end u)) (sent_of (window_log (client_end u))) (run_of (came_of (server_end s))) bytes = all-at _ (client_datagrams u) k bytes h.up.brings e in
-      let d : IsUp (posted_at (client_end u)) (sampled_at u) bytes = all-at (IsUp (posted_at (client_end u)) (sampled_at u)) (client_datagrams u) k bytes c.up e in
+      let b : Brings (read_up t.config) seen_up (BeginsWithin (length (accepted_at t.config s))) t.config.client (λ n. events_of n (client_end u)) (sent_of (window_log (client_end u))) (run_of (came_of (server_end s))) bytes = all-at _ (client_datagrams t.config u) k bytes h.up.brings e in
+      let d : IsUp t.config (posted_at (client_end u)) (sampled_at u) bytes = all-at (IsUp t.config (posted_at (client_end u)) (sampled_at u)) (client_datagrams t.config u) k bytes c.up e in
       subst (λ (r : Result ClientPacket BitsFault). Honest t (took_at_server s room (server_log.packet_answer t.config s r)) u) (sym b.reads)
-      (took-up s u room bytes (server_log.packet_check t.config s b.packet) b (subst (HoldsMoves (sampled_at u)) (same-packet (client_of bytes) d.packet b.packet d.reads b.reads) d.moves) c h)
+      (took-up s u room bytes (server_log.packet_check t.config s b.packet) b (subst (HoldsMoves (sampled_at u)) (same-packet (read_up t.config bytes) d.packet b.packet d.reads b.reads) d.moves) c h)
 
   -- ---- all steps
 
-  pub honest : (steps : List Step) → AllByRecursion StepFits steps → Honest t (history t steps).server (history t steps).client
+  pub honest : (steps : List PairStep) → AllByRecursion StepFits steps → Honest t (history t steps).server (history t steps).client
   honest [] fit = start
   honest (Post class v ∷ steps) fit = posts-down class v (history t steps).server (history t steps).client (honest steps fit.1)
   honest (ClientPost class v ∷ steps) fit = posts-up class v (history t steps).server (history t steps).client (honest steps fit.1)
   honest (Sample m ∷ steps) fit = samples-up m (history t steps).server (history t steps).client (honest steps fit.1)
   honest (Pack ∷ steps) fit = packs-down (history t steps).server (history t steps).client (carried t limits steps fit.1) (windows t limits steps fit.1) (honest steps fit.1)
   honest (ClientPack ∷ steps) fit = packs-up (history t steps).server (history t steps).client (carried t limits steps fit.1) (windows t limits steps fit.1) (honest steps fit.1)
-  honest (Down k ∷ steps) fit = gets-down (history t steps).server (history t steps).client k (slice_get (server_datagrams t.kinds (history t steps).server) k) refl (honest steps fit.1)
-  honest (Up k room ∷ steps) fit = gets-up (history t steps).server (history t steps).client k room (slice_get (client_datagrams (history t steps).client) k) refl (carried t limits steps fit.1) (honest steps fit.1)
+  honest (Down k ∷ steps) fit = gets-down (history t steps).server (history t steps).client k (slice_get (server_datagrams t (history t steps).server) k) refl (honest steps fit.1)
+  honest (Up k room ∷ steps) fit = gets-up (history t steps).server (history t steps).client k room (slice_get (client_datagrams t.config (history t steps).client) k) refl (carried t limits steps fit.1) (honest steps fit.1)

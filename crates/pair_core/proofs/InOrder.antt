@@ -7,17 +7,17 @@ use Rattle.stream_manager.specs.Limits.{Terms, AreTerms}
 use Rattle.stream_manager.specs.End.{came_of}
 use Rattle.stream_manager.specs.Server.{server_end}
 use Rattle.stream_manager.specs.Client.{client_end}
-use Rattle.pair_core.specs.History.{Step, history}
+use Rattle.pair_core.specs.History.{PairStep, history}
 use Rattle.pair_core.specs.Answers.{accepted_in, sampled_in}
 use Rattle.pair_core.specs.Laws.{StepFits, posted_at, DeliversDown, DeliversUp, AcceptsInOrder}
 use Rattle.pair_core.proofs.Carried.{carried}
 use Rattle.pair_core.proofs.Posted.{delivered-prefix}
 
-pub delivers_down : (t : Terms) (steps : List Step) → AreTerms t → AllByRecursion StepFits steps → DeliversDown t steps
+pub delivers_down : (t : Terms) (steps : List PairStep) → AreTerms t → AllByRecursion StepFits steps → DeliversDown t steps
 delivers_down t steps limits fit = delivered-prefix (posted_at (server_end (history t steps).server)) (came_of (client_end (history t steps).client)) (carried t limits steps fit).came_down
 
-pub delivers_up : (t : Terms) (steps : List Step) → AreTerms t → AllByRecursion StepFits steps → DeliversUp t steps
+pub delivers_up : (t : Terms) (steps : List PairStep) → AreTerms t → AllByRecursion StepFits steps → DeliversUp t steps
 delivers_up t steps limits fit = delivered-prefix (posted_at (client_end (history t steps).client)) (came_of (server_end (history t steps).server)) (carried t limits steps fit).came_up
 
-pub accepts : (t : Terms) (steps : List Step) → AreTerms t → AllByRecursion StepFits steps → AcceptsInOrder t steps
+pub accepts : (t : Terms) (steps : List PairStep) → AreTerms t → AllByRecursion StepFits steps → AcceptsInOrder t steps
 accepts t steps limits fit = front_is_prefix (accepted_in t steps) (sampled_in t steps) (carried t limits steps fit).moves.front

@@ -17,19 +17,22 @@ use Rattle.wire_format.specs.declared.server.ServerPacket.{ServerPacket}
 use Rattle.wire_format.specs.declared.server.ServerPacket.TheVariants as down
 use Rattle.wire_format.specs.declared.client.ClientPacket.{ClientPacket}
 use Rattle.wire_format.specs.declared.client.ClientPacket.TheVariants as up
-use Rattle.wire_format.specs.Server.{server, server_of, IsServer}
-use Rattle.wire_format.specs.Client.{client, client_of, IsClient}
+use Rattle.wire_format.specs.Server.{IsServer}
+use Rattle.wire_format.specs.Client.{IsClient}
+use Rattle.stream_manager.specs.declared.config.Config.{Config}
 use Rattle.stream_manager.specs.declared.fault.HeadFault.{HeadFault}
 use Rattle.stream_manager.specs.declared.fault.ArriveFault.{ArriveFault}
 use Rattle.stream_manager.specs.declared.fault.ClientFault.{ClientFault}
 use Rattle.stream_manager.specs.Limits.{Terms, AreTerms}
-use Rattle.stream_manager.specs.Faults.{Checked, then_check, head_at_server, head_at_client, checked_packet}
-use Rattle.stream_manager.specs.End.{Seen, window_log, head_answer, onto}
+use Rattle.stream_manager.specs.Wire.{read_down, read_up, bytes_down, bytes_up}
+use Rattle.tn_types.specs.Checks.{Checked, then_check}
+use Rattle.stream_manager.specs.Faults.{head_at_server, head_at_client, checked_packet}
+use Rattle.stream_manager.specs.End.{Seen, window_log, head_answer, with_event}
 use Rattle.stream_manager.specs.Server as server_log
 use Rattle.stream_manager.specs.Server.{ServerEvent, server_end, server_datagrams, seen_ping, seen_body, seen_client_body, seen_up, server_state, posted_at_server, with_plan, next_body, server_ping, took_at_server}
 use Rattle.stream_manager.specs.Client as client_log
 use Rattle.stream_manager.specs.Client.{ClientEvent, client_end, client_datagrams, seen_down, client_state, posted_at_client, client_body, client_ping, took_at_client, sampled_answer}
-use Rattle.pair_core.specs.History.{Step, Post, ClientPost, Sample, Pack, ClientPack, Down, Up, history, server_posts, client_posts, client_samples, client_gets, server_gets}
+use Rattle.pair_core.specs.History.{PairStep, Post, ClientPost, Sample, Pack, ClientPack, Down, Up, history, server_posts, client_posts, client_samples, client_gets, server_gets}
 use Rattle.pair_core.specs.Laws.{StepFits}
 use Rattle.pair_core.specs.LooseEvents.{LooseDown, LooseUp}
 use Rattle.pair_core.proofs.Spelled.{reads-down, reads-up}
@@ -41,28 +44,28 @@ abbrev SeenFlies : List (List (List ℕ)) → Seen → Type 0
 SeenFlies ws p = Flies ws p.ping p.head.seq (loose_in p.events)
 
 -- bytes that spell a packet with the unguaranteed events of its number
-record FliesDown (kinds : List Kind) (ws : List (List (List ℕ))) (bytes : List ℕ) : Type 0 where
+record FliesDown (t : Terms) (ws : List (List (List ℕ))) (bytes : List ℕ) : Type 0 where
   pub packet : ServerPacket
-  pub reads : server_of kinds bytes ≡ Ok packet
+  pub reads : read_down t.config t.kinds bytes ≡ Ok packet
   pub flies : SeenFlies ws (seen_down packet)
 
-record FliesUp (ws : List (List (List ℕ))) (bytes : List ℕ) : Type 0 where
+record FliesUp (c : Config) (ws : List (List (List ℕ))) (bytes : List ℕ) : Type 0 where
   pub packet : ClientPacket
-  pub reads : client_of bytes ≡ Ok packet
+  pub reads : read_up c bytes ≡ Ok packet
   pub flies : SeenFlies ws (seen_up packet)
 
-down-push : (kinds : List Kind) (ws : List (List (List ℕ))) (w : List (List ℕ)) (bytes : List ℕ) → FliesDown kinds ws bytes → FliesDown kinds (ws ++ w ∷ []) bytes
-down-push kinds ws w bytes d = let p = seen_down d.packet in record { packet = d.packet; reads = d.reads; flies = flies-push ws w p.ping p.head.seq (loose_in p.events) d.flies }
+down-push : (t : Terms) (ws : List (List (List ℕ))) (w : List (List ℕ)) (bytes : List ℕ) → FliesDown t ws bytes → FliesDown t (ws ++ w ∷ []) bytes
+down-push t ws w bytes d = let p = seen_down d.packet in record { packet = d.packet; reads = d.reads; flies = flies-push ws w p.ping p.head.seq (loose_in p.events) d.flies }
 
-up-push : (ws : List (List (List ℕ))) (w : List (List ℕ)) (bytes : List ℕ) → FliesUp ws bytes → FliesUp (ws ++ w ∷ []) bytes
-up-push ws w bytes d = let p = seen_up d.packet in record { packet = d.packet; reads = d.reads; flies = flies-push ws w p.ping p.head.seq (loose_in p.events) d.flies }
+up-push : (c : Config) (ws : List (List (List ℕ))) (w : List (List ℕ)) (bytes : List ℕ) → FliesUp c ws bytes → FliesUp c (ws ++ w ∷ []) bytes
+up-push c ws w bytes d = let p = seen_up d.packet in record { packet = d.packet; reads = d.reads; flies = flies-push ws w p.ping p.head.seq (loose_in p.events) d.flies }
 
 -- the invariant over the steps
 record Ordered (t : Terms) (s : List ServerEvent) (u : List ClientEvent) : Type 0 where
   pub server : Sends (server_end s)
   pub client : Sends (client_end u)
-  pub down : AllByRecursion (FliesDown t.kinds (written (server_end s))) (server_datagrams t.kinds s)
-  pub up : AllByRecursion (FliesUp (written (client_end u))) (client_datagrams u)
+  pub down : AllByRecursion (FliesDown t (written (server_end s))) (server_datagrams t s)
+  pub up : AllByRecursion (FliesUp t.config (written (client_end u))) (client_datagrams t.config u)
   pub came_down : Gets (written (server_end s)) (client_end u)
   pub came_up : Gets (written (client_end u)) (server_end s)
 
@@ -116,11 +119,11 @@ module _ (t : Terms) (limits : AreTerms t) where
 
   -- ---- packs
 
-  flies-down : (ws : List (List (List ℕ))) (p : ServerPacket) → IsServer t.kinds p → SeenFlies ws (seen_down p) → FliesDown t.kinds ws (datagram (server t.kinds p))
-  flies-down ws p fits flies = record { packet = p; reads = reads-down t.kinds p fits; flies = flies }
+  flies-down : (ws : List (List (List ℕ))) (p : ServerPacket) → IsServer t.kinds p → SeenFlies ws (seen_down p) → FliesDown t ws (bytes_down t p)
+  flies-down ws p fits flies = record { packet = p; reads = reads-down t p fits; flies = flies }
 
-  flies-up : (ws : List (List (List ℕ))) (p : ClientPacket) → IsClient p → SeenFlies ws (seen_up p) → FliesUp ws (datagram (client p))
-  flies-up ws p fits flies = record { packet = p; reads = reads-up p fits; flies = flies }
+  flies-up : (ws : List (List (List ℕ))) (p : ClientPacket) → IsClient p → SeenFlies ws (seen_up p) → FliesUp t.config ws (bytes_up t.config p)
+  flies-up ws p fits flies = record { packet = p; reads = reads-up t.config p fits; flies = flies }
 
   packs-down : (s : List ServerEvent) (u : List ClientEvent) → Carried t s u → Ordered t s u → Ordered t (server_log.packing t s []) u
   packs-down s u c h = go (server_state t.config s) refl
@@ -136,23 +139,23 @@ module _ (t : Terms) (limits : AreTerms t) where
       go Held e = record {
         server = pinged-sends (server_end s) (seen_ping (server_ping t.config s)) h.server;
         client = h.client;
-        down = all-append (FliesDown t.kinds ws) (server_datagrams t.kinds s) _ h.down (flies-down ws (down.Ping (server_ping t.config s)) (ping-down t limits s u e c) refl, tt);
+        down = all-append (FliesDown t ws) (server_datagrams t s) _ h.down (flies-down ws (down.Ping (server_ping t.config s)) (ping-down t limits s u e c) refl, tt);
         up = h.up;
         came_down = h.came_down;
         came_up = h.came_up;
       }
       go Room e = record {
-        server = packed-sends (server_end s) body (server_log.event_room t (with_plan t s)) refl h.server;
+        server = packed-sends t.config (server_end s) body (server_log.event_room t (with_plan t s)) refl h.server;
         client = h.client;
-        down = all-append (FliesDown t.kinds (ws ++ loose_in body.events ∷ [])) (server_datagrams t.kinds s) _
-            (all-map (FliesDown t.kinds ws) (FliesDown t.kinds (ws ++ loose_in body.events ∷ [])) (down-push t.kinds ws (loose_in body.events)) (server_datagrams t.kinds s) h.down)
+        down = all-append (FliesDown t (ws ++ loose_in body.events ∷ [])) (server_datagrams t s) _
+            (all-map (FliesDown t ws) (FliesDown t (ws ++ loose_in body.events ∷ [])) (down-push t ws (loose_in body.events)) (server_datagrams t s) h.down)
             (flies-down (ws ++ loose_in body.events ∷ []) (down.Body (next_body t s [])) (body-down t limits s u e c) (flies-last (server_end s) body.head.seq (loose_in body.events) refl h.server), tt);
         up = h.up;
         came_down = gets-push ws (loose_in body.events) (client_end u) h.came_down;
         came_up = h.came_up;
       }
 
-  packs-up : (s : List ServerEvent) (u : List ClientEvent) → Carried t s u → Ordered t s u → Ordered t s (onto (client_log.packing t.config u) u)
+  packs-up : (s : List ServerEvent) (u : List ClientEvent) → Carried t s u → Ordered t s u → Ordered t s (with_event (client_log.packing t.config u) u)
   packs-up s u c h = go (client_state t.config u) refl
     where
       ws : List (List (List ℕ))
@@ -161,22 +164,22 @@ module _ (t : Terms) (limits : AreTerms t) where
       body : Seen
       body = seen_client_body (client_body t.config u)
 
-      go : (state : SendState) → client_state t.config u ≡ state → Ordered t s (onto (client_log.pack_event t.config u state) u)
+      go : (state : SendState) → client_state t.config u ≡ state → Ordered t s (with_event (client_log.pack_event t.config u state) u)
       go Worn e = h
       go Held e = record {
         server = h.server;
         client = pinged-sends (client_end u) (seen_ping (client_ping t.config u)) h.client;
         down = h.down;
-        up = all-append (FliesUp ws) (client_datagrams u) _ h.up (flies-up ws (up.Ping (client_ping t.config u)) (ping-up t limits s u e c) refl, tt);
+        up = all-append (FliesUp t.config ws) (client_datagrams t.config u) _ h.up (flies-up ws (up.Ping (client_ping t.config u)) (ping-up t limits s u e c) refl, tt);
         came_down = h.came_down;
         came_up = h.came_up;
       }
       go Room e = record {
         server = h.server;
-        client = packed-sends (client_end u) body (client_log.event_room t.config u) refl h.client;
+        client = packed-sends t.config (client_end u) body (client_log.event_room t.config u) refl h.client;
         down = h.down;
-        up = all-append (FliesUp (ws ++ loose_in body.events ∷ [])) (client_datagrams u) _
-            (all-map (FliesUp ws) (FliesUp (ws ++ loose_in body.events ∷ [])) (up-push ws (loose_in body.events)) (client_datagrams u) h.up)
+        up = all-append (FliesUp t.config (ws ++ loose_in body.events ∷ [])) (client_datagrams t.config u) _
+            (all-map (FliesUp t.config ws) (FliesUp t.config (ws ++ loose_in body.events ∷ [])) (up-push t.config ws (loose_in body.events)) (client_datagrams t.config u) h.up)
             (flies-up (ws ++ loose_in body.events ∷ []) (up.Body (client_body t.config u)) (body-up t limits s u e c) (flies-last (client_end u) body.head.seq (loose_in body.events) refl h.client), tt);
         came_down = h.came_down;
         came_up = gets-push ws (loose_in body.events) (server_end s) h.came_up;
@@ -206,34 +209,34 @@ module _ (t : Terms) (limits : AreTerms t) where
     came_up = gets-more (written (client_end u)) (server_end s) (seen_up p) flies (new-up s p e) h.came_up;
   }
 
-  gets-down : (s : List ServerEvent) (u : List ClientEvent) (k : ℕ) (o : Option (List ℕ)) → slice_get (server_datagrams t.kinds s) k ≡ o → Ordered t s u → Ordered t s (client_gets t o u)
+  gets-down : (s : List ServerEvent) (u : List ClientEvent) (k : ℕ) (o : Option (List ℕ)) → slice_get (server_datagrams t s) k ≡ o → Ordered t s u → Ordered t s (client_gets t o u)
   gets-down s u k None e h = h
   gets-down s u k (Some bytes) e h =
-      let d : FliesDown t.kinds (written (server_end s)) bytes = all-at (FliesDown t.kinds (written (server_end s))) (server_datagrams t.kinds s) k bytes h.down e in
+      let d : FliesDown t (written (server_end s)) bytes = all-at (FliesDown t (written (server_end s))) (server_datagrams t s) k bytes h.down e in
       subst (λ (r : Result ServerPacket BitsFault). Ordered t s (took_at_client u (client_log.packet_answer t.config u r))) (sym d.reads)
       (took-down s u d.packet (client_log.packet_check t.config u d.packet) refl d.flies h)
 
-  gets-up : (s : List ServerEvent) (u : List ClientEvent) (k room : ℕ) (o : Option (List ℕ)) → slice_get (client_datagrams u) k ≡ o → Ordered t s u → Ordered t (server_gets t.config room o s) u
+  gets-up : (s : List ServerEvent) (u : List ClientEvent) (k room : ℕ) (o : Option (List ℕ)) → slice_get (client_datagrams t.config u) k ≡ o → Ordered t s u → Ordered t (server_gets t.config room o s) u
   gets-up s u k room None e h = h
   gets-up s u k room (Some bytes) e h =
-      let d : FliesUp (written (client_end u)) bytes = all-at (FliesUp (written (client_end u))) (client_datagrams u) k bytes h.up e in
+      let d : FliesUp t.config (written (client_end u)) bytes = all-at (FliesUp t.config (written (client_end u))) (client_datagrams t.config u) k bytes h.up e in
       subst (λ (r : Result ClientPacket BitsFault). Ordered t (took_at_server s room (server_log.packet_answer t.config s r)) u) (sym d.reads)
       (took-up s u room d.packet (server_log.packet_check t.config s d.packet) refl d.flies h)
 
   -- ---- all steps
 
-  ordered : (steps : List Step) → AllByRecursion StepFits steps → Ordered t (history t steps).server (history t steps).client
+  ordered : (steps : List PairStep) → AllByRecursion StepFits steps → Ordered t (history t steps).server (history t steps).client
   ordered [] fit = record { server = start-sends; client = start-sends; down = tt; up = tt; came_down = refl; came_up = refl }
   ordered (Post class v ∷ steps) fit = posts-down class v (history t steps).server (history t steps).client (ordered steps fit.1)
   ordered (ClientPost class v ∷ steps) fit = posts-up class v (history t steps).server (history t steps).client (ordered steps fit.1)
   ordered (Sample m ∷ steps) fit = samples-up m (history t steps).server (history t steps).client (ordered steps fit.1)
   ordered (Pack ∷ steps) fit = packs-down (history t steps).server (history t steps).client (carried t limits steps fit.1) (ordered steps fit.1)
   ordered (ClientPack ∷ steps) fit = packs-up (history t steps).server (history t steps).client (carried t limits steps fit.1) (ordered steps fit.1)
-  ordered (Down k ∷ steps) fit = gets-down (history t steps).server (history t steps).client k (slice_get (server_datagrams t.kinds (history t steps).server) k) refl (ordered steps fit.1)
-  ordered (Up k room ∷ steps) fit = gets-up (history t steps).server (history t steps).client k room (slice_get (client_datagrams (history t steps).client) k) refl (ordered steps fit.1)
+  ordered (Down k ∷ steps) fit = gets-down (history t steps).server (history t steps).client k (slice_get (server_datagrams t (history t steps).server) k) refl (ordered steps fit.1)
+  ordered (Up k room ∷ steps) fit = gets-up (history t steps).server (history t steps).client k room (slice_get (client_datagrams t.config (history t steps).client) k) refl (ordered steps fit.1)
 
-pub loose_down : (t : Terms) (steps : List Step) → AreTerms t → AllByRecursion StepFits steps → LooseDown t steps
+pub loose_down : (t : Terms) (steps : List PairStep) → AreTerms t → AllByRecursion StepFits steps → LooseDown t steps
 loose_down t steps limits fit = let h = ordered t limits steps fit in gets-posted (server_end (history t steps).server) (client_end (history t steps).client) h.server h.came_down
 
-pub loose_up : (t : Terms) (steps : List Step) → AreTerms t → AllByRecursion StepFits steps → LooseUp t steps
+pub loose_up : (t : Terms) (steps : List PairStep) → AreTerms t → AllByRecursion StepFits steps → LooseUp t steps
 loose_up t steps limits fit = let h = ordered t limits steps fit in gets-posted (client_end (history t steps).client) (server_end (history t steps).server) h.client h.came_up

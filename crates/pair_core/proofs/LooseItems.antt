@@ -9,16 +9,18 @@ use Rattle.tn_types.specs.declared.choices.Class.{Class}
 use Rattle.tn_types.specs.declared.choices.Class.TheVariants.{Guaranteed, Loose}
 use Rattle.notify_window.specs.Log.{sent_of, horizon_of, Fate}
 use Rattle.wire_format.specs.declared.events.EventItem.{EventItem}
-use Rattle.wire_format.specs.Events.{event_size}
 use Rattle.event_manager.specs.Sending.{SenderEvent, posted_of, waiting_of, is_due, is_loose, loose_count, loose_item, guaranteed_item, items_that, due_guaranteed, due_of}
 use Rattle.event_manager.specs.Receiving.{items_onto, run_of, payloads, guaranteed_event, by_class, news, delivered_of}
+use Rattle.stream_manager.specs.declared.config.Config.{Config}
 use Rattle.stream_manager.specs.declared.fault.HeadFault.{HeadFault}
 use Rattle.stream_manager.specs.declared.fault.HeadFault.TheVariants.{WrongClient, Old, AckAhead}
-use Rattle.stream_manager.specs.Faults.{Checked}
-use Rattle.stream_manager.specs.Shares.{fitting}
+use Rattle.tn_types.specs.Checks.{Checked}
+use Rattle.tn_types.specs.Fitting.{fitting}
+use Rattle.stream_manager.specs.Wire.{event_bits}
 use Rattle.stream_manager.specs.End.{Seen, EndEvent, Posted, Packed, Pinged, Took, window_log, sender_log, fates, events_for, came_of, delivered_at, head_answer}
-use Rattle.pair_core.specs.Laws.{IsPrefixOf}
-use Rattle.pair_core.specs.LooseEvents.{IsSubsequenceOf, of_loose, loose_of, loose_posted_at}
+use Rattle.tn_types.specs.Prefix.{IsPrefixOf}
+use Rattle.tn_types.specs.Subsequence.{IsSubsequenceOf}
+use Rattle.pair_core.specs.LooseEvents.{of_loose, loose_of, loose_posted_at}
 use Rattle.pair_core.proofs.Lists.{slice_get-at}
 use Rattle.pair_core.proofs.Subsequences.{sub-same, sub-drop, sub-front, sub-trans, sub-append, joined, joined-push, sub-take, sub-all, sub-push, joined-more, get-push}
 
@@ -83,16 +85,16 @@ front-waits items due waiting front is =
     ap (λ (n : ℕ). drop n waiting) (count-is items) ∙ ap (λ (l : List (List ℕ)). drop (length (loose_in items)) l) (sym whole) ∙ drop-append_seam (loose_in items) (loose_in front.0) in
     ap (λ (l : List (List ℕ)). loose_in items ++ l) left ∙ whole
 
-events-wait : (room : ℕ) (log : List EndEvent) → loose_in (events_for room log) ++ drop (loose_count (events_for room log)) (waiting_of (sender_log log)) ≡ waiting_of (sender_log log)
-events-wait room log = front-waits (events_for room log) due (waiting_of (sender_log log)) front (loose_in-due (fates log) (sender_log log))
+events-wait : (c : Config) (room : ℕ) (log : List EndEvent) → loose_in (events_for c room log) ++ drop (loose_count (events_for c room log)) (waiting_of (sender_log log)) ≡ waiting_of (sender_log log)
+events-wait c room log = front-waits (events_for c room log) due (waiting_of (sender_log log)) front (loose_in-due (fates log) (sender_log log))
   where
     due : List EventItem
     due = due_of (fates log) (sender_log log)
 
-    front : IsPrefixOf (events_for room log) due
+    front : IsPrefixOf (events_for c room log) due
     front =
-        let fits = fitting-prefix event_size room (take 31 due) in
-        (fits.0 ++ drop 31 due, sym (append_assoc (events_for room log) fits.0 (drop 31 due)) ∙ ap (λ (l : List EventItem). l ++ drop 31 due) fits.1 ∙ take-append-drop 31 due)
+        let fits = fitting-prefix (event_bits c) room (take 31 due) in
+        (fits.0 ++ drop 31 due, sym (append_assoc (events_for c room log) fits.0 (drop 31 due)) ∙ ap (λ (l : List EventItem). l ++ drop 31 due) fits.1 ∙ take-append-drop 31 due)
 
 -- ---- what is delivered
 
@@ -118,11 +120,11 @@ loose-news item came = go item.number
     go None = refl
     go (Some n) = loose_of-guaranteed more
 
-delivered-onto : (items came : List EventItem) → loose_of (delivered_of (items_onto items came)) ≡ loose_of (delivered_of came) ++ loose_in items
-delivered-onto [] came = sym (append-nil (loose_of (delivered_of came)))
-delivered-onto (item ∷ items) came =
+delivered-items : (items came : List EventItem) → loose_of (delivered_of (items_onto items came)) ≡ loose_of (delivered_of came) ++ loose_in items
+delivered-items [] came = sym (append-nil (loose_of (delivered_of came)))
+delivered-items (item ∷ items) came =
     let old : List (List ℕ) = loose_of (delivered_of came) in
-    delivered-onto items (item ∷ came)
+    delivered-items items (item ∷ came)
     ∙ ap (λ (l : List (List ℕ)). l ++ loose_in items) (loose_of-append (delivered_of came) (news item came) ∙ ap (λ (l : List (List ℕ)). old ++ l) (loose-news item came))
     ∙ append_assoc old (of_number item.number item.payload []) (loose_in items)
     ∙ ap (λ (l : List (List ℕ)). old ++ l) (sym (number-append item.number item.payload [] (loose_in items)))
@@ -161,12 +163,12 @@ loose-sends log v h =
           (sub-append (ws ++ waiting) (loose_posted_at log) (v ∷ []) (v ∷ []) h.queue (sub-same (v ∷ []))));
     }
 
-pub packed-sends : (log : List EndEvent) (p : Seen) (room : ℕ) → p.events ≡ events_for room log → Sends log → Sends (Packed p ∷ log)
-packed-sends log p room is h =
+pub packed-sends : (c : Config) (log : List EndEvent) (p : Seen) (room : ℕ) → p.events ≡ events_for c room log → Sends log → Sends (Packed p ∷ log)
+packed-sends c log p room is h =
     let ws : List (List ℕ) = joined (written log) in
     let waiting : List (List ℕ) = waiting_of (sender_log log) in
     let waits : loose_in p.events ++ drop (loose_count p.events) waiting ≡ waiting =
-    subst (λ (items : List EventItem). loose_in items ++ drop (loose_count items) waiting ≡ waiting) (sym is) (events-wait room log) in
+    subst (λ (items : List EventItem). loose_in items ++ drop (loose_count items) waiting ≡ waiting) (sym is) (events-wait c room log) in
     let same : joined (written log ++ loose_in p.events ∷ []) ++ drop (loose_count p.events) waiting ≡ ws ++ waiting =
     ap (λ (l : List (List ℕ)). l ++ drop (loose_count p.events) waiting) (joined-push (written log) (loose_in p.events))
     ∙ append_assoc ws (loose_in p.events) (drop (loose_count p.events) waiting) ∙ ap (λ (l : List (List ℕ)). ws ++ l) waits in
@@ -232,7 +234,7 @@ gets-push ws w log h = sub-trans (loose_of (delivered_at log)) (joined (take hor
     horizon = horizon_of (window_log log)
 
 pub gets-more : (ws : List (List (List ℕ))) (log : List EndEvent) (p : Seen) → Flies ws p.ping p.head.seq (loose_in p.events) → IsNew p.ping p.head.seq (horizon_of (window_log log)) → Gets ws log → Gets ws (Took p ∷ log)
-gets-more ws log p flies new h = subst (λ (l : List (List ℕ)). IsSubsequenceOf l (joined (take (max horizon p.head.seq) ws))) (sym (delivered-onto p.events (came_of log))) (go p.ping (loose_in p.events) flies new)
+gets-more ws log p flies new h = subst (λ (l : List (List ℕ)). IsSubsequenceOf l (joined (take (max horizon p.head.seq) ws))) (sym (delivered-items p.events (came_of log))) (go p.ping (loose_in p.events) flies new)
   where
     horizon : ℕ
     horizon = horizon_of (window_log log)

@@ -9,12 +9,13 @@ use Rattle.notify_window.specs.Log.{sent_of, horizon_of, is_processed, Fate, Unj
 use Rattle.notify_window.proofs.Horizons.{processed-above}
 use Rattle.wire_format.specs.declared.fault.BitsFault.{BitsFault}
 use Rattle.wire_format.specs.declared.events.EventItem.{EventItem}
-use Rattle.wire_format.specs.Events.{event_size}
 use Rattle.event_manager.specs.Sending.{SenderEvent, posted_of, holds, is_number, carriers, any_received, is_unacked, first_unacked, is_due, all_lost, guaranteed_item, loose_item, items_that, due_guaranteed, waiting_of, due_of}
 use Rattle.event_manager.specs.Receiving.{items_onto, or_else, first_of, has, run_of, is_ahead}
 use Rattle.event_manager.proofs.Fates.{not-false, least-below}
 use Rattle.event_manager.proofs.Runs.{has-more, run-ends}
 use Rattle.event_manager.proofs.Prefixes.{run-more}
+use Rattle.stream_manager.specs.declared.config.Config.{Config}
+use Rattle.stream_manager.specs.Wire.{event_bits}
 use Rattle.stream_manager.specs.End.{Seen, EndEvent, Posted, Packed, Pinged, Took, window_log, sender_log, fates, came_of, events_for}
 use Rattle.stream_manager.proofs.Fitting.{fitting-all}
 use Rattle.pair_core.specs.Verdicts.{ReceivedIsTrue}
@@ -54,9 +55,9 @@ pub record EventWay {P : Type 0} (read : List ℕ → Result P BitsFault) (seen 
 
 -- ---- what came
 
-onto-more : (items came : List EventItem) (i : ℕ) → has i came ≡ true → has i (items_onto items came) ≡ true
-onto-more [] came i h = h
-onto-more (item ∷ items) came i h = onto-more items (item ∷ came) i (has-more item came i h)
+items-more : (items came : List EventItem) (i : ℕ) → has i came ≡ true → has i (items_onto items came) ≡ true
+items-more [] came i h = h
+items-more (item ∷ items) came i h = items-more items (item ∷ came) i (has-more item came i h)
 
 has-new : (item : EventItem) (came : List EventItem) (i : ℕ) → is_number i item.number ≡ true → has i (item ∷ came) ≡ true
 has-new item came i h = rw h (go (first_of i came))
@@ -65,17 +66,17 @@ has-new item came i h = rw h (go (first_of i came))
     go None = refl
     go (Some v) = refl
 
-onto-holds : (items came : List EventItem) (i : ℕ) → holds i items ≡ true → has i (items_onto items came) ≡ true
-onto-holds [] came i h = cc
-onto-holds (item ∷ items) came i h = go (is_number i item.number) refl (onto-holds items (item ∷ came) i) h
+items-hold : (items came : List EventItem) (i : ℕ) → holds i items ≡ true → has i (items_onto items came) ≡ true
+items-hold [] came i h = cc
+items-hold (item ∷ items) came i h = go (is_number i item.number) refl (items-hold items (item ∷ came) i) h
   where
     go : (b : Bool) → is_number i item.number ≡ b → (holds i items ≡ true → has i (items_onto items (item ∷ came)) ≡ true) → (b || holds i items) ≡ true → has i (items_onto items (item ∷ came)) ≡ true
-    go true e rest h = onto-more items (item ∷ came) i (has-new item came i e)
+    go true e rest h = items-more items (item ∷ came) i (has-new item came i e)
     go false e rest h = rest h
 
-run-onto : (items came : List EventItem) → run_of came ≤ run_of (items_onto items came)
-run-onto [] came = omega arith
-run-onto (item ∷ items) came = omega (arith, run-more item came, run-onto items (item ∷ came))
+run-items : (items came : List EventItem) → run_of came ≤ run_of (items_onto items came)
+run-items [] came = omega arith
+run-items (item ∷ items) came = omega (arith, run-more item came, run-items items (item ∷ came))
 
 -- ---- events that are near
 
@@ -160,9 +161,9 @@ module _ {P : Type 0} (read : List ℕ → Result P BitsFault) (seen : P → See
       ]
 
       -- so the events of the next packet are near
-      pub near-events : ReceivedIsTrue x y → (room : ℕ) → AllByRecursion (IsNear (run_of (came_of y))) (events_for room x)
-      near-events truth room =
-          fitting-all (IsNear (run_of (came_of y))) event_size room _ (all-take (IsNear (run_of (came_of y))) 31 (due_of (fates x) (sender_log x)) (near-due (fates x) (sender_log x) (run_of (came_of y)) (unacked-run truth)))
+      pub near-events : ReceivedIsTrue x y → (c : Config) (room : ℕ) → AllByRecursion (IsNear (run_of (came_of y))) (events_for c room x)
+      near-events truth c room =
+          fitting-all (IsNear (run_of (came_of y))) (event_bits c) room _ (all-take (IsNear (run_of (came_of y))) 31 (due_of (fates x) (sender_log x)) (near-due (fates x) (sender_log x) (run_of (came_of y)) (unacked-run truth)))
 
       -- the sender sends a data packet
       module _ (p : P) (bytes : List ℕ) (next : (seen p).head.seq ≡ sent_of (window_log x) + 1) where
@@ -226,14 +227,14 @@ module _ {P : Type 0} (read : List ℕ → Result P BitsFault) (seen : P → See
               client = b.client;
               seq = b.seq;
               own = b.own;
-              near = all-map (IsNear (run_of (came_of y))) (IsNear (run_of (items_onto p.events (came_of y)))) (near-more (run_of (came_of y)) (run_of (items_onto p.events (came_of y))) (run-onto p.events (came_of y))) (seen b.packet).events b.near;
+              near = all-map (IsNear (run_of (came_of y))) (IsNear (run_of (items_onto p.events (came_of y)))) (near-more (run_of (came_of y)) (run_of (items_onto p.events (came_of y))) (run-items p.events (came_of y))) (seen b.packet).events b.near;
               good = b.good;
             }) datagrams h.brings;
       }
         where
           comes : (s i : ℕ) → holds i (events_of s x) ≡ true → (ping : Bool) → p.ping ≡ ping → (b : Bool) → (p.head.seq == s) ≡ b → ((not ping && b) || is_processed s (window_log y)) ≡ true → has i (items_onto p.events (came_of y)) ≡ true
-          comes s i holding true is b e done = onto-more p.events (came_of y) i (h.reached s i done holding)
-          comes s i holding false is false e done = onto-more p.events (came_of y) i (h.reached s i done holding)
+          comes s i holding true is b e done = items-more p.events (came_of y) i (h.reached s i done holding)
+          comes s i holding false is false e done = items-more p.events (came_of y) i (h.reached s i done holding)
           comes s i holding false is true e done =
               let same : p.head.seq ≡ s = grind (arith, nat_tests) in
-              onto-holds p.events (came_of y) i (sym (ap (holds i) (sym (ap (λ n. events_of n x) same) ∙ own is)) ∙ holding)
+              items-hold p.events (came_of y) i (sym (ap (holds i) (sym (ap (λ n. events_of n x) same) ∙ own is)) ∙ holding)

@@ -19,18 +19,20 @@ use Rattle.wire_format.specs.declared.client.ClientPacket.{ClientPacket}
 use Rattle.wire_format.specs.declared.server.ServerBody.{ServerBody}
 use Rattle.wire_format.specs.declared.server.ServerPacket.{ServerPacket}
 use Rattle.wire_format.specs.declared.server.ServerPacket.TheVariants as down
-use Rattle.wire_format.specs.Server.{server_of, IsServer}
+use Rattle.wire_format.specs.Server.{IsServer}
 use Rattle.datablocks.specs.Holding.{held_of}
 use Rattle.stream_manager.specs.declared.fault.ArriveFault.{ArriveFault}
 use Rattle.stream_manager.specs.declared.fault.ClientFault.{ClientFault}
 use Rattle.stream_manager.specs.Limits.{Terms, AreTerms}
-use Rattle.stream_manager.specs.Faults.{Checked, checked_packet}
-use Rattle.stream_manager.specs.End.{window_log, fates, onto}
+use Rattle.stream_manager.specs.Wire.{read_down}
+use Rattle.tn_types.specs.Checks.{Checked}
+use Rattle.stream_manager.specs.Faults.{checked_packet}
+use Rattle.stream_manager.specs.End.{window_log, fates, with_event}
 use Rattle.stream_manager.specs.Server as server_log
 use Rattle.stream_manager.specs.Server.{ServerEvent, server_end, block_log, server_datagrams, server_state, posted_at_server, next_body, server_ping, took_at_server, server_answer}
 use Rattle.stream_manager.specs.Client as client_log
 use Rattle.stream_manager.specs.Client.{ClientEvent, client_end, seen_down, blocks_in, blocks_came, client_datagrams, client_state, posted_at_client, sampled_answer, took_at_client}
-use Rattle.pair_core.specs.History.{Step, Post, ClientPost, Sample, Pack, ClientPack, Down, Up, history, server_posts, client_posts, client_samples, client_gets, server_gets}
+use Rattle.pair_core.specs.History.{PairStep, Post, ClientPost, Sample, Pack, ClientPack, Down, Up, history, server_posts, client_posts, client_samples, client_gets, server_gets}
 use Rattle.pair_core.specs.Laws.{StepFits}
 use Rattle.pair_core.specs.HeldBlocks.{HoldsReceivedBlocks}
 use Rattle.pair_core.proofs.Spelled.{reads-down}
@@ -65,9 +67,9 @@ abbrev IsCarrier : List ServerEvent → ℕ → ℕ → Type 0
 IsCarrier s b n = (n ≤ sent_by s) × (has_block b (blocks_of n s) ≡ true)
 
 -- bytes that spell a packet that was sent
-record Brings (kinds : List Kind) (s : List ServerEvent) (bytes : List ℕ) : Type 0 where
+record Brings (t : Terms) (s : List ServerEvent) (bytes : List ℕ) : Type 0 where
   pub packet : ServerPacket
-  pub reads : server_of kinds bytes ≡ Ok packet
+  pub reads : read_down t.config t.kinds bytes ≡ Ok packet
   pub seq : (seen_down packet).head.seq ≤ sent_by s
   pub own : (seen_down packet).ping ≡ false → blocks_of (seen_down packet).head.seq s ≡ blocks_in packet
 
@@ -75,7 +77,7 @@ record Brings (kinds : List Kind) (s : List ServerEvent) (bytes : List ℕ) : Ty
 record BlockWay (t : Terms) (s : List ServerEvent) (u : List ClientEvent) : Type 0 where
   pub written : (b : ℕ) → AllByRecursion (IsCarrier s b) (carriers b (block_log s))
   pub reached : (n b : ℕ) → is_processed n (window_log (client_end u)) ≡ true → has_block b (blocks_of n s) ≡ true → has_block b (blocks_came u) ≡ true
-  pub brings : AllByRecursion (Brings t.kinds s) (server_datagrams t.kinds s)
+  pub brings : AllByRecursion (Brings t s) (server_datagrams t s)
 
 -- ---- lists of blocks
 
@@ -117,12 +119,12 @@ wrote P b seq (item ∷ items) log own all = wrote P b seq items (Wrote seq item
 
 module _ (t : Terms) (limits : AreTerms t) where
   posts-down : (class : Class) (v : List ℕ) (s : List ServerEvent) (u : List ClientEvent) → BlockWay t s u → BlockWay t (server_posts t.config class v s) u
-  posts-down Loose v s u h = record { written = h.written; reached = h.reached; brings = all-map (Brings t.kinds s) (Brings t.kinds (server_log.Posted Loose v ∷ s)) (λ bytes d. record { packet = d.packet; reads = d.reads; seq = d.seq; own = d.own }) (server_datagrams t.kinds s) h.brings }
+  posts-down Loose v s u h = record { written = h.written; reached = h.reached; brings = all-map (Brings t s) (Brings t (server_log.Posted Loose v ∷ s)) (λ bytes d. record { packet = d.packet; reads = d.reads; seq = d.seq; own = d.own }) (server_datagrams t s) h.brings }
   posts-down Guaranteed v s u h = go (is_ok (posted_at_server t.config s))
     where
       go : (b : Bool) → BlockWay t (if b then server_log.Posted Guaranteed v ∷ s else s) u
       go false = h
-      go true = record { written = h.written; reached = h.reached; brings = all-map (Brings t.kinds s) (Brings t.kinds (server_log.Posted Guaranteed v ∷ s)) (λ bytes d. record { packet = d.packet; reads = d.reads; seq = d.seq; own = d.own }) (server_datagrams t.kinds s) h.brings }
+      go true = record { written = h.written; reached = h.reached; brings = all-map (Brings t s) (Brings t (server_log.Posted Guaranteed v ∷ s)) (λ bytes d. record { packet = d.packet; reads = d.reads; seq = d.seq; own = d.own }) (server_datagrams t s) h.brings }
 
   posts-up : (class : Class) (v : List ℕ) (s : List ServerEvent) (u : List ClientEvent) → BlockWay t s u → BlockWay t s (client_posts t.config class v u)
   posts-up Loose v s u h = record { written = h.written; reached = h.reached; brings = h.brings }
@@ -149,9 +151,9 @@ module _ (t : Terms) (limits : AreTerms t) where
       | inl above ↦ (let never : is_processed n (window_log (client_end u)) ≡ false = processed-above n (window_log (client_end u)) (omega arith) in absurd cc)
       | inr below ↦ h.reached n b done (sym (ap (has_block b) (older n below)) ∙ holding)
     ];
-    brings = all-append (Brings t.kinds (server_log.Packed p ∷ s)) (server_datagrams t.kinds s) _
-        (all-map (Brings t.kinds s) (Brings t.kinds (server_log.Packed p ∷ s)) (λ bytes d. record { packet = d.packet; reads = d.reads; seq = omega (arith, d.seq); own = λ e. older (seen_down d.packet).head.seq d.seq ∙ d.own e }) (server_datagrams t.kinds s) h.brings)
-        (record { packet = down.Body p; reads = reads-down t.kinds (down.Body p) fits; seq = omega arith; own = λ e. itself }, tt);
+    brings = all-append (Brings t (server_log.Packed p ∷ s)) (server_datagrams t s) _
+        (all-map (Brings t s) (Brings t (server_log.Packed p ∷ s)) (λ bytes d. record { packet = d.packet; reads = d.reads; seq = omega (arith, d.seq); own = λ e. older (seen_down d.packet).head.seq d.seq ∙ d.own e }) (server_datagrams t s) h.brings)
+        (record { packet = down.Body p; reads = reads-down t (down.Body p) fits; seq = omega arith; own = λ e. itself }, tt);
   }
     where
       older : (n : ℕ) → n ≤ sent_by s → blocks_of n (server_log.Packed p ∷ s) ≡ blocks_of n s
@@ -161,7 +163,7 @@ module _ (t : Terms) (limits : AreTerms t) where
       itself = let alike : (p.head.seq == p.head.seq) ≡ true = grind (arith, nat_tests) in rw alike
 
   plans : (s : List ServerEvent) (u : List ClientEvent) → BlockWay t s u → BlockWay t (server_log.with_plan t s) u
-  plans s u h = record { written = h.written; reached = h.reached; brings = all-map (Brings t.kinds s) (Brings t.kinds (server_log.with_plan t s)) (λ bytes d. record { packet = d.packet; reads = d.reads; seq = d.seq; own = d.own }) (server_datagrams t.kinds s) h.brings }
+  plans s u h = record { written = h.written; reached = h.reached; brings = all-map (Brings t s) (Brings t (server_log.with_plan t s)) (λ bytes d. record { packet = d.packet; reads = d.reads; seq = d.seq; own = d.own }) (server_datagrams t s) h.brings }
 
   packs-down : (s : List ServerEvent) (u : List ClientEvent) → Carried t s u → Windows t s u → BlockWay t s u → BlockWay t (server_log.packing t s []) u
   packs-down s u c w h = go (server_state t.config s) refl
@@ -171,16 +173,16 @@ module _ (t : Terms) (limits : AreTerms t) where
       go Held e = record {
         written = h.written;
         reached = h.reached;
-        brings = all-append (Brings t.kinds (server_log.Pinged (server_ping t.config s) ∷ s)) (server_datagrams t.kinds s) _
-            (all-map (Brings t.kinds s) (Brings t.kinds (server_log.Pinged (server_ping t.config s) ∷ s)) (λ bytes d. record { packet = d.packet; reads = d.reads; seq = d.seq; own = d.own }) (server_datagrams t.kinds s) h.brings)
-            (record { packet = down.Ping (server_ping t.config s); reads = reads-down t.kinds (down.Ping (server_ping t.config s)) (ping-down t limits s u e c); seq = omega arith; own = λ e. absurd cc }, tt);
+        brings = all-append (Brings t (server_log.Pinged (server_ping t.config s) ∷ s)) (server_datagrams t s) _
+            (all-map (Brings t s) (Brings t (server_log.Pinged (server_ping t.config s) ∷ s)) (λ bytes d. record { packet = d.packet; reads = d.reads; seq = d.seq; own = d.own }) (server_datagrams t s) h.brings)
+            (record { packet = down.Ping (server_ping t.config s); reads = reads-down t (down.Ping (server_ping t.config s)) (ping-down t limits s u e c); seq = omega arith; own = λ e. absurd cc }, tt);
       }
       go Room e = sends (next_body t s []) (server_log.with_plan t s) u (body-down t limits s u e c) refl w.down.known (plans s u h)
 
-  packs-up : (s : List ServerEvent) (u : List ClientEvent) → BlockWay t s u → BlockWay t s (onto (client_log.packing t.config u) u)
+  packs-up : (s : List ServerEvent) (u : List ClientEvent) → BlockWay t s u → BlockWay t s (with_event (client_log.packing t.config u) u)
   packs-up s u h = go (client_state t.config u)
     where
-      go : (state : SendState) → BlockWay t s (onto (client_log.pack_event t.config u state) u)
+      go : (state : SendState) → BlockWay t s (with_event (client_log.pack_event t.config u state) u)
       go Worn = h
       go Held = record { written = h.written; reached = h.reached; brings = h.brings }
       go Room = record { written = h.written; reached = h.reached; brings = h.brings }
@@ -193,7 +195,7 @@ module _ (t : Terms) (limits : AreTerms t) where
       let at : (seen_down p).head.seq ≡ n = grind (arith, nat_tests) in
       held-before (reverse (blocks_in p)) (blocks_came u) b (held-reverse (blocks_in p) b (sym (ap (has_block b) (sym (ap (λ k. blocks_of k s) at) ∙ own is)) ∙ holding))
 
-  took-down : (s : List ServerEvent) (u : List ClientEvent) (bytes : List ℕ) (d : Brings t.kinds s bytes) (a : Checked ClientFault) → BlockWay t s u → BlockWay t s (took_at_client u (checked_packet d.packet a))
+  took-down : (s : List ServerEvent) (u : List ClientEvent) (bytes : List ℕ) (d : Brings t s bytes) (a : Checked ClientFault) → BlockWay t s u → BlockWay t s (took_at_client u (checked_packet d.packet a))
   took-down s u bytes d (Err e) h = h
   took-down s u bytes d (Ok x) h = record {
     written = h.written;
@@ -201,30 +203,30 @@ module _ (t : Terms) (limits : AreTerms t) where
     brings = h.brings;
   }
 
-  gets-down : (s : List ServerEvent) (u : List ClientEvent) (k : ℕ) (o : Option (List ℕ)) → slice_get (server_datagrams t.kinds s) k ≡ o → BlockWay t s u → BlockWay t s (client_gets t o u)
+  gets-down : (s : List ServerEvent) (u : List ClientEvent) (k : ℕ) (o : Option (List ℕ)) → slice_get (server_datagrams t s) k ≡ o → BlockWay t s u → BlockWay t s (client_gets t o u)
   gets-down s u k None e h = h
   gets-down s u k (Some bytes) e h =
-      let d : Brings t.kinds s bytes = all-at (Brings t.kinds s) (server_datagrams t.kinds s) k bytes h.brings e in
+      let d : Brings t s bytes = all-at (Brings t s) (server_datagrams t s) k bytes h.brings e in
       subst (λ (r : Result ServerPacket BitsFault). BlockWay t s (took_at_client u (client_log.packet_answer t.config u r))) (sym d.reads)
       (took-down s u bytes d (client_log.packet_check t.config u d.packet) h)
 
   took-up : (s : List ServerEvent) (u : List ClientEvent) (room : ℕ) (a : Result ClientPacket ArriveFault) → BlockWay t s u → BlockWay t (took_at_server s room a) u
   took-up s u room (Err e) h = h
-  took-up s u room (Ok p) h = record { written = h.written; reached = h.reached; brings = all-map (Brings t.kinds s) (Brings t.kinds (server_log.Took p room ∷ s)) (λ bytes d. record { packet = d.packet; reads = d.reads; seq = d.seq; own = d.own }) (server_datagrams t.kinds s) h.brings }
+  took-up s u room (Ok p) h = record { written = h.written; reached = h.reached; brings = all-map (Brings t s) (Brings t (server_log.Took p room ∷ s)) (λ bytes d. record { packet = d.packet; reads = d.reads; seq = d.seq; own = d.own }) (server_datagrams t s) h.brings }
 
   gets-up : (s : List ServerEvent) (u : List ClientEvent) (room : ℕ) (o : Option (List ℕ)) → BlockWay t s u → BlockWay t (server_gets t.config room o s) u
   gets-up s u room None h = h
   gets-up s u room (Some bytes) h = took-up s u room (server_answer t.config s bytes) h
 
-  way : (steps : List Step) → AllByRecursion StepFits steps → BlockWay t (history t steps).server (history t steps).client
+  way : (steps : List PairStep) → AllByRecursion StepFits steps → BlockWay t (history t steps).server (history t steps).client
   way [] fit = record { written = λ b. tt; reached = λ n b done holding. cc; brings = tt }
   way (Post class v ∷ steps) fit = posts-down class v (history t steps).server (history t steps).client (way steps fit.1)
   way (ClientPost class v ∷ steps) fit = posts-up class v (history t steps).server (history t steps).client (way steps fit.1)
   way (Sample m ∷ steps) fit = samples-up m (history t steps).server (history t steps).client (way steps fit.1)
   way (Pack ∷ steps) fit = packs-down (history t steps).server (history t steps).client (carried t limits steps fit.1) (windows t limits steps fit.1) (way steps fit.1)
   way (ClientPack ∷ steps) fit = packs-up (history t steps).server (history t steps).client (way steps fit.1)
-  way (Down k ∷ steps) fit = gets-down (history t steps).server (history t steps).client k (slice_get (server_datagrams t.kinds (history t steps).server) k) refl (way steps fit.1)
-  way (Up k room ∷ steps) fit = gets-up (history t steps).server (history t steps).client room (slice_get (client_datagrams (history t steps).client) k) (way steps fit.1)
+  way (Down k ∷ steps) fit = gets-down (history t steps).server (history t steps).client k (slice_get (server_datagrams t (history t steps).server) k) refl (way steps fit.1)
+  way (Up k room ∷ steps) fit = gets-up (history t steps).server (history t steps).client room (slice_get (client_datagrams t.config (history t steps).client) k) (way steps fit.1)
 
 received-held : (t : Terms) (s : List ServerEvent) (u : List ClientEvent) → ReceivedIsTrue (server_end s) (client_end u) → BlockWay t s u → (b : ℕ) (ns : List ℕ) → AllByRecursion (IsCarrier s b) ns → any_received (fates (server_end s)) ns ≡ true → has_block b (blocks_came u) ≡ true
 received-held t s u truth h b [] all e = cc
@@ -235,7 +237,7 @@ received-held t s u truth h b (n ∷ ns) all e = go (fates (server_end s) n) ref
     go Lost is rest e = rest e
     go Received is rest e = h.reached n b (truth n is) all.0.1
 
-pub holds_received : (t : Terms) (steps : List Step) → AreTerms t → AllByRecursion StepFits steps → HoldsReceivedBlocks t steps
+pub holds_received : (t : Terms) (steps : List PairStep) → AreTerms t → AllByRecursion StepFits steps → HoldsReceivedBlocks t steps
 holds_received t steps limits fit b e =
     let h : BlockWay t (history t steps).server (history t steps).client = way t limits steps fit in
     received-held t (history t steps).server (history t steps).client (true_down t steps limits fit).0 h b (carriers b (block_log (history t steps).server)) (h.written b) e

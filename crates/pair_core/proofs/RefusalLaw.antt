@@ -13,8 +13,6 @@ use Rattle.wire_format.specs.declared.server.ServerPacket.{ServerPacket}
 use Rattle.wire_format.specs.declared.server.ServerPacket.TheVariants as down
 use Rattle.wire_format.specs.declared.client.ClientPacket.{ClientPacket}
 use Rattle.wire_format.specs.declared.client.ClientPacket.TheVariants as up
-use Rattle.wire_format.specs.Server.{server_of}
-use Rattle.wire_format.specs.Client.{client_of}
 use Rattle.datablocks.specs.Holding.{held_of, differs}
 use Rattle.event_manager.specs.Receiving.{run_of, take_answer}
 use Rattle.stream_manager.specs.declared.fault.HeadFault.{HeadFault}
@@ -22,13 +20,15 @@ use Rattle.stream_manager.specs.declared.fault.HeadFault.TheVariants.{WrongClien
 use Rattle.stream_manager.specs.declared.fault.ArriveFault.{ArriveFault}
 use Rattle.stream_manager.specs.declared.fault.ClientFault.{ClientFault}
 use Rattle.stream_manager.specs.Limits.{Terms, AreTerms}
-use Rattle.stream_manager.specs.Faults.{Checked, then_check, head_at_server, head_at_client, events_at_server, events_at_client, checked_packet, without_packet}
+use Rattle.stream_manager.specs.Wire.{read_down, read_up}
+use Rattle.tn_types.specs.Checks.{Checked, then_check}
+use Rattle.stream_manager.specs.Faults.{head_at_server, head_at_client, events_at_server, events_at_client, checked_packet, without_packet}
 use Rattle.stream_manager.specs.End.{Seen, EndEvent, window_log, came_of, head_answer, events_answer}
 use Rattle.stream_manager.specs.Server as server_log
 use Rattle.stream_manager.specs.Server.{ServerEvent, server_end, server_datagrams, seen_up, accepted_at, taken_of}
 use Rattle.stream_manager.specs.Client as client_log
 use Rattle.stream_manager.specs.Client.{ClientEvent, client_end, client_datagrams, seen_down, blocks_check, blocks_came, sampled_at}
-use Rattle.pair_core.specs.History.{Step, history}
+use Rattle.pair_core.specs.History.{PairStep, history}
 use Rattle.pair_core.specs.Answers.{refused_down, brought_down, down_answer, refused_up, brought_up, up_answer}
 use Rattle.pair_core.specs.Laws.{StepFits, posted_at}
 use Rattle.pair_core.specs.Refusals.{IsOldAtClient, IsOldAtServer, RefusesLittleDown, RefusesLittleUp}
@@ -131,22 +131,22 @@ module _ (t : Terms) where
   tells-fewer m n (down.Ping head) l h = tt
   tells-fewer m n (down.Body p) l h = omega arith
 
-  brings-down : (s : List ServerEvent) (u : List ClientEvent) (k : ℕ) (o : Option (List ℕ)) → slice_get (server_datagrams t.kinds s) k ≡ o → Carried t s u → Windows t s u → Honest t s u → AllByRecursion (IsOf t.blocks) (blocks_came u) → RefusesLittleDown (brought_down t (record { server = s; client = u }) o)
+  brings-down : (s : List ServerEvent) (u : List ClientEvent) (k : ℕ) (o : Option (List ℕ)) → slice_get (server_datagrams t s) k ≡ o → Carried t s u → Windows t s u → Honest t s u → AllByRecursion (IsOf t.blocks) (blocks_came u) → RefusesLittleDown (brought_down t (record { server = s; client = u }) o)
   brings-down s u k None e c w h came = tt
   brings-down s u k (Some bytes) e c w h came =
-      let b : Brings (server_of t.kinds) seen_down (IsPlain t.blocks) t.config.client (λ n. events_of n (server_end s)) (sent_of (window_log (server_end s))) (run_of (came_of (client_end u))) bytes = all-at _ (server_datagrams t.kinds s) k bytes h.down.brings e in
-      let d : IsDown t.kinds (posted_at (server_end s)) (length (accepted_at t.config s)) bytes = all-at _ (server_datagrams t.kinds s) k bytes c.down e in
-      let x : Spells (server_of t.kinds) seen_down (window_log (server_end s)) bytes = all-at _ (server_datagrams t.kinds s) k bytes w.down.spelled e in
-      let told : TellsAtMost (length (accepted_at t.config s)) b.packet = subst (TellsAtMost (length (accepted_at t.config s))) (same-packet (server_of t.kinds bytes) d.packet b.packet d.reads b.reads) d.tells in
-      let same : x.packet ≡ b.packet = same-packet (server_of t.kinds bytes) x.packet b.packet x.reads b.reads in
+      let b : Brings (read_down t.config t.kinds) seen_down (IsPlain t.blocks) t.config.client (λ n. events_of n (server_end s)) (sent_of (window_log (server_end s))) (run_of (came_of (client_end u))) bytes = all-at _ (server_datagrams t s) k bytes h.down.brings e in
+      let d : IsDown t (posted_at (server_end s)) (length (accepted_at t.config s)) bytes = all-at _ (server_datagrams t s) k bytes c.down e in
+      let x : Spells (read_down t.config t.kinds) seen_down (window_log (server_end s)) bytes = all-at _ (server_datagrams t s) k bytes w.down.spelled e in
+      let told : TellsAtMost (length (accepted_at t.config s)) b.packet = subst (TellsAtMost (length (accepted_at t.config s))) (same-packet (read_down t.config t.kinds bytes) d.packet b.packet d.reads b.reads) d.tells in
+      let same : x.packet ≡ b.packet = same-packet (read_down t.config t.kinds bytes) x.packet b.packet x.reads b.reads in
       let known : (seen_down b.packet).head.horizon ≤ horizon_of (window_log (server_end s)) = subst (λ (p : ServerPacket). (seen_down p).head.horizon ≤ horizon_of (window_log (server_end s))) same x.tells.known in
       subst (λ (r : Result ServerPacket BitsFault). RefusesLittleDown (refused_down (without_packet (client_log.packet_answer t.config u r)))) (sym b.reads)
       (answer-down b.packet (client_log.packet_check t.config u b.packet)
       (check-down u b.packet b.client (omega (arith, known, w.up.known)) (tells-fewer (length (accepted_at t.config s)) (length (sampled_at u)) b.packet c.moves.front.within told) b.near b.good came))
 
-pub little_down : (t : Terms) (steps : List Step) (k : ℕ) → AreTerms t → AllByRecursion StepFits steps → RefusesLittleDown (down_answer t steps k)
+pub little_down : (t : Terms) (steps : List PairStep) (k : ℕ) → AreTerms t → AllByRecursion StepFits steps → RefusesLittleDown (down_answer t steps k)
 little_down t steps k limits fit =
-    brings-down t (history t steps).server (history t steps).client k (slice_get (server_datagrams t.kinds (history t steps).server) k) refl (carried t limits steps fit) (windows t limits steps fit) (honest t limits steps fit)
+    brings-down t (history t steps).server (history t steps).client k (slice_get (server_datagrams t (history t steps).server) k) refl (carried t limits steps fit) (windows t limits steps fit) (honest t limits steps fit)
     (all-map (IsAsGiven t.blocks) (IsOf t.blocks) (λ item is. given-bytes t.blocks item.number item.bytes is) (blocks_came (history t steps).client) (given t limits steps fit).came)
 
 -- ---- the server
@@ -182,16 +182,16 @@ module _ (t : Terms) where
   answer-up s room p (Ok u) h = tt
   answer-up s room p (Err e) h = h
 
-  brings-up : (s : List ServerEvent) (u : List ClientEvent) (k room : ℕ) (o : Option (List ℕ)) → slice_get (client_datagrams u) k ≡ o → Windows t s u → Honest t s u → RefusesLittleUp (brought_up t (record { server = s; client = u }) room o)
+  brings-up : (s : List ServerEvent) (u : List ClientEvent) (k room : ℕ) (o : Option (List ℕ)) → slice_get (client_datagrams t.config u) k ≡ o → Windows t s u → Honest t s u → RefusesLittleUp (brought_up t (record { server = s; client = u }) room o)
   brings-up s u k room None e w h = tt
   brings-up s u k room (Some bytes) e w h =
-      let b : Brings client_of seen_up (BeginsWithin (length (accepted_at t.config s))) t.config.client (λ n. events_of n (client_end u)) (sent_of (window_log (client_end u))) (run_of (came_of (server_end s))) bytes = all-at _ (client_datagrams u) k bytes h.up.brings e in
-      let x : Spells client_of seen_up (window_log (client_end u)) bytes = all-at _ (client_datagrams u) k bytes w.up.spelled e in
-      let same : x.packet ≡ b.packet = same-packet (client_of bytes) x.packet b.packet x.reads b.reads in
+      let b : Brings (read_up t.config) seen_up (BeginsWithin (length (accepted_at t.config s))) t.config.client (λ n. events_of n (client_end u)) (sent_of (window_log (client_end u))) (run_of (came_of (server_end s))) bytes = all-at _ (client_datagrams t.config u) k bytes h.up.brings e in
+      let x : Spells (read_up t.config) seen_up (window_log (client_end u)) bytes = all-at _ (client_datagrams t.config u) k bytes w.up.spelled e in
+      let same : x.packet ≡ b.packet = same-packet (read_up t.config bytes) x.packet b.packet x.reads b.reads in
       let known : (seen_up b.packet).head.horizon ≤ horizon_of (window_log (client_end u)) = subst (λ (p : ClientPacket). (seen_up p).head.horizon ≤ horizon_of (window_log (client_end u))) same x.tells.known in
       subst (λ (r : Result ClientPacket BitsFault). RefusesLittleUp (refused_up (taken_of t.config s room (server_log.packet_answer t.config s r)))) (sym b.reads)
       (answer-up s room b.packet (server_log.packet_check t.config s b.packet) (check-up s b.packet b.client (omega (arith, known, w.down.known)) b.near b.good))
 
-pub little_up : (t : Terms) (steps : List Step) (k room : ℕ) → AreTerms t → AllByRecursion StepFits steps → RefusesLittleUp (up_answer t steps k room)
+pub little_up : (t : Terms) (steps : List PairStep) (k room : ℕ) → AreTerms t → AllByRecursion StepFits steps → RefusesLittleUp (up_answer t steps k room)
 little_up t steps k room limits fit =
-    brings-up t (history t steps).server (history t steps).client k room (slice_get (client_datagrams (history t steps).client) k) refl (windows t limits steps fit) (honest t limits steps fit)
+    brings-up t (history t steps).server (history t steps).client k room (slice_get (client_datagrams t.config (history t steps).client) k) refl (windows t limits steps fit) (honest t limits steps fit)

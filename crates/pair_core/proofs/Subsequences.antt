@@ -2,7 +2,7 @@
 use Rattle.std.proofs.Common.{◌≡◌, ℕ, zero, suc, ◌<◌, ◌≤◌, List, [], ◌∷◌, ◌++◌, take, drop, Some, refl, sym, ◌∙◌, ap, subst, arith, inl, inr, append_assoc}
 use Rattle.std.specs.Prelude.{slice_get}
 use Rattle.std.proofs.lemmas.List.{append-nil}
-use Rattle.pair_core.specs.LooseEvents.{IsSubsequenceOf}
+use Rattle.tn_types.specs.Subsequence.{IsSubsequenceOf}
 
 module _ {A : Type 0} where
   sub-nil : (ys : List A) → IsSubsequenceOf [] ys

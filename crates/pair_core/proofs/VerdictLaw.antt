@@ -7,7 +7,6 @@ use Rattle.std.proofs.lemmas.Bool.{cases_lt}
 use Rattle.tn_types.specs.declared.choices.Class.{Class}
 use Rattle.tn_types.specs.declared.choices.Class.TheVariants.{Guaranteed, Loose}
 use Rattle.tn_types.specs.declared.moves.Move.{Move}
-use Rattle.bit_stream.specs.Bits.{datagram}
 use Rattle.notify_window.specs.declared.SendState.{SendState}
 use Rattle.notify_window.specs.declared.SendState.TheVariants.{Held, Worn, Room}
 use Rattle.notify_window.specs.Bits.{bit_of}
@@ -18,20 +17,22 @@ use Rattle.wire_format.specs.declared.server.ServerPacket.{ServerPacket}
 use Rattle.wire_format.specs.declared.server.ServerPacket.TheVariants as down
 use Rattle.wire_format.specs.declared.client.ClientPacket.{ClientPacket}
 use Rattle.wire_format.specs.declared.client.ClientPacket.TheVariants as up
-use Rattle.wire_format.specs.Server.{server, server_of, IsServer}
-use Rattle.wire_format.specs.Client.{client, client_of, IsClient}
+use Rattle.wire_format.specs.Server.{IsServer}
+use Rattle.wire_format.specs.Client.{IsClient}
 use Rattle.stream_manager.specs.declared.config.Config.{Config}
 use Rattle.stream_manager.specs.declared.fault.HeadFault.{HeadFault}
 use Rattle.stream_manager.specs.declared.fault.ArriveFault.{ArriveFault}
 use Rattle.stream_manager.specs.declared.fault.ClientFault.{ClientFault}
 use Rattle.stream_manager.specs.Limits.{Terms, AreTerms}
-use Rattle.stream_manager.specs.Faults.{Checked, then_check, head_at_server, head_at_client, checked_packet}
-use Rattle.stream_manager.specs.End.{Seen, EndEvent, window_log, fates, head_answer, onto}
+use Rattle.stream_manager.specs.Wire.{read_down, read_up, bytes_down, bytes_up}
+use Rattle.tn_types.specs.Checks.{Checked, then_check}
+use Rattle.stream_manager.specs.Faults.{head_at_server, head_at_client, checked_packet}
+use Rattle.stream_manager.specs.End.{Seen, EndEvent, window_log, fates, head_answer, with_event}
 use Rattle.stream_manager.specs.Server as server_log
 use Rattle.stream_manager.specs.Server.{ServerEvent, server_end, server_datagrams, server_state, posted_at_server, seen_up, next_body, server_ping, took_at_server}
 use Rattle.stream_manager.specs.Client as client_log
 use Rattle.stream_manager.specs.Client.{ClientEvent, client_end, client_datagrams, client_state, posted_at_client, sampled_answer, seen_down, client_body, client_ping, took_at_client}
-use Rattle.pair_core.specs.History.{Step, Post, ClientPost, Sample, Pack, ClientPack, Down, Up, history, server_posts, client_posts, client_samples, client_gets, server_gets}
+use Rattle.pair_core.specs.History.{PairStep, Post, ClientPost, Sample, Pack, ClientPack, Down, Up, history, server_posts, client_posts, client_samples, client_gets, server_gets}
 use Rattle.pair_core.specs.Laws.{StepFits}
 use Rattle.pair_core.specs.Verdicts.{VerdictsAreTrue, VerdictsAreTrueDown, VerdictsAreTrueUp, LostForGoodDown, LostForGoodUp}
 use Rattle.pair_core.proofs.Spelled.{reads-down, reads-up}
@@ -42,11 +43,11 @@ use Rattle.pair_core.proofs.Windows.{Tells, Spells, Way, Meets, tells-data, tell
 
 -- both ways, by the windows and the datagrams of both ends
 pub record Both (t : Terms) (s u : List WindowEvent) (downs ups : List (List ℕ)) : Type 0 where
-  pub down : Way (server_of t.kinds) seen_down s u downs
-  pub up : Way client_of seen_up u s ups
+  pub down : Way (read_down t.config t.kinds) seen_down s u downs
+  pub up : Way (read_up t.config) seen_up u s ups
 
 abbrev pub Windows : Terms → List ServerEvent → List ClientEvent → Type 0
-Windows t s u = Both t (window_log (server_end s)) (window_log (client_end u)) (server_datagrams t.kinds s) (client_datagrams u)
+Windows t s u = Both t (window_log (server_end s)) (window_log (client_end u)) (server_datagrams t s) (client_datagrams t.config u)
 
 -- a packet that is not refused is not refused for its header
 head-ok_down : (c : Config) (log : List ClientEvent) (p : ServerPacket) → is_ok (client_log.packet_check c log p) ≡ true → is_ok (head_answer c.client (client_end log) (seen_down p)) ≡ true
@@ -74,11 +75,11 @@ head-ok_up c log (up.Body p) ok = go (head_answer c.client (server_end log) (see
     go (Err e) next ok = cc
 
 module _ (t : Terms) (limits : AreTerms t) where
-  spells-down : (w : List WindowEvent) (p : ServerPacket) → IsServer t.kinds p → Tells (seen_down p).head w → Spells (server_of t.kinds) seen_down w (datagram (server t.kinds p))
-  spells-down w p fits tells = record { packet = p; reads = reads-down t.kinds p fits; tells = tells }
+  spells-down : (w : List WindowEvent) (p : ServerPacket) → IsServer t.kinds p → Tells (seen_down p).head w → Spells (read_down t.config t.kinds) seen_down w (bytes_down t p)
+  spells-down w p fits tells = record { packet = p; reads = reads-down t p fits; tells = tells }
 
-  spells-up : (w : List WindowEvent) (p : ClientPacket) → IsClient p → Tells (seen_up p).head w → Spells client_of seen_up w (datagram (client p))
-  spells-up w p fits tells = record { packet = p; reads = reads-up p fits; tells = tells }
+  spells-up : (w : List WindowEvent) (p : ClientPacket) → IsClient p → Tells (seen_up p).head w → Spells (read_up t.config) seen_up w (bytes_up t.config p)
+  spells-up w p fits tells = record { packet = p; reads = reads-up t.config p fits; tells = tells }
 
   -- ---- posts and samples change no window
 
@@ -113,29 +114,29 @@ module _ (t : Terms) (limits : AreTerms t) where
       go : (state : SendState) → server_state t.config s ≡ state → Windows t (server_log.packed_onto t s [] state) u
       go Worn e = h
       go Held e = record {
-        down = pings (server_of t.kinds) seen_down (window_log (server_end s)) (window_log (client_end u)) (server_datagrams t.kinds s) (datagram (server t.kinds (down.Ping (server_ping t.config s))))
+        down = pings (read_down t.config t.kinds) seen_down (window_log (server_end s)) (window_log (client_end u)) (server_datagrams t s) (bytes_down t (down.Ping (server_ping t.config s)))
             (spells-down (window_log (server_end s)) (down.Ping (server_ping t.config s)) (ping-down t limits s u e c) (tells-ping t.config.client (server_end s))) h.down;
         up = h.up;
       }
       go Room e = record {
-        down = sends (server_of t.kinds) seen_down t.config.life (window_log (server_end s)) (window_log (client_end u)) (server_datagrams t.kinds s) (datagram (server t.kinds (down.Body (next_body t s [])))) e
+        down = sends (read_down t.config t.kinds) seen_down t.config.life (window_log (server_end s)) (window_log (client_end u)) (server_datagrams t s) (bytes_down t (down.Body (next_body t s []))) e
             (spells-down (Sent ∷ window_log (server_end s)) (down.Body (next_body t s [])) (body-down t limits s u e c) (tells-data t.config.client (server_end s))) h.down;
-        up = other-sends client_of seen_up (window_log (client_end u)) (window_log (server_end s)) (client_datagrams u) h.up;
+        up = other-sends (read_up t.config) seen_up (window_log (client_end u)) (window_log (server_end s)) (client_datagrams t.config u) h.up;
       }
 
-  packs-up : (s : List ServerEvent) (u : List ClientEvent) → Carried t s u → Windows t s u → Windows t s (onto (client_log.packing t.config u) u)
+  packs-up : (s : List ServerEvent) (u : List ClientEvent) → Carried t s u → Windows t s u → Windows t s (with_event (client_log.packing t.config u) u)
   packs-up s u c h = go (client_state t.config u) refl
     where
-      go : (state : SendState) → client_state t.config u ≡ state → Windows t s (onto (client_log.pack_event t.config u state) u)
+      go : (state : SendState) → client_state t.config u ≡ state → Windows t s (with_event (client_log.pack_event t.config u state) u)
       go Worn e = h
       go Held e = record {
         down = h.down;
-        up = pings client_of seen_up (window_log (client_end u)) (window_log (server_end s)) (client_datagrams u) (datagram (client (up.Ping (client_ping t.config u))))
+        up = pings (read_up t.config) seen_up (window_log (client_end u)) (window_log (server_end s)) (client_datagrams t.config u) (bytes_up t.config (up.Ping (client_ping t.config u)))
             (spells-up (window_log (client_end u)) (up.Ping (client_ping t.config u)) (ping-up t limits s u e c) (tells-ping t.config.client (client_end u))) h.up;
       }
       go Room e = record {
-        down = other-sends (server_of t.kinds) seen_down (window_log (server_end s)) (window_log (client_end u)) (server_datagrams t.kinds s) h.down;
-        up = sends client_of seen_up t.config.life (window_log (client_end u)) (window_log (server_end s)) (client_datagrams u) (datagram (client (up.Body (client_body t.config u)))) e
+        down = other-sends (read_down t.config t.kinds) seen_down (window_log (server_end s)) (window_log (client_end u)) (server_datagrams t s) h.down;
+        up = sends (read_up t.config) seen_up t.config.life (window_log (client_end u)) (window_log (server_end s)) (client_datagrams t.config u) (bytes_up t.config (up.Body (client_body t.config u))) e
             (spells-up (Sent ∷ window_log (client_end u)) (up.Body (client_body t.config u)) (body-up t limits s u e c) (tells-data t.config.client (client_end u))) h.up;
       }
 
@@ -147,8 +148,8 @@ module _ (t : Terms) (limits : AreTerms t) where
   took-down s u p (Ok x) is tells h =
       let meets : Meets (client_end u) (seen_down p) = head-meets t.config.client (client_end u) (seen_down p) (head-ok_down t.config u p (ap is_ok is)) in
       record {
-        down = other-takes (server_of t.kinds) seen_down (seen_down p).head (seen_down p).ping (window_log (server_end s)) (window_log (client_end u)) (server_datagrams t.kinds s) tells meets.fresh h.down;
-        up = takes client_of seen_up (seen_down p).head (seen_down p).ping (window_log (client_end u)) (window_log (server_end s)) (client_datagrams u) tells meets.fresh meets.within h.up;
+        down = other-takes (read_down t.config t.kinds) seen_down (seen_down p).head (seen_down p).ping (window_log (server_end s)) (window_log (client_end u)) (server_datagrams t s) tells meets.fresh h.down;
+        up = takes (read_up t.config) seen_up (seen_down p).head (seen_down p).ping (window_log (client_end u)) (window_log (server_end s)) (client_datagrams t.config u) tells meets.fresh meets.within h.up;
       }
 
   took-up : (s : List ServerEvent) (u : List ClientEvent) (room : ℕ) (p : ClientPacket) (a : Checked ArriveFault) → server_log.packet_check t.config s p ≡ a → Tells (seen_up p).head (window_log (client_end u)) → Windows t s u
@@ -157,35 +158,35 @@ module _ (t : Terms) (limits : AreTerms t) where
   took-up s u room p (Ok x) is tells h =
       let meets : Meets (server_end s) (seen_up p) = head-meets t.config.client (server_end s) (seen_up p) (head-ok_up t.config s p (ap is_ok is)) in
       record {
-        down = takes (server_of t.kinds) seen_down (seen_up p).head (seen_up p).ping (window_log (server_end s)) (window_log (client_end u)) (server_datagrams t.kinds s) tells meets.fresh meets.within h.down;
-        up = other-takes client_of seen_up (seen_up p).head (seen_up p).ping (window_log (client_end u)) (window_log (server_end s)) (client_datagrams u) tells meets.fresh h.up;
+        down = takes (read_down t.config t.kinds) seen_down (seen_up p).head (seen_up p).ping (window_log (server_end s)) (window_log (client_end u)) (server_datagrams t s) tells meets.fresh meets.within h.down;
+        up = other-takes (read_up t.config) seen_up (seen_up p).head (seen_up p).ping (window_log (client_end u)) (window_log (server_end s)) (client_datagrams t.config u) tells meets.fresh h.up;
       }
 
-  gets-down : (s : List ServerEvent) (u : List ClientEvent) (k : ℕ) (o : Option (List ℕ)) → slice_get (server_datagrams t.kinds s) k ≡ o → Windows t s u → Windows t s (client_gets t o u)
+  gets-down : (s : List ServerEvent) (u : List ClientEvent) (k : ℕ) (o : Option (List ℕ)) → slice_get (server_datagrams t s) k ≡ o → Windows t s u → Windows t s (client_gets t o u)
   gets-down s u k None e h = h
   gets-down s u k (Some bytes) e h =
-      let d : Spells (server_of t.kinds) seen_down (window_log (server_end s)) bytes = all-at (Spells (server_of t.kinds) seen_down (window_log (server_end s))) (server_datagrams t.kinds s) k bytes h.down.spelled e in
+      let d : Spells (read_down t.config t.kinds) seen_down (window_log (server_end s)) bytes = all-at (Spells (read_down t.config t.kinds) seen_down (window_log (server_end s))) (server_datagrams t s) k bytes h.down.spelled e in
       subst (λ (r : Result ServerPacket BitsFault). Windows t s (took_at_client u (client_log.packet_answer t.config u r))) (sym d.reads)
       (took-down s u d.packet (client_log.packet_check t.config u d.packet) refl d.tells h)
 
-  gets-up : (s : List ServerEvent) (u : List ClientEvent) (k room : ℕ) (o : Option (List ℕ)) → slice_get (client_datagrams u) k ≡ o → Windows t s u → Windows t (server_gets t.config room o s) u
+  gets-up : (s : List ServerEvent) (u : List ClientEvent) (k room : ℕ) (o : Option (List ℕ)) → slice_get (client_datagrams t.config u) k ≡ o → Windows t s u → Windows t (server_gets t.config room o s) u
   gets-up s u k room None e h = h
   gets-up s u k room (Some bytes) e h =
-      let d : Spells client_of seen_up (window_log (client_end u)) bytes = all-at (Spells client_of seen_up (window_log (client_end u))) (client_datagrams u) k bytes h.up.spelled e in
+      let d : Spells (read_up t.config) seen_up (window_log (client_end u)) bytes = all-at (Spells (read_up t.config) seen_up (window_log (client_end u))) (client_datagrams t.config u) k bytes h.up.spelled e in
       subst (λ (r : Result ClientPacket BitsFault). Windows t (took_at_server s room (server_log.packet_answer t.config s r)) u) (sym d.reads)
       (took-up s u room d.packet (server_log.packet_check t.config s d.packet) refl d.tells h)
 
   -- ---- all steps
 
-  pub windows : (steps : List Step) → AllByRecursion StepFits steps → Windows t (history t steps).server (history t steps).client
-  windows [] fit = record { down = start-way (server_of t.kinds) seen_down; up = start-way client_of seen_up }
+  pub windows : (steps : List PairStep) → AllByRecursion StepFits steps → Windows t (history t steps).server (history t steps).client
+  windows [] fit = record { down = start-way (read_down t.config t.kinds) seen_down; up = start-way (read_up t.config) seen_up }
   windows (Post class v ∷ steps) fit = posts-down class v (history t steps).server (history t steps).client (windows steps fit.1)
   windows (ClientPost class v ∷ steps) fit = posts-up class v (history t steps).server (history t steps).client (windows steps fit.1)
   windows (Sample m ∷ steps) fit = samples-up m (history t steps).server (history t steps).client (windows steps fit.1)
   windows (Pack ∷ steps) fit = packs-down (history t steps).server (history t steps).client (carried t limits steps fit.1) (windows steps fit.1)
   windows (ClientPack ∷ steps) fit = packs-up (history t steps).server (history t steps).client (carried t limits steps fit.1) (windows steps fit.1)
-  windows (Down k ∷ steps) fit = gets-down (history t steps).server (history t steps).client k (slice_get (server_datagrams t.kinds (history t steps).server) k) refl (windows steps fit.1)
-  windows (Up k room ∷ steps) fit = gets-up (history t steps).server (history t steps).client k room (slice_get (client_datagrams (history t steps).client) k) refl (windows steps fit.1)
+  windows (Down k ∷ steps) fit = gets-down (history t steps).server (history t steps).client k (slice_get (server_datagrams t (history t steps).server) k) refl (windows steps fit.1)
+  windows (Up k room ∷ steps) fit = gets-up (history t steps).server (history t steps).client k room (slice_get (client_datagrams t.config (history t steps).client) k) refl (windows steps fit.1)
 
 -- ---- what the verdicts say
 
@@ -218,13 +219,13 @@ module _ {P : Type 0} (read : List ℕ → Result P BitsFault) (seen : P → See
       lost true e = cc
       lost false e = refl
 
-pub true_down : (t : Terms) (steps : List Step) → AreTerms t → AllByRecursion StepFits steps → VerdictsAreTrueDown t steps
+pub true_down : (t : Terms) (steps : List PairStep) → AreTerms t → AllByRecursion StepFits steps → VerdictsAreTrueDown t steps
 true_down t steps limits fit =
-    true-verdicts (server_of t.kinds) seen_down (server_end (history t steps).server) (client_end (history t steps).client) (server_datagrams t.kinds (history t steps).server) (windows t limits steps fit).down
+    true-verdicts (read_down t.config t.kinds) seen_down (server_end (history t steps).server) (client_end (history t steps).client) (server_datagrams t (history t steps).server) (windows t limits steps fit).down
 
-pub true_up : (t : Terms) (steps : List Step) → AreTerms t → AllByRecursion StepFits steps → VerdictsAreTrueUp t steps
+pub true_up : (t : Terms) (steps : List PairStep) → AreTerms t → AllByRecursion StepFits steps → VerdictsAreTrueUp t steps
 true_up t steps limits fit =
-    true-verdicts client_of seen_up (client_end (history t steps).client) (server_end (history t steps).server) (client_datagrams (history t steps).client) (windows t limits steps fit).up
+    true-verdicts (read_up t.config) seen_up (client_end (history t steps).client) (server_end (history t steps).server) (client_datagrams t.config (history t steps).client) (windows t limits steps fit).up
 
 -- ---- and go on saying
 
@@ -232,10 +233,10 @@ true_up t steps limits fit =
 lost-later : (s : ℕ) (old new : List EndEvent) → Grew (window_log old) (window_log new) → fates old s ≡ Lost → fates new s ≡ Lost
 lost-later s old new grew e = ap (fate_of s) grew.1 ∙ fate-later s grew.0 (window_log old) (λ u. cc) ∙ e
 
-pub lost_down : (t : Terms) (later steps : List Step) → AreTerms t → AllByRecursion StepFits (later ++ steps) → LostForGoodDown t later steps
+pub lost_down : (t : Terms) (later steps : List PairStep) → AreTerms t → AllByRecursion StepFits (later ++ steps) → LostForGoodDown t later steps
 lost_down t later steps limits fit s e =
     (true_down t (later ++ steps) limits fit).1 s (lost-later s (server_end (history t steps).server) (server_end (history t (later ++ steps)).server) (server-grew t later steps) e)
 
-pub lost_up : (t : Terms) (later steps : List Step) → AreTerms t → AllByRecursion StepFits (later ++ steps) → LostForGoodUp t later steps
+pub lost_up : (t : Terms) (later steps : List PairStep) → AreTerms t → AllByRecursion StepFits (later ++ steps) → LostForGoodUp t later steps
 lost_up t later steps limits fit s e =
     (true_up t (later ++ steps) limits fit).1 s (lost-later s (client_end (history t steps).client) (client_end (history t (later ++ steps)).client) (client-grew t later steps) e)

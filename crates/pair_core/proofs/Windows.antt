@@ -17,7 +17,7 @@ use Rattle.wire_format.specs.declared.fault.BitsFault.{BitsFault}
 use Rattle.wire_format.specs.declared.header.Header.{Header}
 use Rattle.stream_manager.specs.declared.fault.HeadFault.{HeadFault}
 use Rattle.stream_manager.specs.declared.fault.HeadFault.TheVariants.{WrongClient, Old, AckAhead}
-use Rattle.stream_manager.specs.Faults.{Checked}
+use Rattle.tn_types.specs.Checks.{Checked}
 use Rattle.stream_manager.specs.End.{Seen, EndEvent, window_log, data_head, ping_head, head_answer}
 use Rattle.pair_core.proofs.Lists.{all-append, all-map}
 

@@ -9,20 +9,20 @@ use Rattle.tn_types.specs.declared.choices.Class.TheVariants.{Guaranteed, Loose}
 use Rattle.tn_types.specs.declared.moves.Move.{Move}
 use Rattle.stream_manager.specs.declared.config.Config.{Config}
 use Rattle.stream_manager.specs.Limits.{Terms}
-use Rattle.stream_manager.specs.End.{onto}
+use Rattle.stream_manager.specs.End.{with_event}
 use Rattle.stream_manager.specs.Server as server
-use Rattle.stream_manager.specs.Server.{ServerEvent, posted_at_server, server_datagrams, server_answer, took_at_server}
+use Rattle.stream_manager.specs.Server.{ServerEvent, posted_at_server, server_datagrams}
 use Rattle.stream_manager.specs.Client as client
-use Rattle.stream_manager.specs.Client.{ClientEvent, posted_at_client, sampled_answer, client_datagrams, client_answer, took_at_client}
+use Rattle.stream_manager.specs.Client.{ClientEvent, posted_at_client, sampled_answer, client_datagrams}
 
-pub data Step : Type 0 where
-  Post : (class : Class) (payload : List ℕ) → Step  -- the server posts an event
-  ClientPost : (class : Class) (payload : List ℕ) → Step  -- the client posts one
-  Sample : Move → Step  -- the client takes up a move of its player
-  Pack : Step  -- the server makes a datagram
-  ClientPack : Step  -- the client makes one
-  Down : (k : ℕ) → Step  -- the client gets the server's datagram of this place
-  Up : (k room : ℕ) → Step  -- the server gets the client's, where so many moves have a place
+pub data PairStep : Type 0 where
+  Post : (class : Class) (payload : List ℕ) → PairStep  -- the server posts an event
+  ClientPost : (class : Class) (payload : List ℕ) → PairStep  -- the client posts one
+  Sample : Move → PairStep  -- the client takes up a move of its player
+  Pack : PairStep  -- the server makes a datagram
+  ClientPack : PairStep  -- the client makes one
+  Down : (k : ℕ) → PairStep  -- the client gets the server's datagram of this place
+  Up : (k room : ℕ) → PairStep  -- the server gets the client's, where so many moves have a place
 
 pub record History : Type 0 where
   pub server : List ServerEvent
@@ -44,22 +44,23 @@ client_samples c m log = if is_ok (sampled_answer c log) then client.Sampled m �
 -- an arrival, unless nothing of that place was sent or it is refused
 abbrev pub client_gets : Terms → Option (List ℕ) → List ClientEvent → List ClientEvent
 client_gets t None log = log
-client_gets t (Some bytes) log = took_at_client log (client_answer t.config t.kinds log bytes)
+client_gets t (Some bytes) log = client.arriving t.config t.kinds bytes log
 
 abbrev pub server_gets : Config → ℕ → Option (List ℕ) → List ServerEvent → List ServerEvent
 server_gets c room None log = log
-server_gets c room (Some bytes) log = took_at_server log room (server_answer c log bytes)
+server_gets c room (Some bytes) log = server.arriving c room bytes log
 
-abbrev pub happens : Terms → Step → History → History
+abbrev pub happens : Terms → PairStep → History → History
 happens t (Post class v) h = record { server = server_posts t.config class v h.server; client = h.client }
 happens t (ClientPost class v) h = record { server = h.server; client = client_posts t.config class v h.client }
 happens t (Sample m) h = record { server = h.server; client = client_samples t.config m h.client }
 happens t Pack h = record { server = server.packing t h.server []; client = h.client }
-happens t ClientPack h = record { server = h.server; client = onto (client.packing t.config h.client) h.client }
-happens t (Down k) h = record { server = h.server; client = client_gets t (slice_get (server_datagrams t.kinds h.server) k) h.client }
-happens t (Up k room) h = record { server = server_gets t.config room (slice_get (client_datagrams h.client) k) h.server; client = h.client }
+happens t ClientPack h = record { server = h.server; client = with_event (client.packing t.config h.client) h.client }
+happens t (Down k) h = record { server = h.server; client = client_gets t (slice_get (server_datagrams t h.server) k) h.client }
+happens t (Up k room) h =
+    record { server = server_gets t.config room (slice_get (client_datagrams t.config h.client) k) h.server; client = h.client }
 
 -- what has happened after the steps
-abbrev pub history : Terms → List Step → History
+abbrev pub history : Terms → List PairStep → History
 history t [] = record { server = []; client = [] }
 history t (step ∷ steps) = happens t step (history t steps)

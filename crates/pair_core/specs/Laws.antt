@@ -1,17 +1,16 @@
 -- What is promised of one connection, over all that it did.
-use Rattle.std.specs.Prelude.{ℕ, ◌≡◌, List, ◌++◌, length, ◌≤◌}
+use Rattle.std.specs.Prelude.{ℕ, List, ◌++◌, length, ◌≤◌}
+use Rattle.std.specs.List.{AllByRecursion}
 use Rattle.tn_types.specs.Bytes.{AreBytes}
+use Rattle.tn_types.specs.Prefix.{IsPrefixOf}
 use Rattle.event_manager.specs.Sending.{posted_of}
 use Rattle.event_manager.specs.Posted.{guaranteed_of}
-use Rattle.stream_manager.specs.Limits.{Terms}
-use Rattle.stream_manager.specs.End.{EndEvent, sender_log, delivered_at}
+use Rattle.stream_manager.specs.Limits.{Terms, AreTerms}
+use Rattle.stream_manager.specs.End.{EndEvent, sender_log}
 use Rattle.stream_manager.specs.Server.{server_end}
 use Rattle.stream_manager.specs.Client.{client_end}
-use Rattle.pair_core.specs.History.{Step, Post, ClientPost, Sample, Pack, ClientPack, Down, Up, history}
-use Rattle.pair_core.specs.Answers.{sampled_in, accepted_in}
-
-abbrev pub IsPrefixOf : {A : Type 0} → List A → List A → Type 0
-IsPrefixOf {A} xs ys = (rest : List A) × (xs ++ rest ≡ ys)
+use Rattle.pair_core.specs.History.{PairStep, Post, ClientPost, Sample, Pack, ClientPack, Down, Up, history}
+use Rattle.pair_core.specs.Answers.{client_delivered, server_delivered, sampled_in, accepted_in}
 
 -- the guaranteed events that were posted at an end, the oldest first
 abbrev pub posted_at : List EndEvent → List (List ℕ)
@@ -21,7 +20,7 @@ posted_at log = posted_of (sender_log log)
 abbrev pub IsPayload : List ℕ → Type 0
 IsPayload v = (length v ≤ 24) × AreBytes v
 
-abbrev pub StepFits : Step → Type 0
+abbrev pub StepFits : PairStep → Type 0
 StepFits (Post class v) = IsPayload v
 StepFits (ClientPost class v) = IsPayload v
 StepFits (Sample m) = Unit {0}
@@ -30,14 +29,23 @@ StepFits ClientPack = Unit {0}
 StepFits (Down k) = Unit {0}
 StepFits (Up k room) = Unit {0}
 
+-- it holds of each connection within its limits, after all steps whose payloads are payloads of events
+abbrev pub Always : (Terms → List PairStep → Type 0) → Type 0
+Always P = (t : Terms) (steps : List PairStep) → AreTerms t → AllByRecursion StepFits steps → P t steps
+
+-- it holds whatever steps come later
+abbrev pub AlwaysLater : (Terms → List PairStep → List PairStep → Type 0) → Type 0
+AlwaysLater P =
+    (t : Terms) (later steps : List PairStep) → AreTerms t → AllByRecursion StepFits (later ++ steps) → P t later steps
+
 -- what the client delivered is what the server posted, as far as it has come
-abbrev pub DeliversDown : Terms → List Step → Type 0
-DeliversDown t steps = IsPrefixOf (guaranteed_of (delivered_at (client_end (history t steps).client))) (posted_at (server_end (history t steps).server))
+abbrev pub DeliversDown : Terms → List PairStep → Type 0
+DeliversDown t steps = IsPrefixOf (guaranteed_of (client_delivered t steps)) (posted_at (server_end (history t steps).server))
 
 -- and the other way
-abbrev pub DeliversUp : Terms → List Step → Type 0
-DeliversUp t steps = IsPrefixOf (guaranteed_of (delivered_at (server_end (history t steps).server))) (posted_at (client_end (history t steps).client))
+abbrev pub DeliversUp : Terms → List PairStep → Type 0
+DeliversUp t steps = IsPrefixOf (guaranteed_of (server_delivered t steps)) (posted_at (client_end (history t steps).client))
 
 -- the moves that the server accepted are those that the client sampled, as far as they have come
-abbrev pub AcceptsInOrder : Terms → List Step → Type 0
+abbrev pub AcceptsInOrder : Terms → List PairStep → Type 0
 AcceptsInOrder t steps = IsPrefixOf (accepted_in t steps) (sampled_in t steps)

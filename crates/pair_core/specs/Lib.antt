@@ -4,5 +4,6 @@ pub mod Laws
 pub mod HeldBlocks
 pub mod LooseEvents
 pub mod Stands
+pub mod Calls
 pub mod Verdicts
 pub mod Refusals

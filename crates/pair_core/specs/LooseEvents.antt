@@ -1,18 +1,15 @@
 -- Unguaranteed events from end to end: those that an end delivers are some of those that the other end posted, in the
 -- order of posting and each once at most. They are named by their payloads, since they have no number.
-use Rattle.std.specs.Prelude.{ℕ, ◌≡◌, ◌⊎◌, List, [], ◌∷◌, ◌++◌, refl}
+use Rattle.std.specs.Prelude.{ℕ, ◌≡◌, List, [], ◌∷◌, ◌++◌, refl}
+use Rattle.tn_types.specs.Subsequence.{IsSubsequenceOf}
 use Rattle.tn_types.specs.declared.choices.Class.{Class}
 use Rattle.tn_types.specs.declared.choices.Class.TheVariants.{Guaranteed, Loose}
 use Rattle.stream_manager.specs.Limits.{Terms}
-use Rattle.stream_manager.specs.End.{EndEvent, Posted, Packed, Pinged, Took, delivered_at}
+use Rattle.stream_manager.specs.End.{EndEvent, Posted, Packed, Pinged, Took}
 use Rattle.stream_manager.specs.Server.{server_end}
 use Rattle.stream_manager.specs.Client.{client_end}
-use Rattle.pair_core.specs.History.{Step, history}
-
--- what is left of a list where some of its items are left out
-abbrev pub IsSubsequenceOf : {A : Type 0} → List A → List A → Type 0
-IsSubsequenceOf xs [] = xs ≡ []
-IsSubsequenceOf {A} xs (y ∷ ys) = IsSubsequenceOf xs ys ⊎ ((rest : List A) × (xs ≡ y ∷ rest) × IsSubsequenceOf rest ys)
+use Rattle.pair_core.specs.History.{PairStep, history}
+use Rattle.pair_core.specs.Answers.{client_delivered, server_delivered}
 
 abbrev pub of_loose : Class → List ℕ → List (List ℕ) → List (List ℕ)
 of_loose Guaranteed v vs = vs
@@ -33,12 +30,12 @@ loose_posted_at (Pinged p ∷ log) = loose_posted_at log
 loose_posted_at (Took p ∷ log) = loose_posted_at log
 
 -- the unguaranteed events that the client delivered are some of those that the server posted, in order
-abbrev pub LooseDown : Terms → List Step → Type 0
-LooseDown t steps = IsSubsequenceOf (loose_of (delivered_at (client_end (history t steps).client))) (loose_posted_at (server_end (history t steps).server))
+abbrev pub LooseDown : Terms → List PairStep → Type 0
+LooseDown t steps = IsSubsequenceOf (loose_of (client_delivered t steps)) (loose_posted_at (server_end (history t steps).server))
 
 -- and the other way
-abbrev pub LooseUp : Terms → List Step → Type 0
-LooseUp t steps = IsSubsequenceOf (loose_of (delivered_at (server_end (history t steps).server))) (loose_posted_at (client_end (history t steps).client))
+abbrev pub LooseUp : Terms → List PairStep → Type 0
+LooseUp t steps = IsSubsequenceOf (loose_of (server_delivered t steps)) (loose_posted_at (client_end (history t steps).client))
 
 -- events 7, 8 and 9 were posted, a guaranteed one among them
 abbrev three_posted : List EndEvent

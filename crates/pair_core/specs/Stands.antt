@@ -6,7 +6,7 @@ use Rattle.stream_manager.specs.Limits.{Terms}
 use Rattle.stream_manager.specs.Stands.{ConnState, ConnStandsFor, terms_of, ClientState, ClientStandsFor}
 use Rattle.stream_manager.specs.Server.{ServerEvent, server_datagrams, ghost_log}
 use Rattle.stream_manager.specs.Client.{client_datagrams}
-use Rattle.pair_core.specs.History.{Step, history}
+use Rattle.pair_core.specs.History.{PairStep, history}
 
 pub record PairState : Type 0 where
   pub conn : ConnState
@@ -24,11 +24,11 @@ pub record IsWithoutGhosts (c : ConnState) : Type 0 where
   pub stands : ConnStandsFor c log
   pub nothing : ShowsNothing log
 
-pub record StandsFor (p : PairState) (t : Terms) (steps : List Step) : Type 0 where
+pub record StandsFor (p : PairState) (t : Terms) (steps : List PairStep) : Type 0 where
   pub terms : terms_of p.conn ≡ t
   pub client_config : p.client.common.config ≡ t.config
   pub client_kinds : p.client.copies.kinds ≡ t.kinds
   pub conn : ConnStandsFor p.conn (history t steps).server
   pub client : ClientStandsFor p.client (history t steps).client
-  pub down : p.down ≡ server_datagrams t.kinds (history t steps).server
-  pub up : p.up ≡ client_datagrams (history t steps).client
+  pub down : p.down ≡ server_datagrams t (history t steps).server
+  pub up : p.up ≡ client_datagrams t.config (history t steps).client

@@ -6,7 +6,7 @@ use Rattle.stream_manager.specs.Limits.{Terms}
 use Rattle.stream_manager.specs.End.{EndEvent, window_log, fates}
 use Rattle.stream_manager.specs.Server.{server_end}
 use Rattle.stream_manager.specs.Client.{client_end}
-use Rattle.pair_core.specs.History.{Step, history}
+use Rattle.pair_core.specs.History.{PairStep, history}
 
 -- each packet of the sender that is Lost was not processed at the receiver
 abbrev pub LostIsTrue : List EndEvent → List EndEvent → Type 0
@@ -20,17 +20,17 @@ abbrev pub VerdictsAreTrue : List EndEvent → List EndEvent → Type 0
 VerdictsAreTrue sender receiver = ReceivedIsTrue sender receiver × LostIsTrue sender receiver
 
 -- of the server's packets, after the steps
-abbrev pub VerdictsAreTrueDown : Terms → List Step → Type 0
+abbrev pub VerdictsAreTrueDown : Terms → List PairStep → Type 0
 VerdictsAreTrueDown t steps = VerdictsAreTrue (server_end (history t steps).server) (client_end (history t steps).client)
 
 -- and of the client's
-abbrev pub VerdictsAreTrueUp : Terms → List Step → Type 0
+abbrev pub VerdictsAreTrueUp : Terms → List PairStep → Type 0
 VerdictsAreTrueUp t steps = VerdictsAreTrue (client_end (history t steps).client) (server_end (history t steps).server)
 
 -- what the server lost after the steps, the client has not processed after any later ones either
-abbrev pub LostForGoodDown : Terms → List Step → List Step → Type 0
+abbrev pub LostForGoodDown : Terms → List PairStep → List PairStep → Type 0
 LostForGoodDown t later steps = LostIsTrue (server_end (history t steps).server) (client_end (history t (later ++ steps)).client)
 
 -- and the other way
-abbrev pub LostForGoodUp : Terms → List Step → List Step → Type 0
+abbrev pub LostForGoodUp : Terms → List PairStep → List PairStep → Type 0
 LostForGoodUp t later steps = LostIsTrue (client_end (history t steps).client) (server_end (history t (later ++ steps)).server)

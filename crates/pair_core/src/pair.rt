@@ -2,7 +2,6 @@
 ghost use Rattle.std.specs.Prelude.{◌≡◌, ℕ, ◌<◌, ◌≤◌, List, [], ◌∷◌, ◌++◌, IfOk, IfSome, OnOk, OnErr, length, slice_get, drop};
 ghost use Rattle.std.specs.Option.{option_copied};
 ghost use Rattle.tn_types.specs.declared.choices.Class.TheVariants.{Guaranteed, Loose};
-ghost use Rattle.stream_manager.specs.Limits.{Terms};
 
 use crate::datagrams::Datagrams;
 use crate::fault::{DownFault, Made, UpFault};
@@ -43,9 +42,11 @@ impl Pair {
     ghost use Rattle.stream_manager.specs.End.{dropped_of};
     ghost use Rattle.stream_manager.specs.Server.{posted_at_server, server_end};
     ghost use Rattle.stream_manager.specs.Client.{posted_at_client, sampled_answer, client_end};
-    ghost use Rattle.pair_core.specs.History.{Step, Post, ClientPost, Sample, Pack, ClientPack, Down, Up, history};
-    ghost use Rattle.pair_core.specs.Answers.{pack_answer, client_pack_answer, down_answer, up_answer, client_delivered, server_delivered, client_run, accepted_in};
+    ghost use Rattle.stream_manager.specs.EndCalls.{popped};
+    ghost use Rattle.pair_core.specs.History.{Post, ClientPost, Sample, Pack, ClientPack, Down, Up, history};
+    ghost use Rattle.pair_core.specs.Answers.{pack_answer, client_pack_answer, down_answer, up_answer, client_run};
     ghost use Rattle.pair_core.specs.Stands.{StandsFor};
+    ghost use Rattle.pair_core.specs.Calls.{Does, Answers, Stays, HandsDown, HandsUp, Accepts, KeepsAtServer, KeepsAtClient};
 
     /// A new connection, in a match of these kinds and blocks, at most 64.
     pub fn new(
@@ -59,6 +60,7 @@ impl Pair {
         ensures stands { IfOk result (λ p. StandsFor p (record { config = config; kinds = kinds.now; blocks = blocks.now }) []) }
         ensures conn_empty { IfOk result (λ p. p.conn.common.receiver.ready ≡ []) }
         ensures client_empty { IfOk result (λ p. p.client.common.receiver.ready ≡ []) }
+        ensures none_taken { IfOk result (λ p. p.conn.taken ≡ []) }
     {
         let conn = Conn::new(alloc, config, kinds, blocks)?;
         let client = Client::new(alloc, config, kinds)?;
@@ -86,50 +88,45 @@ impl Pair {
 
     /// The server posts a guaranteed event, and gives its number.
     pub fn post(&mut self, payload: Payload) -> Result<u32, PostFault>
-        ensures answer { (t : Terms) (steps : List Step) → StandsFor self.old t steps → result ≡ posted_at_server t.config (history t steps).server }
-        ensures stands { (t : Terms) (steps : List Step) → StandsFor self.old t steps → StandsFor self.new t (Post Guaranteed payload ∷ steps) }
-        ensures conn_ready { self.new.conn.common.receiver ≡ self.old.conn.common.receiver }
-        ensures client_ready { self.new.client ≡ self.old.client }
+        ensures answer { Answers self.old (λ t steps. posted_at_server t.config (history t steps).server) result }
+        ensures stands { Does self.old (Post Guaranteed payload) self.new }
+        ensures keeps { KeepsAtServer self.old self.new }
     {
         self.conn.post(payload)
     }
 
     /// The server posts an unguaranteed event, and gives back the oldest waiting one where too many wait.
     pub fn post_loose(&mut self, payload: Payload) -> Option<Payload>
-        ensures dropped { (t : Terms) (steps : List Step) → StandsFor self.old t steps → result ≡ dropped_of (server_end (history t steps).server) }
-        ensures stands { (t : Terms) (steps : List Step) → StandsFor self.old t steps → StandsFor self.new t (Post Loose payload ∷ steps) }
-        ensures conn_ready { self.new.conn.common.receiver ≡ self.old.conn.common.receiver }
-        ensures client_ready { self.new.client ≡ self.old.client }
+        ensures dropped { Answers self.old (λ t steps. dropped_of (server_end (history t steps).server)) result }
+        ensures stands { Does self.old (Post Loose payload) self.new }
+        ensures keeps { KeepsAtServer self.old self.new }
     {
         self.conn.post_loose(payload)
     }
 
     /// The client posts a guaranteed event, and gives its number.
     pub fn client_post(&mut self, payload: Payload) -> Result<u32, PostFault>
-        ensures answer { (t : Terms) (steps : List Step) → StandsFor self.old t steps → result ≡ posted_at_client t.config (history t steps).client }
-        ensures stands { (t : Terms) (steps : List Step) → StandsFor self.old t steps → StandsFor self.new t (ClientPost Guaranteed payload ∷ steps) }
-        ensures client_ready { self.new.client.common.receiver ≡ self.old.client.common.receiver }
-        ensures conn_ready { self.new.conn ≡ self.old.conn }
+        ensures answer { Answers self.old (λ t steps. posted_at_client t.config (history t steps).client) result }
+        ensures stands { Does self.old (ClientPost Guaranteed payload) self.new }
+        ensures keeps { KeepsAtClient self.old self.new }
     {
         self.client.post(payload)
     }
 
     /// The client posts an unguaranteed event, and gives back the oldest waiting one where too many wait.
     pub fn client_post_loose(&mut self, payload: Payload) -> Option<Payload>
-        ensures dropped { (t : Terms) (steps : List Step) → StandsFor self.old t steps → result ≡ dropped_of (client_end (history t steps).client) }
-        ensures stands { (t : Terms) (steps : List Step) → StandsFor self.old t steps → StandsFor self.new t (ClientPost Loose payload ∷ steps) }
-        ensures client_ready { self.new.client.common.receiver ≡ self.old.client.common.receiver }
-        ensures conn_ready { self.new.conn ≡ self.old.conn }
+        ensures dropped { Answers self.old (λ t steps. dropped_of (client_end (history t steps).client)) result }
+        ensures stands { Does self.old (ClientPost Loose payload) self.new }
+        ensures keeps { KeepsAtClient self.old self.new }
     {
         self.client.post_loose(payload)
     }
 
     /// The client takes up a move of its player, and gives its number.
     pub fn sample(&mut self, m: Move) -> Result<u32, MoveFault>
-        ensures answer { (t : Terms) (steps : List Step) → StandsFor self.old t steps → result ≡ sampled_answer t.config (history t steps).client }
-        ensures stands { (t : Terms) (steps : List Step) → StandsFor self.old t steps → StandsFor self.new t (Sample m ∷ steps) }
-        ensures client_ready { self.new.client.common.receiver ≡ self.old.client.common.receiver }
-        ensures conn_ready { self.new.conn ≡ self.old.conn }
+        ensures answer { Answers self.old (λ t steps. sampled_answer t.config (history t steps).client) result }
+        ensures stands { Does self.old (Sample m) self.new }
+        ensures keeps { KeepsAtClient self.old self.new }
     {
         self.client.sample(m)
     }
@@ -137,10 +134,9 @@ impl Pair {
     /// The server makes its next datagram.
     pub fn pack(&mut self, alloc: Global) -> Result<Made, NoMemory>
         requires { length self.old.down < MAX_DATAGRAMS }
-        ensures answer { IfOk result (λ made. (t : Terms) (steps : List Step) → StandsFor self.old t steps → made ≡ pack_answer t steps) }
-        ensures stands { OnOk result ((t : Terms) (steps : List Step) → StandsFor self.old t steps → StandsFor self.new t (Pack ∷ steps)) }
-        ensures conn_ready { OnOk result (self.new.conn.common.receiver ≡ self.old.conn.common.receiver) }
-        ensures client_ready { self.new.client ≡ self.old.client }
+        ensures answer { IfOk result (Answers self.old pack_answer) }
+        ensures stands { OnOk result (Does self.old Pack self.new) }
+        ensures keeps { KeepsAtServer self.old self.new }
     {
         let place = self.down.len();
         let life = self.conn.config().life;
@@ -164,10 +160,9 @@ impl Pair {
     /// The client makes its next datagram.
     pub fn client_pack(&mut self, alloc: Global) -> Result<Made, NoMemory>
         requires { length self.old.up < MAX_DATAGRAMS }
-        ensures answer { IfOk result (λ made. (t : Terms) (steps : List Step) → StandsFor self.old t steps → made ≡ client_pack_answer t steps) }
-        ensures stands { OnOk result ((t : Terms) (steps : List Step) → StandsFor self.old t steps → StandsFor self.new t (ClientPack ∷ steps)) }
-        ensures client_ready { OnOk result (self.new.client.common.receiver ≡ self.old.client.common.receiver) }
-        ensures conn_ready { self.new.conn ≡ self.old.conn }
+        ensures answer { IfOk result (Answers self.old client_pack_answer) }
+        ensures stands { OnOk result (Does self.old ClientPack self.new) }
+        ensures keeps { KeepsAtClient self.old self.new }
     {
         let place = self.up.len();
         // no datagram is longer than its size, nor that than 1,200
@@ -188,10 +183,10 @@ impl Pair {
     /// The client gets the server's datagram of place `k`, counted from 0. No event may wait at the client.
     pub fn down(&mut self, k: u32) -> Result<(), DownFault>
         requires { self.old.client.common.receiver.ready ≡ [] }
-        ensures answer { (t : Terms) (steps : List Step) → StandsFor self.old t steps → result ≡ down_answer t steps k }
-        ensures stands { (t : Terms) (steps : List Step) → StandsFor self.old t steps → StandsFor self.new t (Down k ∷ steps) }
-        ensures handed { (t : Terms) (steps : List Step) → StandsFor self.old t steps → client_delivered t (Down k ∷ steps) ≡ client_delivered t steps ++ self.new.client.common.receiver.ready }
-        ensures conn_ready { self.new.conn ≡ self.old.conn }
+        ensures answer { Answers self.old (λ t steps. down_answer t steps k) result }
+        ensures stands { Does self.old (Down k) self.new }
+        ensures handed { HandsDown self.old (Down k) self.new }
+        ensures server { self.new.conn ≡ self.old.conn }
         ensures unchanged { OnErr result (self.new ≡ self.old) }
     {
         let Some(datagram) = self.down.get(k) else {
@@ -209,11 +204,11 @@ impl Pair {
     /// event may wait at the server.
     pub fn up(&mut self, k: u32, room: u32) -> Result<Taken, UpFault>
         requires { self.old.conn.common.receiver.ready ≡ [] }
-        ensures answer { (t : Terms) (steps : List Step) → StandsFor self.old t steps → result ≡ up_answer t steps k room }
-        ensures stands { (t : Terms) (steps : List Step) → StandsFor self.old t steps → StandsFor self.new t (Up k room ∷ steps) }
-        ensures handed { (t : Terms) (steps : List Step) → StandsFor self.old t steps → server_delivered t (Up k room ∷ steps) ≡ server_delivered t steps ++ self.new.conn.common.receiver.ready }
-        ensures moves { OnOk result ((t : Terms) (steps : List Step) → StandsFor self.old t steps → accepted_in t (Up k room ∷ steps) ≡ accepted_in t steps ++ self.new.conn.taken) }
-        ensures client_ready { self.new.client ≡ self.old.client }
+        ensures answer { Answers self.old (λ t steps. up_answer t steps k room) result }
+        ensures stands { Does self.old (Up k room) self.new }
+        ensures handed { HandsUp self.old (Up k room) self.new }
+        ensures moves { OnOk result (Accepts self.old (Up k room) self.new) }
+        ensures client { self.new.client ≡ self.old.client }
         ensures unchanged { OnErr result (self.new ≡ self.old) }
     {
         let Some(datagram) = self.up.get(k) else {
@@ -230,9 +225,8 @@ impl Pair {
     /// Hands out the oldest event that waits at the client; `None` exactly where none does.
     pub fn pop_client_event(&mut self) -> Option<(Class, Payload)>
         ensures first { result ≡ slice_get self.old.client.common.receiver.ready 0 }
-        ensures rest { self.new.client.common.receiver.ready ≡ drop 1 self.old.client.common.receiver.ready }
-        ensures stands { (t : Terms) (steps : List Step) → StandsFor self.old t steps → StandsFor self.new t steps }
-        ensures conn_ready { self.new.conn ≡ self.old.conn }
+        ensures rest { self.new ≡ record self.old { client = record self.old.client { common = popped self.old.client.common } } }
+        ensures stands { Stays self.old self.new }
     {
         self.client.pop_event()
     }
@@ -240,9 +234,8 @@ impl Pair {
     /// Hands out the oldest event that waits at the server; `None` exactly where none does.
     pub fn pop_server_event(&mut self) -> Option<(Class, Payload)>
         ensures first { result ≡ slice_get self.old.conn.common.receiver.ready 0 }
-        ensures rest { self.new.conn.common.receiver.ready ≡ drop 1 self.old.conn.common.receiver.ready }
-        ensures stands { (t : Terms) (steps : List Step) → StandsFor self.old t steps → StandsFor self.new t steps }
-        ensures client_ready { self.new.client ≡ self.old.client }
+        ensures rest { self.new ≡ record self.old { conn = record self.old.conn { common = popped self.old.conn.common } } }
+        ensures stands { Stays self.old self.new }
     {
         self.conn.pop_event()
     }
@@ -287,7 +280,7 @@ impl Pair {
 
     /// How many guaranteed events the client delivered.
     pub fn client_delivered(&self) -> u32
-        ensures { (t : Terms) (steps : List Step) → StandsFor self.now t steps → result ≡ client_run t steps }
+        ensures { Answers self.now client_run result }
     {
         self.client.delivered()
     }

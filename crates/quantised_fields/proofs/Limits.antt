@@ -1,13 +1,15 @@
 -- A list of kinds without a fault keeps each limit.
 use Rattle.std.proofs.Common.{◌≡◌, ℕ, zero, suc, ◌<◌, ◌≤◌, List, [], ◌∷◌, length, Option, Some, None, arith, refl, false, ltb, cond}
 use Rattle.std.specs.Prelude.{IsTrue, All, position}
+use Rattle.std.specs.Option.{option_or}
+use Rattle.tn_types.specs.declared.limits.TheConstants.{MAX_FIELDS, MAX_KIND_BITS}
 use Rattle.std.proofs.lemmas.Bool.Decides.{nat_tests}
 use Rattle.quantised_fields.specs.declared.field.FieldSpec.{FieldSpec}
 use Rattle.quantised_fields.specs.declared.kind.Kind.{Kind}
 use Rattle.quantised_fields.specs.declared.table.KindFault.{KindFault}
 use Rattle.quantised_fields.specs.declared.table.KindFault.TheVariants.{TooWide}
 use Rattle.quantised_fields.specs.Levels.{is_sound}
-use Rattle.quantised_fields.specs.Kinds.{is_unsound, width_of, kind_fault, first_fault, or_else, bad_range, table_fault, IsWithinLimits}
+use Rattle.quantised_fields.specs.Kinds.{is_unsound, width_of, kind_fault, fault_from, bad_range, table_fault, IsWithinLimits}
 
 sound_of : (f : FieldSpec) → is_unsound f ≡ false → IsTrue (is_sound f)
 sound_of f h = grind arith
@@ -26,14 +28,14 @@ sound_from (f ∷ fields) h (suc k) d lt = sound_from fields (sound_tail f field
 some_fields : (k : ℕ) (kind : Kind) → kind_fault k kind ≡ None → 0 < length kind.fields
 some_fields k kind h = grind (arith, nat_tests)
 
-few_fields : (k : ℕ) (kind : Kind) → kind_fault k kind ≡ None → length kind.fields ≤ 16
+few_fields : (k : ℕ) (kind : Kind) → kind_fault k kind ≡ None → length kind.fields ≤ MAX_FIELDS
 few_fields k kind h = grind (arith, nat_tests)
 
-first_none : (a b : Option KindFault) → or_else a b ≡ None → a ≡ None
+first_none : (a b : Option KindFault) → option_or a b ≡ None → a ≡ None
 first_none None b h = refl
 first_none (Some f) b h = absurd (cc)
 
-next_none : (a b : Option KindFault) → or_else a b ≡ None → b ≡ None
+next_none : (a b : Option KindFault) → option_or a b ≡ None → b ≡ None
 next_none None b h = h
 next_none (Some f) b h = absurd (cc)
 
@@ -42,27 +44,27 @@ bad_none k None h = refl
 bad_none k (Some f) h = absurd (cc)
 
 -- with some fields and few, what is left is their ranges and then their widths
-later_faults : (k : ℕ) (kind : Kind) → kind_fault k kind ≡ None → or_else (bad_range k (position is_unsound kind.fields)) (cond (ltb 192 (width_of kind.fields)) (Some (TooWide k)) None) ≡ None
+later_faults : (k : ℕ) (kind : Kind) → kind_fault k kind ≡ None → option_or (bad_range k (position is_unsound kind.fields)) (cond (ltb MAX_KIND_BITS (width_of kind.fields)) (Some (TooWide k)) None) ≡ None
 later_faults k kind h = grind (arith, nat_tests)
 
 no_unsound : (k : ℕ) (kind : Kind) → kind_fault k kind ≡ None → position is_unsound kind.fields ≡ None
 no_unsound k kind h = bad_none k _ (first_none _ _ (later_faults k kind h))
 
-not_wide : (k width : ℕ) → cond (ltb 192 width) (Some (TooWide k)) None ≡ None → width ≤ 192
+not_wide : (k width : ℕ) → cond (ltb MAX_KIND_BITS width) (Some (TooWide k)) None ≡ None → width ≤ MAX_KIND_BITS
 not_wide k width h = grind (arith, nat_tests)
 
-narrow_fields : (k : ℕ) (kind : Kind) → kind_fault k kind ≡ None → width_of kind.fields ≤ 192
+narrow_fields : (k : ℕ) (kind : Kind) → kind_fault k kind ≡ None → width_of kind.fields ≤ MAX_KIND_BITS
 narrow_fields k kind h = not_wide k (width_of kind.fields) (next_none _ _ (later_faults k kind h))
 
 of_kind : (k : ℕ) (kind : Kind) → kind_fault k kind ≡ None → IsWithinLimits kind
 of_kind k kind h = record { some = some_fields k kind h; few = few_fields k kind h; sound = sound_from kind.fields (no_unsound k kind h); narrow = narrow_fields k kind h }
 
-of_kinds : (k : ℕ) (kinds : List Kind) → first_fault k kinds ≡ None → All IsWithinLimits kinds
+of_kinds : (k : ℕ) (kinds : List Kind) → fault_from k kinds ≡ None → All IsWithinLimits kinds
 of_kinds k [] h i d lt = absurd (omega arith)
 of_kinds k (x ∷ kinds) h zero d lt = of_kind k x (first_none _ _ h)
 of_kinds k (x ∷ kinds) h (suc i) d lt = of_kinds (suc k) kinds (next_none _ _ h) i d (omega arith)
 
-no_first_fault : (kinds : List Kind) → table_fault kinds ≡ None → first_fault 0 kinds ≡ None
+no_first_fault : (kinds : List Kind) → table_fault kinds ≡ None → fault_from 0 kinds ≡ None
 no_first_fault kinds h = grind (arith, nat_tests)
 
 -- each kind of a table keeps its limits

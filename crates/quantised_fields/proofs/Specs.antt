@@ -6,6 +6,7 @@ use Rattle.std.proofs.lemmas.Int.{ints}
 use Rattle.std.specs.Int.RustNames.{unsigned_abs}
 use Rattle.std.proofs.Math.Nat.{pow-le-pow_right}
 use Rattle.std.proofs.lemmas.Bool.{cases_lt}
+use Rattle.tn_types.specs.declared.limits.TheConstants.{MAX_FIELD_BITS}
 use Rattle.quantised_fields.specs.declared.field.FieldSpec.{FieldSpec}
 use Rattle.quantised_fields.specs.Levels.{is_sound, range_of, greatest_of, level_of, shown_of, shown_in}
 use Rattle.quantised_fields.proofs.Nearest.{near, exact, quotient, level_again_few}
@@ -15,7 +16,7 @@ pub record Sound (s : FieldSpec) : Type 0 where
   pub above : 0 < range_of s
   pub below : range_of s < 2 ^ 32
   pub some : 0 < s.bits
-  pub few : s.bits ≤ 24
+  pub few : s.bits ≤ MAX_FIELD_BITS
 
 pub sound : (s : FieldSpec) → IsTrue (is_sound s) → Sound s
 sound s h = record { above = grind arith; below = grind arith; some = grind arith; few = grind arith }

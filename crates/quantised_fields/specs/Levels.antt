@@ -3,6 +3,7 @@
 -- wide. A value has the nearest level, and a level shows the nearest value; a tie goes up.
 use Rattle.std.specs.Prelude.{ℕ, ℤ, pos, negsuc, ◌+◌, ◌-◌, ◌*◌, ◌/◌, ◌^◌, ◌+ℤ◌, Bool, ◌&&◌, nat_lt, nat_le, ◌≡◌, refl, [], ◌∷◌, map}
 use Rattle.std.specs.Int.{int_gap}
+use Rattle.tn_types.specs.declared.limits.TheConstants.{MAX_FIELD_BITS, MAX_WORD_BITS}
 use Rattle.quantised_fields.specs.declared.field.FieldSpec.{FieldSpec}
 
 abbrev pub range_of : FieldSpec → ℕ
@@ -13,7 +14,7 @@ greatest_of s = 2 ^ s.bits - 1
 
 -- the range has 2 to 2 ^ 32 values, and the bits are 1 to 24
 abbrev pub is_sound : FieldSpec → Bool
-is_sound s = nat_lt 0 (range_of s) && nat_lt (range_of s) (2 ^ 32) && nat_lt 0 s.bits && nat_le s.bits 24
+is_sound s = nat_lt 0 (range_of s) && nat_lt (range_of s) (2 ^ MAX_WORD_BITS) && nat_lt 0 s.bits && nat_le s.bits MAX_FIELD_BITS
 
 -- the level at this distance above lo
 abbrev pub level_in : ℕ → ℕ → ℕ → ℕ

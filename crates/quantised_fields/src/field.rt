@@ -1,19 +1,30 @@
 //! What a field holds, and the list of fields of a kind.
 
-ghost use Rattle.std.specs.Prelude.{◌≡◌, ◌<◌, ◌≤◌, ◌++◌, ◌∷◌, [], length, IsTrue, ◌↔◌, ◌≤ℤ◌};
+ghost use Rattle.std.specs.Prelude.{◌≡◌, ◌<◌, ◌≤◌, ◌++◌, ◌∷◌, [], length, IsTrue, ◌↔◌, ◌≤ℤ◌, pos};
 
 use arrayvec::ArrayVec;
 use std::marker::Model;
-
-/// The most bits in which a field travels.
-pub const MOST_BITS: u32 = 24;
+use tn_types::{MAX_FIELD_BITS, MAX_LISTED_FIELDS, MAX_WORD_BITS};
 
 /// The values that a field may have, `lo` to `hi`, and the number of bits in which one travels.
-#[derive(Clone, Copy, Debug, Default, PartialEq, Eq)]
+#[derive(Clone, Copy, Debug, PartialEq, Eq)]
 pub struct FieldSpec {
     pub lo: i64,
     pub hi: i64,
     pub bits: u32,
+}
+
+impl Default for FieldSpec {
+    /// A field that is not sound: it has the value 0 alone, and no bits.
+    fn default() -> Self
+        ensures { result ≡ record { lo = pos 0; hi = pos 0; bits = 0 } }
+    {
+        FieldSpec {
+            lo: 0,
+            hi: 0,
+            bits: 0,
+        }
+    }
 }
 
 impl FieldSpec {
@@ -25,7 +36,10 @@ impl FieldSpec {
         ensures { result ≡ is_sound self.now }
     {
         let range = self.hi.abs_diff(self.lo);
-        self.lo < self.hi && range < 1 << 32 && 0 < self.bits && self.bits <= MOST_BITS
+        self.lo < self.hi
+            && range < 1 << MAX_WORD_BITS
+            && 0 < self.bits
+            && self.bits <= MAX_FIELD_BITS
     }
 
     /// Whether the field may have this value.
@@ -40,24 +54,22 @@ impl FieldSpec {
 /// be told.
 #[derive(Drop)]
 pub struct FieldList {
-    fields: ArrayVec<FieldSpec, 32>,
+    fields: ArrayVec<FieldSpec, MAX_LISTED_FIELDS>,
 }
 
 impl Model for FieldList {
     ghost use Rattle.std.specs.Prelude.{List, ◌≤◌, length};
     ghost use Rattle.quantised_fields.specs.declared.field.FieldSpec.{FieldSpec};
+    ghost use Rattle.tn_types.specs.declared.limits.TheConstants.{MAX_LISTED_FIELDS};
 
     ghost Value = { List FieldSpec };
 
     ghost view = { λ l. l.fields.items };
 
-    ghost invariant = { λ l. length l.fields.items ≤ 32 };
+    ghost invariant = { λ l. length l.fields.items ≤ MAX_LISTED_FIELDS };
 }
 
 impl FieldList {
-    /// The most fields that a list holds.
-    pub const CAPACITY: usize = 32;
-
     /// No fields.
     pub fn new() -> Self
         ensures { result ≡ [] }
@@ -69,7 +81,7 @@ impl FieldList {
 
     /// The list of these fields.
     pub fn from_slice(fields: &[FieldSpec]) -> Self
-        requires { length fields.now ≤ Self.CAPACITY }
+        requires { length fields.now ≤ MAX_LISTED_FIELDS }
         ensures { result ≡ fields.now }
     {
         let mut list = ArrayVec::new();
@@ -79,7 +91,7 @@ impl FieldList {
 
     /// Adds a field at the end.
     pub fn push(&mut self, field: FieldSpec)
-        requires { length self.old < Self.CAPACITY }
+        requires { length self.old < MAX_LISTED_FIELDS }
         ensures { self.new ≡ self.old ++ field ∷ [] }
     {
         self.fields.push(field);
@@ -87,7 +99,7 @@ impl FieldList {
 
     /// Whether no further field has room.
     pub fn is_full(&self) -> bool
-        ensures { IsTrue result ↔ (Self.CAPACITY ≤ length self.now) }
+        ensures { IsTrue result ↔ (MAX_LISTED_FIELDS ≤ length self.now) }
     {
         self.fields.is_full()
     }
@@ -95,7 +107,7 @@ impl FieldList {
     /// The fields, in order.
     pub fn as_slice(&self) -> &[FieldSpec]
         ensures value { result.now ≡ self.now }
-        ensures fits { length result.now ≤ Self.CAPACITY }
+        ensures fits { length result.now ≤ MAX_LISTED_FIELDS }
     {
         self.fields.as_slice()
     }
@@ -109,7 +121,10 @@ impl FieldList {
 }
 
 impl Default for FieldList {
-    fn default() -> Self {
+    /// No fields.
+    fn default() -> Self
+        ensures { result ≡ [] }
+    {
         FieldList::new()
     }
 }

@@ -1,24 +1,32 @@
 //! One kind of object, and the first fault that makes it unfit for a table.
 
-ghost use Rattle.std.specs.Prelude.{◌≡◌, ◌<◌, ◌≤◌, length, position, nat_lt};
+ghost use Rattle.std.specs.Prelude.{◌≡◌, ◌<◌, ◌≤◌, length, position, nat_lt, [], false};
 ghost use Rattle.quantised_fields.specs.Kinds.{kind_fault, is_unsound, width_of};
 
 use crate::field::{FieldList, FieldSpec};
 use crate::table::KindFault;
-
-/// The most fields of a kind in a table.
-pub const MOST_FIELDS: usize = 16;
-
-/// The most bits that the fields of a kind take together.
-pub const MOST_WIDTH: u64 = 192;
+use tn_types::{MAX_FIELDS, MAX_KIND_BITS, MAX_KINDS};
 
 /// What objects of one kind have: their fields, how much they weigh in a packet's order, and whether each
 /// client always sees them.
-#[derive(Drop, Default)]
+#[derive(Drop)]
 pub struct Kind {
     pub fields: FieldList,
     pub weight: u8,
     pub always: bool,
+}
+
+impl Default for Kind {
+    /// A kind of no fields, which no table takes.
+    fn default() -> Self
+        ensures { result ≡ record { fields = []; weight = 0; always = false } }
+    {
+        Kind {
+            fields: FieldList::new(),
+            weight: 0,
+            always: false,
+        }
+    }
 }
 
 impl Kind {
@@ -36,11 +44,11 @@ impl Kind {
 
 // The first fault of kind `number`, if it has one.
 pub(crate) fn fault_of(number: u8, kind: &Kind) -> Option<KindFault>
-    requires { number < 16 }
+    requires { number < MAX_KINDS }
     ensures { result ≡ kind_fault number kind.now }
 {
     let fields = kind.fields.as_slice();
-    if fields.len() > MOST_FIELDS {
+    if fields.len() > MAX_FIELDS {
         return Some(KindFault::TooMany { kind: number });
     }
     if fields.is_empty() {
@@ -67,12 +75,12 @@ fn unsound_field(fields: &[FieldSpec]) -> Option<usize>
 
 // Whether the fields are above the limit together.
 fn is_too_wide(fields: &[FieldSpec]) -> bool
-    requires { length fields.now ≤ MOST_FIELDS }
-    ensures { result ≡ nat_lt MOST_WIDTH (width_of fields.now) }
+    requires { length fields.now ≤ MAX_FIELDS }
+    ensures { result ≡ nat_lt MAX_KIND_BITS (width_of fields.now) }
 {
     let mut width = 0u64;
     for field in fields {
         width += u64::from(field.bits);
     }
-    width > MOST_WIDTH
+    width > MAX_KIND_BITS
 }

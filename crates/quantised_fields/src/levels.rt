@@ -9,6 +9,7 @@ ghost use Rattle.std.specs.Int.RustNames.{unsigned_abs};
 ghost use Rattle.quantised_fields.specs.Levels.{is_sound, range_of, greatest_of, level_of, shown_of, level_in, shown_in};
 
 use crate::field::FieldSpec;
+use tn_types::{MAX_FIELD_BITS, MAX_WORD_BITS};
 
 // How far x is above lo.
 fn gap(lo: i64, x: i64) -> u64
@@ -22,7 +23,7 @@ fn range(spec: &FieldSpec) -> u64
     requires { IsTrue (is_sound spec.now) }
     ensures value { result ≡ range_of spec.now }
     ensures above { 0 < result }
-    ensures below { result < 2 ^ 32 }
+    ensures below { result < 2 ^ MAX_WORD_BITS }
 {
     gap(spec.lo, spec.hi)
 }
@@ -39,7 +40,7 @@ fn greatest(spec: &FieldSpec) -> u64
     requires { IsTrue (is_sound spec.now) }
     ensures value { result ≡ greatest_of spec.now }
     ensures above { 0 < result }
-    ensures below { result < 2 ^ 24 }
+    ensures below { result < 2 ^ MAX_FIELD_BITS }
 {
     power(spec.bits) - 1
 }
@@ -48,8 +49,8 @@ fn greatest(spec: &FieldSpec) -> u64
 fn nearest_level(distance: u64, range: u64, greatest: u64) -> u32
     requires within { distance ≤ range }
     requires above { 0 < range }
-    requires range { range < 2 ^ 32 }
-    requires greatest { greatest < 2 ^ 24 }
+    requires range { range < 2 ^ MAX_WORD_BITS }
+    requires greatest { greatest < 2 ^ MAX_FIELD_BITS }
     ensures value { result ≡ level_in distance range greatest }
     ensures fits { result ≤ greatest }
 {
@@ -60,8 +61,8 @@ fn nearest_level(distance: u64, range: u64, greatest: u64) -> u32
 fn nearest_distance(level: u64, range: u64, greatest: u64) -> u64
     requires within { level ≤ greatest }
     requires above { 0 < greatest }
-    requires range { range < 2 ^ 32 }
-    requires greatest { greatest < 2 ^ 24 }
+    requires range { range < 2 ^ MAX_WORD_BITS }
+    requires greatest { greatest < 2 ^ MAX_FIELD_BITS }
     ensures value { result ≡ shown_in level range greatest }
     ensures fits { result ≤ range }
 {
@@ -90,7 +91,7 @@ pub fn level(spec: &FieldSpec, value: i64) -> u32
 fn raised(lo: i64, by: u64, hi: i64) -> i64
     requires order { lo ≤ℤ hi }
     requires within { by ≤ int_gap lo hi }
-    requires small { by < 2 ^ 32 }
+    requires small { by < 2 ^ MAX_WORD_BITS }
     ensures value { result ≡ lo +ℤ pos by }
     ensures least { lo ≤ℤ result }
     ensures greatest { result ≤ℤ hi }

@@ -7,9 +7,7 @@ ghost use Rattle.std.specs.Result.{result_err};
 use crate::kind::{Kind, fault_of};
 use arrayvec::ArrayVec;
 use std::marker::Model;
-
-/// The most kinds of a table.
-pub const MOST_KINDS: usize = 16;
+use tn_types::MAX_KINDS;
 
 /// Why a list of kinds is no table. Where several hold, the first in this order for the least kind is
 /// told; `BadRange` names the least field.
@@ -32,7 +30,7 @@ pub enum KindFault {
 /// The kinds of a match, by number: 1 to 16, each with 1 to 16 sound fields of at most 192 bits together.
 #[derive(Drop)]
 pub struct KindTable {
-    kinds: ArrayVec<Kind, 16>,
+    kinds: ArrayVec<Kind, MAX_KINDS>,
 }
 
 impl Model for KindTable {
@@ -55,7 +53,7 @@ impl KindTable {
         ensures fault { result_err result ≡ table_fault kinds.now }
         ensures table { IfOk result (λ t. t ≡ kinds.now) }
     {
-        if kinds.len() > MOST_KINDS {
+        if kinds.len() > MAX_KINDS {
             return Err(KindFault::TooManyKinds);
         }
         if kinds.is_empty() {

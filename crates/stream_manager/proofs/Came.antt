@@ -23,7 +23,7 @@ use Rattle.ghost_client.specs.State.{copy_in}
 use Rattle.stream_manager.specs.declared.fault.ClientFault.TheVariants as refused
 use Rattle.stream_manager.specs.Faults.{blocks_at_client}
 use Rattle.stream_manager.specs.Client.{blocks_check, held_word}
-use Rattle.stream_manager.specs.Calls.{held_bits, control_missing}
+use Rattle.stream_manager.specs.ClientCalls.{held_bits, control_missing}
 use Rattle.stream_manager.specs.GhostChecks.{fault_at, first_fault_at, control_fault}
 
 pub all_by_place : {A : Type 0} (P : A → Type 0) (xs : List A) → AllByRecursion P xs → All P xs

@@ -19,10 +19,11 @@ use Rattle.ghost_client.specs.Faults.{first_fault, or_else}
 use Rattle.move_manager.specs.Sending.{Sender, acked_answer}
 use Rattle.wire_format.specs.declared.server.ServerPacket.{ServerPacket}
 use Rattle.stream_manager.specs.declared.fault.ClientFault.{ClientFault}
-use Rattle.stream_manager.specs.Faults.{Checked, checked_packet, without_packet}
+use Rattle.tn_types.specs.Checks.{Checked}
+use Rattle.stream_manager.specs.Faults.{checked_packet, without_packet}
 use Rattle.stream_manager.proofs.Ends.{when_ok, when_err}
 use Rattle.stream_manager.specs.Client.{ClientEvent, blocks_came, ghosts_came, held_word, ghosts_refused, ghosts_check}
-use Rattle.stream_manager.specs.Calls.{held_bits, control_missing}
+use Rattle.stream_manager.specs.ClientCalls.{held_bits, control_missing}
 use Rattle.stream_manager.specs.GhostChecks.{first_fault_at, control_fault}
 use Rattle.stream_manager.specs.Stands.{ClientState, ClientStandsFor}
 use Rattle.stream_manager.proofs.Came.{all_by_place, weaker, takes-all, held-same, faults-same, control-same}

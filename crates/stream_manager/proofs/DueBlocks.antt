@@ -8,7 +8,7 @@ use Rattle.wire_format.specs.declared.blocks.BlockItem.{BlockItem}
 use Rattle.wire_format.specs.Blocks.{block_size, IsBlockInRange}
 use Rattle.datablocks.specs.Sending.{SenderEvent, Wrote, those_below}
 use Rattle.datablocks.specs.SenderState.{SenderState, IsDue, is_due_now, due_now}
-use Rattle.stream_manager.specs.Shares.{fitting}
+use Rattle.tn_types.specs.Fitting.{fitting}
 use Rattle.stream_manager.specs.Server.{block_item, wrote_blocks}
 use Rattle.stream_manager.specs.Blocks.{IsAnother, AreDue}
 

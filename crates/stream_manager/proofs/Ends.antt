@@ -15,13 +15,9 @@ use Rattle.wire_format.specs.declared.events.EventItem.{EventItem}
 use Rattle.event_manager.specs.Sending as sending
 use Rattle.notify_window.specs.Stands.{StandsFor as WindowStandsFor}
 use Rattle.tn_types.specs.declared.choices.Class.TheVariants.{Guaranteed}
-use Rattle.stream_manager.specs.End.{Seen, EndEvent, Posted, Packed, Took, window_log, sender_log, fates, data_head, came_of}
-use Rattle.stream_manager.specs.EndStands.{EndState, StandsFor}
+use Rattle.stream_manager.specs.End.{Seen, EndEvent, Posted, Packed, Took, window_log, sender_log, fates, first_seen, came_of}
+use Rattle.stream_manager.specs.EndStands.{EndState, StandsFor, StandsForSome}
 use Rattle.stream_manager.specs.Settling.{Judges}
-
--- some list, for which an end stands
-abbrev pub StandsForSome : EndState → Type 0
-StandsForSome e = (log : List EndEvent) × StandsFor e log
 
 -- a call that adds to the list or refuses
 pub after_answer : {T E : Type 0} (old new : EndState) (event : EndEvent) (result : Result T E) → OnOk result ((log : List EndEvent) → StandsFor old log → StandsFor new (event ∷ log)) → OnErr result (new ≡ old) → StandsForSome old → StandsForSome new
@@ -69,13 +65,10 @@ same_sender e s (Ok x) same = tt
 same_sender e s (Err x) same = ap (λ (t : SenderState). let state : EndState = record { config = e.config; window = e.window; sender = t; receiver = e.receiver } in state) same
 
 -- what a data packet with the first count of the due events leaves
-abbrev pub packed_seen : EndState → ℕ → List EndEvent → Seen
-packed_seen e count log = record { ping = false; head = data_head e.config.client log; events = take count (due_of (fates log) (sender_log log)) }
-
 pub packed_stands : (e : EndState) (w : WindowState) (s : SenderState) (seq count : ℕ) → w.life ≡ e.window.life → s.life ≡ e.sender.life → seq ≡ e.window.sent + 1
     → ((log : List WindowEvent) → WindowStandsFor e.window log → WindowStandsFor w (Sent ∷ log))
     → ((fate : ℕ → Fate) (log : List SenderEvent) → SenderStandsFor e.sender fate log → fate seq ≡ Unjudged → SenderStandsFor s fate (sending.Wrote seq (take count (due_of fate log)) ∷ log))
-    → (log : List EndEvent) → StandsFor e log → StandsFor (record { config = e.config; window = w; sender = s; receiver = e.receiver }) (Packed (packed_seen e count log) ∷ log)
+    → (log : List EndEvent) → StandsFor e log → StandsFor (record { config = e.config; window = w; sender = s; receiver = e.receiver }) (Packed (first_seen e.config count log) ∷ log)
 packed_stands e w s seq count window_life sender_life number sends writes log stands =
     let now = sends (window_log log) stands.window in
     let is_next : seq ≡ sent_of (window_log log) + 1 = omega (arith, stands.window.sent) in

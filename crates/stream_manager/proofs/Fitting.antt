@@ -7,7 +7,7 @@ use Rattle.std.proofs.lemmas.Bool.Decides.{nat_tests}
 use Rattle.notify_window.specs.Log.{Fate}
 use Rattle.wire_format.specs.Events.{IsEventInRange}
 use Rattle.event_manager.specs.Sending.{SenderEvent, posted_of, waiting_of, guaranteed_item, loose_item, items_that, is_due, due_guaranteed, due_of}
-use Rattle.stream_manager.specs.Shares.{fitting}
+use Rattle.tn_types.specs.Fitting.{fitting}
 
 -- what fits has at most so many bits
 pub fitting_few : {A : Type 0} (size : A → ℕ) (room : ℕ) (xs : List A) → sum_by size (fitting size room xs) ≤ room

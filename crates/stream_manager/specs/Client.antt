@@ -3,7 +3,6 @@
 use Rattle.std.specs.Prelude.{ℕ, ◌+◌, ◌-◌, ◌*◌, ◌==◌, nat_lt, List, [], ◌∷◌, ◌++◌, length, reverse, if◌then◌else◌, is_some, Option, Some, None, Result, Ok, Err}
 use Rattle.tn_types.specs.declared.choices.Class.{Class}
 use Rattle.tn_types.specs.declared.moves.Move.{Move}
-use Rattle.bit_stream.specs.Bits.{datagram}
 use Rattle.quantised_fields.specs.declared.kind.Kind.{Kind}
 use Rattle.wire_format.specs.declared.fault.BitsFault.{BitsFault}
 use Rattle.wire_format.specs.declared.header.Header.{Header}
@@ -15,8 +14,6 @@ use Rattle.wire_format.specs.declared.server.ServerBody.{ServerBody}
 use Rattle.wire_format.specs.declared.server.ServerPacket.{ServerPacket}
 use Rattle.wire_format.specs.declared.server.ServerPacket.TheVariants as down
 use Rattle.wire_format.specs.declared.widths.TheConstants.{CLIENT_FIXED_BITS, MOVE_BITS, MAX_MOVES}
-use Rattle.wire_format.specs.Client.{client}
-use Rattle.wire_format.specs.Server.{server_of}
 use Rattle.notify_window.specs.declared.SendState.{SendState}
 use Rattle.notify_window.specs.declared.SendState.TheVariants.{Held, Worn, Room}
 use Rattle.notify_window.specs.Bits.{from_bits}
@@ -34,8 +31,10 @@ use Rattle.ghost_client.specs.StandsFor.{taken}
 use Rattle.stream_manager.specs.declared.config.Config.{Config}
 use Rattle.stream_manager.specs.declared.fault.ClientFault.{ClientFault}
 use Rattle.stream_manager.specs.declared.fault.ClientFault.TheVariants as refused
-use Rattle.stream_manager.specs.Faults.{Checked, then_check, head_at_client, events_at_client, checked_packet}
+use Rattle.tn_types.specs.Checks.{Checked, then_check}
+use Rattle.stream_manager.specs.Faults.{head_at_client, events_at_client, checked_packet, without_packet}
 use Rattle.stream_manager.specs.GhostChecks.{ghosts_fault}
+use Rattle.stream_manager.specs.Wire.{read_down, bytes_up}
 use Rattle.stream_manager.specs.End.{Seen, EndEvent, window_log, sender_log, fates, data_head, ping_head, events_for, head_answer, events_answer}
 use Rattle.stream_manager.specs.End as common
 use Rattle.stream_manager.specs.Server.{seen_ping, seen_body, seen_client_body}
@@ -130,7 +129,8 @@ posted_at_client c log = post_answer_of c.life (fates (client_end log)) (sender_
 abbrev pub sampled_answer : Config → List ClientEvent → Result ℕ MoveFault
 sampled_answer c log =
     if length (sampled_at log) == c.life then Err (move_refused.Worn c.life)
-    else if length (sampled_at log) == acked_of (sample_log log) + MAX_MOVES then Err (move_refused.Full (acked_of (sample_log log)) (length (sampled_at log) - 1))
+    else if length (sampled_at log) == acked_of (sample_log log) + MAX_MOVES
+    then Err (move_refused.Full (acked_of (sample_log log)) (length (sampled_at log) - 1))
     else Ok (length (sampled_at log))
 
 -- ---- packing
@@ -148,11 +148,18 @@ client_body c log = record {
   head = data_head c.client (client_end log);
   first = (packet_of (sample_log log)).first;
   moves = (packet_of (sample_log log)).moves;
-  events = events_for (event_room c log) (client_end log);
+  events = events_for c (event_room c log) (client_end log);
 }
 
 abbrev pub client_ping : Config → List ClientEvent → Header
 client_ping c log = ping_head c.client (client_end log)
+
+-- the bytes of either
+abbrev pub client_bytes : Config → List ClientEvent → List ℕ
+client_bytes c log = bytes_up c (up.Body (client_body c log))
+
+abbrev pub client_ping_bytes : Config → List ClientEvent → List ℕ
+client_ping_bytes c log = bytes_up c (up.Ping (client_ping c log))
 
 abbrev pub pack_event : Config → List ClientEvent → SendState → Option ClientEvent
 pack_event c log Held = Some (Pinged (client_ping c log))
@@ -164,15 +171,19 @@ abbrev pub packing : Config → List ClientEvent → Option ClientEvent
 packing c log = pack_event c log (client_state c log)
 
 -- the datagrams that were sent, the oldest first
-abbrev pub client_datagrams : List ClientEvent → List (List ℕ)
-client_datagrams [] = []
-client_datagrams (Posted class payload ∷ log) = client_datagrams log
-client_datagrams (Sampled m ∷ log) = client_datagrams log
-client_datagrams (Packed p ∷ log) = client_datagrams log ++ datagram (client (up.Body p)) ∷ []
-client_datagrams (Pinged head ∷ log) = client_datagrams log ++ datagram (client (up.Ping head)) ∷ []
-client_datagrams (Took p ∷ log) = client_datagrams log
+abbrev pub client_datagrams : Config → List ClientEvent → List (List ℕ)
+client_datagrams c [] = []
+client_datagrams c (Posted class payload ∷ log) = client_datagrams c log
+client_datagrams c (Sampled m ∷ log) = client_datagrams c log
+client_datagrams c (Packed p ∷ log) = client_datagrams c log ++ bytes_up c (up.Body p) ∷ []
+client_datagrams c (Pinged head ∷ log) = client_datagrams c log ++ bytes_up c (up.Ping head) ∷ []
+client_datagrams c (Took p ∷ log) = client_datagrams c log
 
 -- ---- arriving
+
+-- what its header meets
+abbrev pub head_check : Config → Seen → List ClientEvent → Checked ClientFault
+head_check c p log = head_at_client (head_answer c.client (client_end log) p)
 
 -- a count above the moves that were sampled
 abbrev pub moves_check : List ClientEvent → ℕ → Checked ClientFault
@@ -183,7 +194,8 @@ moves_check log count =
 abbrev pub blocks_check : List BlockItem → List BlockItem → Checked ClientFault
 blocks_check came [] = Ok tt
 blocks_check came (item ∷ items) =
-    if differs (held_of item.number came) item.bytes then Err (refused.BlockDiffers item.number) else blocks_check (item ∷ came) items
+    if differs (held_of item.number came) item.bytes then Err (refused.BlockDiffers item.number)
+    else blocks_check (item ∷ came) items
 
 -- bit b is set where block b is among these
 abbrev pub held_word : List BlockItem → ℕ
@@ -195,7 +207,8 @@ ghosts_refused (Some fault) = Err (refused.Ghost fault)
 
 -- the blocks of the packet count for its ghosts
 abbrev pub ghosts_check : List ClientEvent → ServerBody → Checked ClientFault
-ghosts_check log p = ghosts_refused (ghosts_fault (ghosts_came log) (held_word (reverse p.blocks ++ blocks_came log)) p.ghosts p.control)
+ghosts_check log p =
+    ghosts_refused (ghosts_fault (ghosts_came log) (held_word (reverse p.blocks ++ blocks_came log)) p.ghosts p.control)
 
 -- what stands behind the header: moves, blocks, events, ghosts
 abbrev pub body_check : List ClientEvent → ServerBody → Checked ClientFault
@@ -204,8 +217,8 @@ body_check log p = then_check (moves_check log p.accepted) (then_check (blocks_c
 
 -- the first refusal of a packet that was read; a ping has its header alone
 abbrev pub packet_check : Config → List ClientEvent → ServerPacket → Checked ClientFault
-packet_check c log (down.Ping head) = head_at_client (head_answer c.client (client_end log) (seen_ping head))
-packet_check c log (down.Body p) = then_check (head_at_client (head_answer c.client (client_end log) (seen_body p))) (body_check log p)
+packet_check c log (down.Ping head) = head_check c (seen_ping head) log
+packet_check c log (down.Body p) = then_check (head_check c (seen_body p) log) (body_check log p)
 
 abbrev pub packet_answer : Config → List ClientEvent → Result ServerPacket BitsFault → Result ServerPacket ClientFault
 packet_answer c log (Ok p) = checked_packet p (packet_check c log p)
@@ -213,8 +226,19 @@ packet_answer c log (Err e) = Err (refused.Bits e)
 
 -- what bytes that come meet: the first refusal whose condition holds, else the packet that they spell
 abbrev pub client_answer : Config → List Kind → List ClientEvent → List ℕ → Result ServerPacket ClientFault
-client_answer c kinds log bytes = packet_answer c log (server_of kinds bytes)
+client_answer c kinds log bytes = packet_answer c log (read_down c kinds bytes)
 
 abbrev pub took_at_client : List ClientEvent → Result ServerPacket ClientFault → List ClientEvent
 took_at_client log (Ok p) = Took p ∷ log
 took_at_client log (Err e) = log
+
+-- what bytes that come answer, and what they do
+abbrev pub arrive_answer : Config → List Kind → List ℕ → List ClientEvent → Checked ClientFault
+arrive_answer c kinds bytes log = without_packet (client_answer c kinds log bytes)
+
+abbrev pub arriving : Config → List Kind → List ℕ → List ClientEvent → List ClientEvent
+arriving c kinds bytes log = took_at_client log (client_answer c kinds log bytes)
+
+-- the same of a packet that was read
+abbrev pub read_answer : Config → ServerPacket → List ClientEvent → Checked ClientFault
+read_answer c p log = without_packet (checked_packet p (packet_check c log p))

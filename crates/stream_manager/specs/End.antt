@@ -8,12 +8,13 @@ use Rattle.notify_window.specs.Log.{WindowEvent, Sent, Came, Told, sent_of, hori
 use Rattle.wire_format.specs.declared.header.Header.{Header}
 use Rattle.wire_format.specs.declared.events.EventItem.{EventItem}
 use Rattle.wire_format.specs.declared.widths.TheConstants.{MAX_EVENTS}
-use Rattle.wire_format.specs.Events.{event_size}
 use Rattle.event_manager.specs.declared.TheConstants.{MAX_WAITING}
+use Rattle.stream_manager.specs.declared.config.Config.{Config}
 use Rattle.stream_manager.specs.declared.fault.HeadFault.{HeadFault}
 use Rattle.stream_manager.specs.declared.fault.HeadFault.TheVariants.{WrongClient, Old, AckAhead}
-use Rattle.stream_manager.specs.Faults.{Checked}
-use Rattle.stream_manager.specs.Shares.{fitting}
+use Rattle.tn_types.specs.Checks.{Checked}
+use Rattle.tn_types.specs.Fitting.{fitting}
+use Rattle.stream_manager.specs.Wire.{event_bits}
 use Rattle.event_manager.specs.declared.receiver.EventAhead.{EventAhead}
 use Rattle.event_manager.specs.Receiving.{items_onto, delivered_of, run_of, take_answer}
 use Rattle.event_manager.specs.Sending as sending
@@ -25,6 +26,9 @@ pub record Seen : Type 0 where
   pub head : Header
   pub events : List EventItem
 
+abbrev pub seen : Bool → Header → List EventItem → Seen
+seen ping head events = record { ping = ping; head = head; events = events }
+
 pub data EndEvent : Type 0 where
   Posted : (class : Class) (payload : List ℕ) → EndEvent  -- an event was posted
   Packed : Seen → EndEvent  -- a data packet was sent
@@ -32,9 +36,9 @@ pub data EndEvent : Type 0 where
   Took : Seen → EndEvent  -- a packet came and was not refused
 
 -- an event, if there is one, behind those of a log
-abbrev pub onto : {E : Type 0} → Option E → List E → List E
-onto None log = log
-onto (Some event) log = event ∷ log
+abbrev pub with_event : {E : Type 0} → Option E → List E → List E
+with_event None log = log
+with_event (Some event) log = event ∷ log
 
 -- what the window saw of it: of a packet that came, first that it came and then what it told
 abbrev pub window_log : List EndEvent → List WindowEvent
@@ -66,7 +70,8 @@ judged_at log = judged_of (window_log log)
 
 -- what a post of an unguaranteed event drops: the oldest that waits, where too many wait
 abbrev pub dropped_of : List EndEvent → Option (List ℕ)
-dropped_of log = if length (waiting_of (sender_log log)) == MAX_WAITING then slice_get (waiting_of (sender_log log)) 0 else None
+dropped_of log =
+    if length (waiting_of (sender_log log)) == MAX_WAITING then slice_get (waiting_of (sender_log log)) 0 else None
 
 -- the header of the next packet with this number
 abbrev pub head_of : ℕ → ℕ → List EndEvent → Header
@@ -80,12 +85,15 @@ abbrev pub ping_head : ℕ → List EndEvent → Header
 ping_head client log = head_of client (sent_of (window_log log)) log
 
 -- the events of the next data packet, where so many bits are left for them
-abbrev pub events_for : ℕ → List EndEvent → List EventItem
-events_for room log = fitting event_size room (take MAX_EVENTS (due_of (fates log) (sender_log log)))
+abbrev pub events_for : Config → ℕ → List EndEvent → List EventItem
+events_for c room log = fitting (event_bits c) room (take MAX_EVENTS (due_of (fates log) (sender_log log)))
 
--- the next data packet as both ends see it
-abbrev pub data_seen : ℕ → ℕ → List EndEvent → Seen
-data_seen client room log = record { ping = false; head = data_head client log; events = events_for room log }
+-- the next data packet as both ends see it, with so many of the due events, or with those that have room
+abbrev pub first_seen : Config → ℕ → List EndEvent → Seen
+first_seen c count log = seen false (data_head c.client log) (take count (due_of (fates log) (sender_log log)))
+
+abbrev pub data_seen : Config → ℕ → List EndEvent → Seen
+data_seen c room log = seen false (data_head c.client log) (events_for c room log)
 
 -- the items that came, the newest first
 abbrev pub came_of : List EndEvent → List EventItem

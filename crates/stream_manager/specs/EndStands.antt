@@ -24,3 +24,7 @@ pub record StandsFor (e : EndState) (log : List EndEvent) : Type 0 where
   pub sender : SenderStandsFor e.sender (fates log) (sender_log log)
   pub receiver : ReceiverStandsFor e.receiver (came_of log)
   pub horizon : e.window.horizon < 2 ^ 24
+
+-- some list, for which an end stands
+abbrev pub StandsForSome : EndState → Type 0
+StandsForSome e = (log : List EndEvent) × StandsFor e log

@@ -1,6 +1,6 @@
-pub mod Shares
 pub mod Faults
 pub mod Limits
+pub mod Wire
 pub mod Settling
 pub mod End
 pub mod GhostChecks
@@ -9,4 +9,6 @@ pub mod Client
 pub mod Blocks
 pub mod EndStands
 pub mod Stands
-pub mod Calls
+pub mod EndCalls
+pub mod ConnCalls
+pub mod ClientCalls

@@ -5,11 +5,10 @@ use Rattle.std.specs.List.{slice_index_or}
 use Rattle.tn_types.specs.declared.choices.Class.{Class}
 use Rattle.tn_types.specs.declared.choices.Choice.{Choice}
 use Rattle.tn_types.specs.declared.moves.Move.{Move}
-use Rattle.bit_stream.specs.Bits.{datagram}
-use Rattle.quantised_fields.specs.declared.kind.Kind.{Kind}
 use Rattle.wire_format.specs.declared.fault.BitsFault.{BitsFault}
 use Rattle.wire_format.specs.declared.header.Header.{Header}
 use Rattle.wire_format.specs.declared.blocks.BlockItem.{BlockItem}
+use Rattle.wire_format.specs.declared.events.EventItem.{EventItem}
 use Rattle.wire_format.specs.declared.server.ServerBody.{ServerBody}
 use Rattle.wire_format.specs.declared.server.ServerPacket.TheVariants as down
 use Rattle.wire_format.specs.declared.client.ClientBody.{ClientBody}
@@ -17,9 +16,6 @@ use Rattle.wire_format.specs.declared.client.ClientPacket.{ClientPacket}
 use Rattle.wire_format.specs.declared.client.ClientPacket.TheVariants as up
 use Rattle.wire_format.specs.declared.widths.TheConstants.{SERVER_FIXED_BITS, MAX_BLOCKS}
 use Rattle.wire_format.specs.Blocks.{block_size}
-use Rattle.wire_format.specs.Events.{event_size}
-use Rattle.wire_format.specs.Server.{server}
-use Rattle.wire_format.specs.Client.{client_of}
 use Rattle.notify_window.specs.declared.SendState.{SendState}
 use Rattle.notify_window.specs.declared.SendState.TheVariants.{Held, Worn, Room}
 use Rattle.notify_window.specs.Bits.{from_bits}
@@ -40,10 +36,12 @@ use Rattle.stream_manager.specs.declared.server.Taken.{Taken}
 use Rattle.stream_manager.specs.declared.fault.ArriveFault.{ArriveFault}
 use Rattle.stream_manager.specs.declared.fault.ArriveFault.TheVariants as refused
 use Rattle.stream_manager.specs.Limits.{Terms}
-use Rattle.stream_manager.specs.Shares.{fitting}
-use Rattle.stream_manager.specs.Faults.{Checked, then_check, head_at_server, events_at_server, checked_packet}
+use Rattle.tn_types.specs.Fitting.{fitting}
+use Rattle.stream_manager.specs.Wire.{event_bits, read_up, bytes_down}
+use Rattle.tn_types.specs.Checks.{Checked, then_check}
+use Rattle.stream_manager.specs.Faults.{head_at_server, events_at_server, checked_packet}
 use Rattle.stream_manager.specs.Settling.{judgements}
-use Rattle.stream_manager.specs.End.{Seen, EndEvent, window_log, sender_log, fates, judged_at, data_head, ping_head, events_for, head_answer, events_answer}
+use Rattle.stream_manager.specs.End.{Seen, seen, EndEvent, window_log, sender_log, fates, judged_at, data_head, ping_head, events_for, head_answer, events_answer}
 use Rattle.stream_manager.specs.End as common
 
 pub data ServerEvent : Type 0 where
@@ -58,13 +56,13 @@ pub data ServerEvent : Type 0 where
 -- ---- what both ends have in common
 
 abbrev pub seen_ping : Header → Seen
-seen_ping head = record { ping = true; head = head; events = [] }
+seen_ping head = seen true head []
 
 abbrev pub seen_body : ServerBody → Seen
-seen_body p = record { ping = false; head = p.head; events = p.events }
+seen_body p = seen false p.head p.events
 
 abbrev pub seen_client_body : ClientBody → Seen
-seen_client_body p = record { ping = false; head = p.head; events = p.events }
+seen_client_body p = seen false p.head p.events
 
 abbrev pub seen_up : ClientPacket → Seen
 seen_up (up.Ping head) = seen_ping head
@@ -126,6 +124,10 @@ abbrev pub planned : List ServerEvent → List Choice
 planned (Planned choices ∷ log) = choices
 planned log = []
 
+-- the verdicts that an end has after what happened and hadn't before, told to ghosts
+abbrev pub newly_judged : List EndEvent → List EndEvent → List GhostEvent → List GhostEvent
+newly_judged before after log = judgements (fates after) (judged_at before + 1) (judged_at after - judged_at before) log
+
 -- what happened to ghosts: a plan begins with a grant, and an acknowledgement tells the verdicts of packets one by one
 abbrev pub ghost_log : List ServerEvent → List GhostEvent
 ghost_log [] = []
@@ -135,8 +137,7 @@ ghost_log (Hidden n ∷ log) = ghosts.Hide n ∷ ghost_log log
 ghost_log (Planned choices ∷ log) = ghosts.Grant ∷ ghost_log log
 ghost_log (Packed p ∷ log) = ghosts.Sent (planned log) ∷ ghost_log log
 ghost_log (Pinged head ∷ log) = ghost_log log
-ghost_log (Took p room ∷ log) =
-    judgements (fates (server_end (Took p room ∷ log))) (judged_at (server_end log) + 1) (judged_at (server_end (Took p room ∷ log)) - judged_at (server_end log)) (ghost_log log)
+ghost_log (Took p room ∷ log) = newly_judged (server_end log) (server_end (Took p room ∷ log)) (ghost_log log)
 
 -- ---- posting
 
@@ -161,9 +162,13 @@ blocks_at t log = fitting block_size (4 * t.config.size - SERVER_FIXED_BITS)
 abbrev pub event_room : Terms → List ServerEvent → ℕ
 event_room t log = 6 * t.config.size - SERVER_FIXED_BITS - sum_by block_size (blocks_at t log)
 
+abbrev pub events_at : Terms → List ServerEvent → List EventItem
+events_at t log = events_for t.config (event_room t log) (server_end log)
+
 -- the bits that are left for ghosts, which have what blocks and events leave of the whole
 abbrev pub ghost_room : Terms → List ServerEvent → ℕ
-ghost_room t log = 8 * t.config.size - SERVER_FIXED_BITS - sum_by block_size (blocks_at t log) - sum_by event_size (events_for (event_room t log) (server_end log))
+ghost_room t log =
+    8 * t.config.size - SERVER_FIXED_BITS - sum_by block_size (blocks_at t log) - sum_by (event_bits t.config) (events_at t log)
 
 -- a word whose bit b is set where a packet that carries block b was received
 abbrev pub received_at : List ServerEvent → ℕ
@@ -183,7 +188,7 @@ data_body t log values = record {
   accepted = length (accepted_at t.config log);
   control = control_slot (scope_log (ghost_log log));
   blocks = blocks_at t log;
-  events = events_for (event_room t log) (server_end log);
+  events = events_at t log;
   ghosts = ghosts_for t.kinds (ghost_log log) (planned log) values;
 }
 
@@ -191,8 +196,15 @@ data_body t log values = record {
 abbrev pub next_body : Terms → List ServerEvent → List ℤ → ServerBody
 next_body t log values = data_body t (with_plan t log) values
 
+-- the bytes of a data packet with these values, and of a ping
+abbrev pub server_bytes : Terms → List ℤ → List ServerEvent → List ℕ
+server_bytes t values log = bytes_down t (down.Body (data_body t log values))
+
 abbrev pub server_ping : Config → List ServerEvent → Header
 server_ping c log = ping_head c.client (server_end log)
+
+abbrev pub server_ping_bytes : Terms → List ServerEvent → List ℕ
+server_ping_bytes t log = bytes_down t (down.Ping (server_ping t.config log))
 
 abbrev pub packed_onto : Terms → List ServerEvent → List ℤ → SendState → List ServerEvent
 packed_onto t log values Held = Pinged (server_ping t.config log) ∷ log
@@ -205,17 +217,21 @@ abbrev pub packing : Terms → List ServerEvent → List ℤ → List ServerEven
 packing t log values = packed_onto t log values (server_state t.config log)
 
 -- the datagrams that were sent, the oldest first
-abbrev pub server_datagrams : List Kind → List ServerEvent → List (List ℕ)
-server_datagrams kinds [] = []
-server_datagrams kinds (Posted class payload ∷ log) = server_datagrams kinds log
-server_datagrams kinds (Shown kind block level control ∷ log) = server_datagrams kinds log
-server_datagrams kinds (Hidden n ∷ log) = server_datagrams kinds log
-server_datagrams kinds (Planned choices ∷ log) = server_datagrams kinds log
-server_datagrams kinds (Packed p ∷ log) = server_datagrams kinds log ++ datagram (server kinds (down.Body p)) ∷ []
-server_datagrams kinds (Pinged head ∷ log) = server_datagrams kinds log ++ datagram (server kinds (down.Ping head)) ∷ []
-server_datagrams kinds (Took p room ∷ log) = server_datagrams kinds log
+abbrev pub server_datagrams : Terms → List ServerEvent → List (List ℕ)
+server_datagrams t [] = []
+server_datagrams t (Posted class payload ∷ log) = server_datagrams t log
+server_datagrams t (Shown kind block level control ∷ log) = server_datagrams t log
+server_datagrams t (Hidden n ∷ log) = server_datagrams t log
+server_datagrams t (Planned choices ∷ log) = server_datagrams t log
+server_datagrams t (Packed p ∷ log) = server_datagrams t log ++ bytes_down t (down.Body p) ∷ []
+server_datagrams t (Pinged head ∷ log) = server_datagrams t log ++ bytes_down t (down.Ping head) ∷ []
+server_datagrams t (Took p room ∷ log) = server_datagrams t log
 
 -- ---- arriving
+
+-- what its header meets
+abbrev pub head_check : Config → Seen → List ServerEvent → Checked ArriveFault
+head_check c p log = head_at_server (head_answer c.client (server_end log) p)
 
 -- moves behind the next one
 abbrev pub gap_check : Config → List ServerEvent → ℕ → Checked ArriveFault
@@ -228,8 +244,8 @@ body_check c log p = then_check (gap_check c log p.first) (events_at_server (eve
 
 -- the first refusal of a packet that was read; a ping has its header alone
 abbrev pub packet_check : Config → List ServerEvent → ClientPacket → Checked ArriveFault
-packet_check c log (up.Ping head) = head_at_server (head_answer c.client (server_end log) (seen_ping head))
-packet_check c log (up.Body p) = then_check (head_at_server (head_answer c.client (server_end log) (seen_client_body p))) (body_check c log p)
+packet_check c log (up.Ping head) = head_check c (seen_ping head) log
+packet_check c log (up.Body p) = then_check (head_check c (seen_client_body p) log) (body_check c log p)
 
 abbrev pub packet_answer : Config → List ServerEvent → Result ClientPacket BitsFault → Result ClientPacket ArriveFault
 packet_answer c log (Ok p) = checked_packet p (packet_check c log p)
@@ -237,7 +253,7 @@ packet_answer c log (Err e) = Err (refused.Bits e)
 
 -- what bytes that come meet: the first refusal whose condition holds, else the packet that they spell
 abbrev pub server_answer : Config → List ServerEvent → List ℕ → Result ClientPacket ArriveFault
-server_answer c log bytes = packet_answer c log (client_of bytes)
+server_answer c log bytes = packet_answer c log (read_up c bytes)
 
 abbrev pub took_at_server : List ServerEvent → ℕ → Result ClientPacket ArriveFault → List ServerEvent
 took_at_server log room (Ok p) = Took p room ∷ log
@@ -252,3 +268,14 @@ moves_new c log room (up.Body p) = new_count c.life room (length (accepted_at c 
 abbrev pub taken_of : Config → List ServerEvent → ℕ → Result ClientPacket ArriveFault → Result Taken ArriveFault
 taken_of c log room (Ok p) = Ok (record { moves = moves_new c log room p })
 taken_of c log room (Err e) = Err e
+
+-- what bytes that come answer, and what they do, where so many further moves have a place
+abbrev pub arrive_answer : Config → ℕ → List ℕ → List ServerEvent → Result Taken ArriveFault
+arrive_answer c room bytes log = taken_of c log room (server_answer c log bytes)
+
+abbrev pub arriving : Config → ℕ → List ℕ → List ServerEvent → List ServerEvent
+arriving c room bytes log = took_at_server log room (server_answer c log bytes)
+
+-- the same of a packet that was read
+abbrev pub read_answer : Config → ℕ → ClientPacket → List ServerEvent → Result Taken ArriveFault
+read_answer c room p log = taken_of c log room (checked_packet p (packet_check c log p))

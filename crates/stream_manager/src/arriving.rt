@@ -4,7 +4,7 @@ ghost use Rattle.wire_format.specs.declared.blocks.BlockItem.{BlockItem as OneBl
 ghost use Rattle.datablocks.specs.declared.progress.TheConstants.{MAX_SCRIPT_BLOCKS};
 ghost use Rattle.datablocks.specs.Holding.{StandsFor, after_all, check_answer};
 ghost use Rattle.stream_manager.specs.Client.{blocks_check, ghosts_refused};
-ghost use Rattle.stream_manager.specs.Calls.{control_missing};
+ghost use Rattle.stream_manager.specs.ClientCalls.{control_missing};
 ghost use Rattle.stream_manager.specs.Faults.{block_fault};
 
 use crate::fault::ClientFault;

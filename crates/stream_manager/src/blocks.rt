@@ -1,14 +1,11 @@
 //! The datablocks of the next packet.
 ghost use Rattle.std.specs.Prelude.{◌≡◌, ℕ, ◌≤◌, List, length, map, take, sum_by};
 ghost use Rattle.std.specs.List.{AllByRecursion};
-ghost use Rattle.notify_window.specs.Log.{Fate, Unjudged};
 ghost use Rattle.wire_format.specs.Blocks.{block_size, IsBlockInRange};
-ghost use Rattle.datablocks.specs.Sending.{SenderEvent, due_of};
 ghost use Rattle.datablocks.specs.SenderState.{due_now};
-ghost use Rattle.datablocks.specs.SenderStands.{StandsFor};
-ghost use Rattle.stream_manager.specs.Blocks.{AreDue};
-ghost use Rattle.stream_manager.specs.Server.{block_item, wrote_blocks};
-ghost use Rattle.stream_manager.specs.Shares.{fitting};
+ghost use Rattle.stream_manager.specs.Blocks.{AreDue, TellsDue, Notes};
+ghost use Rattle.stream_manager.specs.Server.{block_item};
+ghost use Rattle.tn_types.specs.Fitting.{fitting};
 
 use datablocks::{BlockSender, MAX_SCRIPT_BLOCKS};
 use wire_format::{BlockItem, BlockList, MAX_BLOCKS, block_bits};
@@ -21,7 +18,7 @@ pub(crate) fn due_blocks(sender: &BlockSender, room: u32) -> (BlockList, u32)
     ensures few { result.1 ≤ room }
     ensures ranges { AllByRecursion IsBlockInRange result.0 }
     ensures due { AreDue sender.now result.0 }
-    ensures log { (fate : ℕ → Fate) (log : List SenderEvent) → StandsFor sender.now fate log → due_now sender.now ≡ due_of fate log (length sender.now.blocks) }
+    ensures log { TellsDue sender.now }
 {
     fitting_blocks(sender, room)
 }
@@ -31,7 +28,7 @@ fn fitting_blocks(sender: &BlockSender, room: u32) -> (BlockList, u32)
     ensures blocks { result.0 ≡ fitting block_size room (take MAX_BLOCKS (map (block_item sender.now.blocks) (due_now sender.now))) }
     ensures bits { result.1 ≡ sum_by block_size result.0 }
     ensures few { result.1 ≤ room }
-    ensures log { (fate : ℕ → Fate) (log : List SenderEvent) → StandsFor sender.now fate log → due_now sender.now ≡ due_of fate log (length sender.now.blocks) }
+    ensures log { TellsDue sender.now }
     ensures places { length sender.now.blocks ≤ MAX_SCRIPT_BLOCKS }
 {
     let due = sender.due();
@@ -58,7 +55,7 @@ fn fitting_blocks(sender: &BlockSender, room: u32) -> (BlockList, u32)
 /// Notes that packet `seq`, which is unjudged, was sent with these blocks.
 pub(crate) fn note_blocks(sender: &mut BlockSender, blocks: &BlockList, seq: u32)
     requires { AreDue sender.old blocks.now }
-    ensures stands { (fate : ℕ → Fate) (log : List SenderEvent) → StandsFor sender.old fate log → fate seq ≡ Unjudged → StandsFor sender.new fate (wrote_blocks seq blocks.now log) }
+    ensures stands { Notes sender.old seq blocks.now sender.new }
     ensures blocks { sender.new.blocks ≡ sender.old.blocks }
 {
     'noting: for item in blocks.as_slice() {

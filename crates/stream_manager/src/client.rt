@@ -8,7 +8,6 @@ ghost use Rattle.bit_stream.specs.Bits.{datagram};
 ghost use Rattle.tn_types.specs.declared.choices.Class.TheVariants.{Guaranteed, Loose};
 ghost use Rattle.wire_format.specs.declared.client.ClientPacket.TheVariants as up;
 ghost use Rattle.wire_format.specs.declared.server.ServerPacket.TheVariants as down;
-ghost use Rattle.wire_format.specs.declared.events.EventItem.{EventItem as OneEvent};
 ghost use Rattle.wire_format.specs.Header.{IsHeader};
 ghost use Rattle.wire_format.specs.Server.{IsServerBody};
 ghost use Rattle.wire_format.specs.Client.{client, client_size, IsClientInRange};
@@ -71,14 +70,13 @@ impl Model for Client {
 
 impl Client {
     ghost use Rattle.stream_manager.specs.Limits.{IsConfig};
-    ghost use Rattle.stream_manager.specs.End.{dropped_of, delivered_at, came_of, head_answer, events_answer};
+    ghost use Rattle.stream_manager.specs.End.{seen, dropped_of, came_of, events_answer};
+    ghost use Rattle.stream_manager.specs.EndCalls.{popped};
     ghost use Rattle.event_manager.specs.Receiving.{run_of, take_answer};
-    ghost use Rattle.stream_manager.specs.Client.{ClientEvent, Posted, Sampled, Packed, Pinged, Took, client_end, sampled_at, control_at, posted_at_client, sampled_answer, client_body, client_ping, client_answer, packet_check, moves_check, ghosts_check, took_at_client};
+    ghost use Rattle.stream_manager.specs.Client.{ClientEvent, Posted, Sampled, Packed, Took, client_end, sampled_at, control_at, posted_at_client, sampled_answer, client_body, client_bytes, client_ping_bytes, arrive_answer, arriving, read_answer, head_check, packet_check, moves_check, ghosts_check};
     ghost use Rattle.stream_manager.specs.Stands.{ClientStandsFor};
-    ghost use Rattle.stream_manager.specs.Calls.{ClientKeeps, ClientSealed, ClientPinging, ClientPacked, IsOut, IsShort, AdmitsDown, held_bits};
-    ghost use Rattle.datablocks.specs.Holding.{after_all};
-    ghost use Rattle.ghost_client.specs.Faults.{first_fault};
-    ghost use Rattle.stream_manager.specs.Faults.{checked_packet, without_packet, head_at_client, events_at_client};
+    ghost use Rattle.stream_manager.specs.ClientCalls.{Does, Answers, Becomes, Hands, KeepsTerms, Keeps, ClientSealed, ClientPinging, ClientPacked, IsOut, IsShort, AdmitsDown, FitGhosts};
+    ghost use Rattle.stream_manager.specs.Faults.{events_at_client};
     ghost use Rattle.stream_manager.specs.contracts.client.Client.{the_row};
     ghost use Rattle.wire_format.specs.Server.{IsServer};
 
@@ -121,14 +119,14 @@ impl Client {
     /// The slot of the client's own player, as the last data packet told it; `None` exactly where that packet has none or
     /// no data packet came.
     pub fn control(&self) -> Option<u8>
-        ensures { (log : List ClientEvent) → ClientStandsFor self.now log → result ≡ control_at log }
+        ensures { Answers self.now control_at result }
     {
         self.control
     }
 
     /// How many moves were sampled so far.
     pub fn sampled(&self) -> u32
-        ensures { (log : List ClientEvent) → ClientStandsFor self.now log → result ≡ length (sampled_at log) }
+        ensures { Answers self.now (λ log. length (sampled_at log)) result }
     {
         self.moves.sampled()
     }
@@ -136,21 +134,19 @@ impl Client {
     /// Posts a guaranteed event, and gives its number, from 0 on. `Worn` comes exactly where `life` were posted, else
     /// `Full` exactly where 256 are unacknowledged; nothing changes then.
     pub fn post(&mut self, payload: Payload) -> Result<u32, PostFault>
-        ensures answer { (log : List ClientEvent) → ClientStandsFor self.old log → result ≡ posted_at_client self.old.common.config log }
-        ensures stands { OnOk result ((log : List ClientEvent) → ClientStandsFor self.old log → ClientStandsFor self.new (Posted Guaranteed payload ∷ log)) }
+        ensures answer { Answers self.old (posted_at_client self.old.common.config) result }
+        ensures stands { OnOk result (Does self.old (Posted Guaranteed payload) self.new) }
         ensures unchanged { OnErr result (self.new ≡ self.old) }
-        ensures keeps { ClientKeeps self.old self.new }
-        ensures ready { self.new.common.receiver ≡ self.old.common.receiver }
+        ensures keeps { Keeps self.old self.new }
     {
         self.common.post(payload)
     }
 
     /// Posts an unguaranteed event. It never refuses: where 64 wait, the oldest of them is dropped and given back.
     pub fn post_loose(&mut self, payload: Payload) -> Option<Payload>
-        ensures dropped { (log : List ClientEvent) → ClientStandsFor self.old log → result ≡ dropped_of (client_end log) }
-        ensures stands { (log : List ClientEvent) → ClientStandsFor self.old log → ClientStandsFor self.new (Posted Loose payload ∷ log) }
-        ensures keeps { ClientKeeps self.old self.new }
-        ensures ready { self.new.common.receiver ≡ self.old.common.receiver }
+        ensures dropped { Answers self.old (λ log. dropped_of (client_end log)) result }
+        ensures stands { Does self.old (Posted Loose payload) self.new }
+        ensures keeps { Keeps self.old self.new }
     {
         self.common.post_loose(payload)
     }
@@ -158,11 +154,10 @@ impl Client {
     /// Takes up a move of the player, and gives its number, from 0 on. `Worn` comes exactly where `life` were sampled,
     /// else `Full` exactly where the server may lack 32; nothing changes then.
     pub fn sample(&mut self, m: Move) -> Result<u32, MoveFault>
-        ensures answer { (log : List ClientEvent) → ClientStandsFor self.old log → result ≡ sampled_answer self.old.common.config log }
-        ensures stands { OnOk result ((log : List ClientEvent) → ClientStandsFor self.old log → ClientStandsFor self.new (Sampled m ∷ log)) }
+        ensures answer { Answers self.old (sampled_answer self.old.common.config) result }
+        ensures stands { OnOk result (Does self.old (Sampled m) self.new) }
         ensures unchanged { OnErr result (self.new ≡ self.old) }
-        ensures keeps { ClientKeeps self.old self.new }
-        ensures ready { self.new.common.receiver ≡ self.old.common.receiver }
+        ensures keeps { Keeps self.old self.new }
     {
         self.moves.sample(m)
     }
@@ -170,12 +165,11 @@ impl Client {
     /// Counts the next data packet, and gives it.
     fn packed(&mut self) -> ClientBody
         requires { send_state self.old.common.window ≡ SendState.Room }
-        ensures body { (log : List ClientEvent) → ClientStandsFor self.old log → result ≡ client_body self.old.common.config log }
+        ensures body { Answers self.old (client_body self.old.common.config) result }
         ensures fits { IsClientInRange (up.Body result) }
         ensures size { client_size (up.Body result) ≤ 8 * self.old.common.config.size }
-        ensures stands { (log : List ClientEvent) → ClientStandsFor self.old log → ClientStandsFor self.new (Packed (client_body self.old.common.config log) ∷ log) }
-        ensures keeps { ClientKeeps self.old self.new }
-        ensures ready { self.new.common.receiver ≡ self.old.common.receiver }
+        ensures stands { Becomes self.old (λ log. Packed (client_body self.old.common.config log) ∷ log) self.new }
+        ensures keeps { Keeps self.old self.new }
     {
         let size = self.common.config().size;
         let (first, moves) = self.moves.pending();
@@ -206,7 +200,7 @@ impl Client {
     /// Makes the next data packet, and lends its bytes.
     fn seal(&mut self) -> &[u8]
         requires { send_state self.old.common.window ≡ SendState.Room }
-        ensures bytes { (log : List ClientEvent) → ClientStandsFor self.old log → result.now ≡ datagram (client (up.Body (client_body self.old.common.config log))) }
+        ensures bytes { Answers self.old (client_bytes self.old.common.config) result.now }
         ensures few { length result.now ≤ self.old.common.config.size }
         ensures* after { sem 𝓛 (Rests the_row self.entry (ClientSealed self.old)) }
     {
@@ -218,7 +212,7 @@ impl Client {
     /// Makes a ping, and lends its bytes.
     fn ping(&mut self) -> &[u8]
         requires { send_state self.old.common.window ≡ SendState.Held }
-        ensures bytes { (log : List ClientEvent) → ClientStandsFor self.old log → result.now ≡ datagram (client (up.Ping (client_ping self.old.common.config log))) }
+        ensures bytes { Answers self.old (client_ping_bytes self.old.common.config) result.now }
         ensures few { length result.now ≤ self.old.common.config.size }
         ensures* after { sem 𝓛 (Rests the_row self.entry (ClientPinging self.old)) }
     {
@@ -232,11 +226,11 @@ impl Client {
     pub fn arrive(&mut self, bytes: &[u8]) -> Result<(), ClientFault>
         requires few { length bytes.now ≤ 65536 }
         requires none_waits { self.old.common.receiver.ready ≡ [] }
-        ensures answer { (log : List ClientEvent) → ClientStandsFor self.old log → result ≡ without_packet (client_answer self.old.common.config self.old.copies.kinds log bytes.now) }
-        ensures stands { (log : List ClientEvent) → ClientStandsFor self.old log → ClientStandsFor self.new (took_at_client log (client_answer self.old.common.config self.old.copies.kinds log bytes.now)) }
-        ensures handed { (log : List ClientEvent) → ClientStandsFor self.old log → delivered_at (client_end (took_at_client log (client_answer self.old.common.config self.old.copies.kinds log bytes.now))) ≡ delivered_at (client_end log) ++ self.new.common.receiver.ready }
+        ensures answer { Answers self.old (arrive_answer self.old.common.config self.old.copies.kinds bytes.now) result }
+        ensures stands { Becomes self.old (arriving self.old.common.config self.old.copies.kinds bytes.now) self.new }
+        ensures handed { Hands self.old (arriving self.old.common.config self.old.copies.kinds bytes.now) self.new }
         ensures unchanged { OnErr result (self.new ≡ self.old) }
-        ensures keeps { ClientKeeps self.old self.new }
+        ensures terms { KeepsTerms self.old self.new }
     {
         let packet = match decode_server(bytes, self.copies.kinds()) {
             Ok(packet) => packet,
@@ -249,11 +243,11 @@ impl Client {
     fn take(&mut self, packet: &ServerPacket) -> Result<(), ClientFault>
         requires fits { IsServer self.old.copies.kinds packet.now }
         requires none_waits { self.old.common.receiver.ready ≡ [] }
-        ensures answer { (log : List ClientEvent) → ClientStandsFor self.old log → result ≡ without_packet (checked_packet packet.now (packet_check self.old.common.config log packet.now)) }
-        ensures stands { OnOk result ((log : List ClientEvent) → ClientStandsFor self.old log → ClientStandsFor self.new (Took packet.now ∷ log)) }
-        ensures handed { OnOk result ((log : List ClientEvent) → ClientStandsFor self.old log → delivered_at (client_end (Took packet.now ∷ log)) ≡ delivered_at (client_end log) ++ self.new.common.receiver.ready) }
+        ensures answer { Answers self.old (read_answer self.old.common.config packet.now) result }
+        ensures stands { OnOk result (Does self.old (Took packet.now) self.new) }
+        ensures handed { OnOk result (Hands self.old (λ log. Took packet.now ∷ log) self.new) }
         ensures unchanged { OnErr result (self.new ≡ self.old) }
-        ensures keeps { ClientKeeps self.old self.new }
+        ensures terms { KeepsTerms self.old self.new }
     {
         match packet {
             ServerPacket::Ping(head) => {
@@ -271,7 +265,7 @@ impl Client {
 
     /// The first refusal of a packet by its header; nothing changes.
     fn check_head(&self, ping: bool, head: &Header) -> Result<(), ClientFault>
-        ensures answer { (log : List ClientEvent) → ClientStandsFor self.now log → (events : List OneEvent) → result ≡ head_at_client (head_answer self.now.common.config.client (client_end log) (record { ping = ping; head = head.now; events = events })) }
+        ensures answer { Answers self.now (head_check self.now.common.config (seen ping head.now [])) result }
         ensures fresh { OnOk result (arrival_of ping head.now.seq self.now.common.window.horizon ≡ Arrival.Fresh) }
         ensures known { OnOk result (head.now.horizon ≤ self.now.common.window.sent) }
     {
@@ -283,7 +277,7 @@ impl Client {
 
     /// The first refusal of a ping; nothing changes.
     fn check_ping(&self, head: &Header) -> Result<(), ClientFault>
-        ensures answer { (log : List ClientEvent) → ClientStandsFor self.now log → result ≡ packet_check self.now.common.config log (down.Ping head.now) }
+        ensures answer { Answers self.now (λ log. packet_check self.now.common.config log (down.Ping head.now)) result }
         ensures fresh { OnOk result (arrival_of true head.now.seq self.now.common.window.horizon ≡ Arrival.Fresh) }
         ensures known { OnOk result (head.now.horizon ≤ self.now.common.window.sent) }
     {
@@ -293,7 +287,7 @@ impl Client {
     /// The first refusal of a data packet; nothing changes.
     fn check(&self, body: &ServerBody) -> Result<(), ClientFault>
         requires fits { IsServerBody self.now.copies.kinds body.now }
-        ensures answer { (log : List ClientEvent) → ClientStandsFor self.now log → result ≡ packet_check self.now.common.config log (down.Body body.now) }
+        ensures answer { Answers self.now (λ log. packet_check self.now.common.config log (down.Body body.now)) result }
         ensures admits { OnOk result (AdmitsDown self.now body.now) }
     {
         self.check_head(false, &body.head)?;
@@ -305,7 +299,7 @@ impl Client {
 
     /// Whether the server tells of more moves than were sampled.
     fn check_moves(&self, count: u32) -> Result<(), ClientFault>
-        ensures answer { (log : List ClientEvent) → ClientStandsFor self.now log → result ≡ moves_check log count }
+        ensures answer { Answers self.now (λ log. moves_check log count) result }
         ensures known { OnOk result (count ≤ self.now.moves.first + length self.now.moves.waiting) }
     {
         let sampled = self.moves.sampled();
@@ -317,7 +311,7 @@ impl Client {
 
     /// Whether an event is too far ahead.
     fn check_events(&self, events: &EventList) -> Result<(), ClientFault>
-        ensures answer { (log : List ClientEvent) → ClientStandsFor self.now log → result ≡ events_at_client (events_answer (client_end log) events.now) }
+        ensures answer { Answers self.now (λ log. events_at_client (events_answer (client_end log) events.now)) result }
         ensures near { OnOk result (take_answer self.now.common.receiver.delivered events.now ≡ Ok tt) }
     {
         match self.common.check_events(events) {
@@ -332,8 +326,8 @@ impl Client {
     /// The first fault of the ghosts of a packet, or of its control slot.
     fn check_ghosts(&self, body: &ServerBody) -> Result<(), ClientFault>
         requires fits { IsServerBody self.now.copies.kinds body.now }
-        ensures answer { (log : List ClientEvent) → ClientStandsFor self.now log → result ≡ ghosts_check log body.now }
-        ensures fit { OnOk result (first_fault self.now.copies.slots (held_bits (after_all self.now.blocks body.now.blocks)) [] body.now.ghosts ≡ None) }
+        ensures answer { Answers self.now (λ log. ghosts_check log body.now) result }
+        ensures fit { OnOk result (FitGhosts self.now body.now) }
     {
         let held = self.blocks.held_after(&body.blocks);
         if let Err(fault) = self.copies.check(&body.ghosts, held) {
@@ -348,9 +342,9 @@ impl Client {
         requires fresh { arrival_of true head.now.seq self.old.common.window.horizon ≡ Arrival.Fresh }
         requires known { head.now.horizon ≤ self.old.common.window.sent }
         requires none_waits { self.old.common.receiver.ready ≡ [] }
-        ensures stands { (log : List ClientEvent) → ClientStandsFor self.old log → ClientStandsFor self.new (Took (down.Ping head.now) ∷ log) }
-        ensures handed { (log : List ClientEvent) → ClientStandsFor self.old log → delivered_at (client_end (Took (down.Ping head.now) ∷ log)) ≡ delivered_at (client_end log) ++ self.new.common.receiver.ready }
-        ensures keeps { ClientKeeps self.old self.new }
+        ensures stands { Does self.old (Took (down.Ping head.now)) self.new }
+        ensures handed { Hands self.old (λ log. Took (down.Ping head.now) ∷ log) self.new }
+        ensures terms { KeepsTerms self.old self.new }
     {
         let _ = self.common.take(true, head, &EventList::new());
     }
@@ -360,9 +354,9 @@ impl Client {
         requires fits { IsServerBody self.old.copies.kinds body.now }
         requires admits { AdmitsDown self.old body.now }
         requires none_waits { self.old.common.receiver.ready ≡ [] }
-        ensures stands { (log : List ClientEvent) → ClientStandsFor self.old log → ClientStandsFor self.new (Took (down.Body body.now) ∷ log) }
-        ensures handed { (log : List ClientEvent) → ClientStandsFor self.old log → delivered_at (client_end (Took (down.Body body.now) ∷ log)) ≡ delivered_at (client_end log) ++ self.new.common.receiver.ready }
-        ensures keeps { ClientKeeps self.old self.new }
+        ensures stands { Does self.old (Took (down.Body body.now)) self.new }
+        ensures handed { Hands self.old (λ log. Took (down.Body body.now) ∷ log) self.new }
+        ensures terms { KeepsTerms self.old self.new }
     {
         let _ = self.common.take(false, &body.head, &body.events);
         let _ = self.moves.acked(body.accepted);
@@ -373,7 +367,7 @@ impl Client {
 
     /// How many guaranteed events were delivered, those that wait included.
     pub fn delivered(&self) -> u32
-        ensures { (log : List ClientEvent) → ClientStandsFor self.now log → result ≡ run_of (came_of (client_end log)) }
+        ensures { Answers self.now (λ log. run_of (came_of (client_end log))) result }
     {
         self.common.delivered()
     }
@@ -389,9 +383,8 @@ impl Client {
     /// Hands out the oldest event of the server that waits; `None` exactly where none does.
     pub fn pop_event(&mut self) -> Option<(Class, Payload)>
         ensures first { result ≡ slice_get self.old.common.receiver.ready 0 }
-        ensures rest { self.new.common.receiver.ready ≡ drop 1 self.old.common.receiver.ready }
-        ensures stands { (log : List ClientEvent) → ClientStandsFor self.old log → ClientStandsFor self.new log }
-        ensures keeps { ClientKeeps self.old self.new }
+        ensures rest { self.new ≡ record self.old { common = popped self.old.common } }
+        ensures stands { Becomes self.old (λ log. log) self.new }
     {
         self.common.pop_event()
     }

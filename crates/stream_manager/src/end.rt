@@ -10,8 +10,7 @@ ghost use Rattle.std.specs.List.{AllByRecursion};
 ghost use Rattle.notify_window.specs.Log.{arrival_of};
 ghost use Rattle.event_manager.specs.Receiving.{take_answer, run_of};
 ghost use Rattle.wire_format.specs.Events.{event_size, IsEventInRange};
-ghost use Rattle.wire_format.specs.declared.events.EventItem.{EventItem as OneEvent};
-ghost use Rattle.stream_manager.specs.Shares.{fitting};
+ghost use Rattle.tn_types.specs.Fitting.{fitting};
 ghost use Rattle.wire_format.specs.Header.{IsHeaderInRange};
 ghost use Rattle.tn_types.specs.declared.choices.Class.TheVariants.{Guaranteed, Loose};
 
@@ -35,22 +34,27 @@ pub(crate) struct End {
 }
 
 impl Model for End {
-    ghost use Rattle.std.specs.Prelude.{List};
-    ghost use Rattle.stream_manager.specs.End.{EndEvent};
-    ghost use Rattle.stream_manager.specs.EndStands.{EndState, StandsFor};
+    ghost use Rattle.stream_manager.specs.EndStands.{EndState, StandsForSome};
 
     ghost Value = { EndState };
 
     ghost view = { λ e. record { config = e.config; window = e.window; sender = e.sender; receiver = e.receiver } };
 
-    ghost invariant = { λ e. (log : List EndEvent) × StandsFor (record { config = e.config; window = e.window; sender = e.sender; receiver = e.receiver }) log };
+    ghost invariant = { λ e. StandsForSome (record {
+      config = e.config;
+      window = e.window;
+      sender = e.sender;
+      receiver = e.receiver;
+    }) };
 }
 
 impl End {
     ghost use Rattle.stream_manager.specs.Limits.{IsConfig};
-    ghost use Rattle.stream_manager.specs.End.{EndEvent, Posted, Packed, Pinged, Took, window_log, sender_log, fates, judged_at, data_head, ping_head, events_for, data_seen, head_answer, events_answer, dropped_of, came_of, delivered_at};
+    ghost use Rattle.stream_manager.specs.Wire.{event_bits};
+    ghost use Rattle.stream_manager.specs.End.{seen, EndEvent, Posted, Packed, Pinged, Took, window_log, sender_log, fates, data_head, ping_head, events_for, data_seen, first_seen, head_answer, events_answer, dropped_of, came_of};
     ghost use Rattle.stream_manager.specs.EndStands.{StandsFor};
-    ghost use Rattle.stream_manager.specs.Settling.{Judges, Names, AreFew};
+    ghost use Rattle.stream_manager.specs.EndCalls.{Does, Answers, Becomes, Hands, Settles, Keeps, popped};
+    ghost use Rattle.stream_manager.specs.Settling.{AreFew};
 
     /// The end of a new connection.
     pub(crate) fn new(alloc: Global, config: Config) -> Result<End, NoMemory>
@@ -79,21 +83,19 @@ impl End {
 
     /// Posts a guaranteed event.
     pub(crate) fn post(&mut self, payload: Payload) -> Result<u32, PostFault>
-        ensures answer { (log : List EndEvent) → StandsFor self.old log → result ≡ post_answer_of self.old.config.life (fates log) (sender_log log) }
-        ensures stands { OnOk result ((log : List EndEvent) → StandsFor self.old log → StandsFor self.new (Posted Guaranteed payload ∷ log)) }
+        ensures answer { Answers self.old (λ log. post_answer_of self.old.config.life (fates log) (sender_log log)) result }
+        ensures stands { OnOk result (Does self.old (Posted Guaranteed payload) self.new) }
         ensures unchanged { OnErr result (self.new ≡ self.old) }
-        ensures config { self.new.config ≡ self.old.config }
-        ensures ready { self.new.receiver ≡ self.old.receiver }
+        ensures keeps { Keeps self.old self.new }
     {
         self.sender.post(payload)
     }
 
     /// Posts an unguaranteed event, and gives back the oldest waiting one where too many wait.
     pub(crate) fn post_loose(&mut self, payload: Payload) -> Option<Payload>
-        ensures dropped { (log : List EndEvent) → StandsFor self.old log → result ≡ dropped_of log }
-        ensures stands { (log : List EndEvent) → StandsFor self.old log → StandsFor self.new (Posted Loose payload ∷ log) }
-        ensures config { self.new.config ≡ self.old.config }
-        ensures ready { self.new.receiver ≡ self.old.receiver }
+        ensures dropped { Answers self.old dropped_of result }
+        ensures stands { Does self.old (Posted Loose payload) self.new }
+        ensures keeps { Keeps self.old self.new }
     {
         self.sender.post_loose(payload)
     }
@@ -101,7 +103,7 @@ impl End {
     /// What a pack makes now.
     pub(crate) fn state(&self) -> SendState
         ensures state { result ≡ send_state self.now.window }
-        ensures log { (log : List EndEvent) → StandsFor self.now log → result ≡ send_state_of self.now.config.life (window_log log) }
+        ensures log { Answers self.now (λ log. send_state_of self.now.config.life (window_log log)) result }
     {
         self.window.can_send()
     }
@@ -109,7 +111,7 @@ impl End {
     /// The header of the next data packet.
     fn data_head(&self) -> Header
         requires { send_state self.now.window ≡ SendState.Room }
-        ensures head { (log : List EndEvent) → StandsFor self.now log → result ≡ data_head self.now.config.client log }
+        ensures head { Answers self.now (data_head self.now.config.client) result }
         ensures fits { IsHeaderInRange result }
     {
         let (horizon, mask) = self.window.ack();
@@ -124,7 +126,7 @@ impl End {
     /// The header of a ping.
     fn ping_head(&self) -> Header
         requires { send_state self.now.window ≡ SendState.Held }
-        ensures head { (log : List EndEvent) → StandsFor self.now log → result ≡ ping_head self.now.config.client log }
+        ensures head { Answers self.now (ping_head self.now.config.client) result }
         ensures fits { IsHeaderInRange result }
     {
         let (horizon, mask) = self.window.ack();
@@ -139,12 +141,12 @@ impl End {
     /// The events of the next data packet, where `room` bits are left for them: the longest front of the due ones that
     /// fits, at most 31.
     fn events(&self, room: u32) -> EventList
-        ensures events { (log : List EndEvent) → StandsFor self.now log → result ≡ events_for room log }
+        ensures events { Answers self.now (events_for self.now.config room) result }
         ensures fits { AllByRecursion IsEventInRange result }
-        ensures few { sum_by event_size result ≤ room }
+        ensures few { sum_by (event_bits self.now.config) result ≤ room }
         ensures due { result ≡ take (length result) (due_now self.now.sender) }
         ensures count { length result ≤ length (due_now self.now.sender) }
-        ensures front { (log : List EndEvent) → StandsFor self.now log → events_for room log ≡ take (length result) (due_of (fates log) (sender_log log)) }
+        ensures front { Answers self.now (λ log. take (length result) (due_of (fates log) (sender_log log))) result }
     {
         let mut events = self.sender.due();
         let (count, _) = fitting_front(events.as_slice(), room);
@@ -154,7 +156,7 @@ impl End {
 
     /// The bits of the events of the next data packet, where `room` bits are left for them.
     pub(crate) fn events_bits(&self, room: u32) -> u32
-        ensures bits { (log : List EndEvent) → StandsFor self.now log → result ≡ sum_by event_size (events_for room log) }
+        ensures bits { Answers self.now (λ log. sum_by (event_bits self.now.config) (events_for self.now.config room log)) result }
         ensures few { result ≤ room }
     {
         let (_, bits) = fitting_front(self.sender.due().as_slice(), room);
@@ -165,9 +167,8 @@ impl End {
     fn packed(&mut self, count: u32)
         requires room { send_state self.old.window ≡ SendState.Room }
         requires due { count ≤ length (due_now self.old.sender) }
-        ensures stands { (log : List EndEvent) → StandsFor self.old log → StandsFor self.new (Packed (record { ping = false; head = data_head self.old.config.client log; events = take count (due_of (fates log) (sender_log log)) }) ∷ log) }
-        ensures config { self.new.config ≡ self.old.config }
-        ensures ready { self.new.receiver ≡ self.old.receiver }
+        ensures stands { Becomes self.old (λ log. Packed (first_seen self.old.config count log) ∷ log) self.new }
+        ensures keeps { Keeps self.old self.new }
     {
         let seq = self.window.send();
         self.sender.note(count, seq);
@@ -176,14 +177,13 @@ impl End {
     /// Counts the next data packet, in which `room` bits are left for events, and gives its header and its events.
     pub(crate) fn pack(&mut self, room: u32) -> (Header, EventList)
         requires { send_state self.old.window ≡ SendState.Room }
-        ensures head { (log : List EndEvent) → StandsFor self.old log → result.0 ≡ data_head self.old.config.client log }
-        ensures events { (log : List EndEvent) → StandsFor self.old log → result.1 ≡ events_for room log }
+        ensures head { Answers self.old (data_head self.old.config.client) result.0 }
+        ensures events { Answers self.old (events_for self.old.config room) result.1 }
         ensures head_fits { IsHeaderInRange result.0 }
         ensures events_fit { AllByRecursion IsEventInRange result.1 }
-        ensures few { sum_by event_size result.1 ≤ room }
-        ensures stands { (log : List EndEvent) → StandsFor self.old log → StandsFor self.new (Packed (data_seen self.old.config.client room log) ∷ log) }
-        ensures config { self.new.config ≡ self.old.config }
-        ensures ready { self.new.receiver ≡ self.old.receiver }
+        ensures few { sum_by (event_bits self.old.config) result.1 ≤ room }
+        ensures stands { Becomes self.old (λ log. Packed (data_seen self.old.config room log) ∷ log) self.new }
+        ensures keeps { Keeps self.old self.new }
     {
         let head = self.data_head();
         let events = self.events(room);
@@ -194,16 +194,16 @@ impl End {
     /// Counts nothing: what a ping leaves is what was there.
     pub(crate) fn pinged(&self) -> Header
         requires { send_state self.now.window ≡ SendState.Held }
-        ensures head { (log : List EndEvent) → StandsFor self.now log → result ≡ ping_head self.now.config.client log }
+        ensures head { Answers self.now (ping_head self.now.config.client) result }
         ensures fits { IsHeaderInRange result }
-        ensures stands { (log : List EndEvent) → StandsFor self.now log → StandsFor self.now (Pinged (record { ping = true; head = ping_head self.now.config.client log; events = [] }) ∷ log) }
+        ensures stands { Becomes self.now (λ log. Pinged (seen true (ping_head self.now.config.client log) []) ∷ log) self.now }
     {
         self.ping_head()
     }
 
     /// The first refusal of a packet by its header; nothing changes.
     pub(crate) fn check_head(&self, ping: bool, head: &Header) -> Result<(), HeadFault>
-        ensures answer { (log : List EndEvent) → StandsFor self.now log → (events : List OneEvent) → result ≡ head_answer self.now.config.client log (record { ping = ping; head = head.now; events = events }) }
+        ensures answer { Answers self.now (λ log. head_answer self.now.config.client log (seen ping head.now [])) result }
         ensures fresh { OnOk result (arrival_of ping head.now.seq self.now.window.horizon ≡ Arrival.Fresh) }
         ensures known { OnOk result (head.now.horizon ≤ self.now.window.sent) }
     {
@@ -231,7 +231,7 @@ impl End {
 
     /// Whether an event of a packet is too far ahead; nothing changes.
     pub(crate) fn check_events(&self, events: &EventList) -> Result<(), EventAhead>
-        ensures answer { (log : List EndEvent) → StandsFor self.now log → result ≡ events_answer log events.now }
+        ensures answer { Answers self.now (λ log. events_answer log events.now) result }
         ensures near { result ≡ take_answer self.now.receiver.delivered events.now }
     {
         self.receiver.check(events)
@@ -245,10 +245,9 @@ impl End {
         requires none_waits { self.old.receiver.ready ≡ [] }
         requires near { take_answer self.old.receiver.delivered events.now ≡ Ok tt }
         requires numbers { All IsEventInRange events.now }
-        ensures stands { (log : List EndEvent) → StandsFor self.old log → StandsFor self.new (Took (record { ping = ping; head = head.now; events = events.now }) ∷ log) }
-        ensures handed { (log : List EndEvent) → StandsFor self.old log → delivered_at (Took (record { ping = ping; head = head.now; events = events.now }) ∷ log) ≡ delivered_at log ++ self.new.receiver.ready }
-        ensures judges { (log : List EndEvent) → StandsFor self.old log → Judges result (fates log) (fates (Took (record { ping = ping; head = head.now; events = events.now }) ∷ log)) }
-        ensures named { (log : List EndEvent) → StandsFor self.old log → Names result (judged_at log) (judged_at (Took (record { ping = ping; head = head.now; events = events.now }) ∷ log)) }
+        ensures stands { Does self.old (Took (seen ping head.now events.now)) self.new }
+        ensures handed { Hands self.old (Took (seen ping head.now events.now)) self.new }
+        ensures settles { Settles self.old (Took (seen ping head.now events.now)) result }
         ensures few { AreFew result }
         ensures config { self.new.config ≡ self.old.config }
     {
@@ -263,7 +262,7 @@ impl End {
 
     /// How many guaranteed events were delivered.
     pub(crate) fn delivered(&self) -> u32
-        ensures { (log : List EndEvent) → StandsFor self.now log → result ≡ run_of (came_of log) }
+        ensures { Answers self.now (λ log. run_of (came_of log)) result }
     {
         self.receiver.delivered()
     }
@@ -279,9 +278,8 @@ impl End {
     /// Hands out the oldest event that waits; `None` exactly where none does.
     pub(crate) fn pop_event(&mut self) -> Option<(Class, Payload)>
         ensures first { result ≡ slice_get self.old.receiver.ready 0 }
-        ensures rest { self.new.receiver.ready ≡ drop 1 self.old.receiver.ready }
-        ensures stands { (log : List EndEvent) → StandsFor self.old log → StandsFor self.new log }
-        ensures config { self.new.config ≡ self.old.config }
+        ensures rest { self.new ≡ popped self.old }
+        ensures stands { Becomes self.old (λ log. log) self.new }
     {
         self.receiver.pop()
     }

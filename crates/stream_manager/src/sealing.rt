@@ -17,16 +17,16 @@ use tn_types::Choice;
 use wire_format::{SERVER_FIXED_BITS, ServerBody, ServerPacket, encode_server, server_bits};
 
 impl Conn {
-    ghost use Rattle.stream_manager.specs.Server.{ServerEvent, server_end, choices_at, data_body, server_ping};
-    ghost use Rattle.stream_manager.specs.Stands.{ConnState, ConnStandsFor, terms_of};
-    ghost use Rattle.stream_manager.specs.Calls.{Planning, AreForPlan, Sealed, Pinging};
+    ghost use Rattle.stream_manager.specs.Server.{choices_at, data_body, server_bytes, server_ping_bytes};
+    ghost use Rattle.stream_manager.specs.Stands.{terms_of};
+    ghost use Rattle.stream_manager.specs.ConnCalls.{Answers, Planning, AreForPlan, Sealed, Pinging};
     ghost use Rattle.stream_manager.specs.contracts.server.Conn.{the_row};
 
     /// Gives the lowest free slots to waiting periods, and chooses the ghosts of the next data packet, in order
     /// (docs/connection.md, "Candidates"). The plan holds until the next call that changes something.
     pub fn plan(&mut self) -> &[Choice]
         requires { send_state self.old.common.window ≡ SendState.Room }
-        ensures choices { (log : List ServerEvent) → ConnStandsFor self.old log → result.now ≡ choices_at (terms_of self.old) log }
+        ensures choices { Answers self.old (choices_at (terms_of self.old)) result.now }
         ensures* after { sem 𝓛 (Rests the_row self.entry (Planning self.old)) }
     {
         self.choose();
@@ -36,7 +36,7 @@ impl Conn {
     /// Plans the next data packet.
     fn choose(&mut self)
         requires { send_state self.old.common.window ≡ SendState.Room }
-        ensures choices { (log : List ServerEvent) → ConnStandsFor self.old log → self.new.masks.plan ≡ Some (choices_at (terms_of self.old) log) }
+        ensures choices { Answers self.old (λ log. Some (choices_at (terms_of self.old) log)) self.new.masks.plan }
         ensures after { Planning self.old self.new }
     {
         let size = self.common.config().size;
@@ -53,7 +53,7 @@ impl Conn {
     fn packed(&mut self, values: &[i64]) -> ServerBody
         requires planned { IsSome self.old.masks.plan }
         requires values { AreForPlan self.old.masks values.now }
-        ensures body { (log : List ServerEvent) → ConnStandsFor self.old log → result ≡ data_body (terms_of self.old) log values.now }
+        ensures body { Answers self.old (λ log. data_body (terms_of self.old) log values.now) result }
         ensures fits { IsServerInRange self.old.masks.kinds (down.Body result) }
         ensures size { server_size self.old.masks.kinds (down.Body result) ≤ 8 * self.old.common.config.size }
         ensures after { Sealed self.old values.now self.new }
@@ -80,7 +80,7 @@ impl Conn {
     pub fn seal(&mut self, values: &[i64]) -> &[u8]
         requires planned { IsSome self.old.masks.plan }
         requires values { AreForPlan self.old.masks values.now }
-        ensures bytes { (log : List ServerEvent) → ConnStandsFor self.old log → result.now ≡ datagram (server self.old.masks.kinds (down.Body (data_body (terms_of self.old) log values.now))) }
+        ensures bytes { Answers self.old (server_bytes (terms_of self.old) values.now) result.now }
         ensures few { length result.now ≤ self.old.common.config.size }
         ensures* after { sem 𝓛 (Rests the_row self.entry (Sealed self.old values.now)) }
     {
@@ -92,7 +92,7 @@ impl Conn {
     /// Makes a ping, and lends its bytes.
     pub fn ping(&mut self) -> &[u8]
         requires { send_state self.old.common.window ≡ SendState.Held }
-        ensures bytes { (log : List ServerEvent) → ConnStandsFor self.old log → result.now ≡ datagram (server self.old.masks.kinds (down.Ping (server_ping self.old.common.config log))) }
+        ensures bytes { Answers self.old (server_ping_bytes (terms_of self.old)) result.now }
         ensures few { length result.now ≤ self.old.common.config.size }
         ensures* after { sem 𝓛 (Rests the_row self.entry (Pinging self.old)) }
     {

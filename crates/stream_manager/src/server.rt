@@ -10,7 +10,6 @@ ghost use Rattle.ghost_model.specs.Scope.{shows};
 ghost use Rattle.ghost_scope.specs.Table.{phase_of};
 ghost use Rattle.tn_types.specs.declared.choices.Class.TheVariants.{Guaranteed, Loose};
 ghost use Rattle.wire_format.specs.declared.client.ClientPacket.TheVariants as up;
-ghost use Rattle.wire_format.specs.declared.events.EventItem.{EventItem as OneEvent};
 ghost use Rattle.wire_format.specs.Header.{IsHeader};
 ghost use Rattle.wire_format.specs.Client.{IsClientBody};
 
@@ -54,24 +53,29 @@ pub struct Conn {
 }
 
 impl Model for Conn {
-    ghost use Rattle.std.specs.Prelude.{List};
-    ghost use Rattle.stream_manager.specs.Server.{ServerEvent};
-    ghost use Rattle.stream_manager.specs.Stands.{ConnState, ConnStandsFor};
+    ghost use Rattle.stream_manager.specs.Stands.{ConnState, ConnStandsForSome};
 
     ghost Value = { ConnState };
 
     ghost view = { λ c. record { common = c.common; masks = c.masks; blocks = c.blocks; moves = c.moves; taken = c.taken } };
 
-    ghost invariant = { λ c. (log : List ServerEvent) × ConnStandsFor (record { common = c.common; masks = c.masks; blocks = c.blocks; moves = c.moves; taken = c.taken }) log };
+    ghost invariant = { λ c. ConnStandsForSome (record {
+      common = c.common;
+      masks = c.masks;
+      blocks = c.blocks;
+      moves = c.moves;
+      taken = c.taken;
+    }) };
 }
 
 impl Conn {
     ghost use Rattle.stream_manager.specs.Limits.{IsConfig};
-    ghost use Rattle.stream_manager.specs.End.{fates, dropped_of, delivered_at, head_answer, events_answer};
-    ghost use Rattle.stream_manager.specs.Server.{ServerEvent, Posted, Shown, Hidden, Took, server_end, ghost_log, accepted_at, posted_at_server, server_state, server_answer, taken_of, took_at_server, packet_check, gap_check, moves_new, seen_ping, seen_client_body};
-    ghost use Rattle.stream_manager.specs.Stands.{ConnState, ConnStandsFor, terms_of};
-    ghost use Rattle.stream_manager.specs.Calls.{Admits};
-    ghost use Rattle.stream_manager.specs.Faults.{checked_packet, head_at_server, events_at_server};
+    ghost use Rattle.stream_manager.specs.End.{seen, dropped_of, events_answer};
+    ghost use Rattle.stream_manager.specs.EndCalls.{popped};
+    ghost use Rattle.stream_manager.specs.Server.{Posted, Shown, Hidden, Took, server_end, ghost_log, accepted_at, posted_at_server, server_state, arrive_answer, arriving, read_answer, head_check, packet_check, gap_check, moves_new};
+    ghost use Rattle.stream_manager.specs.Stands.{ConnStandsFor, terms_of};
+    ghost use Rattle.stream_manager.specs.ConnCalls.{Does, Answers, Becomes, Hands, Accepts, Keeps, Admits};
+    ghost use Rattle.stream_manager.specs.Faults.{events_at_server};
     ghost use Rattle.wire_format.specs.Client.{IsClient};
     ghost use Rattle.event_manager.specs.Receiving.{take_answer};
 
@@ -133,7 +137,7 @@ impl Conn {
 
     /// How many moves were accepted, which is the number of the next one.
     pub fn accepted(&self) -> u32
-        ensures log { (log : List ServerEvent) → ConnStandsFor self.now log → result ≡ length (accepted_at self.now.common.config log) }
+        ensures log { Answers self.now (λ log. length (accepted_at self.now.common.config log)) result }
         ensures fits { result < 2 ^ 24 }
     {
         let _life = self.common.config().life;
@@ -143,12 +147,10 @@ impl Conn {
     /// Posts a guaranteed event, and gives its number, from 0 on. `Worn` comes exactly where `life` were posted, else
     /// `Full` exactly where 256 are unacknowledged; nothing changes then.
     pub fn post(&mut self, payload: Payload) -> Result<u32, PostFault>
-        ensures answer { (log : List ServerEvent) → ConnStandsFor self.old log → result ≡ posted_at_server self.old.common.config log }
-        ensures stands { OnOk result ((log : List ServerEvent) → ConnStandsFor self.old log → ConnStandsFor self.new (Posted Guaranteed payload ∷ log)) }
+        ensures answer { Answers self.old (posted_at_server self.old.common.config) result }
+        ensures stands { OnOk result (Does self.old (Posted Guaranteed payload) self.new) }
         ensures unchanged { OnErr result (self.new ≡ self.old) }
-        ensures terms { terms_of self.new ≡ terms_of self.old }
-        ensures ready { self.new.common.receiver ≡ self.old.common.receiver }
-        ensures taken { self.new.taken ≡ self.old.taken }
+        ensures keeps { Keeps self.old self.new }
     {
         let number = self.common.post(payload)?;
         self.masks.discard_plan();
@@ -157,11 +159,9 @@ impl Conn {
 
     /// Posts an unguaranteed event. It never refuses: where 64 wait, the oldest of them is dropped and given back.
     pub fn post_loose(&mut self, payload: Payload) -> Option<Payload>
-        ensures dropped { (log : List ServerEvent) → ConnStandsFor self.old log → result ≡ dropped_of (server_end log) }
-        ensures stands { (log : List ServerEvent) → ConnStandsFor self.old log → ConnStandsFor self.new (Posted Loose payload ∷ log) }
-        ensures terms { terms_of self.new ≡ terms_of self.old }
-        ensures ready { self.new.common.receiver ≡ self.old.common.receiver }
-        ensures taken { self.new.taken ≡ self.old.taken }
+        ensures dropped { Answers self.old (λ log. dropped_of (server_end log)) result }
+        ensures stands { Does self.old (Posted Loose payload) self.new }
+        ensures keeps { Keeps self.old self.new }
     {
         self.masks.discard_plan();
         self.common.post_loose(payload)
@@ -178,11 +178,9 @@ impl Conn {
         requires numbers { self.old.masks.periods.shown < 2 ^ 32 - 1 }
         requires alone { control ≡ true → list_any (λ e. e.control && is_up e.phase) self.old.masks.periods.entries ≡ false }
         ensures number { result ≡ self.old.masks.periods.shown }
-        ensures told { (log : List ServerEvent) → ConnStandsFor self.old log → result ≡ shows (scope_log (ghost_log log)) }
-        ensures stands { (log : List ServerEvent) → ConnStandsFor self.old log → ConnStandsFor self.new (Shown kind block level control ∷ log) }
-        ensures terms { terms_of self.new ≡ terms_of self.old }
-        ensures ready { self.new.common.receiver ≡ self.old.common.receiver }
-        ensures taken { self.new.taken ≡ self.old.taken }
+        ensures told { Answers self.old (λ log. shows (scope_log (ghost_log log))) result }
+        ensures stands { Does self.old (Shown kind block level control) self.new }
+        ensures keeps { Keeps self.old self.new }
     {
         self.masks.show(kind, block, level, control)
     }
@@ -191,10 +189,8 @@ impl Conn {
     pub fn hide(&mut self, n: u32)
         requires shown { n < self.old.masks.periods.shown }
         requires up { is_up (phase_of self.old.masks.periods n) ≡ true }
-        ensures stands { (log : List ServerEvent) → ConnStandsFor self.old log → ConnStandsFor self.new (Hidden n ∷ log) }
-        ensures terms { terms_of self.new ≡ terms_of self.old }
-        ensures ready { self.new.common.receiver ≡ self.old.common.receiver }
-        ensures taken { self.new.taken ≡ self.old.taken }
+        ensures stands { Does self.old (Hidden n) self.new }
+        ensures keeps { Keeps self.old self.new }
     {
         self.masks.hide(n);
     }
@@ -202,8 +198,8 @@ impl Conn {
     /// The slot that the period holds; `None` exactly where it is Waiting or Gone.
     pub fn slot(&self, n: u32) -> Option<u8>
         requires { n < self.now.masks.periods.shown }
-        ensures none { IsNone result ↔ ((phase_of self.now.masks.periods n ≡ Phase.Waiting) ⊎ (phase_of self.now.masks.periods n ≡ Phase.Gone)) }
-        ensures told { (log : List ServerEvent) → ConnStandsFor self.now log → result ≡ slot (ghost_log log) n }
+        ensures none { let phase = phase_of self.now.masks.periods n in IsNone result ↔ ((phase ≡ Phase.Waiting) ⊎ (phase ≡ Phase.Gone)) }
+        ensures told { Answers self.now (λ log. slot (ghost_log log) n) result }
     {
         self.masks.slot(n)
     }
@@ -211,7 +207,7 @@ impl Conn {
     /// What a pack makes now (docs/connection.md, "Sending").
     pub fn pack_state(&self) -> SendState
         ensures state { result ≡ send_state self.now.common.window }
-        ensures log { (log : List ServerEvent) → ConnStandsFor self.now log → result ≡ server_state self.now.common.config log }
+        ensures log { Answers self.now (server_state self.now.common.config) result }
     {
         self.common.state()
     }
@@ -221,10 +217,10 @@ impl Conn {
     pub fn arrive(&mut self, bytes: &[u8], room: u32) -> Result<Taken, ArriveFault>
         requires few { length bytes.now ≤ 65536 }
         requires none_waits { self.old.common.receiver.ready ≡ [] }
-        ensures answer { (log : List ServerEvent) → ConnStandsFor self.old log → result ≡ taken_of self.old.common.config log room (server_answer self.old.common.config log bytes.now) }
-        ensures stands { (log : List ServerEvent) → ConnStandsFor self.old log → ConnStandsFor self.new (took_at_server log room (server_answer self.old.common.config log bytes.now)) }
-        ensures handed { (log : List ServerEvent) → ConnStandsFor self.old log → delivered_at (server_end (took_at_server log room (server_answer self.old.common.config log bytes.now))) ≡ delivered_at (server_end log) ++ self.new.common.receiver.ready }
-        ensures moves { OnOk result ((log : List ServerEvent) → ConnStandsFor self.old log → accepted_at self.old.common.config (took_at_server log room (server_answer self.old.common.config log bytes.now)) ≡ accepted_at self.old.common.config log ++ self.new.taken) }
+        ensures answer { Answers self.old (arrive_answer self.old.common.config room bytes.now) result }
+        ensures stands { Becomes self.old (arriving self.old.common.config room bytes.now) self.new }
+        ensures handed { Hands self.old (arriving self.old.common.config room bytes.now) self.new }
+        ensures moves { OnOk result (Accepts self.old (arriving self.old.common.config room bytes.now) self.new) }
         ensures unchanged { OnErr result (self.new ≡ self.old) }
         ensures terms { terms_of self.new ≡ terms_of self.old }
     {
@@ -239,10 +235,10 @@ impl Conn {
     fn take(&mut self, packet: &ClientPacket, room: u32) -> Result<Taken, ArriveFault>
         requires fits { IsClient packet.now }
         requires none_waits { self.old.common.receiver.ready ≡ [] }
-        ensures answer { (log : List ServerEvent) → ConnStandsFor self.old log → result ≡ taken_of self.old.common.config log room (checked_packet packet.now (packet_check self.old.common.config log packet.now)) }
-        ensures stands { OnOk result ((log : List ServerEvent) → ConnStandsFor self.old log → ConnStandsFor self.new (Took packet.now room ∷ log)) }
-        ensures handed { OnOk result ((log : List ServerEvent) → ConnStandsFor self.old log → delivered_at (server_end (Took packet.now room ∷ log)) ≡ delivered_at (server_end log) ++ self.new.common.receiver.ready) }
-        ensures moves { OnOk result ((log : List ServerEvent) → ConnStandsFor self.old log → accepted_at self.old.common.config (Took packet.now room ∷ log) ≡ accepted_at self.old.common.config log ++ self.new.taken) }
+        ensures answer { Answers self.old (read_answer self.old.common.config room packet.now) result }
+        ensures stands { OnOk result (Does self.old (Took packet.now room) self.new) }
+        ensures handed { OnOk result (Hands self.old (λ log. Took packet.now room ∷ log) self.new) }
+        ensures moves { OnOk result (Accepts self.old (λ log. Took packet.now room ∷ log) self.new) }
         ensures unchanged { OnErr result (self.new ≡ self.old) }
         ensures terms { terms_of self.new ≡ terms_of self.old }
     {
@@ -262,7 +258,7 @@ impl Conn {
 
     /// The first refusal of a packet by its header; nothing changes.
     fn check_head(&self, ping: bool, head: &Header) -> Result<(), ArriveFault>
-        ensures answer { (log : List ServerEvent) → ConnStandsFor self.now log → (events : List OneEvent) → result ≡ head_at_server (head_answer self.now.common.config.client (server_end log) (record { ping = ping; head = head.now; events = events })) }
+        ensures answer { Answers self.now (head_check self.now.common.config (seen ping head.now [])) result }
         ensures fresh { OnOk result (arrival_of ping head.now.seq self.now.common.window.horizon ≡ Arrival.Fresh) }
         ensures known { OnOk result (head.now.horizon ≤ self.now.common.window.sent) }
     {
@@ -274,7 +270,7 @@ impl Conn {
 
     /// The first refusal of a ping; nothing changes.
     fn check_ping(&self, head: &Header) -> Result<(), ArriveFault>
-        ensures answer { (log : List ServerEvent) → ConnStandsFor self.now log → result ≡ packet_check self.now.common.config log (up.Ping head.now) }
+        ensures answer { Answers self.now (λ log. packet_check self.now.common.config log (up.Ping head.now)) result }
         ensures fresh { OnOk result (arrival_of true head.now.seq self.now.common.window.horizon ≡ Arrival.Fresh) }
         ensures known { OnOk result (head.now.horizon ≤ self.now.common.window.sent) }
     {
@@ -283,7 +279,7 @@ impl Conn {
 
     /// The first refusal of a data packet; nothing changes.
     fn check(&self, body: &ClientBody) -> Result<(), ArriveFault>
-        ensures answer { (log : List ServerEvent) → ConnStandsFor self.now log → result ≡ packet_check self.now.common.config log (up.Body body.now) }
+        ensures answer { Answers self.now (λ log. packet_check self.now.common.config log (up.Body body.now)) result }
         ensures admits { OnOk result (Admits self.now body.now) }
     {
         self.check_head(false, &body.head)?;
@@ -293,7 +289,7 @@ impl Conn {
 
     /// Whether a packet's first move stands behind the next one.
     fn check_gap(&self, first: u32) -> Result<(), ArriveFault>
-        ensures answer { (log : List ServerEvent) → ConnStandsFor self.now log → result ≡ gap_check self.now.common.config log first }
+        ensures answer { Answers self.now (λ log. gap_check self.now.common.config log first) result }
         ensures next { OnOk result (first ≤ self.now.moves.accepted) }
     {
         let accepted = self.moves.accepted();
@@ -305,7 +301,7 @@ impl Conn {
 
     /// Whether an event is too far ahead.
     fn check_events(&self, events: &EventList) -> Result<(), ArriveFault>
-        ensures answer { (log : List ServerEvent) → ConnStandsFor self.now log → result ≡ events_at_server (events_answer (server_end log) events.now) }
+        ensures answer { Answers self.now (λ log. events_at_server (events_answer (server_end log) events.now)) result }
         ensures near { OnOk result (take_answer self.now.common.receiver.delivered events.now ≡ Ok tt) }
     {
         match self.common.check_events(events) {
@@ -323,8 +319,8 @@ impl Conn {
         requires fresh { arrival_of true head.now.seq self.old.common.window.horizon ≡ Arrival.Fresh }
         requires known { head.now.horizon ≤ self.old.common.window.sent }
         requires none_waits { self.old.common.receiver.ready ≡ [] }
-        ensures stands { (log : List ServerEvent) (room : ℕ) → ConnStandsFor self.old log → ConnStandsFor self.new (Took (up.Ping head.now) room ∷ log) }
-        ensures handed { (log : List ServerEvent) (room : ℕ) → ConnStandsFor self.old log → delivered_at (server_end (Took (up.Ping head.now) room ∷ log)) ≡ delivered_at (server_end log) ++ self.new.common.receiver.ready }
+        ensures stands { (room : ℕ) → Does self.old (Took (up.Ping head.now) room) self.new }
+        ensures handed { (room : ℕ) → Hands self.old (λ log. Took (up.Ping head.now) room ∷ log) self.new }
         ensures moves { self.new.taken ≡ [] }
         ensures terms { terms_of self.new ≡ terms_of self.old }
     {
@@ -340,10 +336,10 @@ impl Conn {
         requires fits { IsClientBody body.now }
         requires admits { Admits self.old body.now }
         requires none_waits { self.old.common.receiver.ready ≡ [] }
-        ensures count { (log : List ServerEvent) → ConnStandsFor self.old log → result ≡ moves_new self.old.common.config log room (up.Body body.now) }
-        ensures stands { (log : List ServerEvent) → ConnStandsFor self.old log → ConnStandsFor self.new (Took (up.Body body.now) room ∷ log) }
-        ensures handed { (log : List ServerEvent) → ConnStandsFor self.old log → delivered_at (server_end (Took (up.Body body.now) room ∷ log)) ≡ delivered_at (server_end log) ++ self.new.common.receiver.ready }
-        ensures moves { (log : List ServerEvent) → ConnStandsFor self.old log → accepted_at self.old.common.config (Took (up.Body body.now) room ∷ log) ≡ accepted_at self.old.common.config log ++ self.new.taken }
+        ensures count { Answers self.old (λ log. moves_new self.old.common.config log room (up.Body body.now)) result }
+        ensures stands { Does self.old (Took (up.Body body.now) room) self.new }
+        ensures handed { Hands self.old (λ log. Took (up.Body body.now) room ∷ log) self.new }
+        ensures moves { Accepts self.old (λ log. Took (up.Body body.now) room ∷ log) self.new }
         ensures terms { terms_of self.new ≡ terms_of self.old }
     {
         let notices = self.common.take(false, &body.head, &body.events);
@@ -376,10 +372,8 @@ impl Conn {
     /// Hands out the oldest event of the client that waits; `None` exactly where none does.
     pub fn pop_event(&mut self) -> Option<(Class, Payload)>
         ensures first { result ≡ slice_get self.old.common.receiver.ready 0 }
-        ensures rest { self.new.common.receiver.ready ≡ drop 1 self.old.common.receiver.ready }
-        ensures stands { (log : List ServerEvent) → ConnStandsFor self.old log → ConnStandsFor self.new log }
-        ensures terms { terms_of self.new ≡ terms_of self.old }
-        ensures taken { self.new.taken ≡ self.old.taken }
+        ensures rest { self.new ≡ record self.old { common = popped self.old.common } }
+        ensures stands { Becomes self.old (λ log. log) self.new }
     {
         self.common.pop_event()
     }

@@ -1,14 +1,11 @@
 //! The verdicts of one acknowledgement, told to those who keep what is on its way.
-ghost use Rattle.std.specs.Prelude.{◌≡◌, ℕ, ◌+◌, ◌<◌, ◌≤◌, List, None};
+ghost use Rattle.std.specs.Prelude.{◌≡◌, ◌+◌, ◌<◌, ◌≤◌, None};
 ghost use Rattle.std.specs.Int.{bit_at};
-ghost use Rattle.notify_window.specs.Log.{Fate, fate_of_bit};
+ghost use Rattle.notify_window.specs.Log.{fate_of_bit};
 ghost use Rattle.event_manager.specs.Sending as events;
 ghost use Rattle.event_manager.specs.SenderStands as events_stand;
-ghost use Rattle.datablocks.specs.Sending as blocks;
 ghost use Rattle.datablocks.specs.SenderStands as blocks_stand;
-ghost use Rattle.ghost_model.specs.Ghosts.{GhostEvent};
-ghost use Rattle.ghost_masks.specs.StandsFor as masks_stand;
-ghost use Rattle.stream_manager.specs.Settling.{Judges, AreFew, verdict_of, judgements};
+ghost use Rattle.stream_manager.specs.Settling.{AreFew, Hears, GhostsHear, verdict_of};
 
 use datablocks::BlockSender;
 use event_manager::EventSender;
@@ -32,7 +29,7 @@ fn verdict_at(bits: u32, i: u32) -> Verdict
 /// Tells the sender of events each verdict, in rising order.
 pub(crate) fn settle_events(sender: &mut EventSender, notices: &Notices)
     requires { AreFew notices.now }
-    ensures stands { (before after : ℕ → Fate) (log : List events.SenderEvent) → Judges notices.now before after → events_stand.StandsFor sender.old before log → events_stand.StandsFor sender.new after log }
+    ensures stands { Hears events_stand.StandsFor sender.old notices.now sender.new }
     ensures life { sender.new.life ≡ sender.old.life }
 {
     'verdicts: for i in 0..notices.count {
@@ -44,7 +41,7 @@ pub(crate) fn settle_events(sender: &mut EventSender, notices: &Notices)
 /// Tells the sender of blocks each verdict, in rising order.
 pub(crate) fn settle_blocks(sender: &mut BlockSender, notices: &Notices)
     requires { AreFew notices.now }
-    ensures stands { (before after : ℕ → Fate) (log : List blocks.SenderEvent) → Judges notices.now before after → blocks_stand.StandsFor sender.old before log → blocks_stand.StandsFor sender.new after log }
+    ensures stands { Hears blocks_stand.StandsFor sender.old notices.now sender.new }
     ensures blocks { sender.new.blocks ≡ sender.old.blocks }
 {
     'verdicts: for i in 0..notices.count {
@@ -59,7 +56,7 @@ pub(crate) fn settle_ghosts(masks: &mut Masks, notices: &Notices)
     requires first { notices.now.first ≡ masks.old.judged + 1 }
     requires sent { masks.old.judged + notices.now.count ≤ masks.old.sent }
     requires no_plan { masks.old.plan ≡ None }
-    ensures stands { (before after : ℕ → Fate) (log : List GhostEvent) → Judges notices.now before after → masks_stand.StandsFor masks.old log → masks_stand.StandsFor masks.new (judgements after notices.now.first notices.now.count log) }
+    ensures stands { GhostsHear masks.old notices.now masks.new }
     ensures kinds { masks.new.kinds ≡ masks.old.kinds }
     ensures no_plan { masks.new.plan ≡ None }
 {

@@ -1,1 +1,3 @@
 pub mod ByteLists
+pub mod ListWords
+pub mod StepRanges

@@ -1,7 +1,9 @@
 //! A player's move.
-ghost use Rattle.std.specs.Prelude.{pos, negsuc, ◌≤ℤ◌};
+ghost use Rattle.std.specs.Prelude.{◌≡◌, true, false, pos};
+ghost use Rattle.tn_types.specs.Steps.{is_step};
 
-/// What a player does in one tick: a step of -8 to 7 units each way, whether he fires, and whether he uses.
+/// What a player does in one tick: a step of `MIN_STEP` to `MAX_STEP` units each way, whether he fires, and whether he
+/// uses.
 #[derive(Clone, Copy, Debug, PartialEq, Eq)]
 pub struct Move {
     pub dx: i8,
@@ -9,20 +11,15 @@ pub struct Move {
     pub fire: bool,
     /// The script's USE.
     pub act: bool,
-    pub ghost dx_range: { (negsuc 7 ≤ℤ dx) × (dx ≤ℤ pos 7) },
-    pub ghost dy_range: { (negsuc 7 ≤ℤ dy) × (dy ≤ℤ pos 7) },
-}
-
-impl Move {
-    /// The least step each way.
-    pub const LEAST: i8 = -8;
-    /// The greatest step each way.
-    pub const GREATEST: i8 = 7;
+    pub ghost dx_range: { is_step dx ≡ true },
+    pub ghost dy_range: { is_step dy ≡ true },
 }
 
 impl Default for Move {
     /// No step, no shot, no use.
-    fn default() -> Self {
+    fn default() -> Self
+        ensures { (result.dx ≡ pos 0) × (result.dy ≡ pos 0) × (result.fire ≡ false) × (result.act ≡ false) }
+    {
         Move {
             dx: 0,
             dy: 0,

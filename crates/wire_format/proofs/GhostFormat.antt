@@ -8,7 +8,7 @@ use Rattle.bit_stream.specs.Bits.{number}
 use Rattle.wire_format.specs.declared.fault.BitsCause.TheVariants.{OpBits, UnknownKind, EmptyMask}
 use Rattle.wire_format.specs.declared.ghosts.GhostItem.{GhostItem}
 use Rattle.wire_format.specs.declared.ghosts.GhostItem.TheVariants.{Kill, Create, Update}
-use Rattle.wire_format.specs.Ghosts.{levels, levels_at, AreLevels, widths, chosen, slot_of, op_of, behind_op, ghost_item, kind_at, create_at, Updated, updated_at, update_at, by_op, ghost_at, IsKind, IsGhost}
+use Rattle.wire_format.specs.Ghosts.{levels, levels_at, AreLevels, widths, chosen, slot_named, op_of, behind_op, spell_ghost, kind_number_at, create_at, Updated, updated_at, update_at, by_op, ghost_at, IsKind, IsGhost}
 use Rattle.wire_format.proofs.Formats.{IsFormat, and_then, made, respelled, wrapped, a_number, a_number_within, a_number_such, IsWithin, IsSuch}
 
 first : List ℕ → ℕ
@@ -65,12 +65,12 @@ levels_of (Kill slot) = []
 levels_of (Create slot kind block ls) = ls
 levels_of (Update slot kind mask ls) = ls
 
-a_kind : (kinds : List Kind) → IsFormat (kind_at kinds) (number 4) (IsSuch (λ k. nat_lt k (length kinds)) 4)
+a_kind : (kinds : List Kind) → IsFormat (kind_number_at kinds) (number 4) (IsSuch (λ k. nat_lt k (length kinds)) 4)
 a_kind kinds = a_number_such UnknownKind (λ k. nat_lt k (length kinds)) 4
 
 module _ (kinds : List Kind) (slot : ℕ) (s : slot < 2 ^ 8) where
   abbrev IsOp : ℕ → GhostItem → Type 0
-  IsOp op g = (op_of g ≡ op) × ((slot_of g ≡ slot) × IsGhost kinds g)
+  IsOp op g = (op_of g ≡ op) × ((slot_named g ≡ slot) × IsGhost kinds g)
 
   a_kill : IsFormat (λ t. Ok (Kill slot, t)) (behind_op kinds) (IsOp 0)
   a_kill = made (Kill slot) (behind_op kinds) (IsOp 0) refl (refl, (refl, s)) only
@@ -169,18 +169,18 @@ module _ (kinds : List Kind) (slot : ℕ) (s : slot < 2 ^ 8) where
   by_its_op (suc (suc zero)) w = an_update
   by_its_op (suc (suc (suc n))) w = absurd (omega (arith, w.few))
 
-pub a_ghost : (kinds : List Kind) → IsFormat (ghost_at kinds) (ghost_item kinds) (IsGhost kinds)
+pub a_ghost : (kinds : List Kind) → IsFormat (ghost_at kinds) (spell_ghost kinds) (IsGhost kinds)
 unfolding ghost_at
 a_ghost kinds =
-    and_then _ slot_of _ (IsGhost kinds) (a_number 8) slot_fits (λ slot s.
+    and_then _ slot_named _ (IsGhost kinds) (a_number 8) slot_fits (λ slot s.
     and_then (λ n. by_op kinds slot n.0 n.1) op_of (behind_op kinds) _ (a_number_within OpBits 0 2 2) (op_fits slot) (λ op o. by_its_op kinds slot s op o))
   where
-    slot_fits : (g : GhostItem) → IsGhost kinds g → slot_of g < 2 ^ 8
+    slot_fits : (g : GhostItem) → IsGhost kinds g → slot_named g < 2 ^ 8
     slot_fits (Kill slot) h = h
     slot_fits (Create slot kind block ls) h = h.0
     slot_fits (Update slot kind mask ls) h = h.0
 
-    op_fits : (slot : ℕ) (g : GhostItem) → (slot_of g ≡ slot) × IsGhost kinds g → IsWithin 0 2 2 (op_of g)
+    op_fits : (slot : ℕ) (g : GhostItem) → (slot_named g ≡ slot) × IsGhost kinds g → IsWithin 0 2 2 (op_of g)
     op_fits slot (Kill s) h = record { fits = omega arith; enough = omega arith; few = omega arith }
     op_fits slot (Create s kind block ls) h = record { fits = omega arith; enough = omega arith; few = omega arith }
     op_fits slot (Update s kind mask ls) h = record { fits = omega arith; enough = omega arith; few = omega arith }

@@ -5,14 +5,14 @@ use Rattle.wire_format.specs.declared.fault.BitsCause.TheVariants.{LengthBits}
 use Rattle.wire_format.specs.declared.blocks.BlockItem.{BlockItem}
 use Rattle.wire_format.specs.declared.events.EventItem.{EventItem}
 use Rattle.wire_format.specs.Reading.{part_at}
-use Rattle.wire_format.specs.Blocks.{block, block_at, IsBlock}
-use Rattle.wire_format.specs.Events.{event, event_at, IsEvent}
+use Rattle.wire_format.specs.Blocks.{spell_block, block_at, IsBlock}
+use Rattle.wire_format.specs.Events.{spell_event, event_at, IsEvent}
 use Rattle.wire_format.proofs.Formats.{IsFormat, and_then, made, a_number, a_number_within, an_optional, counted}
 
 same_event : (e : EventItem) (number : Option ℕ) (count : ℕ) (payload : List ℕ) → (e.payload ≡ payload) × ((length e.payload ≡ count) × ((e.number ≡ number) × IsEvent e)) → e ≡ record { number = number; payload = payload }
 same_event e number count payload f = rw (← f.0, ← f.1.1.0) refl
 
-pub an_event : IsFormat event_at event IsEvent
+pub an_event : IsFormat event_at spell_event IsEvent
 unfolding event_at
 an_event =
     and_then _ _ _ _ (an_optional 24) (λ e f. f.number) (λ own n.
@@ -25,7 +25,7 @@ an_event =
 same_block : (b : BlockItem) (number count : ℕ) (bytes : List ℕ) → (b.bytes ≡ bytes) × ((length b.bytes ≡ count) × ((b.number ≡ number) × IsBlock b)) → b ≡ record { number = number; bytes = bytes }
 same_block b number count bytes f = rw (← f.0, ← f.1.1.0) refl
 
-pub a_block : IsFormat block_at block IsBlock
+pub a_block : IsFormat block_at spell_block IsBlock
 unfolding block_at
 a_block =
     and_then _ _ _ _ (a_number 6) (λ b f. f.number) (λ own n.

@@ -14,7 +14,7 @@ use Rattle.wire_format.specs.declared.fault.BitsFault.{BitsFault}
 use Rattle.wire_format.specs.declared.ghosts.GhostItem.{GhostItem}
 use Rattle.wire_format.specs.declared.ghosts.GhostItem.TheVariants.{Kill, Create, Update}
 use Rattle.wire_format.specs.Reading.{part_at}
-use Rattle.wire_format.specs.Ghosts.{chosen, levels, levels_at, AreLevels, ghost_item, ghost_size}
+use Rattle.wire_format.specs.Ghosts.{chosen, levels, levels_at, AreLevels, spell_ghost, ghost_size}
 use Rattle.wire_format.proofs.Counted.{with_front, regroup}
 
 -- ---- chosen widths
@@ -118,7 +118,7 @@ length-levels (w ∷ ws) [] = refl
 length-levels (w ∷ ws) (l ∷ ls) = omega (arith, length-append (number w l) (levels ws ls), length-number w l, length-levels ws ls, sum_by-cons (λ x. x) w (take (length ls) ws))
 
 -- the bits of a ghost
-pub length-ghost : (kinds : List Kind) (g : GhostItem) → length (ghost_item kinds g) ≡ ghost_size kinds g
+pub length-ghost : (kinds : List Kind) (g : GhostItem) → length (spell_ghost kinds g) ≡ ghost_size kinds g
 length-ghost kinds (Kill slot) = grind (arith, length-append, length-number)
 length-ghost kinds (Create slot kind block ls) = grind (arith, length-append, length-number, length-levels)
 length-ghost kinds (Update slot kind mask ls) = grind (arith, length-append, length-number, length-levels)

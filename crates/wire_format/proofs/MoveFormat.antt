@@ -1,15 +1,16 @@
 -- A move is read as it is spelled.
 use Rattle.std.proofs.Common.{◌≡◌, ℕ, zero, suc, ◌<◌, Bool, true, false, [], refl, sym, ap, subst, ◌∙◌, arith}
-use Rattle.std.specs.Prelude.{ℤ, pos, negsuc, ◌≤ℤ◌, ◌==◌}
+use Rattle.std.specs.Prelude.{ℤ, ◌==◌}
+use Rattle.tn_types.specs.Steps.{is_step}
 use Rattle.tn_types.specs.declared.moves.Move.{Move}
 use denote.Struct.Props.{props}
 use Rattle.wire_format.specs.Steps.{raised, step_of}
 use Rattle.wire_format.proofs.Steps.{raised_below, step_of-raised, raised-step_of}
-use Rattle.wire_format.specs.Moves.{flag_of, the_move, move_of, move_at, AnyMove}
+use Rattle.wire_format.specs.Moves.{flag_of, spell_move, move_from, move_at, AnyMove}
 use Rattle.wire_format.proofs.Formats.{IsFormat, and_then, made, a_number}
 
 abbrev InRange : ℤ → Type 0
-InRange z = (negsuc 7 ≤ℤ z) × (z ≤ℤ pos 7)
+InRange z = is_step z ≡ true
 
 same_range : (z : ℤ) (p q : InRange z) → p ≡ q
 same_range z = hlevel props
@@ -48,21 +49,21 @@ flag_of-is zero h = refl
 flag_of-is (suc zero) h = refl
 flag_of-is (suc (suc n)) h = absurd (omega arith)
 
-only : (dx dy fire act : ℕ) (m : Move) → (flag_of m.act ≡ act) × ((flag_of m.fire ≡ fire) × ((raised m.dy ≡ dy) × ((raised m.dx ≡ dx) × AnyMove m))) → m ≡ move_of dx dy fire act
+only : (dx dy fire act : ℕ) (m : Move) → (flag_of m.act ≡ act) × ((flag_of m.fire ≡ fire) × ((raised m.dy ≡ dy) × ((raised m.dx ≡ dx) × AnyMove m))) → m ≡ move_from dx dy fire act
 only dx dy fire act m h =
-    same_move m (move_of dx dy fire act)
-    (sym (step_of-raised m.dx m.dx_range.0 m.dx_range.1) ∙ ap step_of h.1.1.1.0)
-    (sym (step_of-raised m.dy m.dy_range.0 m.dy_range.1) ∙ ap step_of h.1.1.0)
+    same_move m (move_from dx dy fire act)
+    (sym (step_of-raised m.dx m.dx_range) ∙ ap step_of h.1.1.1.0)
+    (sym (step_of-raised m.dy m.dy_range) ∙ ap step_of h.1.1.0)
     (sym (flag_is m.fire) ∙ ap (λ n. n == 1) h.1.0)
     (sym (flag_is m.act) ∙ ap (λ n. n == 1) h.0)
 
-pub a_move : IsFormat move_at the_move AnyMove
+pub a_move : IsFormat move_at spell_move AnyMove
 unfolding move_at
 a_move =
-    and_then _ (λ m. raised m.dx) _ _ (a_number 4) (λ m f. raised_below m.dx m.dx_range.1) (λ dx x.
-    and_then _ (λ m. raised m.dy) _ _ (a_number 4) (λ m f. raised_below m.dy m.dy_range.1) (λ dy y.
+    and_then _ (λ m. raised m.dx) _ _ (a_number 4) (λ m f. raised_below m.dx m.dx_range) (λ dx x.
+    and_then _ (λ m. raised m.dy) _ _ (a_number 4) (λ m f. raised_below m.dy m.dy_range) (λ dy y.
     and_then _ (λ m. flag_of m.fire) _ _ (a_number 1) (λ m f. flag_below m.fire) (λ fire f.
     and_then _ (λ m. flag_of m.act) _ _ (a_number 1) (λ m f. flag_below m.act) (λ act a.
-    made (move_of dx dy fire act) (λ _. []) _ refl
+    made (move_from dx dy fire act) (λ _. []) _ refl
     (flag_of-is act a, (flag_of-is fire f, (raised-step_of dy y, (raised-step_of dx x, tt))))
     (only dx dy fire act)))))

@@ -4,14 +4,19 @@ use Rattle.std.specs.List.{flat_map}
 use Rattle.tn_types.specs.Bytes.{AreBytes}
 use Rattle.bit_stream.specs.Bits.{number}
 use Rattle.bit_stream.specs.Reading.{Unread}
-use Rattle.wire_format.specs.declared.widths.TheConstants.{BYTE_WIDTH, BLOCK_NUMBER_WIDTH, BLOCK_LENGTH_WIDTH, MAX_BLOCK_BYTES}
+use Rattle.tn_types.specs.declared.limits.TheConstants.{MAX_BLOCK_BYTES}
+use Rattle.wire_format.specs.declared.widths.TheConstants.{BYTE_WIDTH, BLOCK_NUMBER_WIDTH, BLOCK_LENGTH_WIDTH}
 use Rattle.wire_format.specs.declared.fault.BitsFault.{BitsFault}
 use Rattle.wire_format.specs.declared.fault.BitsCause.TheVariants.{LengthBits}
 use Rattle.wire_format.specs.declared.blocks.BlockItem.{BlockItem}
-use Rattle.wire_format.specs.Reading.{◌>>=◌, spelled, part_at, within_at, counted_at}
+use Rattle.wire_format.specs.Reading.{◌>>=◌, parts_in_order, part_at, within_at, counted_at}
 
-abbrev pub block : BlockItem → List Bool
-block b = spelled (number BLOCK_NUMBER_WIDTH b.number ∷ number BLOCK_LENGTH_WIDTH (length b.bytes) ∷ flat_map (number BYTE_WIDTH) b.bytes ∷ [])
+abbrev pub spell_block : BlockItem → List Bool
+spell_block b = parts_in_order (
+    number BLOCK_NUMBER_WIDTH b.number
+    ∷ number BLOCK_LENGTH_WIDTH (length b.bytes)
+    ∷ flat_map (number BYTE_WIDTH) b.bytes
+    ∷ [])
 
 unfoldable pub block_at : Unread → Result (BlockItem × Unread) BitsFault
 block_at s = do

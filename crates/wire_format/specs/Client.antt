@@ -3,28 +3,33 @@ use Rattle.std.specs.Prelude.{ℕ, ◌+◌, ◌*◌, ◌<◌, ◌^◌, ◌==◌,
 use Rattle.std.specs.List.{AllByRecursion}
 use Rattle.bit_stream.specs.Bits.{number}
 use Rattle.bit_stream.specs.Reading.{Unread}
-use Rattle.wire_format.specs.declared.widths.TheConstants.{KIND_WIDTH, DATA, PING, NUMBER_WIDTH, MOVE_COUNT_WIDTH, EVENT_COUNT_WIDTH, MAX_MOVES, MAX_EVENTS, HEADER_BITS, CLIENT_FIXED_BITS, MOVE_BITS}
+use Rattle.tn_types.specs.declared.limits.TheConstants.{MAX_PACKET_MOVES, MAX_PACKET_EVENTS}
+use Rattle.wire_format.specs.declared.widths.TheConstants.{KIND_WIDTH, DATA, PING, NUMBER_WIDTH, MOVE_COUNT_WIDTH, EVENT_COUNT_WIDTH, HEADER_BITS, CLIENT_FIXED_BITS, MOVE_BITS}
 use Rattle.wire_format.specs.declared.fault.BitsFault.{BitsFault}
 use Rattle.wire_format.specs.declared.fault.BitsCause.TheVariants.{KindBits}
 use Rattle.wire_format.specs.declared.header.Header.{Header}
 use Rattle.wire_format.specs.declared.client.ClientBody.{ClientBody}
 use Rattle.wire_format.specs.declared.client.ClientPacket.{ClientPacket}
 use Rattle.wire_format.specs.declared.client.ClientPacket.TheVariants.{Ping, Body}
-use Rattle.wire_format.specs.Reading.{◌>>=◌, spelled, part_at, within_at, listed, listed_at, AreListed, whole_of}
-use Rattle.wire_format.specs.Header.{header, header_at, IsHeader, IsHeaderInRange}
-use Rattle.wire_format.specs.Moves.{the_move, move_at, AnyMove}
-use Rattle.wire_format.specs.Events.{event, event_at, event_size, IsEvent, IsEventInRange}
+use Rattle.wire_format.specs.Reading.{◌>>=◌, parts_in_order, part_at, within_at, listed, listed_at, AreListed, whole_of}
+use Rattle.wire_format.specs.Header.{spell_header, header_at, IsHeader, IsHeaderInRange}
+use Rattle.wire_format.specs.Moves.{spell_move, move_at, AnyMove}
+use Rattle.wire_format.specs.Events.{spell_event, event_at, event_size, IsEvent, IsEventInRange}
 
 -- ---- what stands behind the header of a data packet
 
 abbrev pub client_rest : ClientBody → List Bool
-client_rest p = spelled (number NUMBER_WIDTH p.first ∷ listed MOVE_COUNT_WIDTH the_move p.moves ∷ listed EVENT_COUNT_WIDTH event p.events ∷ [])
+client_rest p = parts_in_order (
+    number NUMBER_WIDTH p.first
+    ∷ listed MOVE_COUNT_WIDTH spell_move p.moves
+    ∷ listed EVENT_COUNT_WIDTH spell_event p.events
+    ∷ [])
 
 unfoldable pub client_body_at : Header → Unread → Result (ClientBody × Unread) BitsFault
 client_body_at head s = do
   first ← part_at NUMBER_WIDTH s
-  moves ← listed_at MAX_MOVES MOVE_COUNT_WIDTH move_at first.1
-  events ← listed_at MAX_EVENTS EVENT_COUNT_WIDTH event_at moves.1
+  moves ← listed_at MAX_PACKET_MOVES MOVE_COUNT_WIDTH move_at first.1
+  events ← listed_at MAX_PACKET_EVENTS EVENT_COUNT_WIDTH event_at moves.1
   Ok (record { head = head; first = first.0; moves = moves.0; events = events.0 }, events.1)
 
 -- ---- the packet
@@ -37,12 +42,12 @@ abbrev pub client_head : ClientPacket → Header
 client_head (Ping head) = head
 client_head (Body p) = p.head
 
-abbrev pub behind_header : ClientPacket → List Bool
-behind_header (Ping head) = []
-behind_header (Body p) = client_rest p
+abbrev pub behind_client_header : ClientPacket → List Bool
+behind_client_header (Ping head) = []
+behind_client_header (Body p) = client_rest p
 
-abbrev pub client : ClientPacket → List Bool
-client p = number KIND_WIDTH (client_kind p) ++ (header (client_head p) ++ behind_header p)
+abbrev pub spell_client : ClientPacket → List Bool
+spell_client p = number KIND_WIDTH (client_kind p) ++ (spell_header (client_head p) ++ behind_client_header p)
 
 abbrev pub client_of_kind : ℕ → Header → Unread → Result (ClientPacket × Unread) BitsFault
 client_of_kind kind head s = if kind == PING then Ok (Ping head, s) else (do
@@ -56,8 +61,8 @@ client_at s = do
   client_of_kind kind.0 head.0 head.1
 
 -- the packet that these bytes are, or the first fault
-abbrev pub client_of : List ℕ → Result ClientPacket BitsFault
-client_of bytes = whole_of client_at bytes
+abbrev pub read_client : List ℕ → Result ClientPacket BitsFault
+read_client bytes = whole_of client_at bytes
 
 -- ---- what has a spelling
 
@@ -74,8 +79,8 @@ IsClientInRange (Body p) = IsClientBodyInRange p
 pub record IsClientBody (p : ClientBody) : Type 0 where
   pub head : IsHeader p.head
   pub first : p.first < 2 ^ NUMBER_WIDTH
-  pub moves : AreListed MAX_MOVES AnyMove p.moves
-  pub events : AreListed MAX_EVENTS IsEvent p.events
+  pub moves : AreListed MAX_PACKET_MOVES AnyMove p.moves
+  pub events : AreListed MAX_PACKET_EVENTS IsEvent p.events
 
 abbrev pub IsClient : ClientPacket → Type 0
 IsClient (Ping head) = IsHeader head

@@ -5,14 +5,19 @@ use Rattle.std.specs.List.{flat_map}
 use Rattle.tn_types.specs.Bytes.{AreBytes}
 use Rattle.bit_stream.specs.Bits.{number}
 use Rattle.bit_stream.specs.Reading.{Unread}
-use Rattle.wire_format.specs.declared.widths.TheConstants.{FLAG_WIDTH, NUMBER_WIDTH, BYTE_WIDTH, EVENT_LENGTH_WIDTH, MAX_EVENT_BYTES}
+use Rattle.tn_types.specs.declared.limits.TheConstants.{MAX_EVENT_BYTES}
+use Rattle.wire_format.specs.declared.widths.TheConstants.{FLAG_WIDTH, NUMBER_WIDTH, BYTE_WIDTH, EVENT_LENGTH_WIDTH}
 use Rattle.wire_format.specs.declared.fault.BitsFault.{BitsFault}
 use Rattle.wire_format.specs.declared.fault.BitsCause.TheVariants.{LengthBits}
 use Rattle.wire_format.specs.declared.events.EventItem.{EventItem}
-use Rattle.wire_format.specs.Reading.{◌>>=◌, spelled, part_at, within_at, optional, optional_at, counted_at}
+use Rattle.wire_format.specs.Reading.{◌>>=◌, parts_in_order, part_at, within_at, optional, optional_at, counted_at}
 
-abbrev pub event : EventItem → List Bool
-event e = spelled (optional NUMBER_WIDTH e.number ∷ number EVENT_LENGTH_WIDTH (length e.payload) ∷ flat_map (number BYTE_WIDTH) e.payload ∷ [])
+abbrev pub spell_event : EventItem → List Bool
+spell_event e = parts_in_order (
+    optional NUMBER_WIDTH e.number
+    ∷ number EVENT_LENGTH_WIDTH (length e.payload)
+    ∷ flat_map (number BYTE_WIDTH) e.payload
+    ∷ [])
 
 unfoldable pub event_at : Unread → Result (EventItem × Unread) BitsFault
 event_at s = do

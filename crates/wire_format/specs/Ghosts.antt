@@ -48,10 +48,10 @@ chosen mask (width ∷ widths) = if mask % 2 == 1 then width ∷ chosen (mask / 
 
 -- ---- one ghost
 
-abbrev pub slot_of : GhostItem → ℕ
-slot_of (Kill slot) = slot
-slot_of (Create slot kind block ls) = slot
-slot_of (Update slot kind mask ls) = slot
+abbrev pub slot_named : GhostItem → ℕ
+slot_named (Kill slot) = slot
+slot_named (Create slot kind block ls) = slot
+slot_named (Update slot kind mask ls) = slot
 
 abbrev pub op_of : GhostItem → ℕ
 op_of (Kill slot) = KILL
@@ -63,27 +63,28 @@ abbrev pub create_rest : List Kind → ℕ → ℕ → List ℕ → List Bool
 create_rest kinds kind block ls = number KIND_NUMBER_WIDTH kind ++ (number BLOCK_NUMBER_WIDTH block ++ levels (widths kinds kind) ls)
 
 abbrev pub update_rest : List Kind → ℕ → ℕ → List ℕ → List Bool
-update_rest kinds kind mask ls = number KIND_NUMBER_WIDTH kind ++ (number (length (widths kinds kind)) mask ++ levels (chosen mask (widths kinds kind)) ls)
+update_rest kinds kind mask ls =
+    number KIND_NUMBER_WIDTH kind ++ (number (length (widths kinds kind)) mask ++ levels (chosen mask (widths kinds kind)) ls)
 
 abbrev pub behind_op : List Kind → GhostItem → List Bool
 behind_op kinds (Kill slot) = []
 behind_op kinds (Create slot kind block ls) = create_rest kinds kind block ls
 behind_op kinds (Update slot kind mask ls) = update_rest kinds kind mask ls
 
-abbrev pub ghost_item : List Kind → GhostItem → List Bool
-ghost_item kinds g = number SLOT_WIDTH (slot_of g) ++ (number OP_WIDTH (op_of g) ++ behind_op kinds g)
+abbrev pub spell_ghost : List Kind → GhostItem → List Bool
+spell_ghost kinds g = number SLOT_WIDTH (slot_named g) ++ (number OP_WIDTH (op_of g) ++ behind_op kinds g)
 
 -- a kind of the table
-abbrev pub kind_at : List Kind → Unread → Result (ℕ × Unread) BitsFault
-kind_at kinds s = such_at UnknownKind (λ kind. nat_lt kind (length kinds)) KIND_NUMBER_WIDTH s
+abbrev pub kind_number_at : List Kind → Unread → Result (ℕ × Unread) BitsFault
+kind_number_at kinds s = such_at UnknownKind (λ kind. nat_lt kind (length kinds)) KIND_NUMBER_WIDTH s
 
 -- a mask of so many fields, at least one of them set
-abbrev pub mask_at : ℕ → Unread → Result (ℕ × Unread) BitsFault
-mask_at width s = such_at EmptyMask (λ mask. nat_lt 0 mask) width s
+abbrev pub field_mask_at : ℕ → Unread → Result (ℕ × Unread) BitsFault
+field_mask_at width s = such_at EmptyMask (λ mask. nat_lt 0 mask) width s
 
 unfoldable pub create_at : List Kind → ℕ → Unread → Result (GhostItem × Unread) BitsFault
 create_at kinds slot s = do
-  kind ← kind_at kinds s
+  kind ← kind_number_at kinds s
   block ← part_at BLOCK_NUMBER_WIDTH kind.1
   ls ← levels_at (widths kinds kind.0) block.1
   Ok (Create slot kind.0 block.0 ls.0, ls.1)
@@ -96,8 +97,8 @@ pub record Updated : Type 0 where
 
 unfoldable pub updated_at : List Kind → Unread → Result (Updated × Unread) BitsFault
 updated_at kinds s = do
-  kind ← kind_at kinds s
-  mask ← mask_at (length (widths kinds kind.0)) kind.1
+  kind ← kind_number_at kinds s
+  mask ← field_mask_at (length (widths kinds kind.0)) kind.1
   ls ← levels_at (chosen mask.0 (widths kinds kind.0)) mask.1
   Ok (record { kind = kind.0; mask = mask.0; levels = ls.0 }, ls.1)
 
@@ -123,16 +124,21 @@ ghost_at kinds s = do
 -- the kind is one of the table, each number fits its part, and there is a level for each field
 abbrev pub IsGhostInRange : List Kind → GhostItem → Type 0
 IsGhostInRange kinds (Kill slot) = Unit {0}
-IsGhostInRange kinds (Create slot kind block ls) = (kind < length kinds) × (block < 2 ^ BLOCK_NUMBER_WIDTH) × AreLevels (widths kinds kind) ls
-IsGhostInRange kinds (Update slot kind mask ls) = (kind < length kinds) × (mask < 2 ^ length (widths kinds kind)) × (0 < mask) × AreLevels (chosen mask (widths kinds kind)) ls
+IsGhostInRange kinds (Create slot kind block ls) =
+    (kind < length kinds) × (block < 2 ^ BLOCK_NUMBER_WIDTH) × AreLevels (widths kinds kind) ls
+IsGhostInRange kinds (Update slot kind mask ls) =
+    (kind < length kinds) × (mask < 2 ^ length (widths kinds kind)) × (0 < mask) × AreLevels (chosen mask (widths kinds kind)) ls
 
 abbrev pub IsKind : List Kind → ℕ → Type 0
 IsKind kinds kind = (kind < 2 ^ KIND_NUMBER_WIDTH) × (kind < length kinds)
 
 abbrev pub IsGhost : List Kind → GhostItem → Type 0
 IsGhost kinds (Kill slot) = slot < 2 ^ SLOT_WIDTH
-IsGhost kinds (Create slot kind block ls) = (slot < 2 ^ SLOT_WIDTH) × IsKind kinds kind × (block < 2 ^ BLOCK_NUMBER_WIDTH) × AreLevels (widths kinds kind) ls
-IsGhost kinds (Update slot kind mask ls) = (slot < 2 ^ SLOT_WIDTH) × IsKind kinds kind × (mask < 2 ^ length (widths kinds kind)) × (0 < mask) × AreLevels (chosen mask (widths kinds kind)) ls
+IsGhost kinds (Create slot kind block ls) =
+    (slot < 2 ^ SLOT_WIDTH) × IsKind kinds kind × (block < 2 ^ BLOCK_NUMBER_WIDTH) × AreLevels (widths kinds kind) ls
+IsGhost kinds (Update slot kind mask ls) =
+    (slot < 2 ^ SLOT_WIDTH) × IsKind kinds kind × (mask < 2 ^ length (widths kinds kind)) × (0 < mask)
+    × AreLevels (chosen mask (widths kinds kind)) ls
 
 -- ---- how many bits it has
 
@@ -142,8 +148,10 @@ levels_size widths ls = sum (take (length ls) widths)
 
 abbrev pub ghost_size : List Kind → GhostItem → ℕ
 ghost_size kinds (Kill slot) = SLOT_WIDTH + OP_WIDTH
-ghost_size kinds (Create slot kind block ls) = SLOT_WIDTH + OP_WIDTH + KIND_NUMBER_WIDTH + BLOCK_NUMBER_WIDTH + levels_size (widths kinds kind) ls
-ghost_size kinds (Update slot kind mask ls) = SLOT_WIDTH + OP_WIDTH + KIND_NUMBER_WIDTH + length (widths kinds kind) + levels_size (chosen mask (widths kinds kind)) ls
+ghost_size kinds (Create slot kind block ls) =
+    SLOT_WIDTH + OP_WIDTH + KIND_NUMBER_WIDTH + BLOCK_NUMBER_WIDTH + levels_size (widths kinds kind) ls
+ghost_size kinds (Update slot kind mask ls) =
+    SLOT_WIDTH + OP_WIDTH + KIND_NUMBER_WIDTH + length (widths kinds kind) + levels_size (chosen mask (widths kinds kind)) ls
 
 -- ---- examples
 

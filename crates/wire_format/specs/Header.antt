@@ -6,10 +6,15 @@ use Rattle.wire_format.specs.declared.widths.TheConstants.{CLIENT_WIDTH, NUMBER_
 use Rattle.wire_format.specs.declared.fault.BitsFault.{BitsFault}
 use Rattle.wire_format.specs.declared.fault.BitsCause.TheVariants.{ZeroSeq}
 use Rattle.wire_format.specs.declared.header.Header.{Header}
-use Rattle.wire_format.specs.Reading.{◌>>=◌, spelled, part_at, within_at}
+use Rattle.wire_format.specs.Reading.{◌>>=◌, parts_in_order, part_at, within_at}
 
-abbrev pub header : Header → List Bool
-header h = spelled (number CLIENT_WIDTH h.client ∷ number NUMBER_WIDTH h.seq ∷ number NUMBER_WIDTH h.horizon ∷ number MASK_WIDTH h.mask ∷ [])
+abbrev pub spell_header : Header → List Bool
+spell_header h = parts_in_order (
+    number CLIENT_WIDTH h.client
+    ∷ number NUMBER_WIDTH h.seq
+    ∷ number NUMBER_WIDTH h.horizon
+    ∷ number MASK_WIDTH h.mask
+    ∷ [])
 
 unfoldable pub header_at : Unread → Result (Header × Unread) BitsFault
 header_at s = do

@@ -3,7 +3,6 @@ pub mod Header
 pub mod Blocks
 pub mod Events
 pub mod Steps
-pub mod StepRange
 pub mod Moves
 pub mod Server
 pub mod Client

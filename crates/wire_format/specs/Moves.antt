@@ -5,19 +5,31 @@ use Rattle.bit_stream.specs.Bits.{number}
 use Rattle.bit_stream.specs.Reading.{Unread}
 use Rattle.wire_format.specs.declared.widths.TheConstants.{STEP_WIDTH, FLAG_WIDTH}
 use Rattle.wire_format.specs.declared.fault.BitsFault.{BitsFault}
-use Rattle.wire_format.specs.Reading.{◌>>=◌, spelled, part_at}
+use Rattle.wire_format.specs.Reading.{◌>>=◌, parts_in_order, part_at}
 use Rattle.wire_format.specs.Steps.{raised, step_of}
-use Rattle.wire_format.specs.StepRange.{step_of-range}
+use Rattle.bit_stream.proofs.StepBits.{step_of_four_bits}
 
 abbrev pub flag_of : Bool → ℕ
 flag_of b = if b then 1 else 0
 
-abbrev pub the_move : Move → List Bool
-the_move m = spelled (number STEP_WIDTH (raised m.dx) ∷ number STEP_WIDTH (raised m.dy) ∷ number FLAG_WIDTH (flag_of m.fire) ∷ number FLAG_WIDTH (flag_of m.act) ∷ [])
+abbrev pub spell_move : Move → List Bool
+spell_move m = parts_in_order (
+    number STEP_WIDTH (raised m.dx)
+    ∷ number STEP_WIDTH (raised m.dy)
+    ∷ number FLAG_WIDTH (flag_of m.fire)
+    ∷ number FLAG_WIDTH (flag_of m.act)
+    ∷ [])
 
 -- the move of these four numbers
-abbrev pub move_of : ℕ → ℕ → ℕ → ℕ → Move
-move_of dx dy fire act = record { dx = step_of dx; dy = step_of dy; fire = fire == 1; act = act == 1; dx_range = step_of-range dx; dy_range = step_of-range dy }
+abbrev pub move_from : ℕ → ℕ → ℕ → ℕ → Move
+move_from dx dy fire act = record {
+  dx = step_of dx;
+  dy = step_of dy;
+  fire = fire == 1;
+  act = act == 1;
+  dx_range = step_of_four_bits dx;
+  dy_range = step_of_four_bits dy;
+}
 
 unfoldable pub move_at : Unread → Result (Move × Unread) BitsFault
 move_at s = do
@@ -25,7 +37,7 @@ move_at s = do
   dy ← part_at STEP_WIDTH dx.1
   fire ← part_at FLAG_WIDTH dy.1
   act ← part_at FLAG_WIDTH fire.1
-  Ok (move_of dx.0 dy.0 fire.0 act.0, act.1)
+  Ok (move_from dx.0 dy.0 fire.0 act.0, act.1)
 
 -- each move has a spelling, since its type keeps its steps in range
 abbrev pub AnyMove : Move → Type 0

@@ -17,9 +17,9 @@ abbrev pub ◌>>=◌ : {A B : Type 0} → Result A BitsFault → (A → Result B
 (Err e) >>= f = Err e
 
 -- parts one after the other
-abbrev pub spelled : List (List Bool) → List Bool
-spelled [] = []
-spelled (part ∷ parts) = part ++ spelled parts
+abbrev pub parts_in_order : List (List Bool) → List Bool
+parts_in_order [] = []
+parts_in_order (part ∷ parts) = part ++ parts_in_order parts
 
 -- ---- a number
 

@@ -4,32 +4,39 @@ use Rattle.std.specs.Prelude.{ℕ, ◌+◌, ◌-◌, ◌<◌, ◌^◌, ◌==◌,
 use Rattle.std.specs.List.{AllByRecursion}
 use Rattle.bit_stream.specs.Bits.{number}
 use Rattle.bit_stream.specs.Reading.{Unread}
-use Rattle.wire_format.specs.declared.widths.TheConstants.{KIND_WIDTH, DATA, PING, NUMBER_WIDTH, SLOT_WIDTH, BLOCK_COUNT_WIDTH, EVENT_COUNT_WIDTH, GHOST_COUNT_WIDTH, MAX_BLOCKS, MAX_EVENTS, MAX_GHOSTS, HEADER_BITS, SERVER_FIXED_BITS}
+use Rattle.tn_types.specs.declared.limits.TheConstants.{MAX_PACKET_BLOCKS, MAX_PACKET_EVENTS, MAX_PACKET_GHOSTS}
+use Rattle.wire_format.specs.declared.widths.TheConstants.{KIND_WIDTH, DATA, PING, NUMBER_WIDTH, SLOT_WIDTH, BLOCK_COUNT_WIDTH, EVENT_COUNT_WIDTH, GHOST_COUNT_WIDTH, HEADER_BITS, SERVER_FIXED_BITS}
 use Rattle.wire_format.specs.declared.fault.BitsFault.{BitsFault}
 use Rattle.wire_format.specs.declared.fault.BitsCause.TheVariants.{KindBits}
 use Rattle.wire_format.specs.declared.header.Header.{Header}
 use Rattle.wire_format.specs.declared.server.ServerBody.{ServerBody}
 use Rattle.wire_format.specs.declared.server.ServerPacket.{ServerPacket}
 use Rattle.wire_format.specs.declared.server.ServerPacket.TheVariants.{Ping, Body}
-use Rattle.wire_format.specs.Reading.{◌>>=◌, spelled, part_at, within_at, optional, optional_at, listed, listed_at, AreListed, whole_of}
-use Rattle.wire_format.specs.Header.{header, header_at, IsHeader, IsHeaderInRange}
-use Rattle.wire_format.specs.Blocks.{block, block_at, block_size, IsBlock, IsBlockInRange}
+use Rattle.wire_format.specs.Reading.{◌>>=◌, parts_in_order, part_at, within_at, optional, optional_at, listed, listed_at, AreListed, whole_of}
+use Rattle.wire_format.specs.Header.{spell_header, header_at, IsHeader, IsHeaderInRange}
+use Rattle.wire_format.specs.Blocks.{spell_block, block_at, block_size, IsBlock, IsBlockInRange}
 use Rattle.quantised_fields.specs.declared.kind.Kind.{Kind}
-use Rattle.wire_format.specs.Ghosts.{ghost_item, ghost_at, ghost_size, IsGhost, IsGhostInRange}
-use Rattle.wire_format.specs.Events.{event, event_at, event_size, IsEvent, IsEventInRange}
+use Rattle.wire_format.specs.Ghosts.{spell_ghost, ghost_at, ghost_size, IsGhost, IsGhostInRange}
+use Rattle.wire_format.specs.Events.{spell_event, event_at, event_size, IsEvent, IsEventInRange}
 
 -- ---- what stands behind the header of a data packet
 
 abbrev pub server_rest : List Kind → ServerBody → List Bool
-server_rest kinds p = spelled (number NUMBER_WIDTH p.accepted ∷ optional SLOT_WIDTH p.control ∷ listed BLOCK_COUNT_WIDTH block p.blocks ∷ listed EVENT_COUNT_WIDTH event p.events ∷ listed GHOST_COUNT_WIDTH (ghost_item kinds) p.ghosts ∷ [])
+server_rest kinds p = parts_in_order (
+    number NUMBER_WIDTH p.accepted
+    ∷ optional SLOT_WIDTH p.control
+    ∷ listed BLOCK_COUNT_WIDTH spell_block p.blocks
+    ∷ listed EVENT_COUNT_WIDTH spell_event p.events
+    ∷ listed GHOST_COUNT_WIDTH (spell_ghost kinds) p.ghosts
+    ∷ [])
 
 unfoldable pub server_body_at : List Kind → Header → Unread → Result (ServerBody × Unread) BitsFault
 server_body_at kinds head s = do
   accepted ← part_at NUMBER_WIDTH s
   control ← optional_at SLOT_WIDTH accepted.1
-  blocks ← listed_at MAX_BLOCKS BLOCK_COUNT_WIDTH block_at control.1
-  events ← listed_at MAX_EVENTS EVENT_COUNT_WIDTH event_at blocks.1
-  ghosts ← listed_at MAX_GHOSTS GHOST_COUNT_WIDTH (ghost_at kinds) events.1
+  blocks ← listed_at MAX_PACKET_BLOCKS BLOCK_COUNT_WIDTH block_at control.1
+  events ← listed_at MAX_PACKET_EVENTS EVENT_COUNT_WIDTH event_at blocks.1
+  ghosts ← listed_at MAX_PACKET_GHOSTS GHOST_COUNT_WIDTH (ghost_at kinds) events.1
   Ok (record { head = head; accepted = accepted.0; control = control.0; blocks = blocks.0; events = events.0; ghosts = ghosts.0 }, ghosts.1)
 
 -- ---- the packet
@@ -42,12 +49,12 @@ abbrev pub server_head : ServerPacket → Header
 server_head (Ping head) = head
 server_head (Body p) = p.head
 
-abbrev pub behind_header : List Kind → ServerPacket → List Bool
-behind_header kinds (Ping head) = []
-behind_header kinds (Body p) = server_rest kinds p
+abbrev pub behind_server_header : List Kind → ServerPacket → List Bool
+behind_server_header kinds (Ping head) = []
+behind_server_header kinds (Body p) = server_rest kinds p
 
-abbrev pub server : List Kind → ServerPacket → List Bool
-server kinds p = number KIND_WIDTH (server_kind p) ++ (header (server_head p) ++ behind_header kinds p)
+abbrev pub spell_server : List Kind → ServerPacket → List Bool
+spell_server kinds p = number KIND_WIDTH (server_kind p) ++ (spell_header (server_head p) ++ behind_server_header kinds p)
 
 abbrev pub server_of_kind : List Kind → ℕ → Header → Unread → Result (ServerPacket × Unread) BitsFault
 server_of_kind kinds kind head s = if kind == PING then Ok (Ping head, s) else (do
@@ -61,8 +68,8 @@ server_at kinds s = do
   server_of_kind kinds kind.0 head.0 head.1
 
 -- the packet that these bytes are, or the first fault
-abbrev pub server_of : List Kind → List ℕ → Result ServerPacket BitsFault
-server_of kinds bytes = whole_of (server_at kinds) bytes
+abbrev pub read_server : List Kind → List ℕ → Result ServerPacket BitsFault
+read_server kinds bytes = whole_of (server_at kinds) bytes
 
 -- ---- what has a spelling
 
@@ -82,9 +89,9 @@ pub record IsServerBody (kinds : List Kind) (p : ServerBody) : Type 0 where
   pub head : IsHeader p.head
   pub accepted : p.accepted < 2 ^ NUMBER_WIDTH
   pub control : IfSome p.control (λ slot. slot < 2 ^ SLOT_WIDTH)
-  pub blocks : AreListed MAX_BLOCKS IsBlock p.blocks
-  pub events : AreListed MAX_EVENTS IsEvent p.events
-  pub ghosts : AreListed MAX_GHOSTS (IsGhost kinds) p.ghosts
+  pub blocks : AreListed MAX_PACKET_BLOCKS IsBlock p.blocks
+  pub events : AreListed MAX_PACKET_EVENTS IsEvent p.events
+  pub ghosts : AreListed MAX_PACKET_GHOSTS (IsGhost kinds) p.ghosts
 
 abbrev pub IsServer : List Kind → ServerPacket → Type 0
 IsServer kinds (Ping head) = IsHeader head
@@ -94,4 +101,6 @@ IsServer kinds (Body p) = IsServerBody kinds p
 
 abbrev pub server_size : List Kind → ServerPacket → ℕ
 server_size kinds (Ping head) = HEADER_BITS
-server_size kinds (Body p) = SERVER_FIXED_BITS - SLOT_WIDTH + (if is_some p.control then SLOT_WIDTH else 0) + sum_by block_size p.blocks + sum_by event_size p.events + sum_by (ghost_size kinds) p.ghosts
+server_size kinds (Body p) =
+    SERVER_FIXED_BITS - SLOT_WIDTH + (if is_some p.control then SLOT_WIDTH else 0)
+    + sum_by block_size p.blocks + sum_by event_size p.events + sum_by (ghost_size kinds) p.ghosts

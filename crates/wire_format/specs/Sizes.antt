@@ -9,17 +9,17 @@ use Rattle.wire_format.specs.declared.blocks.BlockItem.{BlockItem}
 use Rattle.wire_format.specs.declared.events.EventItem.{EventItem}
 use Rattle.wire_format.specs.declared.server.ServerPacket.{ServerPacket}
 use Rattle.wire_format.specs.declared.client.ClientPacket.{ClientPacket}
-use Rattle.wire_format.specs.Blocks.{block, block_size}
-use Rattle.wire_format.specs.Events.{event, event_size}
-use Rattle.wire_format.specs.Moves.{the_move}
-use Rattle.wire_format.specs.Ghosts.{ghost_item, ghost_size}
-use Rattle.wire_format.specs.Server.{server, server_size}
-use Rattle.wire_format.specs.Client.{client, client_size}
+use Rattle.wire_format.specs.Blocks.{spell_block, block_size}
+use Rattle.wire_format.specs.Events.{spell_event, event_size}
+use Rattle.wire_format.specs.Moves.{spell_move}
+use Rattle.wire_format.specs.Ghosts.{spell_ghost, ghost_size}
+use Rattle.wire_format.specs.Server.{spell_server, server_size}
+use Rattle.wire_format.specs.Client.{spell_client, client_size}
 
 pub record SizesAreBits : Type 0 where
-  pub of_block : (b : BlockItem) → length (block b) ≡ block_size b
-  pub of_event : (e : EventItem) → length (event e) ≡ event_size e
-  pub of_move : (m : Move) → length (the_move m) ≡ MOVE_BITS
-  pub of_ghost : (kinds : List Kind) (g : GhostItem) → length (ghost_item kinds g) ≡ ghost_size kinds g
-  pub of_server : (kinds : List Kind) (p : ServerPacket) → length (server kinds p) ≡ server_size kinds p
-  pub of_client : (p : ClientPacket) → length (client p) ≡ client_size p
+  pub of_block : (b : BlockItem) → length (spell_block b) ≡ block_size b
+  pub of_event : (e : EventItem) → length (spell_event e) ≡ event_size e
+  pub of_move : (m : Move) → length (spell_move m) ≡ MOVE_BITS
+  pub of_ghost : (kinds : List Kind) (g : GhostItem) → length (spell_ghost kinds g) ≡ ghost_size kinds g
+  pub of_server : (kinds : List Kind) (p : ServerPacket) → length (spell_server kinds p) ≡ server_size kinds p
+  pub of_client : (p : ClientPacket) → length (spell_client p) ≡ client_size p

@@ -1,16 +1,14 @@
-ghost use Rattle.std.specs.Prelude.{◌≡◌, ◌≤◌, length};
+ghost use Rattle.std.specs.Prelude.{◌≡◌, ◌≤◌, length, []};
 ghost use Rattle.bit_stream.specs.Reading.{Gives};
-ghost use Rattle.wire_format.specs.Blocks.{block, block_at, block_size};
+ghost use Rattle.wire_format.specs.Blocks.{spell_block, block_at, block_size};
 
 use crate::fault::{BitsCause, BitsFault};
 use crate::items::Item;
 use crate::lists::ItemList;
 use crate::parts::{part, put_bytes, read_bytes, within};
-use crate::widths::{
-    BLOCK_LENGTH_WIDTH, BLOCK_NUMBER_WIDTH, BYTE_WIDTH, MAX_BLOCK_BITS, MAX_BLOCK_BYTES, MAX_BLOCKS,
-};
+use crate::widths::{BLOCK_LENGTH_WIDTH, BLOCK_NUMBER_WIDTH, BYTE_WIDTH, MAX_BLOCK_BITS};
 use bit_stream::{BitReader, BitWriter};
-use tn_types::BlockBytes;
+use tn_types::{BlockBytes, MAX_BLOCK_BYTES, MAX_PACKET_BLOCKS};
 
 /// A datablock in a packet.
 #[derive(Drop)]
@@ -22,7 +20,10 @@ pub struct BlockItem {
 }
 
 impl Default for BlockItem {
-    fn default() -> Self {
+    /// Block 0, with no byte.
+    fn default() -> Self
+        ensures { result ≡ record { number = 0; bytes = [] } }
+    {
         BlockItem {
             number: 0,
             bytes: BlockBytes::new(),
@@ -31,7 +32,7 @@ impl Default for BlockItem {
 }
 
 /// The datablocks of a packet, at most 15.
-pub type BlockList = ItemList<BlockItem, MAX_BLOCKS>;
+pub type BlockList = ItemList<BlockItem, MAX_PACKET_BLOCKS>;
 
 /// Reads a datablock, or gives its first fault.
 #[tactic(auto, unfolding(crate::specs::Blocks::block_at))]
@@ -56,7 +57,7 @@ fn read_block(reader: &mut BitReader<'_>) -> Result<BlockItem, BitsFault>
 /// The bits of a datablock: at most 332.
 #[tactic(auto, using(crate::proofs::Lengths::lengths))]
 pub fn block_bits(item: &BlockItem) -> u32
-    ensures value { result ≡ length (block item.now) }
+    ensures value { result ≡ length (spell_block item.now) }
     ensures size { result ≡ block_size item.now }
     ensures few { result ≤ MAX_BLOCK_BITS }
 {
@@ -66,9 +67,9 @@ pub fn block_bits(item: &BlockItem) -> u32
 impl Item for BlockItem {
     type Context = ();
 
-    ghost use Rattle.wire_format.specs.Blocks.{block, block_at, IsBlockInRange, IsBlock};
+    ghost use Rattle.wire_format.specs.Blocks.{spell_block, block_at, IsBlockInRange, IsBlock};
 
-    ghost spelling = { λ _. block };
+    ghost spelling = { λ _. spell_block };
 
     ghost reading = { λ _. block_at };
 

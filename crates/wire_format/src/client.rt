@@ -2,7 +2,7 @@ ghost use Rattle.std.specs.Prelude.{◌≡◌, ◌+◌, ◌*◌, ◌≤◌, ◌+
 ghost use Rattle.bit_stream.specs.Bits.{datagram};
 ghost use Rattle.bit_stream.specs.Reading.{Gives};
 ghost use Rattle.wire_format.specs.Header.{IsHeader};
-ghost use Rattle.wire_format.specs.Client.{client, client_at, client_of, client_rest, client_body_at, client_size, IsClient, IsClientBody, IsClientInRange, IsClientBodyInRange};
+ghost use Rattle.wire_format.specs.Client.{spell_client, client_at, read_client, client_rest, client_body_at, client_size, IsClient, IsClientBody, IsClientInRange, IsClientBodyInRange};
 
 use crate::events::EventList;
 use crate::fault::{BitsCause, BitsFault};
@@ -11,10 +11,11 @@ use crate::items::{list_bits, put_list, read_list};
 use crate::moves::MoveList;
 use crate::parts::{part, within};
 use crate::widths::{
-    DATA, EVENT_COUNT_WIDTH, HEADER_BITS, KIND_WIDTH, MAX_EVENTS, MAX_MOVES, MAX_PACKET_BITS,
-    MOVE_COUNT_WIDTH, NUMBER_WIDTH, PING,
+    DATA, EVENT_COUNT_WIDTH, HEADER_BITS, KIND_WIDTH, MAX_PACKET_BITS, MOVE_COUNT_WIDTH,
+    NUMBER_WIDTH, PING,
 };
-use bit_stream::{BitReader, BitWriter, MAX_READ_BYTES};
+use bit_stream::{BitReader, BitWriter};
+use tn_types::{MAX_PACKET_EVENTS, MAX_PACKET_MOVES, MAX_READ_BYTES};
 
 /// A packet of a client.
 #[derive(Drop)]
@@ -41,8 +42,8 @@ fn read_client_body(reader: &mut BitReader<'_>, head: Header) -> Result<ClientBo
     ensures { Gives result reader.new (client_body_at head reader.old) }
 {
     let first = part(reader, NUMBER_WIDTH)?;
-    let moves = read_list(reader, &(), MAX_MOVES as u32, MOVE_COUNT_WIDTH)?;
-    let events = read_list(reader, &(), MAX_EVENTS as u32, EVENT_COUNT_WIDTH)?;
+    let moves = read_list(reader, &(), MAX_PACKET_MOVES as u32, MOVE_COUNT_WIDTH)?;
+    let events = read_list(reader, &(), MAX_PACKET_EVENTS as u32, EVENT_COUNT_WIDTH)?;
     Ok(ClientBody {
         head,
         first,
@@ -68,7 +69,7 @@ fn read_client(reader: &mut BitReader<'_>) -> Result<ClientPacket, BitsFault>
 /// The whole of these bytes.
 fn read_whole(bytes: &[u8]) -> Result<ClientPacket, BitsFault>
     requires { length bytes.now ≤ MAX_READ_BYTES }
-    ensures { result ≡ client_of bytes.now }
+    ensures { result ≡ read_client bytes.now }
 {
     let mut reader = BitReader::new(bytes);
     let packet = read_client(&mut reader)?;
@@ -94,7 +95,7 @@ fn client_rest_bits(body: &ClientBody) -> u32
 /// The bits of a packet: those of the header, and in a data packet [`CLIENT_FIXED_BITS`](crate::CLIENT_FIXED_BITS)
 /// and the bits of all items.
 pub fn client_bits(packet: &ClientPacket) -> u32
-    ensures value { result ≡ length (client packet.now) }
+    ensures value { result ≡ length (spell_client packet.now) }
     ensures size { result ≡ client_size packet.now }
 {
     match packet {
@@ -123,9 +124,9 @@ fn put_client_rest(out: &mut BitWriter, body: &ClientBody)
 #[tactic(auto, using(crate::proofs::Lengths::lengths))]
 pub fn encode_client(packet: &ClientPacket, out: &mut BitWriter)
     requires fits { IsClientInRange packet.now }
-    requires room { length out.old.bits + length (client packet.now) ≤ 8 * out.old.size }
+    requires room { length out.old.bits + length (spell_client packet.now) ≤ 8 * out.old.size }
     ensures spelled { IsClient packet.now }
-    ensures bits { out.new.bits ≡ out.old.bits ++ client packet.now }
+    ensures bits { out.new.bits ≡ out.old.bits ++ spell_client packet.now }
     ensures size { out.new.size ≡ out.old.size }
 {
     match packet {
@@ -146,11 +147,11 @@ pub fn encode_client(packet: &ClientPacket, out: &mut BitWriter)
 pub fn decode_client(bytes: &[u8]) -> Result<ClientPacket, BitsFault>
     requires { length bytes.now ≤ MAX_READ_BYTES }
     // What is read is spelled so, and it alone.
-    ensures found { IfOk result (λ p. IsClient p × (bytes.now ≡ datagram (client p))) }
+    ensures found { IfOk result (λ p. IsClient p × (bytes.now ≡ datagram (spell_client p))) }
     // What is spelled so is read.
-    ensures only { (p : ClientPacket) → IsClient p → bytes.now ≡ datagram (client p) → result ≡ Ok p }
+    ensures only { (p : ClientPacket) → IsClient p → bytes.now ≡ datagram (spell_client p) → result ≡ Ok p }
     // Which fault it is.
-    ensures exact { result ≡ client_of bytes.now }
+    ensures exact { result ≡ read_client bytes.now }
 {
     read_whole(bytes)
 }

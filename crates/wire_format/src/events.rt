@@ -1,16 +1,14 @@
-ghost use Rattle.std.specs.Prelude.{◌≡◌, ◌≤◌, length};
+ghost use Rattle.std.specs.Prelude.{◌≡◌, ◌≤◌, length, [], None};
 ghost use Rattle.bit_stream.specs.Reading.{Gives};
-ghost use Rattle.wire_format.specs.Events.{event, event_at, event_size};
+ghost use Rattle.wire_format.specs.Events.{spell_event, event_at, event_size};
 
 use crate::fault::{BitsCause, BitsFault};
 use crate::items::Item;
 use crate::lists::ItemList;
 use crate::parts::{optional, optional_bits, put_bytes, put_optional, read_bytes, within};
-use crate::widths::{
-    BYTE_WIDTH, EVENT_LENGTH_WIDTH, MAX_EVENT_BITS, MAX_EVENT_BYTES, MAX_EVENTS, NUMBER_WIDTH,
-};
+use crate::widths::{BYTE_WIDTH, EVENT_LENGTH_WIDTH, MAX_EVENT_BITS, NUMBER_WIDTH};
 use bit_stream::{BitReader, BitWriter};
-use tn_types::Payload;
+use tn_types::{MAX_EVENT_BYTES, MAX_PACKET_EVENTS, Payload};
 
 /// An event in a packet.
 #[derive(Drop)]
@@ -22,7 +20,10 @@ pub struct EventItem {
 }
 
 impl Default for EventItem {
-    fn default() -> Self {
+    /// An unguaranteed event with no byte.
+    fn default() -> Self
+        ensures { result ≡ record { number = None; payload = [] } }
+    {
         EventItem {
             number: None,
             payload: Payload::new(),
@@ -31,7 +32,7 @@ impl Default for EventItem {
 }
 
 /// The events of a packet, at most 31.
-pub type EventList = ItemList<EventItem, MAX_EVENTS>;
+pub type EventList = ItemList<EventItem, MAX_PACKET_EVENTS>;
 
 /// Reads an event, or gives its first fault.
 #[tactic(auto, unfolding(crate::specs::Events::event_at))]
@@ -53,7 +54,7 @@ fn read_event(reader: &mut BitReader<'_>) -> Result<EventItem, BitsFault>
 /// The bits of an event: at most 222.
 #[tactic(auto, using(crate::proofs::Lengths::lengths))]
 pub fn event_bits(item: &EventItem) -> u32
-    ensures value { result ≡ length (event item.now) }
+    ensures value { result ≡ length (spell_event item.now) }
     ensures size { result ≡ event_size item.now }
     ensures few { result ≤ MAX_EVENT_BITS }
 {
@@ -65,9 +66,9 @@ pub fn event_bits(item: &EventItem) -> u32
 impl Item for EventItem {
     type Context = ();
 
-    ghost use Rattle.wire_format.specs.Events.{event, event_at, IsEventInRange, IsEvent};
+    ghost use Rattle.wire_format.specs.Events.{spell_event, event_at, IsEventInRange, IsEvent};
 
-    ghost spelling = { λ _. event };
+    ghost spelling = { λ _. spell_event };
 
     ghost reading = { λ _. event_at };
 

@@ -2,18 +2,21 @@
 ghost use Rattle.std.specs.Prelude.{◌≡◌, ◌<◌, ◌≤◌, ◌+◌, ◌*◌, ◌^◌, ◌++◌, All, length, map, sum, take};
 ghost use Rattle.bit_stream.specs.Bits.{number};
 ghost use Rattle.bit_stream.specs.Reading.{Gives};
-ghost use Rattle.wire_format.specs.Ghosts.{ghost_item, ghost_at, ghost_size, create_rest, update_rest, kind_at, mask_at, create_at, update_at, levels, levels_at, widths, chosen, AreLevels};
+ghost use Rattle.wire_format.specs.Ghosts.{spell_ghost, ghost_at, ghost_size, create_rest, update_rest, kind_number_at, field_mask_at, create_at, update_at, levels, levels_at, widths, chosen, AreLevels};
 
 use crate::fault::{BitsCause, BitsFault};
 use crate::items::Item;
 use crate::lists::ItemList;
 use crate::parts::{part, within};
 use crate::widths::{
-    BLOCK_NUMBER_WIDTH, CREATE, KILL, KIND_NUMBER_WIDTH, MAX_FIELD_BITS, MAX_FIELDS,
-    MAX_GHOST_BITS, MAX_GHOSTS, MAX_KIND_BITS, OP_WIDTH, SLOT_WIDTH, UPDATE,
+    BLOCK_NUMBER_WIDTH, CREATE, KILL, KIND_NUMBER_WIDTH, MAX_GHOST_BITS, OP_WIDTH, SLOT_WIDTH,
+    UPDATE,
 };
-use bit_stream::{BitReader, BitWriter, MAX_WIDTH};
+use bit_stream::{BitReader, BitWriter};
 use quantised_fields::{FieldSpec, KindTable};
+use tn_types::{
+    MAX_FIELD_BITS, MAX_FIELDS, MAX_KIND_BITS, MAX_KINDS, MAX_PACKET_GHOSTS, MAX_WORD_BITS,
+};
 
 /// The levels of a ghost by rising field, at most 16.
 pub type Levels = ItemList<u32, MAX_FIELDS>;
@@ -45,13 +48,16 @@ pub enum GhostItem {
 }
 
 impl Default for GhostItem {
-    fn default() -> Self {
+    /// A kill of slot 0.
+    fn default() -> Self
+        ensures { result ≡ GhostItem.Kill 0 }
+    {
         GhostItem::Kill { slot: 0 }
     }
 }
 
 /// The ghosts of a packet, at most 128.
-pub type GhostList = ItemList<GhostItem, MAX_GHOSTS>;
+pub type GhostList = ItemList<GhostItem, MAX_PACKET_GHOSTS>;
 
 /// The widths of these fields.
 fn field_widths(fields: &[FieldSpec]) -> Widths
@@ -68,7 +74,7 @@ fn field_widths(fields: &[FieldSpec]) -> Widths
 /// The widths of the fields of a kind; none where the table has no such kind.
 fn kind_widths(kinds: &KindTable, kind: u8) -> Widths
     ensures value { result ≡ widths kinds.now kind }
-    ensures few { length kinds.now ≤ 16 }
+    ensures few { length kinds.now ≤ MAX_KINDS }
     ensures narrow { All (λ w. w ≤ MAX_FIELD_BITS) result }
     ensures sum { sum result ≤ MAX_KIND_BITS }
 {
@@ -100,7 +106,7 @@ fn chosen_widths(widths: &[u32], mask: u32) -> Widths
 /// The number of a kind of the table.
 #[tactic(auto, unfolding(crate::specs::Reading::such_at))]
 fn read_kind(reader: &mut BitReader<'_>, kinds: &KindTable) -> Result<u8, BitsFault>
-    ensures read { Gives result reader.new (kind_at kinds.now reader.old) }
+    ensures read { Gives result reader.new (kind_number_at kinds.now reader.old) }
 {
     let place = reader.place();
     let kind = part(reader, KIND_NUMBER_WIDTH)? as u8;
@@ -117,8 +123,8 @@ fn read_kind(reader: &mut BitReader<'_>, kinds: &KindTable) -> Result<u8, BitsFa
 /// A mask of so many fields, at least one of them set.
 #[tactic(auto, unfolding(crate::specs::Reading::such_at))]
 fn read_mask(reader: &mut BitReader<'_>, width: u32) -> Result<u32, BitsFault>
-    requires { width ≤ MAX_WIDTH }
-    ensures read { Gives result reader.new (mask_at width reader.old) }
+    requires { width ≤ MAX_WORD_BITS }
+    ensures read { Gives result reader.new (field_mask_at width reader.old) }
 {
     let place = reader.place();
     let mask = part(reader, width)?;
@@ -217,7 +223,7 @@ fn levels_bits(widths: &[u32], count: usize) -> u32
 
 /// The bits of a ghost: at most 222.
 pub fn ghost_bits(item: &GhostItem, kinds: &KindTable) -> u32
-    ensures value { result ≡ length (ghost_item kinds.now item.now) }
+    ensures value { result ≡ length (spell_ghost kinds.now item.now) }
     ensures size { result ≡ ghost_size kinds.now item.now }
     ensures few { result ≤ MAX_GHOST_BITS }
 {
@@ -245,7 +251,7 @@ pub fn ghost_bits(item: &GhostItem, kinds: &KindTable) -> u32
 /// `count` bits that are the number `word`, and behind them the `width` bits of `value`.
 fn joined(word: u32, count: u32, value: u32, width: u32) -> u32
     requires below { word < 2 ^ count }
-    requires few { count + width ≤ MAX_WIDTH }
+    requires few { count + width ≤ MAX_WORD_BITS }
     requires fits { value < 2 ^ width }
     ensures bits { number (count + width) result ≡ number count word ++ number width value }
     ensures below { result < 2 ^ (count + width) }
@@ -257,16 +263,16 @@ fn joined(word: u32, count: u32, value: u32, width: u32) -> u32
 /// fit, and gives the word and the bits that are left.
 fn with_room(out: &mut BitWriter, word: u32, count: u32, width: u32) -> (u32, u32)
     requires below { word < 2 ^ count }
-    requires few { count ≤ MAX_WIDTH }
-    requires narrow { width ≤ MAX_WIDTH }
+    requires few { count ≤ MAX_WORD_BITS }
+    requires narrow { width ≤ MAX_WORD_BITS }
     requires room { length out.old.bits + count ≤ 8 * out.old.size }
     ensures bits { out.new.bits ++ number result.1 result.0 ≡ out.old.bits ++ number count word }
     ensures len { length out.new.bits + result.1 ≡ length out.old.bits + count }
     ensures size { out.new.size ≡ out.old.size }
     ensures below { result.0 < 2 ^ result.1 }
-    ensures few { result.1 + width ≤ MAX_WIDTH }
+    ensures few { result.1 + width ≤ MAX_WORD_BITS }
 {
-    if count + width > MAX_WIDTH {
+    if count + width > MAX_WORD_BITS {
         out.put(word, count);
         return (0, 0);
     }
@@ -332,9 +338,9 @@ fn put_update(out: &mut BitWriter, kinds: &KindTable, kind: u8, mask: u32, value
 impl Item for GhostItem {
     type Context = KindTable;
 
-    ghost use Rattle.wire_format.specs.Ghosts.{ghost_item, ghost_at, IsGhostInRange, IsGhost};
+    ghost use Rattle.wire_format.specs.Ghosts.{spell_ghost, ghost_at, IsGhostInRange, IsGhost};
 
-    ghost spelling = { ghost_item };
+    ghost spelling = { spell_ghost };
 
     ghost reading = { ghost_at };
 

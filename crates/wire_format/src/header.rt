@@ -1,6 +1,6 @@
 ghost use Rattle.std.specs.Prelude.{◌≡◌, ◌+◌, ◌*◌, ◌≤◌, ◌++◌, length};
 ghost use Rattle.bit_stream.specs.Reading.{Gives};
-ghost use Rattle.wire_format.specs.Header.{header, header_at, IsHeader, IsHeaderInRange};
+ghost use Rattle.wire_format.specs.Header.{spell_header, header_at, IsHeader, IsHeaderInRange};
 
 use crate::fault::{BitsCause, BitsFault};
 use crate::parts::{part, within};
@@ -43,7 +43,7 @@ pub(crate) fn put_header(out: &mut BitWriter, head: &Header)
     requires fits { IsHeaderInRange head.now }
     requires room { length out.old.bits + HEAD_WIDTH ≤ 8 * out.old.size }
     ensures spelled { IsHeader head.now }
-    ensures bits { out.new.bits ≡ out.old.bits ++ header head.now }
+    ensures bits { out.new.bits ≡ out.old.bits ++ spell_header head.now }
     ensures len { length out.new.bits ≡ length out.old.bits + HEAD_WIDTH }
     ensures size { out.new.size ≡ out.old.size }
 {

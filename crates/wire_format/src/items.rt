@@ -9,7 +9,8 @@ use crate::fault::{BitsCause, BitsFault};
 use crate::lists::ItemList;
 use crate::parts::within;
 use crate::widths::{MAX_ITEM_BITS, MAX_ITEMS};
-use bit_stream::{BitReader, BitWriter, MAX_WIDTH};
+use bit_stream::{BitReader, BitWriter};
+use tn_types::MAX_WORD_BITS;
 
 /// An item of a list in a packet.
 pub(crate) trait Item: Default + Drop {
@@ -72,7 +73,7 @@ pub(crate) fn read_list<T: Item, const N: usize>(
     most: u32,
     width: u32,
 ) -> Result<ItemList<T, N>, BitsFault>
-    requires width { width ≤ MAX_WIDTH }
+    requires width { width ≤ MAX_WORD_BITS }
     requires most { most ≤ N }
     ensures { Gives result reader.new (listed_at most width (T.reading context.now) reader.old) }
 {
@@ -102,7 +103,7 @@ pub(crate) fn put_list<T: Item, const N: usize>(
     list: &ItemList<T, N>,
     width: u32,
 )
-    requires width { width ≤ MAX_WIDTH }
+    requires width { width ≤ MAX_WORD_BITS }
     requires count { N < 2 ^ width }
     requires fits { AllByRecursion (T.in_range context.now) list.now }
     requires room { length out.old.bits + length (listed width (T.spelling context.now) list.now) ≤ 8 * out.old.size }

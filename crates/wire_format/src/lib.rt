@@ -32,7 +32,6 @@ pub use lists::ItemList;
 pub use moves::MoveList;
 pub use server::{ServerBody, ServerPacket, decode_server, encode_server, server_bits};
 pub use widths::{
-    CLIENT_FIXED_BITS, HEADER_BITS, MAX_BLOCK_BITS, MAX_BLOCK_BYTES, MAX_BLOCKS, MAX_EVENT_BITS,
-    MAX_EVENT_BYTES, MAX_EVENTS, MAX_FIELDS, MAX_GHOST_BITS, MAX_GHOSTS, MAX_MOVES, MOVE_BITS,
+    CLIENT_FIXED_BITS, HEADER_BITS, MAX_BLOCK_BITS, MAX_EVENT_BITS, MAX_GHOST_BITS, MOVE_BITS,
     SERVER_FIXED_BITS,
 };

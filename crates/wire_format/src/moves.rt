@@ -1,35 +1,36 @@
-ghost use Rattle.std.specs.Prelude.{◌≡◌, ◌<◌, ◌≤◌, ◌≤ℤ◌, pos, negsuc};
+ghost use Rattle.std.specs.Prelude.{◌≡◌, ◌<◌, ◌≤◌, ◌^◌, true};
+ghost use Rattle.tn_types.specs.Steps.{is_step};
 ghost use Rattle.bit_stream.specs.Reading.{Gives};
-ghost use Rattle.wire_format.specs.Moves.{move_at, move_of};
+ghost use Rattle.wire_format.specs.Moves.{move_at, move_from};
 ghost use Rattle.wire_format.specs.Steps.{raised, step_of};
 
 use crate::fault::BitsFault;
 use crate::items::Item;
 use crate::lists::ItemList;
 use crate::parts::part;
-use crate::widths::{FLAG_WIDTH, MAX_MOVES, MOVE_BITS, STEP_WIDTH};
+use crate::widths::{FLAG_WIDTH, MOVE_BITS, STEP_WIDTH};
 use bit_stream::{BitReader, BitWriter};
-use tn_types::Move;
+use tn_types::{MAX_PACKET_MOVES, MIN_STEP, Move};
 
 /// The moves of a packet, at most 32.
-pub type MoveList = ItemList<Move, MAX_MOVES>;
+pub type MoveList = ItemList<Move, MAX_PACKET_MOVES>;
 
 /// What a step is raised by, so that it is written as a number from 0 on.
-const RAISED_BY: i8 = 8;
+const RAISED_BY: i8 = 0 - MIN_STEP;
 
 /// A step from -8 to 7 as it is written.
+#[tactic(auto, using(crate::proofs::Steps::step_range, crate::proofs::Steps::raised_below))]
 fn raise(step: i8) -> u32
-    requires least { negsuc 7 ≤ℤ step }
-    requires greatest { step ≤ℤ pos 7 }
+    requires { is_step step ≡ true }
     ensures value { result ≡ raised step }
-    ensures fits { result < 16 }
+    ensures fits { result < 2 ^ STEP_WIDTH }
 {
     (step + RAISED_BY) as u32
 }
 
 /// The step that was raised to this number.
 fn lower(number: u32) -> i8
-    requires { number < 16 }
+    requires { number < 2 ^ STEP_WIDTH }
     ensures value { result ≡ step_of number }
 {
     number as i8 - RAISED_BY
@@ -37,9 +38,9 @@ fn lower(number: u32) -> i8
 
 /// The move that is written as these four numbers.
 fn moved(dx: u32, dy: u32, fire: u32, act: u32) -> Move
-    requires dx { dx < 16 }
-    requires dy { dy < 16 }
-    ensures { result ≡ move_of dx dy fire act }
+    requires dx { dx < 2 ^ STEP_WIDTH }
+    requires dy { dy < 2 ^ STEP_WIDTH }
+    ensures { result ≡ move_from dx dy fire act }
 {
     Move {
         dx: lower(dx),
@@ -64,9 +65,9 @@ fn read_move(reader: &mut BitReader<'_>) -> Result<Move, BitsFault>
 impl Item for Move {
     type Context = ();
 
-    ghost use Rattle.wire_format.specs.Moves.{the_move, move_at, AnyMove};
+    ghost use Rattle.wire_format.specs.Moves.{spell_move, move_at, AnyMove};
 
-    ghost spelling = { λ _. the_move };
+    ghost spelling = { λ _. spell_move };
 
     ghost reading = { λ _. move_at };
 

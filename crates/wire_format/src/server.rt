@@ -2,7 +2,7 @@ ghost use Rattle.std.specs.Prelude.{◌≡◌, ◌+◌, ◌*◌, ◌≤◌, ◌+
 ghost use Rattle.bit_stream.specs.Bits.{datagram};
 ghost use Rattle.bit_stream.specs.Reading.{Gives};
 ghost use Rattle.wire_format.specs.Header.{IsHeader};
-ghost use Rattle.wire_format.specs.Server.{server, server_at, server_of, server_rest, server_body_at, server_size, IsServer, IsServerBody, IsServerInRange, IsServerBodyInRange};
+ghost use Rattle.wire_format.specs.Server.{spell_server, server_at, read_server, server_rest, server_body_at, server_size, IsServer, IsServerBody, IsServerInRange, IsServerBodyInRange};
 
 use crate::blocks::BlockList;
 use crate::events::EventList;
@@ -13,10 +13,11 @@ use crate::items::{list_bits, put_list, read_list};
 use crate::parts::{optional_bits, optional_byte, part, put_optional, widened, within};
 use crate::widths::{
     BLOCK_COUNT_WIDTH, DATA, EVENT_COUNT_WIDTH, GHOST_COUNT_WIDTH, HEADER_BITS, KIND_WIDTH,
-    MAX_BLOCKS, MAX_EVENTS, MAX_GHOSTS, MAX_PACKET_BITS, NUMBER_WIDTH, PING, SLOT_WIDTH,
+    MAX_PACKET_BITS, NUMBER_WIDTH, PING, SLOT_WIDTH,
 };
-use bit_stream::{BitReader, BitWriter, MAX_READ_BYTES};
+use bit_stream::{BitReader, BitWriter};
 use quantised_fields::KindTable;
+use tn_types::{MAX_PACKET_BLOCKS, MAX_PACKET_EVENTS, MAX_PACKET_GHOSTS, MAX_READ_BYTES};
 
 /// A packet of the server.
 #[derive(Drop)]
@@ -50,9 +51,9 @@ fn read_server_body(
 {
     let accepted = part(reader, NUMBER_WIDTH)?;
     let control = optional_byte(reader)?;
-    let blocks = read_list(reader, &(), MAX_BLOCKS as u32, BLOCK_COUNT_WIDTH)?;
-    let events = read_list(reader, &(), MAX_EVENTS as u32, EVENT_COUNT_WIDTH)?;
-    let ghosts = read_list(reader, kinds, MAX_GHOSTS as u32, GHOST_COUNT_WIDTH)?;
+    let blocks = read_list(reader, &(), MAX_PACKET_BLOCKS as u32, BLOCK_COUNT_WIDTH)?;
+    let events = read_list(reader, &(), MAX_PACKET_EVENTS as u32, EVENT_COUNT_WIDTH)?;
+    let ghosts = read_list(reader, kinds, MAX_PACKET_GHOSTS as u32, GHOST_COUNT_WIDTH)?;
     Ok(ServerBody {
         head,
         accepted,
@@ -80,7 +81,7 @@ fn read_server(reader: &mut BitReader<'_>, kinds: &KindTable) -> Result<ServerPa
 /// The whole of these bytes.
 fn read_whole(bytes: &[u8], kinds: &KindTable) -> Result<ServerPacket, BitsFault>
     requires { length bytes.now ≤ MAX_READ_BYTES }
-    ensures { result ≡ server_of kinds.now bytes.now }
+    ensures { result ≡ read_server kinds.now bytes.now }
 {
     let mut reader = BitReader::new(bytes);
     let packet = read_server(&mut reader, kinds)?;
@@ -109,7 +110,7 @@ fn server_rest_bits(body: &ServerBody, kinds: &KindTable) -> u32
 /// The bits of a packet: those of the header, and in a data packet [`SERVER_FIXED_BITS`], less 8
 /// where no control slot is set, and the bits of all items.
 pub fn server_bits(packet: &ServerPacket, kinds: &KindTable) -> u32
-    ensures value { result ≡ length (server kinds.now packet.now) }
+    ensures value { result ≡ length (spell_server kinds.now packet.now) }
     ensures size { result ≡ server_size kinds.now packet.now }
 {
     match packet {
@@ -140,9 +141,9 @@ fn put_server_rest(out: &mut BitWriter, kinds: &KindTable, body: &ServerBody)
 #[tactic(auto, using(crate::proofs::Lengths::lengths))]
 pub fn encode_server(packet: &ServerPacket, kinds: &KindTable, out: &mut BitWriter)
     requires fits { IsServerInRange kinds.now packet.now }
-    requires room { length out.old.bits + length (server kinds.now packet.now) ≤ 8 * out.old.size }
+    requires room { length out.old.bits + length (spell_server kinds.now packet.now) ≤ 8 * out.old.size }
     ensures spelled { IsServer kinds.now packet.now }
-    ensures bits { out.new.bits ≡ out.old.bits ++ server kinds.now packet.now }
+    ensures bits { out.new.bits ≡ out.old.bits ++ spell_server kinds.now packet.now }
     ensures size { out.new.size ≡ out.old.size }
 {
     match packet {
@@ -163,11 +164,11 @@ pub fn encode_server(packet: &ServerPacket, kinds: &KindTable, out: &mut BitWrit
 pub fn decode_server(bytes: &[u8], kinds: &KindTable) -> Result<ServerPacket, BitsFault>
     requires { length bytes.now ≤ MAX_READ_BYTES }
     // What is read is spelled so, and it alone.
-    ensures found { IfOk result (λ p. IsServer kinds.now p × (bytes.now ≡ datagram (server kinds.now p))) }
+    ensures found { IfOk result (λ p. IsServer kinds.now p × (bytes.now ≡ datagram (spell_server kinds.now p))) }
     // What is spelled so is read.
-    ensures only { (p : ServerPacket) → IsServer kinds.now p → bytes.now ≡ datagram (server kinds.now p) → result ≡ Ok p }
+    ensures only { (p : ServerPacket) → IsServer kinds.now p → bytes.now ≡ datagram (spell_server kinds.now p) → result ≡ Ok p }
     // Which fault it is.
-    ensures exact { result ≡ server_of kinds.now bytes.now }
+    ensures exact { result ≡ read_server kinds.now bytes.now }
 {
     read_whole(bytes, kinds)
 }

@@ -1,21 +1,16 @@
 use crate::{
-    BitsCause, BitsFault, BlockItem, BlockList, ClientBody, ClientPacket, EventItem, EventList,
-    GhostItem, GhostList, Header, MoveList, ServerBody, ServerPacket, client_bits, decode_client,
+    BitsCause, BitsFault, BlockList, ClientBody, ClientPacket, EventItem, EventList, GhostItem,
+    GhostList, Header, MoveList, ServerBody, ServerPacket, client_bits, decode_client,
     decode_server, encode_client, encode_server, server_bits,
 };
 use bit_stream::BitWriter;
 use quantised_fields::{FieldSpec, Kind, KindTable};
 use std::test::Fail;
-use tn_types::{BlockBytes, Move, Payload};
+use tn_types::{Move, Payload};
 
 /// A first packet of the server with the guaranteed event 0 of the bytes "hi".
 const FIRST_EVENT: [u8; 22] = [
     0x40, 0, 0, 0, 0, 0, 0, 0, 0, 0, 0, 0, 0, 0, 8, 1, 0, 0, 4, 0x5a, 0x1a, 0,
-];
-
-/// A first packet of the server with block 0 of the byte "a".
-const FIRST_BLOCK: [u8; 19] = [
-    0x40, 0, 0, 0, 0, 0, 0, 0, 0, 0, 0, 0, 0, 0x80, 0, 0x82, 0x30, 0, 0,
 ];
 
 /// Creates slot 0: a player with datablock 0 at (1000, 1000), all else at its greatest or least.
@@ -31,9 +26,6 @@ const UPDATE: [u8; 22] = [
 
 /// A packet of a client that acknowledges packets 1, 3 and 4 of the server.
 const ACKNOWLEDGES: [u8; 16] = [0xc0, 0, 0, 0, 1, 0, 0x40, 3, 0, 0, 0, 0, 0, 0, 0, 0];
-
-/// A ping of the server after 32 packets.
-const PING: [u8; 11] = [1, 8, 0, 0, 0, 0, 0, 0, 0, 0, 0];
 
 /// A first packet of a client with move 7 (1, 0, no fire, no use), move 8 (-8, 7, fire, use) and the
 /// event "a" that is not guaranteed.
@@ -106,64 +98,18 @@ fn first_event(rt: HostRuntime) -> Result<(), Fail> {
     Ok(())
 }
 
-#[test]
-fn first_block(rt: HostRuntime) -> Result<(), Fail> {
-    let kinds = six_kinds().ok_or("no table")?;
-    let mut blocks = BlockList::new();
-    blocks.push(BlockItem {
-        number: 0,
-        bytes: BlockBytes::from_slice(b"a").ok_or("too long")?,
-    });
-    let packet = ServerPacket::Body(ServerBody {
-        head: FIRST,
-        accepted: 0,
-        control: None,
-        blocks,
-        events: EventList::new(),
-        ghosts: GhostList::new(),
-    });
-    assert_eq!(rt; server_bits(&packet, &kinds), 148);
-    let mut out = BitWriter::new(128);
-    encode_server(&packet, &kinds, &mut out);
-    assert_eq!(rt; out.finish().as_slice(), FIRST_BLOCK.as_slice());
-    Ok(())
-}
-
-#[test]
-fn pings_and_acknowledgements(rt: HostRuntime) -> Result<(), Fail> {
-    let kinds = six_kinds().ok_or("no table")?;
-    match decode_server(&PING, &kinds).ok().ok_or("refused")? {
-        ServerPacket::Ping(head) => assert_eq!(rt; head.seq, 32),
-        ServerPacket::Body(_) => return Err(Fail::from("data")),
-    }
-    match decode_client(&ACKNOWLEDGES).ok().ok_or("refused")? {
-        ClientPacket::Body(body) => {
-            assert_eq!(rt;
-                (body.head.seq, body.head.horizon, body.head.mask),
-                (3, 4, 0b1101)
-            );
-            assert!(rt; body.first == 0 && body.moves.is_empty() && body.events.is_empty());
-        }
-        ClientPacket::Ping(_) => return Err(Fail::from("a ping")),
-    }
-    Ok(())
-}
-
+/// A packet of a client with two moves and an event, as known bytes.
 #[test]
 fn moves_are_written(rt: HostRuntime) -> Result<(), Fail> {
     let mut moves = MoveList::new();
-    moves.push(Move {
-        dx: 1,
-        dy: 0,
-        fire: false,
-        act: false,
-    });
-    moves.push(Move {
-        dx: -8,
-        dy: 7,
-        fire: true,
-        act: true,
-    });
+    for (dx, dy, pressed) in [(1, 0, false), (-8, 7, true)] {
+        moves.push(Move {
+            dx,
+            dy,
+            fire: pressed,
+            act: pressed,
+        });
+    }
     let mut events = EventList::new();
     events.push(EventItem {
         number: None,
@@ -182,101 +128,100 @@ fn moves_are_written(rt: HostRuntime) -> Result<(), Fail> {
     Ok(())
 }
 
-/// The levels 1000, 1000, 127, 31 and 0: of x, y, hp, ammo and score.
 #[test]
-fn created_player(rt: HostRuntime) -> Result<(), Fail> {
-    let kinds = six_kinds().ok_or("no table")?;
-    let packet = decode_server(&CREATE, &kinds).ok().ok_or("refused")?;
-    assert_eq!(rt; server_bits(&packet, &kinds), 200);
-    let ServerPacket::Body(body) = packet else {
+fn acknowledgement_is_read(rt: HostRuntime) -> Result<(), Fail> {
+    let ClientPacket::Body(body) = decode_client(&ACKNOWLEDGES).ok().ok_or("refused")? else {
         return Err(Fail::from("a ping"));
     };
-    match body.ghosts.get(0).ok_or("no ghost")? {
+    let head = Header {
+        client: 0,
+        seq: 3,
+        horizon: 4,
+        mask: 0b1101,
+    };
+    assert_eq!(rt; body.head, head);
+    Ok(())
+}
+
+/// The op, the slot, the kind, the block or mask, and the levels of a ghost.
+fn told(item: &GhostItem) -> (u8, u8, u8, u32, &[u32]) {
+    match item {
+        GhostItem::Kill { slot } => (0, *slot, 0, 0, &[]),
         GhostItem::Create {
             slot,
             kind,
             block,
             levels,
-        } => {
-            assert_eq!(rt; (*slot, *kind, *block), (0, 0, 0));
-            assert_eq!(rt; levels.as_slice(), [1000, 1000, 127, 31, 0].as_slice());
-        }
-        _ => return Err(Fail::from("no create")),
-    }
-    Ok(())
-}
-
-#[test]
-fn updated_clock(rt: HostRuntime) -> Result<(), Fail> {
-    let kinds = six_kinds().ok_or("no table")?;
-    let packet = decode_server(&UPDATE, &kinds).ok().ok_or("refused")?;
-    assert_eq!(rt; server_bits(&packet, &kinds), 169);
-    let ServerPacket::Body(body) = packet else {
-        return Err(Fail::from("a ping"));
-    };
-    match body.ghosts.get(0).ok_or("no ghost")? {
+        } => (1, *slot, *kind, u32::from(*block), levels.as_slice()),
         GhostItem::Update {
             slot,
             kind,
             mask,
             levels,
-        } => {
-            assert_eq!(rt; (*slot, *kind, *mask), (0, 5, 1));
-            assert_eq!(rt; levels.as_slice(), [1].as_slice());
-        }
-        _ => return Err(Fail::from("no update")),
+        } => (2, *slot, *kind, *mask, levels.as_slice()),
+    }
+}
+
+#[test]
+fn ghosts_are_read(rt: HostRuntime) -> Result<(), Fail> {
+    let kinds = six_kinds().ok_or("no table")?;
+    let cases: [(&[u8], u32, (u8, u8, u8, u32, &[u32])); 2] = [
+        (&CREATE, 200, (1, 0, 0, 0, &[1000, 1000, 127, 31, 0])),
+        (&UPDATE, 169, (2, 0, 5, 1, &[1])),
+    ];
+    for (bytes, bits, item) in cases {
+        assert!(rt; bytes.len() <= 32);
+        let packet = decode_server(bytes, &kinds).ok().ok_or("refused")?;
+        assert_eq!(rt; server_bits(&packet, &kinds), bits);
+        let ServerPacket::Body(body) = packet else {
+            return Err(Fail::from("a ping"));
+        };
+        assert_eq!(rt; told(body.ghosts.get(0).ok_or("no ghost")?), item);
     }
     Ok(())
 }
 
 #[test]
-fn malformed_datagrams(rt: HostRuntime) {
-    let clear = [0; 16];
-    let padded = [0x40, 0, 0, 0, 0, 0, 0, 0, 0, 0, 0, 0, 0, 0, 0, 0x80];
-    let moves_33 = [0x40, 0, 0, 0, 0, 0, 0, 0, 0, 0, 0, 0, 0, 0x40, 8, 0];
-    let cases: [(&[u8], u32, BitsCause); 6] = [
+fn malformed_datagrams(rt: HostRuntime) -> Result<(), Fail> {
+    let kinds = six_kinds().ok_or("no table")?;
+    // The client's: no byte, a cut number, kind 2, packet 0, a set bit behind the last part, 33 moves.
+    let clients: [(&[u8], u32, BitsCause); 6] = [
         (&[], 0, BitsCause::Short),
         (&[0x40], 6, BitsCause::Short),
         (&[2], 0, BitsCause::KindBits),
-        (&clear, 6, BitsCause::ZeroSeq),
-        (&padded, 121, BitsCause::Padding),
-        (&moves_33, 110, BitsCause::CountBits),
+        (&[0; 16], 6, BitsCause::ZeroSeq),
+        (
+            &[0x40, 0, 0, 0, 0, 0, 0, 0, 0, 0, 0, 0, 0, 0, 0, 0x80],
+            121,
+            BitsCause::Padding,
+        ),
+        (
+            &[0x40, 0, 0, 0, 0, 0, 0, 0, 0, 0, 0, 0, 0, 0x40, 8, 0],
+            110,
+            BitsCause::CountBits,
+        ),
     ];
-    for (bytes, place, cause) in cases {
-        assert!(rt; bytes.len() <= 16);
+    for (bytes, place, cause) in clients {
+        assert!(rt; bytes.len() <= 32);
         let answer = decode_client(bytes).err();
         assert_eq!(rt; answer, Some(BitsFault { place, cause }));
     }
-}
-
-#[test]
-fn malformed_ghosts(rt: HostRuntime) -> Result<(), Fail> {
-    let kinds = six_kinds().ok_or("no table")?;
-    let block_of_41 = [0x40, 0, 0, 0, 0, 0, 0, 0, 0, 0, 0, 0, 0, 0x80, 0, 0x52];
-    let event_of_25 = [0x40, 0, 0, 0, 0, 0, 0, 0, 0, 0, 0, 0, 0, 0, 8, 0x32];
-    let ghosts_129 = [0x40, 0, 0, 0, 0, 0, 0, 0, 0, 0, 0, 0, 0, 0, 0, 0x81];
-    let op_3 = [0x40, 0, 0, 0, 0, 0, 0, 0, 0, 0, 0, 0, 0, 0, 0, 1, 0, 3];
-    let kind_6 = [
-        0x40, 0, 0, 0, 0, 0, 0, 0, 0, 0, 0, 0, 0, 0, 0, 1, 0, 0x19, 0,
+    // What stands behind the accepted moves of a server's packet: a block of 41 bytes, an event of 25, 129 ghosts, op 3,
+    // kind 6, an update of no field, a cut level.
+    let servers: [(&[u8], u32, BitsCause); 7] = [
+        (&[0x80, 0, 0x52], 121, BitsCause::LengthBits),
+        (&[0, 8, 0x32], 121, BitsCause::LengthBits),
+        (&[0, 0, 0x81], 120, BitsCause::CountBits),
+        (&[0, 0, 1, 0, 3], 136, BitsCause::OpBits),
+        (&[0, 0, 1, 0, 0x19, 0], 138, BitsCause::UnknownKind),
+        (&[0, 0, 1, 0, 0x16, 0], 142, BitsCause::EmptyMask),
+        (&[0, 0, 1, 0, 0x56, 2, 0, 0], 145, BitsCause::Short),
     ];
-    let no_field = [
-        0x40, 0, 0, 0, 0, 0, 0, 0, 0, 0, 0, 0, 0, 0, 0, 1, 0, 0x16, 0,
-    ];
-    let cut_level = [
-        0x40, 0, 0, 0, 0, 0, 0, 0, 0, 0, 0, 0, 0, 0, 0, 1, 0, 0x56, 2, 0, 0,
-    ];
-    let cases: [(&[u8], u32, BitsCause); 7] = [
-        (&block_of_41, 121, BitsCause::LengthBits),
-        (&event_of_25, 121, BitsCause::LengthBits),
-        (&ghosts_129, 120, BitsCause::CountBits),
-        (&op_3, 136, BitsCause::OpBits),
-        (&kind_6, 138, BitsCause::UnknownKind),
-        (&no_field, 142, BitsCause::EmptyMask),
-        (&cut_level, 145, BitsCause::Short),
-    ];
-    for (bytes, place, cause) in cases {
+    for (behind, place, cause) in servers {
+        let mut bytes = [0x40, 0, 0, 0, 0, 0, 0, 0, 0, 0, 0, 0, 0].to_vec(rt.alloc())?;
+        bytes.extend_from_slice(behind)?;
         assert!(rt; bytes.len() <= 32);
-        let answer = decode_server(bytes, &kinds).err();
+        let answer = decode_server(&bytes, &kinds).err();
         assert_eq!(rt; answer, Some(BitsFault { place, cause }));
     }
     Ok(())

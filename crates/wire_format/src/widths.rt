@@ -1,4 +1,6 @@
-//! The widths of the parts of a datagram in bits, and the limits of its lists.
+//! The widths of the parts of a datagram in bits, and what is reckoned from them and from the limits of `tn_types`.
+
+use tn_types::{MAX_BLOCK_BYTES, MAX_EVENT_BYTES, MAX_FIELDS, MAX_KIND_BITS, MAX_PACKET_GHOSTS};
 
 /// Whether a packet is data or a ping.
 pub(crate) const KIND_WIDTH: u32 = 2;
@@ -12,7 +14,7 @@ pub(crate) const CLIENT_WIDTH: u32 = 4;
 /// The number of a packet, an event or a move.
 pub(crate) const NUMBER_WIDTH: u32 = 24;
 /// The greatest of these numbers.
-pub(crate) const MAX_NUMBER: u32 = 16_777_215;
+pub(crate) const MAX_NUMBER: u32 = (1 << NUMBER_WIDTH) - 1;
 /// Which of the last 32 packets were processed.
 pub(crate) const MASK_WIDTH: u32 = 32;
 /// Whether an optional part follows.
@@ -48,45 +50,44 @@ pub(crate) const MOVE_COUNT_WIDTH: u32 = 6;
 /// A step of a move each way, raised by 8.
 pub(crate) const STEP_WIDTH: u32 = 4;
 
-/// The most blocks of a packet.
-pub const MAX_BLOCKS: usize = 15;
-/// The most events of a packet.
-pub const MAX_EVENTS: usize = 31;
-/// The most moves of a packet.
-pub const MAX_MOVES: usize = 32;
-/// The most ghosts of a packet.
-pub const MAX_GHOSTS: usize = 128;
-/// The most fields of a kind, and so the most levels of a ghost.
-pub const MAX_FIELDS: usize = 16;
-/// The most bytes of a block.
-pub const MAX_BLOCK_BYTES: usize = 40;
-/// The most bytes of an event.
-pub const MAX_EVENT_BYTES: usize = 24;
-
 /// The bits of the header, which is all of a ping.
-pub const HEADER_BITS: u32 = 86;
+pub const HEADER_BITS: u32 = KIND_WIDTH + HEAD_WIDTH;
 /// The bits of a server's data packet with no items, a set control slot counted.
-pub const SERVER_FIXED_BITS: u32 = 136;
+pub const SERVER_FIXED_BITS: u32 = HEADER_BITS
+    + NUMBER_WIDTH
+    + FLAG_WIDTH
+    + SLOT_WIDTH
+    + BLOCK_COUNT_WIDTH
+    + EVENT_COUNT_WIDTH
+    + GHOST_COUNT_WIDTH;
 /// The bits of a client's data packet with no items.
-pub const CLIENT_FIXED_BITS: u32 = 121;
+pub const CLIENT_FIXED_BITS: u32 = HEADER_BITS
+    + NUMBER_WIDTH
+    + MOVE_COUNT_WIDTH
+    + EVENT_COUNT_WIDTH;
 /// The bits of a move.
-pub const MOVE_BITS: u32 = 10;
+pub const MOVE_BITS: u32 = 2 * STEP_WIDTH + 2 * FLAG_WIDTH;
 /// The most bits of a datablock.
-pub const MAX_BLOCK_BITS: u32 = 332;
+pub const MAX_BLOCK_BITS: u32 = BLOCK_NUMBER_WIDTH
+    + BLOCK_LENGTH_WIDTH
+    + BYTE_WIDTH * MAX_BLOCK_BYTES as u32;
 /// The most bits of an event.
-pub const MAX_EVENT_BITS: u32 = 222;
-/// The most bits of a ghost.
-pub const MAX_GHOST_BITS: u32 = 222;
-/// The most bits that the fields of a kind take together.
-pub(crate) const MAX_KIND_BITS: u32 = 192;
-/// The most bits of a field.
-pub(crate) const MAX_FIELD_BITS: u32 = 24;
+pub const MAX_EVENT_BITS: u32 = FLAG_WIDTH
+    + NUMBER_WIDTH
+    + EVENT_LENGTH_WIDTH
+    + BYTE_WIDTH * MAX_EVENT_BYTES as u32;
+/// The most bits of a ghost: an update of all fields.
+pub const MAX_GHOST_BITS: u32 = SLOT_WIDTH
+    + OP_WIDTH
+    + KIND_NUMBER_WIDTH
+    + MAX_FIELDS as u32
+    + MAX_KIND_BITS as u32;
 
 /// The bits of the header behind the kind.
-pub(crate) const HEAD_WIDTH: u32 = 84;
+pub(crate) const HEAD_WIDTH: u32 = CLIENT_WIDTH + 2 * NUMBER_WIDTH + MASK_WIDTH;
 /// No item has more bits.
-pub(crate) const MAX_ITEM_BITS: u32 = 332;
+pub(crate) const MAX_ITEM_BITS: u32 = MAX_BLOCK_BITS;
 /// No list has more items.
-pub(crate) const MAX_ITEMS: usize = 128;
+pub(crate) const MAX_ITEMS: usize = MAX_PACKET_GHOSTS;
 /// No packet has more bits.
 pub(crate) const MAX_PACKET_BITS: u32 = 100_000;

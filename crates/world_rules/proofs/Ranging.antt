@@ -15,7 +15,8 @@ use Rattle.world_rules.specs.declared.object.Mine.{Mine as MinePart}
 use Rattle.world_rules.specs.declared.object.Drone.{Drone as DronePart}
 use Rattle.world_rules.specs.declared.object.Clock.{Clock as ClockPart}
 use Rattle.world_rules.specs.declared.setup.Spawn.{Spawn}
-use Rattle.world_rules.specs.Rules.{clamp, stepped, player_next, is_leaving, disc_next, mine_next, drone_next, flag_next, carried, went_home, is_standing, is_home, taker, taking, first_of, is_enemy_near, using_part, is_player, clock_next, move_of, is_firing, fired_by, fired_part, fired, by_kind, object_next, damage, harm, hits, drawn, captures, is_hitting, is_triggered, Moment, aged}
+use Rattle.std.specs.Option.{option_or}
+use Rattle.world_rules.specs.Rules.{clamp, stepped, player_next, is_leaving, disc_next, mine_next, drone_next, flag_next, carried, went_home, is_standing, is_home, taker, taking, is_enemy_near, using_part, is_player, clock_next, move_of, is_firing, fired_by, fired_part, fired, by_kind, object_next, damage, harm, hits, drawn, captures, is_hitting, is_triggered, Moment, aged}
 use Rattle.world_rules.specs.Next.{objects_next, discs_made}
 use Rattle.world_rules.specs.Spawning.{state_at_first, first_objects, SpawnFits, OwnerFits}
 use Rattle.world_rules.specs.Ranges.{PlaceFits, HolderFits, StateFits, ObjectFits}
@@ -77,7 +78,7 @@ using_fits moves (Drone d) h = tt
 using_fits moves (Flag f) h = tt
 using_fits moves (Clock c) h = tt
 
-first_fits : (a b : Option ℕ) → HolderFits a → HolderFits b → HolderFits (first_of a b)
+first_fits : (a b : Option ℕ) → HolderFits a → HolderFits b → HolderFits (option_or a b)
 first_fits None b h k = k
 first_fits (Some c) b h k = h
 

@@ -3,7 +3,8 @@ use Rattle.std.proofs.Common.{◌≡◌, ℕ, ◌<◌, ◌≤◌, ◌+◌, List,
 use Rattle.std.proofs.lemmas.List.{drop_more, drop_all}
 use Rattle.world_rules.specs.declared.object.Object.{Object}
 use Rattle.tn_types.specs.declared.moves.Move.{Move}
-use Rattle.world_rules.specs.Rules.{taker, taking, first_of, is_standing}
+use Rattle.std.specs.Option.{option_or}
+use Rattle.world_rules.specs.Rules.{taker, taking, is_standing}
 
 pub taker_passes : (os : List Object) (moves : List (Option Move)) (o : Object) (i : ℕ) (x : Object) → i < length os → taking moves o (get_or os i x) ≡ None → taker (drop i os) moves o ≡ taker (drop (i + 1) os) moves o
 taker_passes os moves o i x lt e = rw (drop_more os i x lt, e) refl
@@ -19,8 +20,8 @@ taking_down : (moves : List (Option Move)) (o p : Object) → is_standing p ≡ 
 taking_down moves o p e = rw e refl
 
 standing_step : (v : Bool) (moves : List (Option Move)) (o p : Object) (os : List Object) → is_standing p ≡ v → taker (filter is_standing os) moves o ≡ taker os moves o → taker (cond v (p ∷ filter is_standing os) (filter is_standing os)) moves o ≡ taker (p ∷ os) moves o
-standing_step true moves o p os e h = ap (first_of (taking moves o p)) h
-standing_step false moves o p os e h = h ∙ sym (ap (λ t. first_of t (taker os moves o)) (taking_down moves o p e))
+standing_step true moves o p os e h = ap (option_or (taking moves o p)) h
+standing_step false moves o p os e h = h ∙ sym (ap (λ t. option_or t (taker os moves o)) (taking_down moves o p e))
 
 taker_filter : (os : List Object) (moves : List (Option Move)) (o : Object) → taker (filter is_standing os) moves o ≡ taker os moves o
 taker_filter [] moves o = refl

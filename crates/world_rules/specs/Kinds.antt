@@ -1,8 +1,10 @@
 -- The six kinds of a match, by number: player, disc, mine, drone, flag and clock.
 use Rattle.std.specs.Prelude.{ℕ, pos, List, [], ◌∷◌, true, false}
+use Rattle.tn_types.specs.declared.limits.TheConstants.{MAX_CLIENTS, MAX_COORDINATE}
 use Rattle.quantised_fields.specs.declared.field.FieldSpec.{FieldSpec}
 use Rattle.quantised_fields.specs.declared.kind.Kind.{Kind}
 use Rattle.world_rules.specs.declared.kinds.TheConstants.{PLAYER, DISC, MINE, DRONE, FLAG, CLOCK}
+use Rattle.world_rules.specs.declared.object.TheConstants.{MAX_HP, MAX_AMMO, MAX_SCORE, MAX_TICK}
 use Rattle.world_rules.specs.declared.object.State.{State}
 use Rattle.world_rules.specs.declared.object.State.TheVariants.{Player, Disc, Mine, Drone, Flag, Clock}
 
@@ -20,10 +22,14 @@ abbrev pub up_to : ℕ → ℕ → FieldSpec
 up_to hi bits = record { lo = pos 0; hi = pos hi; bits = bits }
 
 abbrev pub coordinate : FieldSpec
-coordinate = up_to 65535 16
+coordinate = up_to MAX_COORDINATE 16
 
 abbrev pub player_kind : Kind
-player_kind = record { fields = coordinate ∷ coordinate ∷ up_to 100 7 ∷ up_to 20 5 ∷ up_to 255 8 ∷ []; weight = 8; always = false }
+player_kind = record {
+  fields = coordinate ∷ coordinate ∷ up_to MAX_HP 7 ∷ up_to MAX_AMMO 5 ∷ up_to MAX_SCORE 8 ∷ [];
+  weight = 8;
+  always = false;
+}
 
 abbrev pub disc_kind : Kind
 disc_kind = record { fields = coordinate ∷ coordinate ∷ []; weight = 6; always = false }
@@ -32,13 +38,13 @@ abbrev pub mine_kind : Kind
 mine_kind = record { fields = coordinate ∷ coordinate ∷ up_to 1 1 ∷ []; weight = 3; always = false }
 
 abbrev pub drone_kind : Kind
-drone_kind = record { fields = up_to 65535 12 ∷ up_to 65535 12 ∷ up_to 100 5 ∷ []; weight = 4; always = false }
+drone_kind = record { fields = up_to MAX_COORDINATE 12 ∷ up_to MAX_COORDINATE 12 ∷ up_to MAX_HP 5 ∷ []; weight = 4; always = false }
 
 abbrev pub flag_kind : Kind
-flag_kind = record { fields = coordinate ∷ coordinate ∷ up_to 16 5 ∷ []; weight = 5; always = true }
+flag_kind = record { fields = coordinate ∷ coordinate ∷ up_to MAX_CLIENTS 5 ∷ []; weight = 5; always = true }
 
 abbrev pub clock_kind : Kind
-clock_kind = record { fields = up_to 16777215 24 ∷ up_to 255 8 ∷ up_to 255 8 ∷ []; weight = 1; always = true }
+clock_kind = record { fields = up_to MAX_TICK 24 ∷ up_to MAX_SCORE 8 ∷ up_to MAX_SCORE 8 ∷ []; weight = 1; always = true }
 
 abbrev pub match_kinds : List Kind
 match_kinds = player_kind ∷ disc_kind ∷ mine_kind ∷ drone_kind ∷ flag_kind ∷ clock_kind ∷ []

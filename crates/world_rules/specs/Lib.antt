@@ -1,4 +1,3 @@
-pub mod StillRange
 pub mod Rules
 pub mod Next
 pub mod Kinds

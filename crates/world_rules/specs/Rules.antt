@@ -1,8 +1,11 @@
 -- The rule of each kind of object. Each reads the objects as they were before the tick.
-use Rattle.std.specs.Prelude.{ℕ, ℤ, pos, negsuc, ◌+◌, ◌-◌, ◌*◌, ◌+ℤ◌, ◌-ℤ◌, ◌*ℤ◌, ◌/◌, ◌%◌, ◌^◌, find, min, max, List, [], ◌∷◌, count_by, Bool, true, false, not, ◌&&◌, ◌||◌, nat_lt, nat_le, ◌==◌, if◌then◌else◌, Option, Some, None, slice_get}
+use Rattle.std.specs.Prelude.{ℕ, ℤ, pos, negsuc, ◌+◌, ◌-◌, ◌*◌, ◌+ℤ◌, ◌-ℤ◌, ◌*ℤ◌, ◌/◌, ◌%◌, ◌^◌, find, min, max, List, [], ◌∷◌, count_by, Bool, true, false, not, ◌&&◌, ◌||◌, nat_lt, nat_le, ◌==◌, if◌then◌else◌, Option, Some, None, slice_get, refl}
 use Rattle.std.specs.List.{list_any}
+use Rattle.std.specs.Option.{option_or}
+use Rattle.tn_types.specs.declared.limits.TheConstants.{MAX_COORDINATE}
 use Rattle.tn_types.specs.declared.moves.Move.{Move}
-use Rattle.world_rules.specs.StillRange.{no_step-range}
+use Rattle.world_rules.specs.declared.places.TheConstants.{STEP}
+use Rattle.world_rules.specs.declared.object.TheConstants.{MAX_HP, MAX_AMMO, MAX_SCORE, MAX_AGE, MAX_TICK}
 use Rattle.world_rules.specs.declared.object.Place.{Place}
 use Rattle.world_rules.specs.declared.object.Player.{Player as PlayerPart}
 use Rattle.world_rules.specs.declared.object.Disc.{Disc as DiscPart}
@@ -22,15 +25,15 @@ unfoldable pub is_within : ℕ → Place → Place → Bool
 is_within reach a b = nat_le (max (apart a.x b.x) (apart a.y b.y)) reach
 
 abbrev pub clamp : ℤ → ℕ
-clamp (pos n) = min n 65535
+clamp (pos n) = min n MAX_COORDINATE
 clamp (negsuc n) = 0
 
 abbrev pub is_in_field : ℤ → Bool
-is_in_field (pos n) = nat_le n 65535
+is_in_field (pos n) = nat_le n MAX_COORDINATE
 is_in_field (negsuc n) = false
 
 abbrev pub stepped : Place → Move → Place
-stepped p m = record { x = clamp (pos p.x +ℤ pos 25 *ℤ m.dx); y = clamp (pos p.y +ℤ pos 25 *ℤ m.dy) }
+stepped p m = record { x = clamp (pos p.x +ℤ STEP *ℤ m.dx); y = clamp (pos p.y +ℤ STEP *ℤ m.dy) }
 
 -- ammo after a move
 abbrev pub spent : ℤ → Bool → ℤ
@@ -134,7 +137,7 @@ hits os client = count_by (is_scoring os client) os
 -- ---- moves
 
 abbrev pub still : Move
-still = record { dx = pos 0; dy = pos 0; fire = false; act = false; dx_range = no_step-range; dy_range = no_step-range }
+still = record { dx = pos 0; dy = pos 0; fire = false; act = false; dx_range = refl; dy_range = refl }
 
 abbrev pub or_still : Option (Option Move) → Move
 or_still None = still
@@ -153,12 +156,19 @@ is_firing p m = nat_lt 0 p.hp && (m.fire && nat_lt 0 p.ammo)
 unfoldable pub player_next : ℕ → ℕ → Object → PlayerPart → Move → Object
 player_next harm scored o p m =
     if nat_lt 0 p.hp
-    then record o { place = stepped o.place m; state = Player (record p { hp = p.hp - harm; ammo = if m.fire then p.ammo - 1 else p.ammo; score = min 255 (p.score + scored) }) }
-    else record o { place = o.home; state = Player (record p { hp = 100; ammo = 20; score = min 255 (p.score + scored) }) }
+    then record o {
+      place = stepped o.place m;
+      state = Player (record p {
+        hp = p.hp - harm;
+        ammo = if m.fire then p.ammo - 1 else p.ammo;
+        score = min MAX_SCORE (p.score + scored);
+      });
+    }
+    else record o { place = o.home; state = Player (record p { hp = MAX_HP; ammo = MAX_AMMO; score = min MAX_SCORE (p.score + scored) }) }
 
 -- an age grows by 1; from 20 on nothing depends on it
 abbrev pub aged : ℕ → ℕ
-aged age = min 20 (age + 1)
+aged age = min MAX_AGE (age + 1)
 
 -- the velocity leads out of the field
 abbrev pub is_leaving : Place → DiscPart → Bool
@@ -168,7 +178,10 @@ abbrev pub flown : Object → DiscPart → Object
 flown o d =
     if nat_le 19 d.age || is_leaving o.place d
     then record o { alive = false; state = Disc (record d { age = aged d.age }) }
-    else record o { place = record { x = clamp (pos o.place.x +ℤ d.vx); y = clamp (pos o.place.y +ℤ d.vy) }; state = Disc (record d { age = aged d.age }) }
+    else record o {
+      place = record { x = clamp (pos o.place.x +ℤ d.vx); y = clamp (pos o.place.y +ℤ d.vy) };
+      state = Disc (record d { age = aged d.age });
+    }
 
 unfoldable pub disc_next : Bool → Object → DiscPart → Object
 disc_next hitting o d =
@@ -193,7 +206,10 @@ drone_next r harm o d =
     if not o.alive then o
     else record o {
       alive = nat_lt harm d.hp;
-      place = record { x = clamp (pos o.place.x +ℤ (pos (r % 101) -ℤ pos 50)); y = clamp (pos o.place.y +ℤ (pos (r / 101 % 101) -ℤ pos 50)) };
+      place = record {
+        x = clamp (pos o.place.x +ℤ (pos (r % 101) -ℤ pos 50));
+        y = clamp (pos o.place.y +ℤ (pos (r / 101 % 101) -ℤ pos 50));
+      };
       state = Drone (record d { hp = d.hp - harm });
     }
 
@@ -223,15 +239,10 @@ using_part moves (Clock c) = None
 abbrev pub taking : List (Option Move) → Object → Object → Option ℕ
 taking moves o p = if is_enemy_near 300 o p then using_part moves p.state else None
 
--- the first answer
-abbrev pub first_of : Option ℕ → Option ℕ → Option ℕ
-first_of (Some c) next = Some c
-first_of None next = next
-
 -- the least client that takes the flag: players stand by rising client
 abbrev pub taker : List Object → List (Option Move) → Object → Option ℕ
 taker [] moves o = None
-taker (p ∷ os) moves o = first_of (taking moves o p) (taker os moves o)
+taker (p ∷ os) moves o = option_or (taking moves o p) (taker os moves o)
 
 -- the player is within reach of its own home
 abbrev pub is_home : Object → Bool
@@ -277,7 +288,13 @@ unfoldable pub captures : List Object → ℕ → ℕ
 captures os team = count_by (is_captured os team) os
 
 unfoldable pub clock_next : ℕ → ℕ → Object → ClockPart → Object
-clock_next red blue o c = record o { state = Clock (record { tick = min 16777215 (c.tick + 1); red = min 255 (c.red + red); blue = min 255 (c.blue + blue) }) }
+clock_next red blue o c = record o {
+  state = Clock (record {
+    tick = min MAX_TICK (c.tick + 1);
+    red = min MAX_SCORE (c.red + red);
+    blue = min MAX_SCORE (c.blue + blue);
+  });
+}
 
 -- what a tick goes by, beside the objects
 pub record Moment : Type 0 where
@@ -310,7 +327,14 @@ speed m = if is_still m then (pos 800, pos 0) else (pos 100 *ℤ m.dx, pos 100 *
 unfoldable pub fired_by : Object → PlayerPart → Move → Option Object
 fired_by o p m =
     if is_firing p m
-    then Some (record { block = o.block; team = o.team; home = stepped o.place m; alive = true; place = stepped o.place m; state = Disc (record { owner = p.client; vx = (speed m).0; vy = (speed m).1; age = 0 }) })
+    then Some (record {
+      block = o.block;
+      team = o.team;
+      home = stepped o.place m;
+      alive = true;
+      place = stepped o.place m;
+      state = Disc (record { owner = p.client; vx = (speed m).0; vy = (speed m).1; age = 0 });
+    })
     else None
 
 abbrev pub fired_part : List (Option Move) → Object → State → Option Object

@@ -1,8 +1,10 @@
 -- What a match starts with: each object stands alive at its home, numbered in the order of the setup.
 use Rattle.std.specs.Prelude.{ℕ, suc, pos, ◌≡◌, ◌<◌, ◌≤◌, ◌≤ℤ◌, List, [], ◌∷◌, length, true, false, ◌==◌, if◌then◌else◌, Option, Some, None}
 use Rattle.std.specs.List.{All}
+use Rattle.tn_types.specs.declared.limits.TheConstants.{MAX_CLIENTS, MAX_BLOCKS, MAX_COORDINATE, MAX_OBJECTS}
 use Rattle.world_rules.specs.declared.kinds.TheConstants.{PLAYER, MINE, DRONE, FLAG, CLOCK}
 use Rattle.world_rules.specs.declared.object.Object.{Object}
+use Rattle.world_rules.specs.declared.object.TheConstants.{MAX_HP, MAX_AMMO}
 use Rattle.world_rules.specs.declared.object.State.{State}
 use Rattle.world_rules.specs.declared.object.State.TheVariants.{Player, Mine, Drone, Flag, Clock}
 use Rattle.world_rules.specs.declared.setup.Spawn.{Spawn}
@@ -10,10 +12,10 @@ use Rattle.world_rules.specs.declared.setup.Setup.{Setup}
 use Rattle.world_rules.specs.Rules.{clamp}
 
 abbrev pub state_at_first : ℕ → ℕ → Option ℕ → State
-state_at_first number kind (Some client) = Player (record { client = client; hp = 100; ammo = 20; score = 0 })
+state_at_first number kind (Some client) = Player (record { client = client; hp = MAX_HP; ammo = MAX_AMMO; score = 0 })
 state_at_first number kind None =
     if kind == MINE then Mine (record { armed = false; age = 0 })
-    else if kind == DRONE then Drone (record { number = number; hp = 100 })
+    else if kind == DRONE then Drone (record { number = number; hp = MAX_HP })
     else if kind == FLAG then Flag (record { holder = None })
     else Clock (record { tick = 0; red = 0; blue = 0 })
 
@@ -39,12 +41,12 @@ OwnerFits clients kind None = (MINE ≤ kind) × (kind ≤ CLOCK)
 
 pub record SpawnFits (clients : ℕ) (s : Spawn) : Type 0 where
   pub owner : OwnerFits clients s.kind s.owner
-  pub block : s.block < 64
+  pub block : s.block < MAX_BLOCKS
   pub team : s.team < 2
   pub x_least : pos 0 ≤ℤ s.x
-  pub x_most : s.x ≤ℤ pos 65535
+  pub x_most : s.x ≤ℤ pos MAX_COORDINATE
   pub y_least : pos 0 ≤ℤ s.y
-  pub y_most : s.y ≤ℤ pos 65535
+  pub y_most : s.y ≤ℤ pos MAX_COORDINATE
 
 -- players come first, by rising client, from this one on
 abbrev pub owner_rises : ℕ → Option ℕ → List Spawn → (ℕ → List Spawn → Type 0) → (List Spawn → Type 0) → Type 0
@@ -61,7 +63,7 @@ OwnersRise least (s ∷ spawns) = owner_rises least s.owner spawns (λ next rest
 -- the ranges and the order of a setup
 pub record SetupFits (setup : Setup) : Type 0 where
   pub clients_least : 1 ≤ setup.clients
-  pub clients : setup.clients ≤ 16
-  pub few : length setup.spawns ≤ 1024
+  pub clients : setup.clients ≤ MAX_CLIENTS
+  pub few : length setup.spawns ≤ MAX_OBJECTS
   pub spawns : All (SpawnFits setup.clients) setup.spawns
   pub owners : OwnersRise 0 setup.spawns

@@ -4,15 +4,12 @@ ghost use Rattle.std.specs.Option.{option_copied};
 ghost use Rattle.world_rules.specs.Rules.{is_standing, is_player, taking, using_part, taker, is_home, went_home, carried, flag_next, is_capturing, is_captured, captures, clock_next};
 
 use crate::fire::move_of;
-use crate::object::{Clock, Flag, MAX_SCORE, Object, State};
+use crate::object::{Clock, Flag, MAX_SCORE, MAX_TICK, Object, State};
 use crate::places::{is_within, stepped};
 use tn_types::Move;
 
 /// How near a flag is taken, and how near home it is captured, in centimetres.
 pub const FLAG_REACH: u32 = 300;
-
-// Where a clock stops.
-const MAX_TICK: u32 = 16_777_215;
 
 /// Whether this is the client's player.
 pub fn is_player(client: u8, o: &Object) -> bool

@@ -3,7 +3,9 @@ ghost use Rattle.std.specs.Prelude.{◌≡◌, ◌≤◌, None, pos, length};
 ghost use Rattle.quantised_fields.specs.Kinds.{table_fault};
 ghost use Rattle.world_rules.specs.Kinds.{coordinate, player_kind, disc_kind, mine_kind, drone_kind, flag_kind, clock_kind, match_kinds as the_kinds};
 
+use crate::object::{MAX_AMMO, MAX_HP, MAX_SCORE, MAX_TICK};
 use quantised_fields::{FieldList, FieldSpec, Kind, KindTable};
+use tn_types::{MAX_CLIENTS, MAX_COORDINATE, MAX_LISTED_FIELDS};
 
 /// The number of the kind of players.
 pub const PLAYER: u8 = 0;
@@ -25,7 +27,7 @@ fn field(hi: i64, bits: u32) -> FieldSpec
 }
 
 fn kind(fields: &[FieldSpec], weight: u8, always: bool) -> Kind
-    requires { length fields.now ≤ 32 }
+    requires { length fields.now ≤ MAX_LISTED_FIELDS }
     ensures { result ≡ record { fields = fields.now; weight = weight; always = always } }
 {
     Kind {
@@ -38,13 +40,17 @@ fn kind(fields: &[FieldSpec], weight: u8, always: bool) -> Kind
 fn coordinate() -> FieldSpec
     ensures { result ≡ coordinate }
 {
-    field(65_535, 16)
+    field(i64::from(MAX_COORDINATE), 16)
 }
 
 fn player_kind() -> Kind
     ensures { result ≡ player_kind }
 {
-    let (hp, ammo, score) = (field(100, 7), field(20, 5), field(255, 8));
+    let (hp, ammo, score) = (
+        field(i64::from(MAX_HP), 7),
+        field(i64::from(MAX_AMMO), 5),
+        field(i64::from(MAX_SCORE), 8),
+    );
     kind(&[coordinate(), coordinate(), hp, ammo, score], 8, false)
 }
 
@@ -64,21 +70,27 @@ fn mine_kind() -> Kind
 fn drone_kind() -> Kind
     ensures { result ≡ drone_kind }
 {
-    let (rough, hp) = (field(65_535, 12), field(100, 5));
+    let (rough, hp) = (
+        field(i64::from(MAX_COORDINATE), 12),
+        field(i64::from(MAX_HP), 5),
+    );
     kind(&[rough, rough, hp], 4, false)
 }
 
 fn flag_kind() -> Kind
     ensures { result ≡ flag_kind }
 {
-    let holder = field(16, 5);
+    let holder = field(i64::from(MAX_CLIENTS), 5);
     kind(&[coordinate(), coordinate(), holder], 5, true)
 }
 
 fn clock_kind() -> Kind
     ensures { result ≡ clock_kind }
 {
-    let (tick, captures) = (field(16_777_215, 24), field(255, 8));
+    let (tick, captures) = (
+        field(i64::from(MAX_TICK), 24),
+        field(i64::from(MAX_SCORE), 8),
+    );
     kind(&[tick, captures, captures], 1, true)
 }
 

@@ -9,6 +9,9 @@ pub const MAX_AMMO: u32 = 20;
 /// Where scores and captures stop.
 pub const MAX_SCORE: u32 = 255;
 
+/// Where a clock stops.
+pub const MAX_TICK: u32 = 16_777_215;
+
 /// The age from which nothing depends on it, at which a disc ends.
 pub const MAX_AGE: u32 = 20;
 

@@ -2,8 +2,8 @@
 ghost use Rattle.std.specs.Prelude.{◌≡◌, ◌≤ℤ◌, ◌+ℤ◌, ◌*ℤ◌, ℤ, pos, negsuc};
 ghost use Rattle.world_rules.specs.Rules.{apart, is_within, clamp, is_in_field, stepped, spent};
 
-use crate::object::Place;
-use tn_types::Move;
+use crate::object::{MAX_AMMO, Place};
+use tn_types::{MAX_COORDINATE, Move};
 
 /// How far a player goes in a tick for each unit of a move, in centimetres.
 pub const STEP: i64 = 25;
@@ -29,8 +29,8 @@ pub(crate) fn clamp(z: i64) -> u32
 {
     if z < 0 {
         0
-    } else if z > 65535 {
-        65535
+    } else if z > i64::from(MAX_COORDINATE) {
+        MAX_COORDINATE
     } else {
         z as u32
     }
@@ -40,7 +40,7 @@ pub(crate) fn clamp(z: i64) -> u32
 pub(crate) fn is_in_field(z: i64) -> bool
     ensures { result ≡ is_in_field z }
 {
-    0 <= z && z <= 65535
+    0 <= z && z <= i64::from(MAX_COORDINATE)
 }
 
 // A number times a small one.
@@ -75,12 +75,12 @@ pub fn stepped(place: &Place, m: &Move) -> Place
 /// to 20.
 pub fn step_player(x: i64, y: i64, ammo: i64, m: Move) -> (i64, i64, i64)
     requires x_least { pos 0 ≤ℤ x }
-    requires x_most { x ≤ℤ pos 65535 }
+    requires x_most { x ≤ℤ pos MAX_COORDINATE }
     requires y_least { pos 0 ≤ℤ y }
-    requires y_most { y ≤ℤ pos 65535 }
+    requires y_most { y ≤ℤ pos MAX_COORDINATE }
     requires ammo_least { pos 0 ≤ℤ ammo }
-    requires ammo_most { ammo ≤ℤ pos 20 }
-    ensures { result ≡ (pos (clamp (x +ℤ pos 25 *ℤ m.dx)), pos (clamp (y +ℤ pos 25 *ℤ m.dy)), spent ammo m.fire) }
+    requires ammo_most { ammo ≤ℤ pos MAX_AMMO }
+    ensures { result ≡ (pos (clamp (x +ℤ STEP *ℤ m.dx)), pos (clamp (y +ℤ STEP *ℤ m.dy)), spent ammo m.fire) }
 {
     (moved(x, m.dx), moved(y, m.dy), spent(ammo, m.fire))
 }
@@ -88,8 +88,8 @@ pub fn step_player(x: i64, y: i64, ammo: i64, m: Move) -> (i64, i64, i64)
 // A coordinate after a step.
 fn moved(x: i64, d: i8) -> i64
     requires least { pos 0 ≤ℤ x }
-    requires most { x ≤ℤ pos 65535 }
-    ensures { result ≡ pos (clamp (x +ℤ pos 25 *ℤ d)) }
+    requires most { x ≤ℤ pos MAX_COORDINATE }
+    ensures { result ≡ pos (clamp (x +ℤ STEP *ℤ d)) }
 {
     i64::from(clamp(x + scaled(STEP, d)))
 }

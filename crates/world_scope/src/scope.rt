@@ -7,13 +7,13 @@ ghost use Rattle.world_scope.specs.Scope.{seen, seen_at, visible_list};
 
 use crate::viewer::{Seen, Viewer};
 use std::alloc::{AllocError, Global};
-use tn_types::NoMemory;
+use tn_types::{MAX_OBJECTS, NoMemory};
 use world_rules::Object;
 use world_sim::World;
 
 // The objects that are seen, in place of what was in `out`.
 fn gather(viewer: &Viewer, objects: &[Object], out: &mut Vec<Seen>) -> Result<(), AllocError>
-    requires { length objects.now ≤ 1024 }
+    requires { length objects.now ≤ MAX_OBJECTS }
     ensures ok { OnOk result (out.new.items ≡ filter_map (seen viewer.now) (enumerate_from 0 objects.now)) }
     ensures room { OnErr result (vec_capacity out.old < length (filter_map (seen viewer.now) (enumerate_from 0 objects.now))) }
     ensures kept { vec_capacity out.old ≤ vec_capacity out.new }

@@ -88,7 +88,8 @@ impl Viewer {
 
     // What the client's player sees of an object with this number.
     fn seen_by_player(&self, object: u32, o: &Object) -> Option<Seen>
-        ensures { result ≡ (if player_sees self.now.radius self.now.player o.now then Some (record { object = object; level = quarter self.now.radius self.now.player o.now }) else None) }
+        ensures { result ≡ (if player_sees self.now.radius self.now.player o.now
+            then Some (record { object = object; level = quarter self.now.radius self.now.player o.now }) else None) }
     {
         let player = self.player?;
         let away = distance(&player.place, &o.place);

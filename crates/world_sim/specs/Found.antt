@@ -1,6 +1,7 @@
 -- What a tick finds of the objects before anything moves: those that matter to others, in the order of their numbers.
 use Rattle.std.specs.Prelude.{◌≡◌, ◌≤◌, ◌&&◌, Bool, List, filter, length}
 use Rattle.std.specs.List.{list_any}
+use Rattle.tn_types.specs.declared.limits.TheConstants.{MAX_OBJECTS}
 use Rattle.world_rules.specs.declared.object.Object.{Object}
 use Rattle.world_sim.specs.declared.step.Old.{Old}
 use Rattle.world_rules.specs.Rules.{captures, is_flying, is_target, is_standing, is_armed, is_hitting, is_triggered, is_other_near}
@@ -23,9 +24,9 @@ pub record AreFound (os flying targets standing hitting triggered : List Object)
 -- the world before a tick as the rules read it, and what is found of it
 pub record IsOld (old : Old) : Type 0 where
   pub found : AreFound old.objects.now old.flying.now old.targets.now old.standing.now old.hitting.now old.triggered.now
-  pub few : length old.objects.now ≤ 1024
+  pub few : length old.objects.now ≤ MAX_OBJECTS
   pub red_is : old.red ≡ captures old.objects.now 0
   pub blue_is : old.blue ≡ captures old.objects.now 1
-  pub flying_few : length old.flying.now ≤ 1024
-  pub hitting_few : length old.hitting.now ≤ 1024
-  pub triggered_few : length old.triggered.now ≤ 1024
+  pub flying_few : length old.flying.now ≤ MAX_OBJECTS
+  pub hitting_few : length old.hitting.now ≤ MAX_OBJECTS
+  pub triggered_few : length old.triggered.now ≤ MAX_OBJECTS

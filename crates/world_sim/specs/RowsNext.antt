@@ -8,7 +8,10 @@ use Rattle.world_sim.specs.declared.rows.Row.{Row}
 use Rattle.world_sim.specs.Rows.{values_of, row_versions, row_writes}
 
 abbrev pub row_next : Row → Object → Row
-row_next r o = record { values = record { items = values_of o }; versions = record { items = row_versions r.values.items (values_of o) r.versions.items } }
+row_next r o = record {
+  values = record { items = values_of o };
+  versions = record { items = row_versions r.values.items (values_of o) r.versions.items };
+}
 
 abbrev pub fresh_row : Object → Row
 fresh_row o = record { values = record { items = values_of o }; versions = record { items = replicate (length (values_of o)) 0 } }

@@ -1,6 +1,7 @@
 -- The world tick by tick: the objects after it by the world's rules, the rows of their values, and what the tick wrote.
 use Rattle.std.specs.Prelude.{ℕ, ℤ, Bool, option_map, slice_get, ◌+◌, ◌≤◌, ◌≡◌, List, ◌++◌, ◌∷◌, [], length, map, Option, Some, None, nat_lt, if◌then◌else◌}
 use Rattle.std.specs.List.{AllByRecursion}
+use Rattle.tn_types.specs.declared.limits.TheConstants.{MAX_OBJECTS}
 use Rattle.tn_types.specs.declared.moves.Move.{Move}
 use Rattle.world_rules.specs.declared.object.Object.{Object}
 use Rattle.world_rules.specs.Rules.{Moment}
@@ -23,7 +24,7 @@ pub record Worlds : Type 0 where
 -- the objects with one more, if it was made and there is a place
 abbrev pub added : List Object → Option Object → List Object
 added now None = now
-added now (Some disc) = if nat_lt (length now) 1024 then now ++ disc ∷ [] else now
+added now (Some disc) = if nat_lt (length now) MAX_OBJECTS then now ++ disc ∷ [] else now
 
 -- the moment of the next tick
 abbrev pub coming : Worlds → Moment
@@ -48,7 +49,7 @@ row_values r = r.values.items
 
 -- what holds of every world
 pub record IsWorld (w : Worlds) : Type 0 where
-  pub few : length w.objects ≤ 1024
+  pub few : length w.objects ≤ MAX_OBJECTS
   pub rows : length w.rows ≡ length w.objects
   pub counted : AllByRecursion (WasCounted w.ticks) w.rows
   pub fits : AllByRecursion ObjectFits w.objects

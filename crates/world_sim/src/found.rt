@@ -133,7 +133,8 @@ pub fn find_all(
     hitting: &mut Vec<Object>,
     triggered: &mut Vec<Object>,
 ) -> Result<(), AllocError>
-    ensures { OnOk result (AreFound objects.now flying.new.items targets.new.items standing.new.items hitting.new.items triggered.new.items) }
+    ensures { OnOk result (AreFound objects.now flying.new.items targets.new.items standing.new.items
+        hitting.new.items triggered.new.items) }
 {
     gather_flying(objects, flying)?;
     gather_targets(objects, targets)?;

@@ -9,4 +9,4 @@ mod tests;
 mod world;
 
 pub use rows::{Row, Write};
-pub use world::{MAX_OBJECTS, World};
+pub use world::World;

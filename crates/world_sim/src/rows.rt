@@ -6,6 +6,7 @@ ghost use Rattle.world_sim.specs.Rows.{values_of, differs, version_next, field_w
 
 use arrayvec::ArrayVec;
 use std::alloc::AllocError;
+use tn_types::MAX_OBJECTS;
 use world_rules::{Object, State};
 
 /// A field that has a new value.
@@ -119,7 +120,8 @@ fn note_at(
     requires versions { f < length versions.now }
     requires few { f < 5 }
     requires small { slice_index versions.now f < 2 ^ 32 - 1 }
-    ensures { OnOk result (writes.new.items ≡ writes.old.items ++ field_writes object f (slice_index_or before.now f (pos 0)) (slice_index_or now.now f (pos 0)) (slice_index versions.now f)) }
+    ensures { OnOk result (writes.new.items ≡ writes.old.items
+        ++ field_writes object f (slice_index_or before.now f (pos 0)) (slice_index_or now.now f (pos 0)) (slice_index versions.now f)) }
 {
     note(object, f as u8, before[f], now[f], versions[f], writes)
 }
@@ -186,7 +188,8 @@ fn next_row(old: &Row, o: &Object) -> Row
 // Notes the writes of an object that had this row.
 fn note_next(object: u32, old: &Row, o: &Object, writes: &mut Vec<Write>) -> Result<(), AllocError>
     requires { IsSmallRow old.now }
-    ensures { OnOk result (writes.new.items ≡ writes.old.items ++ row_writes object 0 old.now.values.items (values_of o.now) old.now.versions.items) }
+    ensures { OnOk result (writes.new.items ≡ writes.old.items
+        ++ row_writes object 0 old.now.values.items (values_of o.now) old.now.versions.items) }
 {
     let values = values_of(o);
     note_row(
@@ -241,7 +244,7 @@ pub fn step_rows(rows: &[Row], after: &[Object], next: &mut Vec<Row>) -> Result<
 #[tactic(auto, using(crate::proofs::RowLoops::small_at, crate::proofs::RowLoops::row_writes_more, crate::proofs::RowLoops::row_writes_end))]
 pub fn note_rows(rows: &[Row], after: &[Object], writes: &mut Vec<Write>) -> Result<(), AllocError>
     requires few { length rows.now ≤ length after.now }
-    requires most { length rows.now ≤ 1024 }
+    requires most { length rows.now ≤ MAX_OBJECTS }
     requires small { AllByRecursion IsSmallRow rows.now }
     ensures { OnOk result (writes.new.items ≡ rows_writes 0 rows.now after.now) }
 {

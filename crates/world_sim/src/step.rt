@@ -78,7 +78,8 @@ pub fn object_next(old: &Old<'_>, o: &Object) -> Object
 /// Each object after the tick.
 pub fn step_each(old: &Old<'_>, after: &mut Vec<Object>) -> Result<(), std::alloc::AllocError>
     requires { IsOld old.now }
-    ensures { OnOk result (after.new.items ≡ map (object_next old.now.objects.now old.now.moves.now (record { seed = old.now.seed; tick = old.now.tick })) old.now.objects.now) }
+    ensures { OnOk result (after.new.items
+        ≡ map (object_next old.now.objects.now old.now.moves.now (record { seed = old.now.seed; tick = old.now.tick })) old.now.objects.now) }
 {
     after.clear();
     for o in old.objects {

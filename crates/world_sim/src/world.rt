@@ -14,13 +14,10 @@ use crate::step::{Old, step_each};
 use std::alloc::{AllocError, Global};
 use std::marker::Model;
 use std::mem;
-use tn_types::{Move, NoMemory};
+use tn_types::{MAX_OBJECTS, Move, NoMemory};
 use world_rules::fire::fired;
 use world_rules::flags::captures;
 use world_rules::{Object, Setup, Spawn};
-
-/// Objects of a match at the most, dead ones too.
-pub const MAX_OBJECTS: usize = 1024;
 
 // Writes of a tick at the most: five fields of each object.
 const MAX_WRITES: usize = 5 * MAX_OBJECTS;
@@ -70,9 +67,23 @@ impl Model for World {
 
     ghost Value = { Worlds };
 
-    ghost view = { λ w. record { seed = w.seed; radius = w.radius; ticks = w.ticks; objects = w.objects.items; rows = w.rows.items; writes = w.writes.items } };
+    ghost view = { λ w. record {
+      seed = w.seed;
+      radius = w.radius;
+      ticks = w.ticks;
+      objects = w.objects.items;
+      rows = w.rows.items;
+      writes = w.writes.items;
+    } };
 
-    ghost invariant = { λ w. IsWorld (record { seed = w.seed; radius = w.radius; ticks = w.ticks; objects = w.objects.items; rows = w.rows.items; writes = w.writes.items }) };
+    ghost invariant = { λ w. IsWorld (record {
+      seed = w.seed;
+      radius = w.radius;
+      ticks = w.ticks;
+      objects = w.objects.items;
+      rows = w.rows.items;
+      writes = w.writes.items;
+    }) };
 }
 
 // Adds a disc that is made, if there is a place.
@@ -94,9 +105,10 @@ fn make_discs(
     moves: &[Option<Move>],
     after: &mut Vec<Object>,
 ) -> Result<(), AllocError>
-    requires { length after.old.items ≤ 1024 }
-    ensures made { OnOk result (after.new.items ≡ after.old.items ++ take (1024 - length after.old.items) (filter_map (fired moves.now) objects.now)) }
-    ensures few { OnOk result (length after.new.items ≤ 1024) }
+    requires { length after.old.items ≤ MAX_OBJECTS }
+    ensures made { OnOk result (after.new.items
+        ≡ after.old.items ++ take (MAX_OBJECTS - length after.old.items) (filter_map (fired moves.now) objects.now)) }
+    ensures few { OnOk result (length after.new.items ≤ MAX_OBJECTS) }
 {
     for o in objects {
         add_disc(fired(moves, o), after)?;
@@ -113,9 +125,9 @@ fn next_objects(
     tick: u32,
     work: &mut Work,
 ) -> Result<(), AllocError>
-    requires { length objects.now ≤ 1024 }
+    requires { length objects.now ≤ MAX_OBJECTS }
     ensures objects { OnOk result (work.new.after.items ≡ objects_next objects.now moves.now (record { seed = seed; tick = tick })) }
-    ensures few { OnOk result (length work.new.after.items ≤ 1024) }
+    ensures few { OnOk result (length work.new.after.items ≤ MAX_OBJECTS) }
 {
     find_all(
         objects,
@@ -153,12 +165,14 @@ fn advance(
     tick: u32,
     work: &mut Work,
 ) -> Result<(), AllocError>
-    requires few { length objects.now ≤ 1024 }
+    requires few { length objects.now ≤ MAX_OBJECTS }
     requires rows { length rows.now ≡ length objects.now }
     requires small { AllByRecursion IsSmallRow rows.now }
     ensures objects { OnOk result (work.new.after.items ≡ objects_next objects.now moves.now (record { seed = seed; tick = tick })) }
-    ensures rows { OnOk result (work.new.after_rows.items ≡ rows_next rows.now (objects_next objects.now moves.now (record { seed = seed; tick = tick }))) }
-    ensures writes { OnOk result (work.new.after_writes.items ≡ rows_writes 0 rows.now (objects_next objects.now moves.now (record { seed = seed; tick = tick }))) }
+    ensures rows { OnOk result (work.new.after_rows.items
+        ≡ rows_next rows.now (objects_next objects.now moves.now (record { seed = seed; tick = tick }))) }
+    ensures writes { OnOk result (work.new.after_writes.items
+        ≡ rows_writes 0 rows.now (objects_next objects.now moves.now (record { seed = seed; tick = tick }))) }
 {
     next_objects(objects, moves, seed, tick, work)?;
     step_rows(rows, &work.after, &mut work.after_rows)?;
@@ -169,9 +183,9 @@ fn advance(
 // The objects at the start.
 #[tactic(auto, using(crate::proofs::Started::first_more, crate::proofs::Started::first_end))]
 fn start_objects(alloc: Global, spawns: &[Spawn]) -> Result<Vec<Object>, AllocError>
-    requires { length spawns.now ≤ 1024 }
+    requires { length spawns.now ≤ MAX_OBJECTS }
     ensures objects { IfOk result (λ v. v.items ≡ first_objects 0 spawns.now) }
-    ensures few { IfOk result (λ v. length v.items ≤ 1024) }
+    ensures few { IfOk result (λ v. length v.items ≤ MAX_OBJECTS) }
 {
     let mut objects = Vec::with_capacity(alloc, MAX_OBJECTS)?;
     for (i, spawn) in spawns.iter().enumerate() {
@@ -205,7 +219,7 @@ impl World {
     }
 
     fn start(alloc: Global, seed: u32, radius: u32, spawns: &[Spawn]) -> Result<World, AllocError>
-        requires few { length spawns.now ≤ 1024 }
+        requires few { length spawns.now ≤ MAX_OBJECTS }
         requires fits { AllByRecursion ObjectFits (first_objects 0 spawns.now) }
         ensures { IfOk result (λ w. w ≡ first_world seed radius (first_objects 0 spawns.now)) }
     {
@@ -231,7 +245,8 @@ impl World {
         requires { self.old.ticks < 2 ^ 32 - 1 }
         ensures ok { OnOk result (self.new ≡ next self.old moves.now) }
         ensures err { OnErr result (self.new ≡ self.old) }
-        ensures kinds { OnOk result ((object : ℕ) → object < length self.old.objects → kind_at self.new object ≡ kind_at self.old object) }
+        ensures kinds { OnOk result ((object : ℕ) → object < length self.old.objects
+            → kind_at self.new object ≡ kind_at self.old object) }
     {
         match self.step(moves) {
             Ok(()) => Ok(()),
@@ -277,7 +292,7 @@ impl World {
     /// Objects made so far, dead ones too.
     pub fn objects(&self) -> u32
         ensures value { result ≡ length self.now.objects }
-        ensures few { result ≤ 1024 }
+        ensures few { result ≤ MAX_OBJECTS }
     {
         self.objects.len() as u32
     }
@@ -292,7 +307,7 @@ impl World {
     /// The objects made so far, dead ones too, each at the place of its number.
     pub fn all_objects(&self) -> &[Object]
         ensures value { result.now ≡ self.now.objects }
-        ensures few { length result.now ≤ 1024 }
+        ensures few { length result.now ≤ MAX_OBJECTS }
     {
         self.objects.as_slice()
     }

@@ -1,5 +1,5 @@
 use Rattle.std.proofs.Common.{◌≡◌, ◌≤◌, ◌+◌, length}
-use Rattle.datablocks.specs.Sending.{those_below}
+use Rattle.tn_types.specs.Least.{those_below}
 use Rattle.datablocks.specs.ProgressWords.{is_due_at}
 use Rattle.datablocks.proofs.progress.due_between.Given as goal
 

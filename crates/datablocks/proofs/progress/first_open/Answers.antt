@@ -1,6 +1,6 @@
 use Rattle.std.proofs.Common.{ap, not, sym, ◌∙◌}
 use Rattle.datablocks.specs.ProgressWords.{is_open}
-use Rattle.datablocks.proofs.Below.{least_is}
+use Rattle.notify_window.proofs.Least.{least_is}
 use Rattle.datablocks.proofs.progress.first_open.Goals as goal
 
 pub returns-else-is_done : goal.returns-else-is_done

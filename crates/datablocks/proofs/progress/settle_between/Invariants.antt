@@ -1,5 +1,6 @@
 use Rattle.std.proofs.Common.{◌≡◌, ℕ, ◌<◌, ◌≤◌}
-use Rattle.datablocks.specs.ProgressWords.{progress_at, progress_after, TellsDone}
+use Rattle.datablocks.specs.ProgressWords.{progress_at, TellsDone}
+use Rattle.notify_window.specs.Carriers.{progress_after}
 use Rattle.datablocks.proofs.progress.settle_between.Given as goal
 
 abbrev pub invariant-loop-i : goal.invariant-loop-i

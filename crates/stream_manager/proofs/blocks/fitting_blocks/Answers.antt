@@ -6,7 +6,7 @@ use Rattle.std.proofs.lemmas.Bool.{cases_eq}
 use Rattle.wire_format.specs.declared.blocks.BlockItem.{BlockItem}
 use Rattle.wire_format.specs.Blocks.{block_size}
 use Rattle.datablocks.specs.SenderState.{is_due_now, due_now}
-use Rattle.stream_manager.specs.Shares.{fitting}
+use Rattle.tn_types.specs.Fitting.{fitting}
 use Rattle.stream_manager.specs.Server.{block_item}
 use Rattle.stream_manager.proofs.DueBlocks.{below-at, the_block, fits-more, fits-no_more, left_of}
 use Rattle.stream_manager.proofs.blocks.fitting_blocks.Goals as goal

@@ -1,7 +1,7 @@
 use Rattle.std.proofs.Common.{◌≡◌, ◌-◌, ◌≤◌, ◌++◌, length}
 use Rattle.std.specs.Prelude.{sum_by}
 use Rattle.wire_format.specs.Blocks.{block_size}
-use Rattle.stream_manager.specs.Shares.{fitting}
+use Rattle.tn_types.specs.Fitting.{fitting}
 use Rattle.stream_manager.specs.Server.{block_item}
 use Rattle.stream_manager.proofs.DueBlocks.{left_of}
 use Rattle.stream_manager.proofs.blocks.fitting_blocks.Given as goal

@@ -1,7 +1,7 @@
 use Rattle.std.proofs.Common.{◌≡◌, ◌-◌, ◌≤◌, ◌++◌, take, drop}
 use Rattle.std.specs.Prelude.{sum_by}
 use Rattle.wire_format.specs.Events.{event_size}
-use Rattle.stream_manager.specs.Shares.{fitting}
+use Rattle.tn_types.specs.Fitting.{fitting}
 use Rattle.stream_manager.proofs.end.fitting_front.Given as goal
 
 abbrev pub invariant-fit : goal.invariant-fit

@@ -1,7 +1,8 @@
 use Rattle.std.proofs.Common.{◌≡◌, ◌+◌, ◌∙◌, ap, arith, min, length}
 use Rattle.datablocks.specs.SenderState.{SenderState}
-use Rattle.datablocks.specs.ProgressWords.{progress_at, progress_after, is_open}
-use Rattle.datablocks.specs.Sending.{least}
+use Rattle.datablocks.specs.ProgressWords.{progress_at, is_open}
+use Rattle.notify_window.specs.Carriers.{progress_after}
+use Rattle.tn_types.specs.Least.{least}
 use Rattle.datablocks.proofs.Progressing.{outside_stays, closed_settled, kept_settled, stands_settled}
 use Rattle.datablocks.proofs.sender.BlockSender.settle.Goals as goal
 

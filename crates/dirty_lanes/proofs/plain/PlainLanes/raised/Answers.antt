@@ -1,5 +1,5 @@
 use Rattle.std.proofs.Common.{◌<◌, subst, ◌∙◌, arith}
-use Rattle.dirty_lanes.specs.declared.words.TheConstants.{MAX_CLIENTS}
+use Rattle.tn_types.specs.declared.limits.TheConstants.{MAX_CLIENTS}
 use Rattle.dirty_lanes.specs.Words.{IsLaidOut}
 use Rattle.dirty_lanes.proofs.Calls.{mask_read}
 use Rattle.dirty_lanes.proofs.plain.PlainLanes.raised.Goals as goal

@@ -1,7 +1,7 @@
 use Rattle.std.proofs.Common.{◌≡◌, ◌<◌, None, set, length, arith, sym, ap, subst, ◌∙◌}
 use Rattle.std.proofs.Math.ListN.{length-set}
 use Rattle.std.proofs.lemmas.List.{get_or_default}
-use Rattle.ghost_client.specs.Fields.{slot_of}
+use Rattle.ghost_client.specs.Fields.{slot_named}
 use Rattle.ghost_client.specs.State.{State, copy_in, after, applied, FitsCopy}
 use Rattle.wire_format.specs.Ghosts.{IsGhostInRange}
 use Rattle.ghost_client.proofs.Range.{applied_in_range, set_twice}
@@ -12,7 +12,7 @@ module _ (c : After-self-2-1) where
   long : c.slot_named-slot.result < length c.self.inside.slots.items
   long = omega (arith, c.self.invariant.0, c.slot_named-slot.type_inv)
 
-  read : c.take-old.result ≡ copy_in c.self.inside.slots.items (slot_of c.args.item.now)
+  read : c.take-old.result ≡ copy_in c.self.inside.slots.items (slot_named c.args.item.now)
   read = c.take-old.ensures.value ∙ c.index_mut.ensures.value ∙ get_or_default _ _ c.index_mut.result.now None long ∙ ap (copy_in c.self.inside.slots.items) c.slot_named-slot.ensures
 
   -- both writes together
@@ -20,15 +20,15 @@ module _ (c : After-self-2-1) where
   written =
       set_twice c.self.inside.slots.items c.slot_named-slot.result c.take-old.new.self c.copy_after.result
       ∙ ap (set c.self.inside.slots.items c.slot_named-slot.result) (c.copy_after.ensures ∙ ap (after c.args.item.now) read)
-      ∙ ap (λ n. set c.self.inside.slots.items n (after c.args.item.now (copy_in c.self.inside.slots.items (slot_of c.args.item.now)))) c.slot_named-slot.ensures
+      ∙ ap (λ n. set c.self.inside.slots.items n (after c.args.item.now (copy_in c.self.inside.slots.items (slot_named c.args.item.now)))) c.slot_named-slot.ensures
 
 pub invariant_of-self : goal.invariant_of-self
 invariant_of-self c =
     let slots = c.self.inside.slots.items in
     let range = subst (λ (s : State). IsGhostInRange s.kinds c.args.item.now) (sym c.self.view_is) c.requires.range in
-    let fits = subst (λ (s : State). FitsCopy c.args.item.now (copy_in s.slots (slot_of c.args.item.now))) (sym c.self.view_is) c.requires.fits in
-    let lt : slot_of c.args.item.now < length slots = omega (arith, long c, c.slot_named-slot.ensures) in
-    rw (written c) (length-set slots (slot_of c.args.item.now) (after c.args.item.now (copy_in slots (slot_of c.args.item.now))) ∙ c.self.invariant.0, applied_in_range c.self.inside.kinds slots c.args.item.now c.self.invariant.1 range fits lt)
+    let fits = subst (λ (s : State). FitsCopy c.args.item.now (copy_in s.slots (slot_named c.args.item.now))) (sym c.self.view_is) c.requires.fits in
+    let lt : slot_named c.args.item.now < length slots = omega (arith, long c, c.slot_named-slot.ensures) in
+    rw (written c) (length-set slots (slot_named c.args.item.now) (after c.args.item.now (copy_in slots (slot_named c.args.item.now))) ∙ c.self.invariant.0, applied_in_range c.self.inside.kinds slots c.args.item.now c.self.invariant.1 range fits lt)
 
 pub returns-clause-applied : goal.returns-clause-applied
 returns-clause-applied c =

@@ -1,15 +1,16 @@
 use Rattle.std.proofs.Common.{[], ◌+◌, take, drop, sym, ap, subst, ◌∙◌, refl}
 use Rattle.std.specs.List.{AllByRecursion}
 use Rattle.wire_format.specs.Ghosts.{IsGhostInRange}
-use Rattle.ghost_client.specs.Faults.{first_fault}
-use Rattle.ghost_client.specs.State.{State}
+use Rattle.ghost_client.specs.Faults.{item_fault}
+use Rattle.tn_types.specs.Checks.{first_fault}
+use Rattle.ghost_client.specs.State.{State, copy_in}
 use Rattle.ghost_client.proofs.Packet.{IsApplying, applying_more}
 use Rattle.ghost_client.proofs.copies.Copies.take.Goals as goal
 
 pub loop-item-init : goal.loop-item-init
 loop-item-init c =
     record {
-      applying = record { fits = ap (first_fault c.args.self.now.slots c.args.held []) c.as_slice-item-items.ensures.value ∙ sym c.in_ok-check.ensures; others = λ slot h. refl; stands = λ items before slot small. before slot small };
+      applying = record { fits = ap (first_fault (item_fault (copy_in c.args.self.now.slots) c.args.held) []) c.as_slice-item-items.ensures.value ∙ sym c.in_ok-check.ensures; others = λ slot h. refl; stands = λ items before slot small. before slot small };
       kinds = refl;
       ranges = subst (AllByRecursion (IsGhostInRange c.args.self.now.kinds)) (sym c.as_slice-item-items.ensures.value) c.requires;
     }

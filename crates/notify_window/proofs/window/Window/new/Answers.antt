@@ -1,5 +1,5 @@
 use Rattle.std.proofs.Common.{refl, arith}
-use Rattle.notify_window.specs.Bits.{from_bits}
+use Rattle.tn_types.specs.BitWords.{from_bits}
 use Rattle.notify_window.proofs.window.Window.new.Goals as goal
 
 pub returns-clause-stands : goal.returns-clause-stands

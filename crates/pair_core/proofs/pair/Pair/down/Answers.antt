@@ -14,4 +14,4 @@ returns-clause-stands c t steps s =
     let there : slice_get p.down c.args.k ≡ Some c.in-Some.datagram.now = sym c.get.ensures ∙ ap option_copied c.in-Some.is in
     let gets : (log : List ClientEvent) → ClientStandsFor p.client log → ClientStandsFor c.arrive.new.self (took_at_client log (client_answer p.client.common.config p.client.copies.kinds log c.in-Some.datagram.now)) =
     λ log h. subst (λ (b : List ℕ). ClientStandsFor c.arrive.new.self (took_at_client log (client_answer p.client.common.config p.client.copies.kinds log b))) c.as_slice.ensures.value (c.arrive.ensures.stands log h) in
-    down_stands p c.arrive.new.self t steps c.args.k c.in-Some.datagram.now there c.arrive.ensures.keeps gets stands
+    down_stands p c.arrive.new.self t steps c.args.k c.in-Some.datagram.now there c.arrive.ensures.terms gets stands

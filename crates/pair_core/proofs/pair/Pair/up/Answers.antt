@@ -7,7 +7,7 @@ use Rattle.stream_manager.specs.Limits.{Terms}
 use Rattle.stream_manager.specs.Stands.{ConnStandsFor}
 use Rattle.stream_manager.specs.Server.{ServerEvent, server_answer, took_at_server, accepted_at}
 use Rattle.pair_core.specs.declared.fault.UpFault.{UpFault}
-use Rattle.pair_core.specs.History.{Step, Up}
+use Rattle.pair_core.specs.History.{PairStep, Up}
 use Rattle.pair_core.specs.Answers.{accepted_in}
 use Rattle.pair_core.specs.Stands.{PairState, StandsFor}
 use Rattle.pair_core.proofs.Brought.{up_stands, up_moves}
@@ -44,9 +44,9 @@ pub returns-clause-moves : goal.returns-clause-moves
 returns-clause-moves c = elim c.match-arrive.branch [
   | in-Ok w ↦
       let moves = subst (λ (r : Result Taken ArriveFault). OnOk r ((log : List ServerEvent) → ConnStandsFor (before c).conn log → accepted_at (before c).conn.common.config (took_at_server log c.args.room (server_answer (before c).conn.common.config log c.as_slice.result.now)) ≡ accepted_at (before c).conn.common.config log ++ c.arrive.new.self.taken)) w.in-Ok.is c.arrive.ensures.moves in
-      subst (λ (r : Result Taken UpFault). OnOk r ((t : Terms) (steps : List Step) → StandsFor c.args.self.now t steps → accepted_in t (Up c.args.k c.args.room ∷ steps) ≡ accepted_in t steps ++ c.arrive.new.self.taken)) (sym w.result-is)
+      subst (λ (r : Result Taken UpFault). OnOk r ((t : Terms) (steps : List PairStep) → StandsFor c.args.self.now t steps → accepted_in t (Up c.args.k c.args.room ∷ steps) ≡ accepted_in t steps ++ c.arrive.new.self.taken)) (sym w.result-is)
       (λ t steps s.
       let stands : StandsFor (before c) t steps = subst (λ (x : PairState). StandsFor x t steps) (sym c.self.view_is) s in
       up_moves (before c) c.arrive.new.self t steps c.args.k c.args.room c.as_slice.result.now (there c ∙ ap Some (sym c.as_slice.ensures.value)) moves stands)
-  | in-Err w ↦ subst (λ (r : Result Taken UpFault). OnOk r ((t : Terms) (steps : List Step) → StandsFor c.args.self.now t steps → accepted_in t (Up c.args.k c.args.room ∷ steps) ≡ accepted_in t steps ++ c.arrive.new.self.taken)) (sym w.result-is) tt
+  | in-Err w ↦ subst (λ (r : Result Taken UpFault). OnOk r ((t : Terms) (steps : List PairStep) → StandsFor c.args.self.now t steps → accepted_in t (Up c.args.k c.args.room ∷ steps) ≡ accepted_in t steps ++ c.arrive.new.self.taken)) (sym w.result-is) tt
 ]

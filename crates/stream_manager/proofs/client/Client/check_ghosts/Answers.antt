@@ -2,7 +2,7 @@ use Rattle.std.proofs.Common.{◌≡◌, ◌∙◌, ℕ, [], Some, None, sym, ap
 use Rattle.std.specs.Result.{result_err}
 use Rattle.ghost_client.specs.Faults.{first_fault}
 use Rattle.datablocks.specs.Holding.{after_all}
-use Rattle.stream_manager.specs.Calls.{held_bits, control_missing}
+use Rattle.stream_manager.specs.ClientCalls.{held_bits, control_missing}
 use Rattle.stream_manager.specs.Client.{ghosts_refused}
 use Rattle.stream_manager.specs.Stands.{ClientState}
 use Rattle.stream_manager.proofs.Came.{held-word}

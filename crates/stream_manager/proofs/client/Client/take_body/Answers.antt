@@ -1,7 +1,7 @@
 use Rattle.std.proofs.Common.{◌≡◌, ◌∙◌, ℕ, List, ◌∷◌, [], None, refl, ap, sym, subst}
 use Rattle.std.specs.Result.{result_err}
 use Rattle.ghost_client.specs.Faults.{first_fault}
-use Rattle.stream_manager.specs.Calls.{held_bits, AdmitsDown}
+use Rattle.stream_manager.specs.ClientCalls.{held_bits, AdmitsDown}
 use Rattle.stream_manager.specs.Client.{ClientEvent, Took, client_end, sample_log, blocks_came, ghosts_came}
 use Rattle.stream_manager.specs.Stands.{ClientState, ClientStandsFor}
 use Rattle.wire_format.specs.declared.server.ServerPacket.TheVariants as down

@@ -3,7 +3,7 @@ use Rattle.wire_format.specs.declared.events.EventItem.{EventItem}
 use Rattle.wire_format.specs.Events.{event_size, IsEventInRange}
 use Rattle.event_manager.specs.SenderState.{due_now}
 use Rattle.stream_manager.specs.End.{fates, sender_log}
-use Rattle.stream_manager.specs.Shares.{fitting}
+use Rattle.tn_types.specs.Fitting.{fitting}
 use Rattle.stream_manager.specs.EndStands.{EndState, StandsFor}
 use Rattle.event_manager.specs.Sending.{due_of}
 use Rattle.stream_manager.proofs.Fitting.{fitting_few, front-own, all-take, due-in_range}
@@ -42,7 +42,4 @@ returns-clause-front c log s =
     let e : EndState = record { config = c.self.inside.config; window = c.self.inside.window; sender = c.self.inside.sender; receiver = c.self.inside.receiver } in
     let stands : StandsFor e log = subst (λ (x : EndState). StandsFor x log) (sym c.self.view_is) s in
     let list = c.due-events.ensures.log (fates log) (sender_log log) stands.sender in
-    let front : fitting event_size c.args.room c.due-events.result ≡ take c.fitting_front-count.result.0 c.due-events.result =
-    subst (λ (es : List EventItem). fitting event_size c.args.room es ≡ take c.fitting_front-count.result.0 es) c.as_slice.ensures.value c.fitting_front-count.ensures.fitting in
-    ap (fitting event_size c.args.room) (sym list) ∙ front ∙ sym c.truncate.ensures
-    ∙ rw (c.truncate.ensures, list) (front-own c.fitting_front-count.result.0 31 (due_of (fates log) (sender_log log)))
+    rw (c.truncate.ensures, list) (front-own c.fitting_front-count.result.0 31 (due_of (fates log) (sender_log log)))

@@ -3,7 +3,7 @@ use Rattle.std.specs.Prelude.{sum_by}
 use Rattle.wire_format.specs.declared.events.EventItem.{EventItem}
 use Rattle.wire_format.specs.Events.{event_size}
 use Rattle.stream_manager.specs.End.{fates, sender_log}
-use Rattle.stream_manager.specs.Shares.{fitting}
+use Rattle.tn_types.specs.Fitting.{fitting}
 use Rattle.stream_manager.specs.EndStands.{EndState, StandsFor}
 use Rattle.stream_manager.proofs.end.End.events_bits.Goals as goal
 

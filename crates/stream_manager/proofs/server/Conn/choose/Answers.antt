@@ -7,7 +7,7 @@ use Rattle.stream_manager.specs.Limits.{Terms}
 use Rattle.stream_manager.specs.End.{fates}
 use Rattle.stream_manager.specs.Server.{ServerEvent, server_end, block_log, received_at, ghost_room, choices_at, with_plan}
 use Rattle.stream_manager.specs.Stands.{ConnState, ConnStandsFor, terms_of}
-use Rattle.stream_manager.specs.Calls.{Planning}
+use Rattle.stream_manager.specs.ConnCalls.{Planning}
 use Rattle.stream_manager.proofs.Plans.{the-ghost-room, the-received, choices-told, plan-stands}
 use Rattle.stream_manager.proofs.server.Conn.choose.Goals as goal
 
@@ -49,7 +49,9 @@ returns-clause-after c =
     subst (λ (x : ConnState). Planning x (after c)) c.self.view_is (record {
       stands = stands c;
       planned = c.choose.ensures.chosen;
-      terms = ap (λ (k : List Kind). let t : Terms = record { config = c.self.inside.common.config; kinds = k; blocks = c.self.inside.blocks.blocks } in t) c.choose.ensures.kinds;
-      ready = refl;
-      taken = refl;
+      keeps = record {
+        terms = ap (λ (k : List Kind). let t : Terms = record { config = c.self.inside.common.config; kinds = k; blocks = c.self.inside.blocks.blocks } in t) c.choose.ensures.kinds;
+        ready = refl;
+        taken = refl;
+      };
     })

@@ -10,7 +10,7 @@ use Rattle.ghost_masks.specs.Plan.{item_bits}
 use Rattle.stream_manager.specs.declared.config.Config.{Config}
 use Rattle.stream_manager.specs.Server.{ServerEvent, Packed, server_end, blocks_at, event_room, ghost_room, ghost_log, planned, data_body}
 use Rattle.stream_manager.specs.Stands.{ConnState, ConnStandsFor, terms_of}
-use Rattle.stream_manager.specs.Calls.{Sealed}
+use Rattle.stream_manager.specs.ConnCalls.{Sealed}
 use Rattle.stream_manager.proofs.GhostTurns.{packets-sent}
 use Rattle.stream_manager.proofs.Plans.{planned-room, room-there, of-planned, planned-fits, the-blocks, the-event-room, the-ghost-room, sealed-stands, whole-fits, same-terms}
 use Rattle.stream_manager.proofs.server.Conn.packed.Goals as goal
@@ -76,7 +76,7 @@ module _ (c : goal.After-accepted) where
   stands : (log : List ServerEvent) → ConnStandsFor (before c) log → ConnStandsFor (after c) (Packed (data_body (terms_of (before c)) log c.args.values.now) ∷ log)
   stands log s =
       sealed-stands (before c) log s c.args.values.now (some c) c.pack-events.new.self c.sent.new.self c.note_blocks.new.sender c.pack-events.result.0 c.due_blocks-blocks.result.0 _
-      (blocks c log s) (events c log s) c.pack-events.ensures.head c.pack-events.ensures.stands c.note_blocks.ensures.stands c.pack-events.ensures.config c.sent.ensures.stands c.sent.ensures.plan
+      (blocks c log s) (events c log s) c.pack-events.ensures.head c.pack-events.ensures.stands c.note_blocks.ensures.stands c.pack-events.ensures.keeps.config c.sent.ensures.stands c.sent.ensures.plan
 
 pub invariant_of-self : goal.invariant_of-self
 invariant_of-self c = (Packed (data_body (terms_of (before c)) c.self.invariant.0 c.args.values.now) ∷ c.self.invariant.0, stands c c.self.invariant.0 c.self.invariant.1)
@@ -100,7 +100,9 @@ pub returns-clause-after : goal.returns-clause-after
 returns-clause-after c =
     subst (λ (x : ConnState). Sealed x c.args.values.now (after c)) c.self.view_is (record {
       stands = stands c;
-      terms = same-terms _ _ _ _ _ _ c.pack-events.ensures.config c.sent.ensures.kinds c.note_blocks.ensures.blocks;
-      ready = c.pack-events.ensures.ready;
-      taken = refl;
+      keeps = record {
+        terms = same-terms _ _ _ _ _ _ c.pack-events.ensures.keeps.config c.sent.ensures.kinds c.note_blocks.ensures.blocks;
+        ready = c.pack-events.ensures.keeps.ready;
+        taken = refl;
+      };
     })

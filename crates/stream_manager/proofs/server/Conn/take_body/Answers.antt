@@ -11,14 +11,14 @@ use Rattle.stream_manager.proofs.server.Conn.take_body.Goals as goal
 pub settle_ghosts-requires-clause-first : goal.settle_ghosts-requires-clause-first
 settle_ghosts-requires-clause-first c =
     let log = c.self.invariant.0 in let s = c.self.invariant.1 in
-    named-first _ log (seen_client_body c.args.body.now) c.take-notices.result s (c.take-notices.ensures.named (server_end log) s.common) ∙ ap (λ (m : MasksState). m.judged + 1) (sym c.discard_plan.ensures.rest)
+    named-first _ log (seen_client_body c.args.body.now) c.take-notices.result s (c.take-notices.ensures.settles (server_end log) s.common).names ∙ ap (λ (m : MasksState). m.judged + 1) (sym c.discard_plan.ensures.rest)
 
 pub settle_ghosts-requires-clause-sent : goal.settle_ghosts-requires-clause-sent
 settle_ghosts-requires-clause-sent c =
     let log = c.self.invariant.0 in let s = c.self.invariant.1 in
     let known = subst (λ (x : ConnState). c.args.body.now.head.horizon ≤ x.common.window.sent) (sym c.self.view_is) c.requires.admits.known in
     subst (λ (m : MasksState). m.judged + c.take-notices.result.count ≤ m.sent) (sym c.discard_plan.ensures.rest)
-    (named-sent _ log (seen_client_body c.args.body.now) c.take-notices.result s (c.take-notices.ensures.named (server_end log) s.common) known)
+    (named-sent _ log (seen_client_body c.args.body.now) c.take-notices.result s (c.take-notices.ensures.settles (server_end log) s.common).names known)
 
 pub settle_ghosts-requires-clause-no_plan : goal.settle_ghosts-requires-clause-no_plan
 settle_ghosts-requires-clause-no_plan c = ap (λ (m : MasksState). m.plan) c.discard_plan.ensures.rest
@@ -33,8 +33,8 @@ after c = record { common = c.take-notices.new.self; masks = c.settle_ghosts.new
 stands : (c : goal.After-self-1) (log : List ServerEvent) → ConnStandsFor (before c) log → ConnStandsFor (after c) (Took (up.Body c.args.body.now) c.args.room ∷ log)
 stands c log s =
     let told = TookEnd (seen_client_body c.args.body.now) ∷ server_end log in
-    let judges = c.take-notices.ensures.judges (server_end log) s.common in
-    took-stands (before c) (after c) log (up.Body c.args.body.now) c.args.room c.take-notices.result (c.take-notices.ensures.named (server_end log) s.common)
+    let judges = (c.take-notices.ensures.settles (server_end log) s.common).judges in
+    took-stands (before c) (after c) log (up.Body c.args.body.now) c.args.room c.take-notices.result (c.take-notices.ensures.settles (server_end log) s.common).names
     (c.take-notices.ensures.stands (server_end log) s.common)
     c.take-notices.ensures.config
     (c.settle_blocks.ensures.stands (fates (server_end log)) (fates told) (block_log log) judges s.blocks)
