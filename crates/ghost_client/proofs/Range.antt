@@ -6,9 +6,8 @@ use Rattle.std.proofs.lemmas.Bool.{cases_eq}
 use Rattle.quantised_fields.specs.declared.kind.Kind.{Kind}
 use Rattle.wire_format.specs.declared.ghosts.GhostItem.{GhostItem}
 use Rattle.wire_format.specs.declared.ghosts.GhostItem.TheVariants.{Kill, Create, Update}
-use Rattle.wire_format.specs.Ghosts.{AreLevels, chosen, widths, IsGhostInRange}
+use Rattle.wire_format.specs.Ghosts.{AreLevels, chosen, widths, IsGhostInRange, slot_named}
 use Rattle.ghost_client.specs.declared.copy.GhostCopy.{GhostCopy}
-use Rattle.ghost_client.specs.Fields.{slot_named}
 use Rattle.ghost_client.specs.State.{copy_in, after, applied, IsInRange, AreInRange, FitsCopy}
 use Rattle.ghost_client.proofs.Merged.{merged_fits}
 

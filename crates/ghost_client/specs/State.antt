@@ -6,10 +6,9 @@ use Rattle.quantised_fields.specs.declared.kind.Kind.{Kind}
 use Rattle.quantised_fields.specs.Levels.{shown_of}
 use Rattle.wire_format.specs.declared.ghosts.GhostItem.{GhostItem}
 use Rattle.wire_format.specs.declared.ghosts.GhostItem.TheVariants.{Kill, Create, Update}
-use Rattle.wire_format.specs.Ghosts.{AreLevels, widths}
+use Rattle.wire_format.specs.Ghosts.{AreLevels, widths, slot_named}
 use Rattle.ghost_client.specs.declared.copy.GhostCopy.{GhostCopy}
 use Rattle.tn_types.specs.BitWords.{has_bit}
-use Rattle.ghost_client.specs.Fields.{slot_named}
 
 pub record State : Type 0 where
   pub kinds : List Kind

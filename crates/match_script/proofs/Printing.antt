@@ -20,7 +20,8 @@ use Rattle.tn_types.specs.declared.choices.Class.{Class}
 use Rattle.tn_types.specs.declared.choices.Class.TheVariants.{Guaranteed, Loose}
 use Rattle.match_script.specs.Text.{lines_of, words_of, is_text, is_text_byte, spelled}
 use Rattle.match_script.specs.Words.{number, number_from, flag, class_named, hex, is_number, is_digit}
-use Rattle.match_script.specs.Steps.{IsStep, GivesStep, step, signed, as_step, back}
+use Rattle.tn_types.specs.Steps.{is_step}
+use Rattle.match_script.specs.Steps.{GivesStride, step, signed, as_stride, back}
 use Rattle.match_script.specs.Print.{hex_word, class_word, flag_word, joined}
 use Rattle.match_script.proofs.Steps.{is_ahead, is_back}
 
@@ -165,27 +166,30 @@ number_shape (d ∷ rest) h = (d, rest, refl, one d (nat_eq (length rest) 0) (li
     one : (d : ℕ) (a b : Bool) → cond (nat_eq d 48) a (is_digit d && b) ≡ true → nat_eq d 45 ≡ false
     one d a b h = grind arith
 
-step_ahead : (ds : List ℕ) (n : ℕ) → is_number ds ≡ true → number 8 ds ≡ Ok n → GivesStep (Ok (pos n)) (step ds)
+step_ahead : (ds : List ℕ) (n : ℕ) → is_number ds ≡ true → number 8 ds ≡ Ok n → GivesStride (Ok (pos n)) (step ds)
 unfolding step signed
 step_ahead ds n h e =
     let s = number_shape ds h in
     let k = is_ahead ds n (pos n) e refl in
     rw (s.2, s.3) (rw s.2 at k)
 
-backwards : (n : ℕ) → number 9 (decimal (suc n)) ≡ Ok (suc n) → GivesStep (Ok (negsuc n)) (as_step (back (decimal (suc n))))
+backwards : (n : ℕ) → number 9 (decimal (suc n)) ≡ Ok (suc n) → GivesStride (Ok (negsuc n)) (as_stride (back (decimal (suc n))))
 backwards n e =
     let less : suc n - 1 ≡ n = omega arith in
     is_back (decimal (suc n)) (suc n) (negsuc n) e (omega arith) (ap negsuc (sym less))
 
--- a printed step is read again
-pub step_back : (z : ℤ) → IsStep z → GivesStep (Ok z) (step (signed_decimal z))
-unfolding step signed
-step_back (pos n) h = step_ahead (decimal n) n (decimal_number n (omega (arith, ints))) (number_decimal 8 n (omega (arith, ints)) (omega arith))
-step_back (negsuc n) h = backwards n (number_decimal 9 (suc n) (omega (arith, ints)) (omega arith))
+few : (limit n : ℕ) → nat_le n limit ≡ true → n ≤ limit
+few limit n h = grind arith
 
-pub plain_step : (z : ℤ) → IsStep z → is_plain (signed_decimal z) ≡ true
-plain_step (pos n) h = plain_decimal n (omega (arith, ints))
-plain_step (negsuc n) h = plain_decimal (suc n) (omega (arith, ints))
+-- a printed step is read again
+pub step_back : (z : ℤ) → is_step z ≡ true → GivesStride (Ok z) (step (signed_decimal z))
+unfolding step signed
+step_back (pos n) h = step_ahead (decimal n) n (decimal_number n (omega (arith, few 7 n h))) (number_decimal 8 n (omega (arith, few 7 n h)) (omega arith))
+step_back (negsuc n) h = backwards n (number_decimal 9 (suc n) (omega (arith, few 7 n h)) (omega arith))
+
+pub plain_step : (z : ℤ) → is_step z ≡ true → is_plain (signed_decimal z) ≡ true
+plain_step (pos n) h = plain_decimal n (omega (arith, few 7 n h))
+plain_step (negsuc n) h = plain_decimal (suc n) (omega (arith, few 7 n h))
 
 pub flag_back : (b : Bool) → flag (flag_word b) ≡ Ok b
 unfolding flag number

@@ -5,14 +5,14 @@ use Rattle.std.specs.Prelude.{ℕ, ◌≡◌, ◌^◌, List, [], ◌∷◌, ◌|
 use Rattle.std.specs.Str.{bytes_eq}
 use Rattle.tn_types.specs.declared.choices.Class.TheVariants.{Loose}
 use Rattle.tn_types.specs.declared.moves.Move.{Move as PlayerMove}
-use Rattle.match_script.specs.declared.limits.TheConstants.{MOST_PAYLOAD, MOST_CLIENTS, MOST_LIFE, LEAST_SIZE, MOST_SIZE, MOST_RADIUS}
+use Rattle.tn_types.specs.declared.limits.TheConstants.{MAX_EVENT_BYTES, MAX_CLIENTS, MAX_LIFE, MIN_DATAGRAM_BYTES, MAX_DATAGRAM_BYTES, MAX_RADIUS}
 use Rattle.match_script.specs.declared.types.ScriptFault.{ScriptFault}
 use Rattle.match_script.specs.declared.types.ScriptFault.TheVariants.{UnknownWord, NotBuilt, BadHeader, OutOfRange}
 use Rattle.match_script.specs.declared.types.BodyLine.{BodyLine}
 use Rattle.match_script.specs.declared.types.BodyLine.TheVariants.{Post, ClientPost, Pack, ClientPack, Down, Up, Move, Show}
 use Rattle.match_script.specs.declared.types.Head.{Head}
 use Rattle.match_script.specs.Words.{◌>>=◌, number, number_from, flag, class_named, hex}
-use Rattle.match_script.specs.Steps.{Step, step}
+use Rattle.match_script.specs.Steps.{Stride, step}
 
 abbrev pub is : List ℕ → List ℕ → Bool
 is word name = bytes_eq word name
@@ -37,14 +37,14 @@ unfoldable pub post_line : ℕ → List ℕ → List ℕ → List ℕ → Result
 post_line clients c class bytes = do
   class ← class_named class
   client ← number clients c
-  payload ← hex MOST_PAYLOAD bytes
+  payload ← hex MAX_EVENT_BYTES bytes
   Ok (Post client class payload)
 
 unfoldable pub client_post_line : ℕ → List ℕ → List ℕ → List ℕ → Result BodyLine ScriptFault
 client_post_line clients c class bytes = do
   class ← class_named class
   client ← number clients c
-  payload ← hex MOST_PAYLOAD bytes
+  payload ← hex MAX_EVENT_BYTES bytes
   Ok (ClientPost client class payload)
 
 unfoldable pub pack_line : ℕ → List ℕ → Result BodyLine ScriptFault
@@ -70,8 +70,8 @@ up_line clients c place = do
   Ok (Up client k)
 
 -- the move of these steps, and whether it fires and uses
-abbrev pub move_of : Step → Step → Bool → Bool → PlayerMove
-move_of dx dy fire act = record { dx = dx.value; dy = dy.value; fire = fire; act = act; dx_range = dx.range; dy_range = dy.range }
+abbrev pub move_of : Stride → Stride → Bool → Bool → PlayerMove
+move_of dx dy fire act = record { dx = dx.value; dy = dy.value; fire = fire; act = act; dx_range = dx.within; dy_range = dy.within }
 
 unfoldable pub move_line : ℕ → List ℕ → List ℕ → List ℕ → List ℕ → List ℕ → Result BodyLine ScriptFault
 move_line clients c dx dy fire act = do
@@ -111,10 +111,10 @@ body_line clients words = Err (no_body_line words)
 unfoldable pub match_numbers : ℕ → List ℕ → List ℕ → List ℕ → List ℕ → List ℕ → Result Head ScriptFault
 match_numbers version seed clients life size radius = do
   seed ← number (2 ^ 32) seed
-  clients ← number_from 1 MOST_CLIENTS clients
-  life ← number_from 1 MOST_LIFE life
-  size ← number_from LEAST_SIZE MOST_SIZE size
-  radius ← number_from 0 MOST_RADIUS radius
+  clients ← number_from 1 MAX_CLIENTS clients
+  life ← number_from 1 MAX_LIFE life
+  size ← number_from MIN_DATAGRAM_BYTES MAX_DATAGRAM_BYTES size
+  radius ← number_from 0 MAX_RADIUS radius
   Ok (record { version = version; seed = seed; clients = clients; life = life; size = size; radius = radius; blocks = [] })
 
 packed : body_line 2 (codes "pack" ∷ codes "1" ∷ []) ≡ Ok (Pack 1)

@@ -3,7 +3,8 @@
 use Rattle.std.specs.Prelude.{ℕ, ◌≡◌, ◌^◌, ◌<◌, ◌≤◌, List, length}
 use Rattle.std.specs.List.{All}
 use Rattle.tn_types.specs.Bytes.{AreBytes}
-use Rattle.match_script.specs.declared.limits.TheConstants.{VERSION, MOST_CLIENTS, MOST_LIFE, LEAST_SIZE, MOST_SIZE, MOST_RADIUS, MOST_BODY_LINES, MOST_PAYLOAD, MOST_BLOCKS, MOST_BLOCK_BYTES}
+use Rattle.tn_types.specs.declared.limits.TheConstants.{MAX_CLIENTS, MAX_LIFE, MIN_DATAGRAM_BYTES, MAX_DATAGRAM_BYTES, MAX_RADIUS, MAX_BODY_LINES, MAX_EVENT_BYTES, MAX_BLOCKS, MAX_BLOCK_BYTES}
+use Rattle.match_script.specs.declared.limits.TheConstants.{VERSION}
 use Rattle.match_script.specs.declared.types.BodyLine.{BodyLine}
 use Rattle.match_script.specs.declared.types.BodyLine.TheVariants.{Post, ClientPost, Pack, ClientPack, Down, Up, Move, Show}
 use Rattle.match_script.specs.declared.types.Head.{Head}
@@ -15,11 +16,11 @@ BytesFit most bytes = (length bytes ≤ most) × AreBytes bytes
 
 -- the bytes of an event
 abbrev pub PayloadFits : List ℕ → Type 0
-PayloadFits bytes = BytesFit MOST_PAYLOAD bytes
+PayloadFits bytes = BytesFit MAX_EVENT_BYTES bytes
 
 -- the bytes of a block
 abbrev pub BlockFits : List ℕ → Type 0
-BlockFits bytes = BytesFit MOST_BLOCK_BYTES bytes
+BlockFits bytes = BytesFit MAX_BLOCK_BYTES bytes
 
 -- a line of a body for so many clients
 abbrev pub LineFits : ℕ → BodyLine → Type 0
@@ -36,16 +37,16 @@ pub record HeadFits (h : Head) : Type 0 where
   pub version : h.version ≡ VERSION
   pub seed : h.seed < 2 ^ 32
   pub clients_least : 1 ≤ h.clients
-  pub clients : h.clients ≤ MOST_CLIENTS
+  pub clients : h.clients ≤ MAX_CLIENTS
   pub life_least : 1 ≤ h.life
-  pub life : h.life ≤ MOST_LIFE
-  pub size_least : LEAST_SIZE ≤ h.size
-  pub size : h.size ≤ MOST_SIZE
-  pub radius : h.radius ≤ MOST_RADIUS
-  pub blocks_few : length h.blocks ≤ MOST_BLOCKS
+  pub life : h.life ≤ MAX_LIFE
+  pub size_least : MIN_DATAGRAM_BYTES ≤ h.size
+  pub size : h.size ≤ MAX_DATAGRAM_BYTES
+  pub radius : h.radius ≤ MAX_RADIUS
+  pub blocks_few : length h.blocks ≤ MAX_BLOCKS
   pub blocks : All BlockFits h.blocks
 
 pub record HasRanges (s : Script) : Type 0 where
   pub head : HeadFits s.head
-  pub few : length s.body ≤ MOST_BODY_LINES
+  pub few : length s.body ≤ MAX_BODY_LINES
   pub lines : All (LineFits s.head.clients) s.body

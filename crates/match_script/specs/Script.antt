@@ -1,7 +1,8 @@
 -- The script of a text, line by line: the header's lines, which end with `go`, then the body's. Where a text has no
 -- script, it has a least line that can't stand where it stands, and that line's first fault.
 use Rattle.std.specs.Prelude.{ℕ, ◌≡◌, suc, ◌+◌, List, [], ◌∷◌, length, Bool, false, not, ◌&&◌, nat_le, nat_lt, if◌then◌else◌, codes, Option, Some, None, Result, Ok, Err, refl}
-use Rattle.match_script.specs.declared.limits.TheConstants.{VERSION, MOST_BODY_LINES, MOST_BLOCKS, MOST_BLOCK_BYTES}
+use Rattle.tn_types.specs.declared.limits.TheConstants.{MAX_BODY_LINES, MAX_BLOCKS, MAX_BLOCK_BYTES}
+use Rattle.match_script.specs.declared.limits.TheConstants.{VERSION}
 use Rattle.match_script.specs.declared.types.ScriptFault.{ScriptFault}
 use Rattle.match_script.specs.declared.types.ScriptFault.TheVariants.{NotText, BadHeader, TooManyLines}
 use Rattle.match_script.specs.declared.types.ParseFault.{ParseFault}
@@ -56,7 +57,7 @@ match_line version _ = None
 -- `block HEX`: block k of the script, counted from 0
 unfoldable pub block_line : ℕ → List (List ℕ) → Option (List ℕ)
 block_line k (kind ∷ bytes ∷ []) =
-    if is kind (codes "block") && nat_lt k MOST_BLOCKS then without_fault (hex MOST_BLOCK_BYTES bytes) else None
+    if is kind (codes "block") && nat_lt k MAX_BLOCKS then without_fault (hex MAX_BLOCK_BYTES bytes) else None
 block_line k _ = None
 
 -- `go` ends the header
@@ -92,7 +93,7 @@ header_length head = 3 + length head.blocks
 unfoldable pub line_at : ℕ → ℕ → List ℕ → Result BodyLine ScriptFault
 line_at clients k line =
     if not (is_text line) then Err NotText
-    else if nat_le MOST_BODY_LINES k then Err TooManyLines
+    else if nat_le MAX_BODY_LINES k then Err TooManyLines
     else body_line clients (words_of line)
 
 -- what a line of the body says, whose number in the text is n
@@ -129,6 +130,6 @@ two_blocks : blocks_of 0 (codes "block -" ∷ codes "block -" ∷ codes "go" ∷
 unfolding blocks_of text_line words_of is_go block_line hex
 two_blocks = refl
 
-no_block_after_the_last : block_line MOST_BLOCKS (codes "block" ∷ codes "61" ∷ []) ≡ None
+no_block_after_the_last : block_line MAX_BLOCKS (codes "block" ∷ codes "61" ∷ []) ≡ None
 unfolding block_line
 no_block_after_the_last = refl

@@ -8,15 +8,16 @@ ghost use Rattle.match_script.specs.Script.{Gives, header_words, version_line, m
 ghost use Rattle.match_script.specs.Ranges.{BlockFits, HeadFits};
 
 use crate::cut::{cut_line, is_text};
-use crate::limits::{
-    LEAST_SIZE, MOST_BLOCKS, MOST_CLIENTS, MOST_LIFE, MOST_RADIUS, MOST_SIZE, VERSION,
-};
+use crate::limits::VERSION;
 use crate::types::{Blocks, Head, ParseFault, ScriptFault};
 use crate::unbuilt::no_header_line;
 use crate::word;
 use crate::words::{Words, parted};
 use std::alloc::Global;
-use tn_types::BlockBytes;
+use tn_types::{
+    BlockBytes, MAX_BLOCKS, MAX_CLIENTS, MAX_DATAGRAM_BYTES, MAX_LIFE, MAX_RADIUS,
+    MIN_DATAGRAM_BYTES,
+};
 
 // The line of the first block, if there is one.
 const FIRST_BLOCK_LINE: u32 = 3;
@@ -75,10 +76,10 @@ fn match_numbers(
     ensures fits { version ≡ VERSION → IfOk result HeadFits }
 {
     let seed = word::number_32(seed)?;
-    let clients = word::number_from(1, MOST_CLIENTS, clients)?;
-    let life = word::number_from(1, MOST_LIFE, life)?;
-    let size = word::number_from(LEAST_SIZE, MOST_SIZE, size)?;
-    let radius = word::number_from(0, MOST_RADIUS, radius)?;
+    let clients = word::number_from(1, u32::from(MAX_CLIENTS), clients)?;
+    let life = word::number_from(1, MAX_LIFE, life)?;
+    let size = word::number_from(MIN_DATAGRAM_BYTES as u32, MAX_DATAGRAM_BYTES as u32, size)?;
+    let radius = word::number_from(0, MAX_RADIUS, radius)?;
     Ok(Head {
         version,
         seed,
@@ -115,12 +116,12 @@ fn match_line(alloc: Global, version: u8, line: &[u8]) -> Option<Head>
 #[tactic(auto, unfolding(crate::specs::Script::block_line))]
 fn block_line(k: u32, line: &[u8]) -> Option<BlockBytes>
     ensures value { result ≡ block_line k (words_of line.now) }
-    ensures few { IfSome result (λ _. k < MOST_BLOCKS) }
+    ensures few { IfSome result (λ _. k < MAX_BLOCKS) }
     ensures fits { IfSome result BlockFits }
 {
     match parted(line) {
         Words::Two(kind, bytes) => {
-            if kind == b"block".as_slice() && k < MOST_BLOCKS {
+            if kind == b"block".as_slice() && (k as usize) < MAX_BLOCKS {
                 match word::bytes(bytes) {
                     Ok(block) => Some(block),
                     Err(_) => None,
@@ -158,7 +159,7 @@ fn misplaced(n: u32, line: &[u8]) -> ParseFault
 #[tactic(auto, using(crate::proofs::BlockLines::blocks_go_on, crate::proofs::BlockLines::blocks_end, crate::proofs::BlockLines::blocks_stop, crate::proofs::BlockLines::blocks_misplaced, crate::proofs::BlockLines::all_fit_more))]
 fn blocks_of(alloc: Global, text: &[u8]) -> Result<(Blocks, &[u8]), ParseFault>
     ensures value { Gives (λ x. (x.0, lines_of x.1.now)) result (blocks_of 0 (lines_of text.now)) }
-    ensures few { IfOk result (λ x. length x.0 ≤ MOST_BLOCKS) }
+    ensures few { IfOk result (λ x. length x.0 ≤ MAX_BLOCKS) }
     ensures fits { IfOk result (λ x. All BlockFits x.0) }
 {
     let mut blocks = Vec::new(alloc);

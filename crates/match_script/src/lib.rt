@@ -15,10 +15,7 @@ mod unbuilt;
 mod word;
 mod words;
 
-pub use limits::{
-    LEAST_SIZE, MOST_BLOCK_BYTES, MOST_BLOCKS, MOST_BODY_LINES, MOST_CLIENTS, MOST_LIFE,
-    MOST_PAYLOAD, MOST_RADIUS, MOST_SIZE, VERSION,
-};
+pub use limits::VERSION;
 pub use printer::print;
 pub use reader::parse;
 pub use types::{Blocks, Body, BodyLine, Head, ParseFault, Script, ScriptFault};

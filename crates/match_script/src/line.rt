@@ -1,8 +1,8 @@
 //! The lines of the body, one function each.
-ghost use Rattle.std.specs.Prelude.{◌≡◌, List, ℕ, IfOk};
+ghost use Rattle.std.specs.Prelude.{◌≡◌, true, List, ℕ, IfOk};
 ghost use Rattle.match_script.specs.Text.{words_of};
 ghost use Rattle.match_script.specs.Lines.{body_line, post_line, client_post_line, pack_line, client_pack_line, down_line, up_line, move_line, show_line};
-ghost use Rattle.match_script.specs.Steps.{IsStep};
+ghost use Rattle.tn_types.specs.Steps.{is_step};
 ghost use Rattle.match_script.specs.Ranges.{LineFits};
 
 use crate::types::{BodyLine, ScriptFault};
@@ -81,8 +81,8 @@ fn up(clients: u8, c: &[u8], place: &[u8]) -> Result<BodyLine, ScriptFault>
 
 // The move of these steps.
 fn moved(dx: i8, dy: i8, fire: bool, act: bool) -> Move
-    requires dx { IsStep dx }
-    requires dy { IsStep dy }
+    requires dx { is_step dx ≡ true }
+    requires dy { is_step dy ≡ true }
     ensures dx { result.dx ≡ dx }
     ensures dy { result.dy ≡ dy }
     ensures fire { result.fire ≡ fire }

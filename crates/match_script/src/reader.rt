@@ -7,21 +7,21 @@ ghost use Rattle.match_script.specs.Ranges.{LineFits, HasRanges};
 
 use crate::cut::{cut_line, is_text};
 use crate::head::header;
-use crate::limits::{MOST_BLOCKS, MOST_BODY_LINES};
 use crate::line::body_line;
 use crate::types::{Body, BodyLine, Head, ParseFault, Script, ScriptFault};
 use std::alloc::Global;
+use tn_types::{MAX_BLOCKS, MAX_BODY_LINES};
 
 // Lines of a header without blocks.
-const LEAST_HEADER: u32 = 3;
+const BARE_HEADER_LINES: u32 = 3;
 
 // How many lines a header is.
 fn header_length(head: &Head) -> u32
-    requires { length head.now.blocks ≤ MOST_BLOCKS }
+    requires { length head.now.blocks ≤ MAX_BLOCKS }
     ensures value { result ≡ header_length head.now }
-    ensures few { result ≤ LEAST_HEADER + MOST_BLOCKS }
+    ensures few { result ≤ BARE_HEADER_LINES + MAX_BLOCKS }
 {
-    LEAST_HEADER + head.blocks.len() as u32
+    BARE_HEADER_LINES + head.blocks.len() as u32
 }
 
 // Line k of the body, counted from 0.
@@ -33,7 +33,7 @@ fn line_at(clients: u8, k: u32, line: &[u8]) -> Result<BodyLine, ScriptFault>
     if !is_text(line) {
         return Err(ScriptFault::NotText);
     }
-    if k >= MOST_BODY_LINES {
+    if k >= MAX_BODY_LINES {
         return Err(ScriptFault::TooManyLines);
     }
     body_line(clients, line)
@@ -42,9 +42,9 @@ fn line_at(clients: u8, k: u32, line: &[u8]) -> Result<BodyLine, ScriptFault>
 // The body behind line n of a text.
 #[tactic(auto, using(crate::proofs::Bodies::body_goes_on, crate::proofs::Bodies::body_stops, crate::proofs::Bodies::body_ends, crate::proofs::Bodies::line_few, crate::proofs::Bodies::fits_more))]
 fn body_of(alloc: Global, clients: u8, n: u32, text: &[u8]) -> Result<Body, ParseFault>
-    requires { n ≤ LEAST_HEADER + MOST_BLOCKS }
+    requires { n ≤ BARE_HEADER_LINES + MAX_BLOCKS }
     ensures value { Gives (λ b. b) result (body_of clients n 0 (lines_of text.now)) }
-    ensures few { IfOk result (λ b. length b ≤ MOST_BODY_LINES) }
+    ensures few { IfOk result (λ b. length b ≤ MAX_BODY_LINES) }
     ensures fits { IfOk result (All (LineFits clients)) }
 {
     let mut lines = Vec::new(alloc);

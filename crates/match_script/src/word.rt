@@ -4,16 +4,16 @@ ghost use Rattle.std.specs.List.{list_all};
 ghost use Rattle.hex.specs.Hex.{is_hex_digit};
 ghost use Rattle.std.specs.Str.Parse.{digits_value};
 ghost use Rattle.match_script.specs.Words.{is_digit, is_number, is_hex, number, number_from, flag, class_named, hex};
-ghost use Rattle.match_script.specs.Steps.{GivesStep, ahead, back, as_step, step};
+ghost use Rattle.match_script.specs.Steps.{GivesStride, ahead, back, as_stride, step};
 ghost use Rattle.match_script.specs.Ranges.{BytesFit};
 
 use crate::types::ScriptFault;
-use tn_types::{Bytes, Class, are_bytes};
+use tn_types::{Bytes, Class, MAX_STEP, MIN_STEP, are_bytes};
 
 // The greatest step ahead, and the greatest back.
-const MOST_AHEAD: u64 = 7;
+const MAX_AHEAD: u64 = MAX_STEP as u64;
 
-const MOST_BACK: u64 = 8;
+const MAX_BACK: u64 = -(MIN_STEP as i64) as u64;
 
 // Decimal digits with no leading zero.
 fn is_number(word: &[u8]) -> bool
@@ -122,7 +122,7 @@ pub fn number_from(least: u32, most: u32, word: &[u8]) -> Result<u32, ScriptFaul
 
 // This many ahead.
 fn ahead_by(n: u64) -> i8
-    requires { n ≤ MOST_AHEAD }
+    requires { n ≤ MAX_AHEAD }
     ensures { result ≡ pos n }
 {
     n as i8
@@ -130,7 +130,7 @@ fn ahead_by(n: u64) -> i8
 
 // This many back, and one more.
 fn back_by(n: u64) -> i8
-    requires { n < MOST_BACK }
+    requires { n < MAX_BACK }
     ensures { result ≡ negsuc n }
 {
     -1 - n as i8
@@ -139,9 +139,9 @@ fn back_by(n: u64) -> i8
 // The step that a word says without a sign.
 #[tactic(auto, using(crate::proofs::Steps::is_not_ahead, crate::proofs::Numbers::number_below))]
 fn step_ahead(word: &[u8]) -> Result<i8, ScriptFault>
-    ensures { GivesStep result (as_step (ahead word.now)) }
+    ensures { GivesStride result (as_stride (ahead word.now)) }
 {
-    match number(MOST_AHEAD + 1, word) {
+    match number(MAX_AHEAD + 1, word) {
         Ok(n) => Ok(ahead_by(n)),
         Err(fault) => Err(fault),
     }
@@ -150,9 +150,9 @@ fn step_ahead(word: &[u8]) -> Result<i8, ScriptFault>
 // The step that a word says behind a minus sign.
 #[tactic(auto, using(crate::proofs::Steps::is_not_back, crate::proofs::Steps::is_not_back_by_zero, crate::proofs::Numbers::number_below))]
 fn step_back(word: &[u8]) -> Result<i8, ScriptFault>
-    ensures { GivesStep result (as_step (back word.now)) }
+    ensures { GivesStride result (as_stride (back word.now)) }
 {
-    match number(MOST_BACK + 1, word) {
+    match number(MAX_BACK + 1, word) {
         Ok(0) => Err(ScriptFault::BadNumber),
         Ok(n) => Ok(back_by(n - 1)),
         Err(fault) => Err(fault),
@@ -162,7 +162,7 @@ fn step_back(word: &[u8]) -> Result<i8, ScriptFault>
 // The step that a word says, from -8 to 7.
 #[tactic(auto, unfolding(crate::specs::Steps::step, crate::specs::Steps::signed))]
 pub fn step(word: &[u8]) -> Result<i8, ScriptFault>
-    ensures { GivesStep result (step word.now) }
+    ensures { GivesStride result (step word.now) }
 {
     match word.split_first() {
         None => Err(ScriptFault::BadNumber),

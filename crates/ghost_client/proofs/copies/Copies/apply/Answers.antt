@@ -1,9 +1,8 @@
 use Rattle.std.proofs.Common.{◌≡◌, ◌<◌, None, set, length, arith, sym, ap, subst, ◌∙◌}
 use Rattle.std.proofs.Math.ListN.{length-set}
 use Rattle.std.proofs.lemmas.List.{get_or_default}
-use Rattle.ghost_client.specs.Fields.{slot_named}
 use Rattle.ghost_client.specs.State.{State, copy_in, after, applied, FitsCopy}
-use Rattle.wire_format.specs.Ghosts.{IsGhostInRange}
+use Rattle.wire_format.specs.Ghosts.{IsGhostInRange, slot_named}
 use Rattle.ghost_client.proofs.Range.{applied_in_range, set_twice}
 use Rattle.ghost_client.proofs.copies.Copies.apply.Goals as goal
 use Rattle.ghost_client.proofs.copies.Copies.apply.Goals.{After-self-2-1}
