@@ -12,10 +12,10 @@ use Rattle.stream_manager.specs.Limits.{Terms, IsBlockBytes, AreTerms}
 use Rattle.pair_core.specs.Laws.{StepFits}
 use Rattle.pair_core.proofs.InOrder.{delivers_down, delivers_up, accepts}
 use Rattle.pair_core.proofs.LooseEvents.{loose_down, loose_up}
-use Rattle.match_engine.specs.Journal.{client_of, own, onto, steps_of, journal, terms_of}
+use Rattle.match_engine.specs.Journal.{client_named, own, with_line, steps_of, journal, client_terms}
 use Rattle.match_engine.specs.Laws.{after, EventsInOrder, MovesInOrder, LooseInOrder}
 
-step-fits : (t : Terms) (clients : ℕ) (line : BodyLine) (lines : List BodyLine) → LineFits clients line → AllByRecursion StepFits (steps_of t lines) → AllByRecursion StepFits (onto t line (steps_of t lines))
+step-fits : (t : Terms) (clients : ℕ) (line : BodyLine) (lines : List BodyLine) → LineFits clients line → AllByRecursion StepFits (steps_of t lines) → AllByRecursion StepFits (with_line t line (steps_of t lines))
 step-fits t clients (script.Post c class payload) lines h rest = (h.1, rest)
 step-fits t clients (script.ClientPost c class payload) lines h rest = (h.1, rest)
 step-fits t clients (script.Pack c) lines h rest = (tt, rest)
@@ -27,7 +27,7 @@ step-fits t clients (script.Show c) lines h rest = rest
 
 pub journal-fits : (t : Terms) (clients c : ℕ) (lines : List BodyLine) → AllByRecursion (LineFits clients) lines → AllByRecursion StepFits (journal t c lines)
 journal-fits t clients c [] h = tt
-journal-fits t clients c (line ∷ lines) h = go (client_of line == c) (journal-fits t clients c lines h.1)
+journal-fits t clients c (line ∷ lines) h = go (client_named line == c) (journal-fits t clients c lines h.1)
   where
     go : (b : Bool) → AllByRecursion StepFits (journal t c lines) → AllByRecursion StepFits (steps_of t (if b then line ∷ own c lines else own c lines))
     go true rest = step-fits t clients line (own c lines) h.0 rest
@@ -55,7 +55,7 @@ blocks-fit : (blocks : List (List ℕ)) → AllByRecursion BlockFits blocks → 
 blocks-fit [] h = tt
 blocks-fit (block ∷ blocks) h = (record { few = (h.0).0; bytes = (h.0).1 }, blocks-fit blocks h.1)
 
-pub terms-fit : (head : Head) (c : ℕ) → HeadFits head → c < head.clients → AreTerms (terms_of head c)
+pub terms-fit : (head : Head) (c : ℕ) → HeadFits head → c < head.clients → AreTerms (client_terms head c)
 terms-fit head c h l = record {
   config = record {
     client = omega (arith, h.clients);
@@ -69,20 +69,20 @@ terms-fit head c h l = record {
   blocks = blocks-fit head.blocks (all-by_recursion BlockFits head.blocks h.blocks);
 }
 
-pub steps-fit : (s : Script) (c n : ℕ) → HasRanges s → AllByRecursion StepFits (journal (terms_of s.head c) c (after n s))
-steps-fit s c n h = journal-fits (terms_of s.head c) s.head.clients c (after n s) (all-reverse (LineFits s.head.clients) (take n s.body) (all-take (LineFits s.head.clients) n s.body (all-by_recursion (LineFits s.head.clients) s.body h.lines)))
+pub steps-fit : (s : Script) (c n : ℕ) → HasRanges s → AllByRecursion StepFits (journal (client_terms s.head c) c (after n s))
+steps-fit s c n h = journal-fits (client_terms s.head c) s.head.clients c (after n s) (all-reverse (LineFits s.head.clients) (take n s.body) (all-take (LineFits s.head.clients) n s.body (all-by_recursion (LineFits s.head.clients) s.body h.lines)))
 
 pub in_order : EventsInOrder
 in_order s c n h l =
     let limits = terms-fit s.head c h.head l in
     let fit = steps-fit s c n h in
-    (delivers_down (terms_of s.head c) (journal (terms_of s.head c) c (after n s)) limits fit, delivers_up (terms_of s.head c) (journal (terms_of s.head c) c (after n s)) limits fit)
+    (delivers_down (client_terms s.head c) (journal (client_terms s.head c) c (after n s)) limits fit, delivers_up (client_terms s.head c) (journal (client_terms s.head c) c (after n s)) limits fit)
 
 pub moves-in_order : MovesInOrder
-moves-in_order s c n h l = accepts (terms_of s.head c) (journal (terms_of s.head c) c (after n s)) (terms-fit s.head c h.head l) (steps-fit s c n h)
+moves-in_order s c n h l = accepts (client_terms s.head c) (journal (client_terms s.head c) c (after n s)) (terms-fit s.head c h.head l) (steps-fit s c n h)
 
 pub loose-in_order : LooseInOrder
 loose-in_order s c n h l =
     let limits = terms-fit s.head c h.head l in
     let fit = steps-fit s c n h in
-    (loose_down (terms_of s.head c) (journal (terms_of s.head c) c (after n s)) limits fit, loose_up (terms_of s.head c) (journal (terms_of s.head c) c (after n s)) limits fit)
+    (loose_down (client_terms s.head c) (journal (client_terms s.head c) c (after n s)) limits fit, loose_up (client_terms s.head c) (journal (client_terms s.head c) c (after n s)) limits fit)

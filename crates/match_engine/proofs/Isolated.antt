@@ -6,7 +6,7 @@ use Rattle.match_script.specs.declared.types.BodyLine.{BodyLine}
 use Rattle.match_script.specs.declared.types.BodyLine.TheVariants.{Post, ClientPost, Pack, ClientPack, Down, Up, Move, Show}
 use Rattle.match_script.specs.declared.types.Head.{Head}
 use Rattle.match_report.specs.Text.{report_line}
-use Rattle.match_engine.specs.Journal.{client_of, own, journal, terms_of}
+use Rattle.match_engine.specs.Journal.{client_named, own, journal, client_terms}
 use Rattle.match_engine.specs.Report.{told, line_text, told_lines}
 use Rattle.match_engine.specs.Laws.{is_pack, packs_in, pack_lines}
 
@@ -20,7 +20,7 @@ packs-append c (x ∷ xs) line text = go (is_pack c x.0) (packs-append c xs line
     go false e = e
 
 -- a pack of c names c
-pack-names : (c : ℕ) (line : BodyLine) → (client_of line == c) ≡ false → is_pack c line ≡ false
+pack-names : (c : ℕ) (line : BodyLine) → (client_named line == c) ≡ false → is_pack c line ≡ false
 pack-names c (Post d class payload) e = refl
 pack-names c (ClientPost d class payload) e = refl
 pack-names c (Pack d) e = e
@@ -30,12 +30,12 @@ pack-names c (Up d k) e = refl
 pack-names c (Move d m) e = refl
 pack-names c (Show d) e = refl
 
-pub isolated : (head : Head) (c : ℕ) (past : List BodyLine) → packs_in c (told_lines head past) ≡ pack_lines (terms_of head c) (own c past)
+pub isolated : (head : Head) (c : ℕ) (past : List BodyLine) → packs_in c (told_lines head past) ≡ pack_lines (client_terms head c) (own c past)
 isolated head c [] = refl
-isolated head c (line ∷ past) = packs-append c (told_lines head past) line (line_text head past line) ∙ ap (λ l. l ++ (if is_pack c line then line_text head past line ∷ [] else [])) (isolated head c past) ∙ go (client_of line == c) refl
+isolated head c (line ∷ past) = packs-append c (told_lines head past) line (line_text head past line) ∙ ap (λ l. l ++ (if is_pack c line then line_text head past line ∷ [] else [])) (isolated head c past) ∙ go (client_named line == c) refl
   where
-    go : (b : Bool) → (client_of line == c) ≡ b → pack_lines (terms_of head c) (own c past) ++ (if is_pack c line then line_text head past line ∷ [] else []) ≡ pack_lines (terms_of head c) (if b then line ∷ own c past else own c past)
+    go : (b : Bool) → (client_named line == c) ≡ b → pack_lines (client_terms head c) (own c past) ++ (if is_pack c line then line_text head past line ∷ [] else []) ≡ pack_lines (client_terms head c) (if b then line ∷ own c past else own c past)
     go true e =
-        let names : client_of line ≡ c = grind (arith, nat_tests) in
-        ap (λ d. pack_lines (terms_of head c) (own c past) ++ (if is_pack c line then report_line (told (terms_of head d) (journal (terms_of head d) d past) line) ∷ [] else [])) names
-    go false e = rw (pack-names c line e) (append-nil (pack_lines (terms_of head c) (own c past)))
+        let names : client_named line ≡ c = grind (arith, nat_tests) in
+        ap (λ d. pack_lines (client_terms head c) (own c past) ++ (if is_pack c line then report_line (told (client_terms head d) (journal (client_terms head d) d past) line) ∷ [] else [])) names
+    go false e = rw (pack-names c line e) (append-nil (pack_lines (client_terms head c) (own c past)))

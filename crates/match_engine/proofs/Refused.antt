@@ -16,12 +16,12 @@ use Rattle.pair_core.specs.declared.fault.DownFault.{DownFault}
 use Rattle.pair_core.specs.declared.fault.DownFault.TheVariants as down
 use Rattle.pair_core.specs.declared.fault.UpFault.{UpFault}
 use Rattle.pair_core.specs.declared.fault.UpFault.TheVariants as up
-use Rattle.pair_core.specs.History.{Step, history}
+use Rattle.pair_core.specs.History.{PairStep, history}
 use Rattle.pair_core.specs.Answers.{down_answer, up_answer}
 use Rattle.pair_core.specs.Laws.{StepFits}
 use Rattle.pair_core.specs.Refusals.{RefusesLittleDown, RefusesLittleUp}
 use Rattle.pair_core.proofs.RefusalLaw.{little_down, little_up}
-use Rattle.match_engine.specs.Journal.{room_in, journal, terms_of}
+use Rattle.match_engine.specs.Journal.{room_in, journal, client_terms}
 use Rattle.match_engine.specs.Report.{told, post_told, client_post_told, pack_told, client_pack_told, handed_down, handed_up, down_told, up_told}
 use Rattle.match_engine.specs.Laws.{after, TellsLittle, LittleIsRefused}
 use Rattle.match_engine.proofs.InOrder.{terms-fit, steps-fit}
@@ -36,7 +36,7 @@ up-little c k events (Ok taken) h = tt
 up-little c k events (Err (up.NotSent sent)) h = tt
 up-little c k events (Err (up.Refused fault)) h = h
 
-module _ (t : Terms) (steps : List Step) where
+module _ (t : Terms) (steps : List PairStep) where
   post-little : (c : ℕ) (class : Class) → TellsLittle (post_told t steps c class)
   post-little c Guaranteed = tt
   post-little c Loose = tt
@@ -45,12 +45,12 @@ module _ (t : Terms) (steps : List Step) where
   client_post-little c Guaranteed = tt
   client_post-little c Loose = tt
 
-  pack-little : (c : ℕ) (state : SendState) → TellsLittle (pack_told t steps c state)
+  pack-little : (c : ℕ) (state : SendState) → TellsLittle (pack_told t (history t steps).server c state)
   pack-little c Held = tt
   pack-little c Worn = tt
   pack-little c Room = tt
 
-  client_pack-little : (c : ℕ) (state : SendState) → TellsLittle (client_pack_told t steps c state)
+  client_pack-little : (c : ℕ) (state : SendState) → TellsLittle (client_pack_told t.config (history t steps).client c state)
   client_pack-little c Held = tt
   client_pack-little c Worn = tt
   client_pack-little c Room = tt
@@ -66,4 +66,4 @@ module _ (t : Terms) (steps : List Step) where
   line-little limits fit (script.Show c) = tt
 
 pub little-refused : LittleIsRefused
-little-refused s c n line h l = line-little (terms_of s.head c) (journal (terms_of s.head c) c (after n s)) (terms-fit s.head c h.head l) (steps-fit s c n h) line
+little-refused s c n h l line = line-little (client_terms s.head c) (journal (client_terms s.head c) c (after n s)) (terms-fit s.head c h.head l) (steps-fit s c n h) line

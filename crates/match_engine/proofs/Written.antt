@@ -4,13 +4,13 @@ use Rattle.std.proofs.lemmas.List.{take_more, reverse-append, append-nil, take-a
 use Rattle.std.proofs.lemmas.List.Concat.{flat_map-append}
 use Rattle.match_script.specs.declared.types.BodyLine.{BodyLine}
 use Rattle.match_script.specs.declared.types.Head.{Head}
-use Rattle.match_engine.specs.Report.{line_text, told_lines, text_of, report_so_far}
+use Rattle.match_engine.specs.Report.{line_text, told_lines, text_behind, report_so_far}
 
 pub reverse_next : {X : Type 0} (xs : List X) (i : ℕ) (d : X) → i < length xs → reverse (take (i + 1) xs) ≡ get_or xs i d ∷ reverse (take i xs)
 reverse_next xs i d lt = ap reverse (take_more xs i d lt) ∙ reverse-append (take i xs) (get_or xs i d ∷ [])
 
 pub one_line_more : (head : Head) (past : List BodyLine) (line : BodyLine) → report_so_far head (line ∷ past) ≡ report_so_far head past ++ line_text head past line
-one_line_more head past line = flat_map-append text_of (told_lines head past) ((line, line_text head past line) ∷ []) ∙ ap (λ l. report_so_far head past ++ l) (append-nil (line_text head past line))
+one_line_more head past line = flat_map-append text_behind (told_lines head past) ((line, line_text head past line) ∷ []) ∙ ap (λ l. report_so_far head past ++ l) (append-nil (line_text head past line))
 
 -- what is told of the first lines stands in front of what is told of all
 pub in_front : (head : Head) (later past : List BodyLine) → (rest : List ℕ) × (report_so_far head (later ++ past) ≡ report_so_far head past ++ rest)

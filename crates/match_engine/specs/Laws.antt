@@ -7,12 +7,13 @@ use Rattle.match_script.specs.declared.types.Script.{Script}
 use Rattle.match_script.specs.Ranges.{HasRanges}
 use Rattle.match_report.specs.Text.{report_line}
 use Rattle.stream_manager.specs.Limits.{Terms}
+use Rattle.pair_core.specs.History.{PairStep}
 use Rattle.pair_core.specs.Laws.{DeliversDown, DeliversUp, AcceptsInOrder}
 use Rattle.pair_core.specs.LooseEvents.{LooseDown, LooseUp}
 use Rattle.pair_core.specs.Refusals.{IsOldAtClient, IsOldAtServer}
 use Rattle.match_report.specs.declared.told.Told.{Told}
 use Rattle.match_report.specs.declared.told.Told.TheVariants.{ServerRefused, ClientRefused}
-use Rattle.match_engine.specs.Journal.{own, steps_of, journal, terms_of}
+use Rattle.match_engine.specs.Journal.{own, steps_of, journal, client_terms}
 use Rattle.match_engine.specs.Report.{told, told_lines}
 
 -- ---- isolation
@@ -35,11 +36,13 @@ packs_in c (x ∷ xs) = if is_pack c x.0 then x.1 ∷ packs_in c xs else packs_i
 -- what a server that serves this client alone writes for its own lines, the newest of which stand first
 abbrev pub pack_lines : Terms → List BodyLine → List (List ℕ)
 pack_lines t [] = []
-pack_lines t (line ∷ lines) = pack_lines t lines ++ (if is_pack t.config.client line then report_line (told t (steps_of t lines) line) ∷ [] else [])
+pack_lines t (line ∷ lines) =
+    pack_lines t lines ++ (if is_pack t.config.client line then report_line (told t (steps_of t lines) line) ∷ [] else [])
 
 -- the `pack c` lines of a script's report are a function of the client's own lines, of three numbers and of the blocks
 abbrev pub Isolation : Type 0
-Isolation = (head : Head) (c : ℕ) (past : List BodyLine) → packs_in c (told_lines head past) ≡ pack_lines (terms_of head c) (own c past)
+Isolation =
+    (head : Head) (c : ℕ) (past : List BodyLine) → packs_in c (told_lines head past) ≡ pack_lines (client_terms head c) (own c past)
 
 -- ---- delivered prefixes
 
@@ -47,17 +50,22 @@ Isolation = (head : Head) (c : ℕ) (past : List BodyLine) → packs_in c (told_
 abbrev pub after : ℕ → Script → List BodyLine
 after n s = reverse (take n s.body)
 
+-- what a connection law says of each client's journal at every line
+abbrev pub AtEveryLine : (Terms → List PairStep → Type 0) → Type 0
+AtEveryLine law = (s : Script) (c n : ℕ) → HasRanges s → c < s.head.clients →
+    law (client_terms s.head c) (journal (client_terms s.head c) c (after n s))
+
 -- at every line, what each end of each connection delivered is what the other end posted, as far as it has come
 abbrev pub EventsInOrder : Type 0
-EventsInOrder = (s : Script) (c n : ℕ) → HasRanges s → c < s.head.clients → DeliversDown (terms_of s.head c) (journal (terms_of s.head c) c (after n s)) × DeliversUp (terms_of s.head c) (journal (terms_of s.head c) c (after n s))
+EventsInOrder = AtEveryLine (λ t steps. DeliversDown t steps × DeliversUp t steps)
 
 -- at every line, the moves that the server accepted are those that the client sampled, as far as they have come
 abbrev pub MovesInOrder : Type 0
-MovesInOrder = (s : Script) (c n : ℕ) → HasRanges s → c < s.head.clients → AcceptsInOrder (terms_of s.head c) (journal (terms_of s.head c) c (after n s))
+MovesInOrder = AtEveryLine AcceptsInOrder
 
 -- at every line, the unguaranteed events that an end delivered are some of those that the other end posted, in order
 abbrev pub LooseInOrder : Type 0
-LooseInOrder = (s : Script) (c n : ℕ) → HasRanges s → c < s.head.clients → LooseDown (terms_of s.head c) (journal (terms_of s.head c) c (after n s)) × LooseUp (terms_of s.head c) (journal (terms_of s.head c) c (after n s))
+LooseInOrder = AtEveryLine (λ t steps. LooseDown t steps × LooseUp t steps)
 
 -- ---- refusals
 
@@ -69,4 +77,4 @@ TellsLittle other = Unit {0}
 
 -- whatever line comes next, an end refuses no datagram but an old one
 abbrev pub LittleIsRefused : Type 0
-LittleIsRefused = (s : Script) (c n : ℕ) (line : BodyLine) → HasRanges s → c < s.head.clients → TellsLittle (told (terms_of s.head c) (journal (terms_of s.head c) c (after n s)) line)
+LittleIsRefused = AtEveryLine (λ t steps. (line : BodyLine) → TellsLittle (told t steps line))

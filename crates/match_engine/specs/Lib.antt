@@ -3,3 +3,4 @@ pub mod Journal
 pub mod Report
 pub mod Laws
 pub mod Stands
+pub mod Telling

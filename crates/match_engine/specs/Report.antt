@@ -4,11 +4,7 @@ use Rattle.std.specs.Prelude.{ℕ, true, false, List, [], ◌∷◌, ◌++◌, l
 use Rattle.std.specs.List.{flat_map}
 use Rattle.tn_types.specs.declared.choices.Class.{Class}
 use Rattle.tn_types.specs.declared.choices.Class.TheVariants.{Guaranteed, Loose}
-use Rattle.bit_stream.specs.Bits.{datagram}
 use Rattle.wire_format.specs.declared.server.ServerPacket.TheVariants as server_packet
-use Rattle.wire_format.specs.declared.client.ClientPacket.TheVariants as client_packet
-use Rattle.wire_format.specs.Server.{server}
-use Rattle.wire_format.specs.Client.{client}
 use Rattle.notify_window.specs.declared.SendState.{SendState}
 use Rattle.notify_window.specs.declared.SendState.TheVariants.{Held, Worn, Room}
 use Rattle.match_script.specs.declared.types.BodyLine.{BodyLine}
@@ -16,51 +12,60 @@ use Rattle.match_script.specs.declared.types.BodyLine.TheVariants as script
 use Rattle.match_script.specs.declared.types.Head.{Head}
 use Rattle.match_script.specs.declared.types.Script.{Script}
 use Rattle.stream_manager.specs.declared.server.Taken.{Taken}
+use Rattle.stream_manager.specs.declared.config.Config.{Config}
 use Rattle.stream_manager.specs.Limits.{Terms}
 use Rattle.stream_manager.specs.End.{dropped_of}
-use Rattle.stream_manager.specs.Server.{server_end, server_state, server_datagrams, posted_at_server, next_body, server_ping}
-use Rattle.stream_manager.specs.Client.{client_end, client_state, client_datagrams, client_body, client_ping, posted_at_client, sampled_answer, control_at}
+use Rattle.stream_manager.specs.Wire.{bytes_down}
+use Rattle.stream_manager.specs.Server.{ServerEvent, server_end, server_state, server_datagrams, posted_at_server, next_body, server_ping_bytes}
+use Rattle.stream_manager.specs.Client.{ClientEvent, client_end, client_state, client_datagrams, client_bytes, client_ping_bytes, posted_at_client, sampled_answer, control_at}
 use Rattle.pair_core.specs.declared.fault.DownFault.{DownFault}
 use Rattle.pair_core.specs.declared.fault.DownFault.TheVariants as down
 use Rattle.pair_core.specs.declared.fault.UpFault.{UpFault}
 use Rattle.pair_core.specs.declared.fault.UpFault.TheVariants as up
-use Rattle.pair_core.specs.History.{Step, Down, Up, history}
+use Rattle.pair_core.specs.History.{PairStep, Down, Up, history}
 use Rattle.pair_core.specs.Answers.{down_answer, up_answer, client_delivered, server_delivered, client_run, sampled_in, accepted_in}
 use Rattle.match_report.specs.declared.told.Way.TheVariants as way
 use Rattle.match_report.specs.declared.told.EventTold.{EventTold}
 use Rattle.match_report.specs.declared.told.Told.{Told}
 use Rattle.match_report.specs.declared.told.Told.TheVariants as told_as
 use Rattle.match_report.specs.Text.{report_line}
-use Rattle.match_engine.specs.Journal.{client_of, room_in, journal, terms_of}
+use Rattle.match_engine.specs.Journal.{client_named, room_in, journal, client_terms}
 
 -- ---- what a line tells, after these steps of its client
 
 abbrev pub event_told : Class × List ℕ → EventTold
 event_told event = record { class = event.0; payload = event.1 }
 
-abbrev pub post_told : Terms → List Step → ℕ → Class → Told
+abbrev pub post_told : Terms → List PairStep → ℕ → Class → Told
 post_told t steps c Guaranteed = told_as.Post false c (posted_at_server t.config (history t steps).server)
 post_told t steps c Loose = told_as.PostLoose false c (dropped_of (server_end (history t steps).server))
 
-abbrev pub client_post_told : Terms → List Step → ℕ → Class → Told
+abbrev pub client_post_told : Terms → List PairStep → ℕ → Class → Told
 client_post_told t steps c Guaranteed = told_as.Post true c (posted_at_client t.config (history t steps).client)
 client_post_told t steps c Loose = told_as.PostLoose true c (dropped_of (client_end (history t steps).client))
 
-abbrev pub pack_told : Terms → List Step → ℕ → SendState → Told
-pack_told t steps c Held = told_as.Packed false c (length (server_datagrams t.kinds (history t steps).server)) true (datagram (server t.kinds (server_packet.Ping (server_ping t.config (history t steps).server))))
-pack_told t steps c Worn = told_as.PackWorn false c t.config.life
-pack_told t steps c Room = told_as.Packed false c (length (server_datagrams t.kinds (history t steps).server)) false (datagram (server t.kinds (server_packet.Body (next_body t (history t steps).server []))))
+abbrev pub pack_told : Terms → List ServerEvent → ℕ → SendState → Told
+pack_told t log c Held = told_as.Packed false c (length (server_datagrams t log)) true (server_ping_bytes t log)
+pack_told t log c Worn = told_as.PackWorn false c t.config.life
+pack_told t log c Room = told_as.Packed false c (length (server_datagrams t log)) false (bytes_down t (server_packet.Body (next_body t log [])))
 
-abbrev pub client_pack_told : Terms → List Step → ℕ → SendState → Told
-client_pack_told t steps c Held = told_as.Packed true c (length (client_datagrams (history t steps).client)) true (datagram (client (client_packet.Ping (client_ping t.config (history t steps).client))))
-client_pack_told t steps c Worn = told_as.PackWorn true c t.config.life
-client_pack_told t steps c Room = told_as.Packed true c (length (client_datagrams (history t steps).client)) false (datagram (client (client_packet.Body (client_body t.config (history t steps).client))))
+abbrev pub client_pack_told : Config → List ClientEvent → ℕ → SendState → Told
+client_pack_told k log c Held = told_as.Packed true c (length (client_datagrams k log)) true (client_ping_bytes k log)
+client_pack_told k log c Worn = told_as.PackWorn true c k.life
+client_pack_told k log c Room = told_as.Packed true c (length (client_datagrams k log)) false (client_bytes k log)
+
+-- what a pack tells after these steps
+abbrev pub packed_told : ℕ → Terms → List PairStep → Told
+packed_told c t steps = let log = (history t steps).server in pack_told t log c (server_state t.config log)
+
+abbrev pub client_packed_told : ℕ → Terms → List PairStep → Told
+client_packed_told c t steps = let log = (history t steps).client in client_pack_told t.config log c (client_state t.config log)
 
 -- the events that a delivery hands out: those delivered after it and not before
-abbrev pub handed_down : Terms → List Step → ℕ → List EventTold
+abbrev pub handed_down : Terms → List PairStep → ℕ → List EventTold
 handed_down t steps place = map event_told (drop (length (client_delivered t steps)) (client_delivered t (Down place ∷ steps)))
 
-abbrev pub handed_up : Terms → List Step → ℕ → ℕ → List EventTold
+abbrev pub handed_up : Terms → List PairStep → ℕ → ℕ → List EventTold
 handed_up t steps place room = map event_told (drop (length (server_delivered t steps)) (server_delivered t (Up place room ∷ steps)))
 
 abbrev pub down_told : ℕ → ℕ → List EventTold → Result (Unit {0}) DownFault → Told
@@ -73,36 +78,49 @@ up_told c place events (Ok taken) = told_as.Came way.Up c place taken.moves even
 up_told c place events (Err (up.NotSent sent)) = told_as.NotSent way.Up c place sent
 up_told c place events (Err (up.Refused fault)) = told_as.ServerRefused way.Up c place fault
 
--- no tick takes a move yet
-abbrev pub show_told : Terms → List Step → ℕ → Told
-show_told t steps c = told_as.Show c (client_run t steps) (length (sampled_in t steps)) (length (accepted_in t steps)) 0 (control_at (history t steps).client)
+-- what a delivery tells after these steps
+abbrev pub brought_down_told : ℕ → ℕ → Terms → List PairStep → Told
+brought_down_told c place t steps = down_told c place (handed_down t steps place) (down_answer t steps place)
 
-abbrev pub told : Terms → List Step → BodyLine → Told
+abbrev pub brought_up_told : ℕ → ℕ → Terms → List PairStep → Told
+brought_up_told c place t steps = let room = room_in t steps in up_told c place (handed_up t steps place room) (up_answer t steps place room)
+
+-- no tick takes a move yet
+abbrev pub show_told : Terms → List PairStep → ℕ → Told
+show_told t steps c =
+    told_as.Show c (client_run t steps) (length (sampled_in t steps)) (length (accepted_in t steps)) 0 (control_at (history t steps).client)
+
+abbrev pub told : Terms → List PairStep → BodyLine → Told
 told t steps (script.Post c class payload) = post_told t steps c class
 told t steps (script.ClientPost c class payload) = client_post_told t steps c class
-told t steps (script.Pack c) = pack_told t steps c (server_state t.config (history t steps).server)
-told t steps (script.ClientPack c) = client_pack_told t steps c (client_state t.config (history t steps).client)
-told t steps (script.Down c place) = down_told c place (handed_down t steps place) (down_answer t steps place)
-told t steps (script.Up c place) = up_told c place (handed_up t steps place (room_in t steps)) (up_answer t steps place (room_in t steps))
+told t steps (script.Pack c) = packed_told c t steps
+told t steps (script.ClientPack c) = client_packed_told c t steps
+told t steps (script.Down c place) = brought_down_told c place t steps
+told t steps (script.Up c place) = brought_up_told c place t steps
 told t steps (script.Move c m) = told_as.Moved c (sampled_answer t.config (history t steps).client)
 told t steps (script.Show c) = show_told t steps c
 
 -- ---- the report
 
--- a line of the script after these lines, as the report tells it
+-- what a line of the script tells after these lines
+abbrev pub told_after : Head → List BodyLine → BodyLine → Told
+told_after head past line =
+    let t = client_terms head (client_named line) in told t (journal t (client_named line) past) line
+
+-- the same, as the report says it
 abbrev pub line_text : Head → List BodyLine → BodyLine → List ℕ
-line_text head past line = report_line (told (terms_of head (client_of line)) (journal (terms_of head (client_of line)) (client_of line) past) line)
+line_text head past line = report_line (told_after head past line)
 
 -- the lines that were done, the oldest first, each with its line of the report
 abbrev pub told_lines : Head → List BodyLine → List (BodyLine × List ℕ)
 told_lines head [] = []
 told_lines head (line ∷ past) = told_lines head past ++ (line, line_text head past line) ∷ []
 
-abbrev pub text_of : BodyLine × List ℕ → List ℕ
-text_of x = x.1
+abbrev pub text_behind : BodyLine × List ℕ → List ℕ
+text_behind x = x.1
 
 abbrev pub report_so_far : Head → List BodyLine → List ℕ
-report_so_far head past = flat_map text_of (told_lines head past)
+report_so_far head past = flat_map text_behind (told_lines head past)
 
 -- the whole report
 unfoldable pub report : Script → List ℕ

@@ -1,6 +1,6 @@
 //! The match: the connection of each client.
 ghost use Rattle.std.specs.Prelude.{◌≡◌, ℕ, ◌<◌, ◌≤◌, List, [], ◌∷◌, IfOk, OnOk, length};
-ghost use Rattle.match_engine.specs.Journal.{client_of as client_named};
+ghost use Rattle.match_engine.specs.Journal.{client_named};
 
 use crate::kinds::plain_table;
 use crate::lines::line_on;
@@ -10,10 +10,7 @@ use match_script::{BodyLine, Head};
 use std::alloc::Global;
 use std::marker::Model;
 use stream_manager::Config;
-use tn_types::NoMemory;
-
-/// The most lines that a match does.
-pub const MAX_LINES: u32 = 4_000_000;
+use tn_types::{MAX_COUNTED_LINES, NoMemory};
 
 /// A match of up to 16 clients, each with a connection of its own.
 ///
@@ -36,7 +33,7 @@ impl Model for Match {
 }
 
 /// The client that a line names.
-fn client_of(line: &BodyLine) -> u8
+fn client_named(line: &BodyLine) -> u8
     ensures { result ≡ client_named line.now }
 {
     match line {
@@ -62,9 +59,8 @@ fn client_of(line: &BodyLine) -> u8
 impl Match {
     ghost use Rattle.match_script.specs.declared.types.BodyLine.{BodyLine as OneLine};
     ghost use Rattle.match_script.specs.Ranges.{HeadFits, LineFits};
-    ghost use Rattle.match_engine.specs.Journal.{journal, terms_of};
-    ghost use Rattle.match_engine.specs.Report.{told};
-    ghost use Rattle.match_engine.specs.Stands.{StandsFor};
+    ghost use Rattle.match_engine.specs.Report.{told_after};
+    ghost use Rattle.match_engine.specs.Stands.{StandsFor, Does, Answers};
 
     /// A match of which no line was done.
     pub fn new(alloc: Global, head: &Head) -> Result<Match, NoMemory>
@@ -99,12 +95,12 @@ impl Match {
     pub fn feed(&mut self, alloc: Global, line: &BodyLine) -> Result<Told, NoMemory>
         requires stands { (past : List OneLine) × StandsFor self.old past }
         requires fits { LineFits self.old.head.clients line.now }
-        requires few { self.old.done < MAX_LINES }
-        ensures told { IfOk result (λ t. (past : List OneLine) → StandsFor self.old past → t ≡ told (terms_of self.old.head (client_named line.now)) (journal (terms_of self.old.head (client_named line.now)) (client_named line.now) past) line.now) }
-        ensures stands { OnOk result ((past : List OneLine) → StandsFor self.old past → StandsFor self.new (line.now ∷ past)) }
+        requires few { self.old.done < MAX_COUNTED_LINES }
+        ensures told { IfOk result (Answers self.old (λ past. told_after self.old.head past line.now)) }
+        ensures stands { OnOk result (Does self.old line.now self.new) }
         ensures head { self.new.head ≡ self.old.head }
     {
-        let client = client_of(line) as usize;
+        let client = client_named(line) as usize;
         self.done += 1;
         let seat = &mut self.seats[client];
         line_on(alloc, seat, line)

@@ -14,4 +14,3 @@ pub use laws::{
     events_in_order, isolation, little_is_refused, loose_events_in_order, moves_in_order,
 };
 pub use running::{RunFault, run};
-pub use seat::MAX_WAITING_MOVES;

@@ -1,16 +1,13 @@
 //! One line of a script on the connection of the client that it names.
 ghost use Rattle.std.specs.Prelude.{◌≡◌, ℕ, ◌<◌, ◌≤◌, List, [], ◌∷◌, ◌++◌, IfOk, IfSome, OnOk, Some, length, map};
 ghost use Rattle.std.specs.Option.{option_copied};
-ghost use Rattle.stream_manager.specs.Limits.{Terms};
-ghost use Rattle.pair_core.specs.History.{Step, Post, ClientPost, Sample, Pack, ClientPack, Down, Up, history};
-ghost use Rattle.pair_core.specs.Stands.{StandsFor};
-ghost use Rattle.match_engine.specs.Journal.{onto, room_in};
-ghost use Rattle.match_engine.specs.Report.{event_told, told as line_told, post_told, client_post_told, show_told, pack_told, client_pack_told, down_told, up_told, handed_down, handed_up};
-ghost use Rattle.match_engine.specs.Stands.{IsQuiet, SeatStandsFor};
-ghost use Rattle.stream_manager.specs.Server.{server_state};
-ghost use Rattle.stream_manager.specs.Client.{client_state, sampled_answer};
-ghost use Rattle.pair_core.specs.Answers.{down_answer, up_answer};
-ghost use Rattle.pair_core.specs.declared.TheConstants.{MAX_DATAGRAMS};
+ghost use Rattle.stream_manager.specs.Client.{sampled_answer};
+ghost use Rattle.pair_core.specs.History.{Post, ClientPost, Sample, Pack, ClientPack, Down, Up, history};
+ghost use Rattle.pair_core.specs.Calls.{Does, Answers, Stays};
+ghost use Rattle.match_engine.specs.Journal.{with_line, room_in};
+ghost use Rattle.match_engine.specs.Report.{event_told, told as line_told, post_told, client_post_told, show_told};
+ghost use Rattle.match_engine.specs.Report.{packed_told, client_packed_told, brought_down_told, brought_up_told};
+ghost use Rattle.match_engine.specs.Stands.{IsQuiet, SeatBecomes, SeatAnswers};
 ghost use Rattle.match_report.specs.declared.told.Told.TheVariants as told_as;
 
 use crate::seat::Seat;
@@ -18,13 +15,13 @@ use match_report::{EventTold, Events, Told, Way};
 use match_script::BodyLine;
 use pair_core::{DownFault, Made, Pair, UpFault};
 use std::alloc::Global;
-use tn_types::{Class, Move, NoMemory, Payload, RawBytes};
+use tn_types::{Class, MAX_DATAGRAM_BYTES, MAX_DATAGRAMS, Move, NoMemory, Payload, RawBytes};
 
 /// The events that wait at the client, which are handed out.
 fn client_events(pair: &mut Pair) -> Events
     ensures events { result ≡ map event_told pair.old.client.common.receiver.ready }
     ensures none { pair.new.client.common.receiver.ready ≡ [] }
-    ensures stands { (t : Terms) (steps : List Step) → StandsFor pair.old t steps → StandsFor pair.new t steps }
+    ensures stands { Stays pair.old pair.new }
     ensures server { pair.new.conn ≡ pair.old.conn }
 {
     let mut events = Events::new();
@@ -39,7 +36,7 @@ fn client_events(pair: &mut Pair) -> Events
 fn server_events(pair: &mut Pair) -> Events
     ensures events { result ≡ map event_told pair.old.conn.common.receiver.ready }
     ensures none { pair.new.conn.common.receiver.ready ≡ [] }
-    ensures stands { (t : Terms) (steps : List Step) → StandsFor pair.old t steps → StandsFor pair.new t steps }
+    ensures stands { Stays pair.old pair.new }
     ensures client { pair.new.client ≡ pair.old.client }
 {
     let mut events = Events::new();
@@ -52,8 +49,8 @@ fn server_events(pair: &mut Pair) -> Events
 
 fn post(pair: &mut Pair, client: u8, class: Class, payload: Payload) -> Told
     requires { IsQuiet pair.old }
-    ensures told { (t : Terms) (steps : List Step) → StandsFor pair.old t steps → result ≡ post_told t steps client class }
-    ensures stands { (t : Terms) (steps : List Step) → StandsFor pair.old t steps → StandsFor pair.new t (Post class payload ∷ steps) }
+    ensures told { Answers pair.old (λ t steps. post_told t steps client class) result }
+    ensures stands { Does pair.old (Post class payload) pair.new }
     ensures quiet { IsQuiet pair.new }
 {
     match class {
@@ -78,8 +75,8 @@ fn post(pair: &mut Pair, client: u8, class: Class, payload: Payload) -> Told
 
 fn client_post(pair: &mut Pair, client: u8, class: Class, payload: Payload) -> Told
     requires { IsQuiet pair.old }
-    ensures told { (t : Terms) (steps : List Step) → StandsFor pair.old t steps → result ≡ client_post_told t steps client class }
-    ensures stands { (t : Terms) (steps : List Step) → StandsFor pair.old t steps → StandsFor pair.new t (ClientPost class payload ∷ steps) }
+    ensures told { Answers pair.old (λ t steps. client_post_told t steps client class) result }
+    ensures stands { Does pair.old (ClientPost class payload) pair.new }
     ensures quiet { IsQuiet pair.new }
 {
     match class {
@@ -104,47 +101,42 @@ fn client_post(pair: &mut Pair, client: u8, class: Class, payload: Payload) -> T
 
 fn sample(pair: &mut Pair, client: u8, m: Move) -> Told
     requires { IsQuiet pair.old }
-    ensures told { (t : Terms) (steps : List Step) → StandsFor pair.old t steps → result ≡ told_as.Moved client (sampled_answer t.config (history t steps).client) }
-    ensures stands { (t : Terms) (steps : List Step) → StandsFor pair.old t steps → StandsFor pair.new t (Sample m ∷ steps) }
+    ensures told { Answers pair.old (λ t steps. told_as.Moved client (sampled_answer t.config (history t steps).client)) result }
+    ensures stands { Does pair.old (Sample m) pair.new }
     ensures quiet { IsQuiet pair.new }
 {
     let number = pair.sample(m);
     Told::Moved { client, number }
 }
 
-/// The bytes of a datagram, no byte where it was not sent.
-fn bytes_of(datagram: Option<&[u8]>) -> RawBytes
-    requires { IfSome datagram (λ b. length b.now ≤ 1200) }
-    ensures { (bytes : List ℕ) → option_copied datagram.entry ≡ Some bytes → result ≡ bytes }
-{
-    let Some(bytes) = datagram else {
-        return RawBytes::new();
-    };
-    match RawBytes::from_slice(bytes) {
-        Some(bytes) => bytes,
-        None => RawBytes::new(),
-    }
-}
-
 /// What is told of a datagram that was made.
-fn packed(up: bool, client: u8, place: u32, ping: bool, datagram: Option<&[u8]>) -> Told
-    requires { IfSome datagram (λ b. length b.now ≤ 1200) }
-    ensures { (bytes : List ℕ) → option_copied datagram.entry ≡ Some bytes → result ≡ told_as.Packed up client place ping bytes }
+fn packed(
+    alloc: Global,
+    up: bool,
+    client: u8,
+    place: u32,
+    ping: bool,
+    datagram: Option<&[u8]>,
+) -> Result<Told, NoMemory>
+    requires { IfSome datagram (λ b. length b.now ≤ MAX_DATAGRAM_BYTES) }
+    ensures { IfOk result (λ told. (bytes : List ℕ) → option_copied datagram.entry ≡ Some bytes →
+        told ≡ told_as.Packed up client place ping bytes) }
 {
-    Told::Packed {
+    let bytes = RawBytes::from_slice(alloc, datagram.unwrap_or(&[]))?;
+    Ok(Told::Packed {
         up,
         client,
         place,
         ping,
-        bytes: bytes_of(datagram),
-    }
+        bytes,
+    })
 }
 
 fn pack(alloc: Global, pair: &mut Pair, client: u8) -> Result<Told, NoMemory>
     requires quiet { IsQuiet pair.old }
     requires few { length pair.old.down < MAX_DATAGRAMS }
-    ensures told { IfOk result (λ told. (t : Terms) (steps : List Step) → StandsFor pair.old t steps → told ≡ pack_told t steps client (server_state t.config (history t steps).server)) }
-    ensures stands { OnOk result ((t : Terms) (steps : List Step) → StandsFor pair.old t steps → StandsFor pair.new t (Pack ∷ steps)) }
+    ensures told { IfOk result (Answers pair.old (packed_told client)) }
+    ensures stands { OnOk result (Does pair.old Pack pair.new) }
     ensures quiet { OnOk result (IsQuiet pair.new) }
 {
     match pair.pack(alloc)? {
@@ -153,22 +145,16 @@ fn pack(alloc: Global, pair: &mut Pair, client: u8) -> Result<Told, NoMemory>
             client,
             life,
         }),
-        Made::Data { place } => Ok(packed(
-            false,
-            client,
-            place,
-            false,
-            pair.server_datagram(place),
-        )),
-        Made::Ping { place } => Ok(packed(false, client, place, true, pair.server_datagram(place))),
+        Made::Data { place } => packed(alloc, false, client, place, false, pair.server_datagram(place)),
+        Made::Ping { place } => packed(alloc, false, client, place, true, pair.server_datagram(place)),
     }
 }
 
 fn client_pack(alloc: Global, pair: &mut Pair, client: u8) -> Result<Told, NoMemory>
     requires quiet { IsQuiet pair.old }
     requires few { length pair.old.up < MAX_DATAGRAMS }
-    ensures told { IfOk result (λ told. (t : Terms) (steps : List Step) → StandsFor pair.old t steps → told ≡ client_pack_told t steps client (client_state t.config (history t steps).client)) }
-    ensures stands { OnOk result ((t : Terms) (steps : List Step) → StandsFor pair.old t steps → StandsFor pair.new t (ClientPack ∷ steps)) }
+    ensures told { IfOk result (Answers pair.old (client_packed_told client)) }
+    ensures stands { OnOk result (Does pair.old ClientPack pair.new) }
     ensures quiet { OnOk result (IsQuiet pair.new) }
 {
     match pair.client_pack(alloc)? {
@@ -177,15 +163,15 @@ fn client_pack(alloc: Global, pair: &mut Pair, client: u8) -> Result<Told, NoMem
             client,
             life,
         }),
-        Made::Data { place } => Ok(packed(true, client, place, false, pair.client_datagram(place))),
-        Made::Ping { place } => Ok(packed(true, client, place, true, pair.client_datagram(place))),
+        Made::Data { place } => packed(alloc, true, client, place, false, pair.client_datagram(place)),
+        Made::Ping { place } => packed(alloc, true, client, place, true, pair.client_datagram(place)),
     }
 }
 
 fn down(pair: &mut Pair, client: u8, k: u32) -> Told
     requires { IsQuiet pair.old }
-    ensures told { (t : Terms) (steps : List Step) → StandsFor pair.old t steps → result ≡ down_told client k (handed_down t steps k) (down_answer t steps k) }
-    ensures stands { (t : Terms) (steps : List Step) → StandsFor pair.old t steps → StandsFor pair.new t (Down k ∷ steps) }
+    ensures told { Answers pair.old (brought_down_told client k) result }
+    ensures stands { Does pair.old (Down k) pair.new }
     ensures quiet { IsQuiet pair.new }
 {
     match pair.down(k) {
@@ -208,8 +194,8 @@ fn down(pair: &mut Pair, client: u8, k: u32) -> Told
 
 fn up(seat: &mut Seat, client: u8, k: u32) -> Told
     requires { IsQuiet seat.old.pair }
-    ensures told { (t : Terms) (steps : List Step) → SeatStandsFor seat.old t steps → result ≡ up_told client k (handed_up t steps k (room_in t steps)) (up_answer t steps k (room_in t steps)) }
-    ensures stands { (t : Terms) (steps : List Step) → SeatStandsFor seat.old t steps → SeatStandsFor seat.new t (Up k (room_in t steps) ∷ steps) }
+    ensures told { SeatAnswers seat.old (brought_up_told client k) result }
+    ensures stands { SeatBecomes seat.old (λ t steps. Up k (room_in t steps) ∷ steps) seat.new }
     ensures quiet { IsQuiet seat.new.pair }
 {
     match seat.up(k) {
@@ -237,7 +223,7 @@ fn up(seat: &mut Seat, client: u8, k: u32) -> Told
 
 /// What a client has.
 fn show(pair: &Pair, client: u8) -> Told
-    ensures { (t : Terms) (steps : List Step) → StandsFor pair.now t steps → result ≡ show_told t steps client }
+    ensures { Answers pair.now (λ t steps. show_told t steps client) result }
 {
     Told::Show {
         client,
@@ -254,8 +240,8 @@ pub(crate) fn line_on(alloc: Global, seat: &mut Seat, line: &BodyLine) -> Result
     requires quiet { IsQuiet seat.old.pair }
     requires few_down { length seat.old.pair.down < MAX_DATAGRAMS }
     requires few_up { length seat.old.pair.up < MAX_DATAGRAMS }
-    ensures told { IfOk result (λ told. (t : Terms) (steps : List Step) → SeatStandsFor seat.old t steps → told ≡ line_told t steps line.now) }
-    ensures stands { OnOk result ((t : Terms) (steps : List Step) → SeatStandsFor seat.old t steps → SeatStandsFor seat.new t (onto t line.now steps)) }
+    ensures told { IfOk result (SeatAnswers seat.old (λ t steps. line_told t steps line.now)) }
+    ensures stands { OnOk result (SeatBecomes seat.old (λ t steps. with_line t line.now steps) seat.new) }
     ensures quiet { OnOk result (IsQuiet seat.new.pair) }
 {
     match line {

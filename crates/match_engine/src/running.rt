@@ -4,12 +4,13 @@ ghost use Rattle.tn_outside.specs.Causes.{Rose};
 ghost use Rattle.std.specs.Prelude.{◌<◌, List, ◌∷◌};
 ghost use Rattle.match_script.specs.declared.types.BodyLine.{BodyLine as OneLine};
 ghost use Rattle.match_script.specs.Ranges.{HasRanges, LineFits};
-ghost use Rattle.match_engine.specs.Stands.{StandsFor};
+ghost use Rattle.match_engine.specs.Stands.{StandsFor, Does};
 ghost use Rattle.tn_outside.specs.Totals.{Adds, AddsFront};
-ghost use Rattle.match_engine.specs.Report.{report, line_text};
+ghost use Rattle.match_engine.specs.Report.{report};
+ghost use Rattle.match_engine.specs.Telling.{Tells};
 ghost use Rattle.match_engine.specs.Laws.{Isolation, EventsInOrder, MovesInOrder, LooseInOrder, LittleIsRefused};
 
-use crate::game::{MAX_LINES, Match};
+use crate::game::Match;
 use crate::laws::{
     events_in_order, isolation, little_is_refused, loose_events_in_order, moves_in_order,
 };
@@ -18,6 +19,7 @@ use match_report::put_line;
 use match_script::{BodyLine, Script};
 use std::alloc::Global;
 use tn_outside::Sink;
+use tn_types::MAX_COUNTED_LINES;
 
 /// Why a report was not written to its end.
 #[derive(Clone, Copy, Debug, PartialEq, Eq)]
@@ -38,10 +40,10 @@ fn tell<K: Sink>(
 ) -> Result<(), RunFault>
     requires stands { (past : List OneLine) × StandsFor game.old past }
     requires fits { LineFits game.old.head.clients line.now }
-    requires few { game.old.done < MAX_LINES }
-    ensures written { OnOk result ((past : List OneLine) → StandsFor game.old past → Adds (K.written sink.old) (K.written sink.new) (line_text game.old.head past line.now)) }
-    ensures stands { OnOk result ((past : List OneLine) → StandsFor game.old past → StandsFor game.new (line.now ∷ past)) }
-    ensures front { OnErr result ((past : List OneLine) → StandsFor game.old past → AddsFront (K.written sink.old) (K.written sink.new) (line_text game.old.head past line.now)) }
+    requires few { game.old.done < MAX_COUNTED_LINES }
+    ensures written { OnOk result (Tells Adds game.old line.now (K.written sink.old) (K.written sink.new)) }
+    ensures stands { OnOk result (Does game.old line.now game.new) }
+    ensures front { OnErr result (Tells AddsFront game.old line.now (K.written sink.old) (K.written sink.new)) }
     ensures cause { result ≡ Err RunFault.WriteFault → Rose (K.faults sink.old) (K.faults sink.new) }
     ensures later { K.faults sink.old ≤ K.faults sink.new }
     ensures head { OnOk result (game.new.head ≡ game.old.head) }

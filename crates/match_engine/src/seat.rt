@@ -1,21 +1,17 @@
 //! A client's connection in a match, with its accepted moves.
 ghost use Rattle.std.specs.Prelude.{◌≡◌, ◌≤◌, ◌++◌, ◌∷◌, [], List, IfOk, OnErr, length};
 ghost use Rattle.stream_manager.specs.Limits.{IsConfig, Terms};
-ghost use Rattle.pair_core.specs.History.{Step, Up};
+ghost use Rattle.pair_core.specs.History.{PairStep, Up};
 ghost use Rattle.pair_core.specs.Answers.{up_answer, server_delivered};
 ghost use Rattle.match_engine.specs.Journal.{room_in};
-ghost use Rattle.match_engine.specs.Stands.{IsQuiet, SeatStandsFor};
+ghost use Rattle.match_engine.specs.Stands.{IsQuiet, SeatStandsFor, SeatAnswers, SeatBecomes};
 
 use circular_buffer::HeapCircularBuffer;
-use datablocks::MAX_SCRIPT_BLOCKS;
 use pair_core::{Pair, UpFault};
 use quantised_fields::KindTable;
 use std::alloc::Global;
 use stream_manager::{Config, Taken};
-use tn_types::{BlockBytes, Move, NoMemory};
-
-/// The most accepted moves of a client that wait for a tick.
-pub const MAX_WAITING_MOVES: usize = 32;
+use tn_types::{BlockBytes, MAX_BLOCKS, MAX_WAITING_MOVES, Move, NoMemory};
 
 /// A client's connection, and its accepted moves that wait for a tick, the oldest first.
 #[derive(Drop)]
@@ -33,7 +29,7 @@ impl Seat {
         blocks: &[BlockBytes],
     ) -> Result<Seat, NoMemory>
         requires config { IsConfig config }
-        requires few { length blocks.now ≤ MAX_SCRIPT_BLOCKS }
+        requires few { length blocks.now ≤ MAX_BLOCKS }
         ensures stands { IfOk result (λ s. SeatStandsFor s (record { config = config; kinds = kinds.now; blocks = blocks.now }) []) }
         ensures quiet { IfOk result (λ s. IsQuiet s.pair) }
     {
@@ -48,9 +44,10 @@ impl Seat {
     /// place. No event may wait.
     pub(crate) fn up(&mut self, k: u32) -> Result<Taken, UpFault>
         requires { self.old.pair.conn.common.receiver.ready ≡ [] }
-        ensures answer { (t : Terms) (steps : List Step) → SeatStandsFor self.old t steps → result ≡ up_answer t steps k (room_in t steps) }
-        ensures stands { (t : Terms) (steps : List Step) → SeatStandsFor self.old t steps → SeatStandsFor self.new t (Up k (room_in t steps) ∷ steps) }
-        ensures handed { (t : Terms) (steps : List Step) → SeatStandsFor self.old t steps → server_delivered t (Up k (room_in t steps) ∷ steps) ≡ server_delivered t steps ++ self.new.pair.conn.common.receiver.ready }
+        ensures answer { SeatAnswers self.old (λ t steps. up_answer t steps k (room_in t steps)) result }
+        ensures stands { SeatBecomes self.old (λ t steps. Up k (room_in t steps) ∷ steps) self.new }
+        ensures handed { (t : Terms) (steps : List PairStep) → SeatStandsFor self.old t steps → server_delivered t (Up k (room_in t steps) ∷ steps)
+            ≡ server_delivered t steps ++ self.new.pair.conn.common.receiver.ready }
         ensures client { self.new.pair.client ≡ self.old.pair.client }
         ensures unchanged { OnErr result (self.new ≡ self.old) }
     {

@@ -1,7 +1,6 @@
-//! Lines of refusals that no script brings about, and of moves, as the format has them.
+//! Lines of refusals that no script brings about, as the format has them.
 use crate::{Told, Way, put_line};
 use ghost_client::GhostFault;
-use move_manager::MoveFault;
 use std::alloc::Global;
 use std::test::Fail;
 use stream_manager::{ArriveFault, ClientFault};
@@ -22,13 +21,6 @@ fn refusals_of_the_server(rt: HostRuntime) -> Result<(), Fail> {
     for (fault, want) in [
         (ArriveFault::Bits(bits), "raw 3 bits 110 CountBits\n"),
         (ArriveFault::WrongClient { client: 4 }, "raw 3 client 4\n"),
-        (
-            ArriveFault::AckAhead {
-                horizon: 7,
-                last: 2,
-            },
-            "raw 3 ackahead 7 2\n",
-        ),
         (
             ArriveFault::MoveGap {
                 first: 9,
@@ -57,17 +49,8 @@ fn refusals_of_the_server(rt: HostRuntime) -> Result<(), Fail> {
 }
 
 #[test]
-fn refusals_that_both_ends_have(rt: HostRuntime) -> Result<(), Fail> {
-    let bits = BitsFault {
-        place: 0,
-        cause: BitsCause::KindBits,
-    };
+fn refusals_of_a_client(rt: HostRuntime) -> Result<(), Fail> {
     for (fault, want) in [
-        (ClientFault::Bits(bits), "down 0 3 bits 0 KindBits\n"),
-        (
-            ClientFault::WrongClient { client: 15 },
-            "down 0 3 client 15\n",
-        ),
         (
             ClientFault::AckAhead {
                 horizon: 7,
@@ -75,28 +58,6 @@ fn refusals_that_both_ends_have(rt: HostRuntime) -> Result<(), Fail> {
             },
             "down 0 3 ackahead 7 2\n",
         ),
-        (
-            ClientFault::EventAhead {
-                number: 40,
-                delivered: 1,
-            },
-            "down 0 3 eventahead 40 1\n",
-        ),
-    ] {
-        let told = Told::ClientRefused {
-            client: 0,
-            k: 3,
-            fault,
-        };
-        let line = line_of(rt.alloc(), &told).ok_or("no memory")?;
-        assert_eq!(rt; line.as_slice(), want.as_bytes(), "{want}");
-    }
-    Ok(())
-}
-
-#[test]
-fn refusals_of_a_client_alone(rt: HostRuntime) -> Result<(), Fail> {
-    for (fault, want) in [
         (
             ClientFault::MoveAhead {
                 count: 6,
@@ -109,14 +70,6 @@ fn refusals_of_a_client_alone(rt: HostRuntime) -> Result<(), Fail> {
             "down 0 3 block 12\n",
         ),
         (
-            ClientFault::Ghost(GhostFault::Twice { slot: 0 }),
-            "down 0 3 ghost 0 Twice\n",
-        ),
-        (
-            ClientFault::Ghost(GhostFault::Unknown { slot: 7 }),
-            "down 0 3 ghost 7 Unknown\n",
-        ),
-        (
             ClientFault::Ghost(GhostFault::Taken { slot: 255 }),
             "down 0 3 ghost 255 Taken\n",
         ),
@@ -124,33 +77,12 @@ fn refusals_of_a_client_alone(rt: HostRuntime) -> Result<(), Fail> {
             ClientFault::Ghost(GhostFault::KindDiffers { slot: 8, held: 2 }),
             "down 0 3 ghost 8 KindDiffers\n",
         ),
-        (
-            ClientFault::Ghost(GhostFault::BlockMissing { slot: 9, block: 1 }),
-            "down 0 3 ghost 9 BlockMissing\n",
-        ),
     ] {
         let told = Told::ClientRefused {
             client: 0,
             k: 3,
             fault,
         };
-        let line = line_of(rt.alloc(), &told).ok_or("no memory")?;
-        assert_eq!(rt; line.as_slice(), want.as_bytes(), "{want}");
-    }
-    Ok(())
-}
-
-#[test]
-fn moves_sampled_and_refused(rt: HostRuntime) -> Result<(), Fail> {
-    for (number, want) in [
-        (Ok(4), "move 15 4\n"),
-        (Err(MoveFault::Worn { life: 2 }), "move 15 worn 2\n"),
-        (
-            Err(MoveFault::Full { first: 0, last: 31 }),
-            "move 15 full 0 31\n",
-        ),
-    ] {
-        let told = Told::Moved { client: 15, number };
         let line = line_of(rt.alloc(), &told).ok_or("no memory")?;
         assert_eq!(rt; line.as_slice(), want.as_bytes(), "{want}");
     }

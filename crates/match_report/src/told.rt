@@ -2,7 +2,7 @@
 ghost use Rattle.std.specs.Prelude.{◌≡◌, ◌<◌, ◌≤◌, [], ◌∷◌, ◌++◌, length};
 
 use arrayvec::ArrayVec;
-use event_manager::PostFault;
+use event_manager::{MAX_READY_EVENTS, PostFault};
 use move_manager::MoveFault;
 use std::marker::Model;
 use stream_manager::{ArriveFault, ClientFault};
@@ -28,7 +28,9 @@ pub struct EventTold {
 
 impl Default for EventTold {
     /// An unguaranteed event of no byte.
-    fn default() -> Self {
+    fn default() -> Self
+        ensures { (result.class ≡ Class.Loose) × (result.payload ≡ []) }
+    {
         EventTold {
             class: Class::Loose,
             payload: Payload::new(),
@@ -39,18 +41,19 @@ impl Default for EventTold {
 /// The events that one delivery handed out, in order: at most 95.
 #[derive(Drop)]
 pub struct Events {
-    items: ArrayVec<EventTold, 95>,
+    items: ArrayVec<EventTold, MAX_READY_EVENTS>,
 }
 
 impl Model for Events {
     ghost use Rattle.std.specs.Prelude.{List, ◌≤◌, length};
+    ghost use Rattle.event_manager.specs.declared.TheConstants.{MAX_READY_EVENTS};
     ghost use Rattle.match_report.specs.declared.told.EventTold.{EventTold};
 
     ghost Value = { List EventTold };
 
     ghost view = { λ l. l.items.items };
 
-    ghost invariant = { λ l. length l.items.items ≤ 95 };
+    ghost invariant = { λ l. length l.items.items ≤ MAX_READY_EVENTS };
 }
 
 impl Events {
@@ -67,7 +70,7 @@ impl Events {
 
     /// Appends an event.
     pub fn push(&mut self, event: EventTold)
-        requires { length self.old < 95 }
+        requires { length self.old < MAX_READY_EVENTS }
         ensures { self.new ≡ self.old ++ event ∷ [] }
     {
         self.items.push(event);
@@ -76,7 +79,7 @@ impl Events {
     /// The events, lent.
     pub fn as_slice(&self) -> &[EventTold]
         ensures value { result.now ≡ self.now }
-        ensures fits { length result.now ≤ 95 }
+        ensures fits { length result.now ≤ MAX_READY_EVENTS }
     {
         self.items.as_slice()
     }

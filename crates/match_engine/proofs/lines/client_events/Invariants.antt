@@ -1,15 +1,14 @@
-use Rattle.std.proofs.Common.{◌≡◌, ◌≤◌, ◌++◌, List, length, map}
-use Rattle.stream_manager.specs.Limits.{Terms}
-use Rattle.pair_core.specs.History.{Step}
-use Rattle.pair_core.specs.Stands.{StandsFor}
+use Rattle.std.proofs.Common.{◌≡◌, ◌≤◌, ◌++◌, length, map}
+use Rattle.event_manager.specs.declared.TheConstants.{MAX_READY_EVENTS}
+use Rattle.pair_core.specs.Calls.{Stays}
 use Rattle.match_engine.specs.Report.{event_told}
 use Rattle.match_engine.proofs.lines.client_events.Given as goal
 
 abbrev pub invariant-out : goal.invariant-out
 invariant-out l = record {
   events : l.events ++ map event_told l.pair.client.common.receiver.ready ≡ map event_told l.fn.pair.client.common.receiver.ready;
-  few : length l.fn.pair.client.common.receiver.ready ≤ 95;
-  stands : (t : Terms) (steps : List Step) → StandsFor l.fn.pair t steps → StandsFor l.pair t steps;
+  few : length l.fn.pair.client.common.receiver.ready ≤ MAX_READY_EVENTS;
+  stands : Stays l.fn.pair l.pair;
   other : l.pair.conn ≡ l.fn.pair.conn;
 }
 
