@@ -1,12 +1,12 @@
 -- How a call ends, and what it leaves of its source and its sink. A call reads a text of at most 1,048,576 bytes to its
 -- end, and where that is a script it writes the text that the command makes of it. Every other end has its cause.
 use Rattle.std.specs.Prelude.{ℕ, ◌≡◌, ◌+◌, ◌≤◌, ◌⊎◌, List, length, Bool, true, false, nat_le, Option, Result, Ok, Err}
+use Rattle.tn_types.specs.declared.limits.TheConstants.{MAX_SCRIPT_BYTES}
 use Rattle.tn_outside.specs.Causes.{Rose}
 use Rattle.tn_outside.specs.Totals.{Drained, GaveFront, Adds, AddsFront}
 use Rattle.match_script.specs.Script.{Fault, script_of}
 use Rattle.match_script.specs.declared.types.Script.{Script as OneScript}
 use Rattle.match_engine.specs.Report.{report}
-use Rattle.match_cli.specs.declared.input.TheConstants.{MAX_SCRIPT_BYTES}
 use Rattle.match_cli.specs.declared.command.Command.{Command}
 use Rattle.match_cli.specs.declared.command.Command.TheVariants.{Run}
 use Rattle.match_cli.specs.declared.status.Status.{Status}

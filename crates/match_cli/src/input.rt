@@ -7,9 +7,7 @@ use crate::status::Status;
 use match_script::{ParseFault, Script, parse};
 use std::alloc::Global;
 use tn_outside::Source;
-
-/// The most bytes of a script.
-pub const MAX_SCRIPT_BYTES: usize = 1_048_576;
+use tn_types::MAX_SCRIPT_BYTES;
 
 /// Bytes that are read in one go.
 const BUFFER_BYTES: usize = 4096;

@@ -7,7 +7,7 @@ ghost use Rattle.match_cli.specs.Command.{command_of};
 ghost use Rattle.match_cli.specs.Outcome.{seen, text_of, Outcome, IsWanted, IsCommand, HasFailed, ReadAs};
 
 use crate::command::{Command, command_of};
-use crate::input::{MAX_SCRIPT_BYTES, read_script};
+use crate::input::read_script;
 use crate::status::Status;
 use match_engine::{
     RunFault, events_in_order, isolation, little_is_refused, loose_events_in_order, moves_in_order,
@@ -15,6 +15,7 @@ use match_engine::{
 };
 use std::alloc::Global;
 use tn_outside::{Sink, Source};
+use tn_types::MAX_SCRIPT_BYTES;
 
 /// Serves a command.
 fn serve<S: Source, K: Sink>(
@@ -62,9 +63,9 @@ pub fn top<S: Source, K: Sink>(
         → (HasFailed (seen (S.held source.old) (S.held source.new) (S.faults source.old) (S.faults source.new)) → ⊥)
         → (HasFailed (seen (K.written sink.old) (K.written sink.new) (K.faults sink.old) (K.faults sink.new)) → ⊥)
         → (result ≡ Status.Done) ⊎ (result ≡ Status.NoMemory) }
-    // The report is one in which each client's datagrams are those of a server that serves it alone; at every line what
-    // is delivered is a front of what was posted, of unguaranteed events some in their order, and the accepted moves are a
-    // front of the sampled ones; and no end refuses a datagram but an old one.
+    // Each client's datagrams in the report are those of a server that serves it alone; in its journal, at every line,
+    // what is delivered is a front of what was posted, of unguaranteed events some in their order, the accepted moves are a
+    // front of the sampled ones, and no end refuses a datagram but an old one.
     ensures isolation { Isolation }
     ensures events_in_order { EventsInOrder }
     ensures moves_in_order { MovesInOrder }

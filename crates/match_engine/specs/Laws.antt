@@ -1,4 +1,4 @@
--- What the report of a script promises.
+-- What the report of a script and the journals of its clients promise.
 use Rattle.std.specs.Prelude.{ℕ, ◌≡◌, ◌<◌, ◌==◌, Bool, false, if◌then◌else◌, List, [], ◌∷◌, ◌++◌, reverse, take}
 use Rattle.match_script.specs.declared.types.BodyLine.{BodyLine}
 use Rattle.match_script.specs.declared.types.BodyLine.TheVariants.{Post, ClientPost, Pack, ClientPack, Down, Up, Move, Show}

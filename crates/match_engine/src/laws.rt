@@ -1,4 +1,4 @@
-//! What the report of a script promises.
+//! What the report of a script and the journals of its clients promise.
 
 ghost use Rattle.match_engine.specs.Laws.{Isolation, EventsInOrder, MovesInOrder, LooseInOrder, LittleIsRefused};
 
@@ -8,25 +8,25 @@ pub fn isolation()
     ensures { Isolation }
 {}
 
-/// At every line the guaranteed events that each end delivered are the first ones that the other end posted
+/// In each journal, at every line, the guaranteed events that an end delivered are the first that the other end posted
 /// (docs/proofs.md, "Delivered prefixes").
 pub fn events_in_order()
     ensures { EventsInOrder }
 {}
 
-/// At every line the moves that the server accepted are the first ones that the client sampled, each once and in order
+/// In each journal, at every line, the moves that the server accepted are the first that the client sampled, in order
 /// (docs/proofs.md, "Accepted prefixes").
 pub fn moves_in_order()
     ensures { MovesInOrder }
 {}
 
-/// At every line the unguaranteed events that each end delivered are some of those that the other end posted, in their
-/// order and each once at most (docs/proofs.md, "Unguaranteed events in order").
+/// In each journal, at every line, the unguaranteed events that an end delivered are some of those that the other end
+/// posted, in their order and each once at most (docs/proofs.md, "Unguaranteed events in order").
 pub fn loose_events_in_order()
     ensures { LooseInOrder }
 {}
 
-/// No end refuses a datagram but an old one, whatever the network brings (docs/proofs.md, "Little is refused").
+/// Whatever line comes next, it tells no refusal of a datagram, but of an old one (docs/proofs.md, "Little is refused").
 pub fn little_is_refused()
     ensures { LittleIsRefused }
 {}

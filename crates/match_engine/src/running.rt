@@ -70,13 +70,13 @@ pub fn run<K: Sink>(alloc: Global, script: &Script, sink: &mut K) -> Result<(), 
     ensures later { K.faults sink.old ≤ K.faults sink.new }
     // The datagrams for each client are those of a server that serves it alone.
     ensures isolation { Isolation }
-    // What is delivered is a front of what was posted.
+    // In each client's journal, what is delivered is a front of what was posted.
     ensures events_in_order { EventsInOrder }
-    // Each accepted move was sampled, once and in order.
+    // There each accepted move was sampled, once and in order.
     ensures moves_in_order { MovesInOrder }
-    // Delivered unguaranteed events are some of those that were posted, in order.
+    // There delivered unguaranteed events are some of those that were posted, in order.
     ensures loose_events_in_order { LooseInOrder }
-    // No end refuses a datagram but an old one.
+    // And there no end refuses a datagram but an old one.
     ensures little_is_refused { LittleIsRefused }
 {
     isolation();

@@ -1,6 +1,6 @@
 use Rattle.std.proofs.Common.{◌≤◌, ◌-◌, ◌+◌, vec_len}
+use Rattle.tn_types.specs.declared.limits.TheConstants.{MAX_SCRIPT_BYTES}
 use Rattle.tn_outside.specs.Totals.{GaveFront}
-use Rattle.match_cli.specs.declared.input.TheConstants.{MAX_SCRIPT_BYTES}
 use Rattle.match_cli.proofs.input.read_all.Given as goal
 
 abbrev pub invariant-reads : goal.invariant-reads
