@@ -330,7 +330,7 @@ module _ (t : Terms) (limits : AreTerms t) where
   seq-up (up.Body body) fits = fits.head.seq
 
   -- the client learns of moves
-  moves-down : (p : ServerPacket) (accepted : List Move) (log : List sending.Event) → TellsAtMost (length accepted) p → Moves t.config.life accepted (sampled_of log) (acked_of log) → Moves t.config.life accepted (sampled_of (moves_acked p log)) (acked_of (moves_acked p log))
+  moves-down : (p : ServerPacket) (accepted : List Move) (log : List sending.SenderEvent) → TellsAtMost (length accepted) p → Moves t.config.life accepted (sampled_of log) (acked_of log) → Moves t.config.life accepted (sampled_of (moves_acked p log)) (acked_of (moves_acked p log))
   moves-down (down.Ping head) accepted log tells m = m
   moves-down (down.Body p) accepted log tells m = record { accepted = m.accepted; sampled = m.sampled; front = m.front; acked = omega (arith, m.acked, tells); few = omega (arith, m.few) }
 
@@ -357,7 +357,7 @@ module _ (t : Terms) (limits : AreTerms t) where
     pub moves : Moves t.config.life new sampled acked
     pub longer : length old ≤ length new
 
-  pub moves-up : (p : ClientPacket) (room : ℕ) (log : List moves.Event) (sampled : List Move) (acked : ℕ) → HoldsMoves sampled p → Moves t.config.life (accepted_of t.config.life log) sampled acked
+  pub moves-up : (p : ClientPacket) (room : ℕ) (log : List moves.ReceiverEvent) (sampled : List Move) (acked : ℕ) → HoldsMoves sampled p → Moves t.config.life (accepted_of t.config.life log) sampled acked
       → Accepts (accepted_of t.config.life log) (accepted_of t.config.life (moves_taken p room log)) sampled acked
   moves-up (up.Ping head) room log sampled acked holds m = record { moves = m; longer = omega arith }
   moves-up (up.Body p) room log sampled acked holds m =
