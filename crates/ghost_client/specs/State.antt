@@ -45,8 +45,8 @@ AreInRange kinds slots = (slot : ℕ) → IfSome (copy_in slots slot) (IsInRange
 abbrev pub field_value : List Kind → ℕ → GhostCopy → Option ℤ
 field_value kinds field copy =
     option_and_then (λ kind.
-      option_and_then (λ spec. option_map (shown_of spec) (slice_get copy.levels field)) (slice_get kind.fields field))
-      (slice_get kinds copy.kind)
+    option_and_then (λ spec. option_map (shown_of spec) (slice_get copy.levels field)) (slice_get kind.fields field))
+    (slice_get kinds copy.kind)
 
 abbrev pub value_of : State → ℕ → ℕ → Option ℤ
 value_of c slot field = option_and_then (field_value c.kinds field) (copy_in c.slots slot)

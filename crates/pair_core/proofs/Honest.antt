@@ -17,7 +17,8 @@ use Rattle.wire_format.specs.declared.server.ServerPacket.{ServerPacket}
 use Rattle.wire_format.specs.declared.server.ServerPacket.TheVariants as down
 use Rattle.wire_format.specs.declared.client.ClientPacket.{ClientPacket}
 use Rattle.wire_format.specs.declared.client.ClientPacket.TheVariants as up
-use Rattle.wire_format.specs.declared.widths.TheConstants.{SERVER_FIXED_BITS, MAX_BLOCKS}
+use Rattle.wire_format.specs.declared.widths.TheConstants.{SERVER_FIXED_BITS}
+use Rattle.tn_types.specs.declared.limits.TheConstants.{MAX_PACKET_BLOCKS}
 use Rattle.wire_format.specs.Blocks.{block_size}
 use Rattle.datablocks.specs.Sending.{due_of}
 use Rattle.tn_types.specs.Fitting.{fitting}
@@ -120,8 +121,8 @@ module _ (t : Terms) (limits : AreTerms t) where
     control = no-control t.kinds (Grant ∷ ghost_log s) c.nothing;
   }
     where
-      script : (ns : List ℕ) → AllByRecursion (IsOf t.blocks) (fitting block_size (4 * t.config.size - SERVER_FIXED_BITS) (take MAX_BLOCKS (map (block_item t.blocks) ns)))
-      script ns = fitting-all (IsOf t.blocks) block_size (4 * t.config.size - SERVER_FIXED_BITS) (take MAX_BLOCKS (map (block_item t.blocks) ns)) (all-take (IsOf t.blocks) MAX_BLOCKS (map (block_item t.blocks) ns) (are-of t.blocks ns))
+      script : (ns : List ℕ) → AllByRecursion (IsOf t.blocks) (fitting block_size (4 * t.config.size - SERVER_FIXED_BITS) (take MAX_PACKET_BLOCKS (map (block_item t.blocks) ns)))
+      script ns = fitting-all (IsOf t.blocks) block_size (4 * t.config.size - SERVER_FIXED_BITS) (take MAX_PACKET_BLOCKS (map (block_item t.blocks) ns)) (all-take (IsOf t.blocks) MAX_PACKET_BLOCKS (map (block_item t.blocks) ns) (are-of t.blocks ns))
 
   packs-down : (s : List ServerEvent) (u : List ClientEvent) → Carried t s u → Windows t s u → Honest t s u → Honest t (server_log.packing t s []) u
   packs-down s u c w h = go (server_state t.config s) refl

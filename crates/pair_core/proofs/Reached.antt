@@ -9,9 +9,12 @@ use Rattle.notify_window.specs.Log.{sent_of, horizon_of, is_processed, Fate, Unj
 use Rattle.notify_window.proofs.Horizons.{processed-above}
 use Rattle.wire_format.specs.declared.fault.BitsFault.{BitsFault}
 use Rattle.wire_format.specs.declared.events.EventItem.{EventItem}
-use Rattle.event_manager.specs.Sending.{SenderEvent, posted_of, holds, is_number, carriers, any_received, is_unacked, first_unacked, is_due, all_lost, guaranteed_item, loose_item, items_that, due_guaranteed, waiting_of, due_of}
-use Rattle.event_manager.specs.Receiving.{items_onto, or_else, first_of, has, run_of, is_ahead}
-use Rattle.event_manager.proofs.Fates.{not-false, least-below}
+use Rattle.event_manager.specs.Sending.{SenderEvent, posted_of, holds, has_number, carriers, is_unacked, first_unacked, is_due, guaranteed_item, loose_item, items_that, due_guaranteed, waiting_of, due_of}
+use Rattle.notify_window.specs.Fates.{any_received, all_lost}
+use Rattle.event_manager.specs.Receiving.{items_onto, first_payload, has_come, run_of, is_ahead}
+use Rattle.std.specs.Option.{option_or}
+use Rattle.notify_window.proofs.Fates.{not-false}
+use Rattle.notify_window.proofs.Least.{least_below}
 use Rattle.event_manager.proofs.Runs.{has-more, run-ends}
 use Rattle.event_manager.proofs.Prefixes.{run-more}
 use Rattle.stream_manager.specs.declared.config.Config.{Config}
@@ -50,27 +53,27 @@ pub record Brings {P : Type 0} (read : List ℕ → Result P BitsFault) (seen : 
 -- the carriers of each event, and what came of them; and the datagrams
 pub record EventWay {P : Type 0} (read : List ℕ → Result P BitsFault) (seen : P → Seen) (IsGood : P → Type 0) (named : ℕ) (carried : ℕ → List ℕ) (events : ℕ → List EventItem) (sent : ℕ) (processed : ℕ → Bool) (came : List EventItem) (datagrams : List (List ℕ)) : Type 0 where
   pub written : (i : ℕ) → AllByRecursion (IsCarrier events sent i) (carried i)
-  pub reached : (s i : ℕ) → processed s ≡ true → holds i (events s) ≡ true → has i came ≡ true
+  pub reached : (s i : ℕ) → processed s ≡ true → holds i (events s) ≡ true → has_come i came ≡ true
   pub brings : AllByRecursion (Brings read seen IsGood named events sent (run_of came)) datagrams
 
 -- ---- what came
 
-items-more : (items came : List EventItem) (i : ℕ) → has i came ≡ true → has i (items_onto items came) ≡ true
+items-more : (items came : List EventItem) (i : ℕ) → has_come i came ≡ true → has_come i (items_onto items came) ≡ true
 items-more [] came i h = h
 items-more (item ∷ items) came i h = items-more items (item ∷ came) i (has-more item came i h)
 
-has-new : (item : EventItem) (came : List EventItem) (i : ℕ) → is_number i item.number ≡ true → has i (item ∷ came) ≡ true
-has-new item came i h = rw h (go (first_of i came))
+has-new : (item : EventItem) (came : List EventItem) (i : ℕ) → has_number i item.number ≡ true → has_come i (item ∷ came) ≡ true
+has-new item came i h = rw h (go (first_payload i came))
   where
-    go : (o : Option (List ℕ)) → is_some (or_else o (Some item.payload)) ≡ true
+    go : (o : Option (List ℕ)) → is_some (option_or o (Some item.payload)) ≡ true
     go None = refl
     go (Some v) = refl
 
-items-hold : (items came : List EventItem) (i : ℕ) → holds i items ≡ true → has i (items_onto items came) ≡ true
+items-hold : (items came : List EventItem) (i : ℕ) → holds i items ≡ true → has_come i (items_onto items came) ≡ true
 items-hold [] came i h = cc
-items-hold (item ∷ items) came i h = go (is_number i item.number) refl (items-hold items (item ∷ came) i) h
+items-hold (item ∷ items) came i h = go (has_number i item.number) refl (items-hold items (item ∷ came) i) h
   where
-    go : (b : Bool) → is_number i item.number ≡ b → (holds i items ≡ true → has i (items_onto items (item ∷ came)) ≡ true) → (b || holds i items) ≡ true → has i (items_onto items (item ∷ came)) ≡ true
+    go : (b : Bool) → has_number i item.number ≡ b → (holds i items ≡ true → has_come i (items_onto items (item ∷ came)) ≡ true) → (b || holds i items) ≡ true → has_come i (items_onto items (item ∷ came)) ≡ true
     go true e rest h = items-more items (item ∷ came) i (has-new item came i e)
     go false e rest h = rest h
 
@@ -137,26 +140,26 @@ module _ {P : Type 0} (read : List ℕ → Result P BitsFault) (seen : P → See
     start-events = record { written = λ i. tt; reached = λ s i done h. cc; brings = tt }
 
     module _ (x y : List EndEvent) (datagrams : List (List ℕ)) (h : EventsOn IsGood named x y datagrams) where
-      received-came : ReceivedIsTrue x y → (i : ℕ) (ss : List ℕ) → AllByRecursion (IsCarrier (λ s. events_of s x) (sent_of (window_log x)) i) ss → any_received (fates x) ss ≡ true → has i (came_of y) ≡ true
+      received-came : ReceivedIsTrue x y → (i : ℕ) (ss : List ℕ) → AllByRecursion (IsCarrier (λ s. events_of s x) (sent_of (window_log x)) i) ss → any_received (fates x) ss ≡ true → has_come i (came_of y) ≡ true
       received-came truth i [] all e = cc
       received-came truth i (s ∷ ss) all e = go (fates x s) refl (received-came truth i ss all.1) e
         where
-          go : (f : Fate) → fates x s ≡ f → (any_received (fates x) ss ≡ true → has i (came_of y) ≡ true) → (is_received f || any_received (fates x) ss) ≡ true → has i (came_of y) ≡ true
+          go : (f : Fate) → fates x s ≡ f → (any_received (fates x) ss ≡ true → has_come i (came_of y) ≡ true) → (is_received f || any_received (fates x) ss) ≡ true → has_come i (came_of y) ≡ true
           go Unjudged is rest e = rest e
           go Lost is rest e = rest e
           go Received is rest e = h.reached s i (truth s is) all.0.1
 
       -- all that is acknowledged came
-      acked-came : ReceivedIsTrue x y → (i : ℕ) → i < first_unacked (fates x) (sender_log x) → has i (came_of y) ≡ true
+      acked-came : ReceivedIsTrue x y → (i : ℕ) → i < first_unacked (fates x) (sender_log x) → has_come i (came_of y) ≡ true
       unfolding first_unacked
       acked-came truth i l =
           received-came truth i (carriers i (sender_log x)) (h.written i)
-          (not-false (any_received (fates x) (carriers i (sender_log x))) (least-below (is_unacked (fates x) (sender_log x)) (length (posted_of (sender_log x))) i l))
+          (not-false (any_received (fates x) (carriers i (sender_log x))) (least_below (is_unacked (fates x) (sender_log x)) (length (posted_of (sender_log x))) i l))
 
       unacked-run : ReceivedIsTrue x y → first_unacked (fates x) (sender_log x) ≤ run_of (came_of y)
       unacked-run truth = elim (cases_lt (run_of (came_of y)) (first_unacked (fates x) (sender_log x))) [
-        | inl l ↦ (let came : has (run_of (came_of y)) (came_of y) ≡ true = acked-came truth (run_of (came_of y)) l in
-            let never : has (run_of (came_of y)) (came_of y) ≡ false = run-ends (came_of y) in absurd cc)
+        | inl l ↦ (let came : has_come (run_of (came_of y)) (came_of y) ≡ true = acked-came truth (run_of (came_of y)) l in
+            let never : has_come (run_of (came_of y)) (came_of y) ≡ false = run-ends (came_of y) in absurd cc)
         | inr l ↦ l
       ]
 
@@ -232,7 +235,7 @@ module _ {P : Type 0} (read : List ℕ → Result P BitsFault) (seen : P → See
             }) datagrams h.brings;
       }
         where
-          comes : (s i : ℕ) → holds i (events_of s x) ≡ true → (ping : Bool) → p.ping ≡ ping → (b : Bool) → (p.head.seq == s) ≡ b → ((not ping && b) || is_processed s (window_log y)) ≡ true → has i (items_onto p.events (came_of y)) ≡ true
+          comes : (s i : ℕ) → holds i (events_of s x) ≡ true → (ping : Bool) → p.ping ≡ ping → (b : Bool) → (p.head.seq == s) ≡ b → ((not ping && b) || is_processed s (window_log y)) ≡ true → has_come i (items_onto p.events (came_of y)) ≡ true
           comes s i holding true is b e done = items-more p.events (came_of y) i (h.reached s i done holding)
           comes s i holding false is false e done = items-more p.events (came_of y) i (h.reached s i done holding)
           comes s i holding false is true e done =

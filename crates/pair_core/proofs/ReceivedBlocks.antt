@@ -40,7 +40,8 @@ use Rattle.pair_core.proofs.Lists.{all-append, all-at, all-map}
 use Rattle.pair_core.proofs.VerdictLaw.{Windows, windows, true_down}
 use Rattle.notify_window.specs.Log.{sent_of, horizon_of, is_processed, Fate, Unjudged, Received, Lost, is_received}
 use Rattle.notify_window.proofs.Horizons.{processed-above}
-use Rattle.datablocks.specs.Sending.{SenderEvent, Wrote, carriers, any_received}
+use Rattle.datablocks.specs.Sending.{SenderEvent, Wrote, carriers}
+use Rattle.notify_window.specs.Fates.{any_received}
 use Rattle.stream_manager.specs.Server.{wrote_blocks}
 use Rattle.pair_core.specs.Verdicts.{ReceivedIsTrue}
 use Rattle.pair_core.proofs.Carried.{Carried, carried, ping-down, body-down}

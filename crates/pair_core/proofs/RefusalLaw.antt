@@ -13,7 +13,7 @@ use Rattle.wire_format.specs.declared.server.ServerPacket.{ServerPacket}
 use Rattle.wire_format.specs.declared.server.ServerPacket.TheVariants as down
 use Rattle.wire_format.specs.declared.client.ClientPacket.{ClientPacket}
 use Rattle.wire_format.specs.declared.client.ClientPacket.TheVariants as up
-use Rattle.datablocks.specs.Holding.{held_of, differs}
+use Rattle.datablocks.specs.Holding.{held_of, bytes_differ}
 use Rattle.event_manager.specs.Receiving.{run_of, take_answer}
 use Rattle.stream_manager.specs.declared.fault.HeadFault.{HeadFault}
 use Rattle.stream_manager.specs.declared.fault.HeadFault.TheVariants.{WrongClient, Old, AckAhead}
@@ -92,14 +92,14 @@ given-bytes [] number bytes is = cc
 given-bytes (block ∷ blocks) zero bytes is = cc
 given-bytes (block ∷ blocks) (suc number) bytes is = given-bytes blocks number bytes is
 
-same-held : (blocks : List (List ℕ)) (number : ℕ) (came : List BlockItem) → AllByRecursion (IsOf blocks) came → differs (held_of number came) (slice_index_or blocks number []) ≡ false
+same-held : (blocks : List (List ℕ)) (number : ℕ) (came : List BlockItem) → AllByRecursion (IsOf blocks) came → bytes_differ (held_of number came) (slice_index_or blocks number []) ≡ false
 same-held blocks number [] all = refl
 same-held blocks number (item ∷ came) all = go (item.number == number) refl (same-held blocks number came all.1)
   where
     itself : (v : List ℕ) → not (bytes_eq v v) ≡ false
     itself v = ap not ((bytes_eq-Decides v v).1 refl)
 
-    go : (b : Bool) → (item.number == number) ≡ b → differs (held_of number came) (slice_index_or blocks number []) ≡ false → differs (if b then Some item.bytes else held_of number came) (slice_index_or blocks number []) ≡ false
+    go : (b : Bool) → (item.number == number) ≡ b → bytes_differ (held_of number came) (slice_index_or blocks number []) ≡ false → bytes_differ (if b then Some item.bytes else held_of number came) (slice_index_or blocks number []) ≡ false
     go false e rest = rest
     go true e rest =
         let same : item.number ≡ number = grind (arith, nat_tests) in
@@ -109,7 +109,7 @@ same-held blocks number (item ∷ came) all = go (item.number == number) refl (s
 blocks-little : (blocks : List (List ℕ)) (came items : List BlockItem) → AllByRecursion (IsOf blocks) came → AllByRecursion (IsOf blocks) items → blocks_check came items ≡ Ok tt
 blocks-little blocks came [] all these = refl
 blocks-little blocks came (item ∷ items) all these =
-    let held : differs (held_of item.number came) item.bytes ≡ false = ap (differs (held_of item.number came)) these.0 ∙ same-held blocks item.number came all in
+    let held : bytes_differ (held_of item.number came) item.bytes ≡ false = ap (bytes_differ (held_of item.number came)) these.0 ∙ same-held blocks item.number came all in
     rw held (blocks-little blocks (item ∷ came) items (these.0, all) these.1)
 
 module _ (t : Terms) where

@@ -9,7 +9,7 @@ use Rattle.tn_types.specs.declared.choices.Class.TheVariants.{Guaranteed, Loose}
 use Rattle.tn_types.specs.declared.moves.Move.{Move}
 use Rattle.notify_window.specs.declared.SendState.{SendState}
 use Rattle.notify_window.specs.declared.SendState.TheVariants.{Held, Worn, Room}
-use Rattle.notify_window.specs.Bits.{bit_of}
+use Rattle.tn_types.specs.BitWords.{bit_of}
 use Rattle.notify_window.specs.Log.{WindowEvent, Sent, Came, Told, judged_of, is_processed, fate_of, fate_of_bit, Unjudged, Received, Lost}
 use Rattle.notify_window.proofs.Verdicts.{fate-above, fate-later, fate-told_judged}
 use Rattle.wire_format.specs.declared.fault.BitsFault.{BitsFault}

@@ -8,7 +8,7 @@ use Rattle.std.proofs.lemmas.Bool.Decides.{nat_tests}
 use Rattle.std.proofs.lemmas.Bool.{cases_lt}
 use Rattle.notify_window.specs.declared.SendState.TheVariants.{Held, Room}
 use Rattle.notify_window.specs.declared.Arrival.TheVariants.{Fresh}
-use Rattle.notify_window.specs.Bits.{bit_of}
+use Rattle.tn_types.specs.BitWords.{bit_of}
 use Rattle.notify_window.specs.Log.{WindowEvent, Sent, Came, Told, sent_of, horizon_of, is_processed, judged_of, mask_of, mask_bit, fate_of, fate_of_bit, send_state_of, arrival_of}
 use Rattle.notify_window.proofs.Words.{bit_at-from_bits}
 use Rattle.notify_window.proofs.Verdicts.{fate-told, fate-told_judged}

@@ -3,7 +3,8 @@
 use Rattle.std.specs.Prelude.{ℕ, ◌≡◌, Bool, true, List, slice_get, is_some, Some}
 use Rattle.wire_format.specs.declared.blocks.BlockItem.{BlockItem}
 use Rattle.datablocks.specs.Holding.{held_of}
-use Rattle.datablocks.specs.Sending.{carriers, any_received}
+use Rattle.datablocks.specs.Sending.{carriers}
+use Rattle.notify_window.specs.Fates.{any_received}
 use Rattle.stream_manager.specs.Limits.{Terms}
 use Rattle.stream_manager.specs.End.{fates}
 use Rattle.stream_manager.specs.Server.{ServerEvent, server_end, block_log}

@@ -1,6 +1,7 @@
 -- What is promised of one connection, over all that it did.
 use Rattle.std.specs.Prelude.{ℕ, List, ◌++◌, length, ◌≤◌}
 use Rattle.std.specs.List.{AllByRecursion}
+use Rattle.tn_types.specs.declared.limits.TheConstants.{MAX_EVENT_BYTES}
 use Rattle.tn_types.specs.Bytes.{AreBytes}
 use Rattle.tn_types.specs.Prefix.{IsPrefixOf}
 use Rattle.event_manager.specs.Sending.{posted_of}
@@ -18,7 +19,7 @@ posted_at log = posted_of (sender_log log)
 
 -- each posted payload is a byte string of an event
 abbrev pub IsPayload : List ℕ → Type 0
-IsPayload v = (length v ≤ 24) × AreBytes v
+IsPayload v = (length v ≤ MAX_EVENT_BYTES) × AreBytes v
 
 abbrev pub StepFits : PairStep → Type 0
 StepFits (Post class v) = IsPayload v

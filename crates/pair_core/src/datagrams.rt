@@ -2,10 +2,9 @@
 ghost use Rattle.std.specs.Prelude.{◌≡◌, ◌<◌, ◌≤◌, ◌++◌, ◌∷◌, [], IfOk, OnOk, IfSome, length, slice_get};
 ghost use Rattle.std.specs.Option.{option_copied};
 
-use crate::{MAX_DATAGRAM_BYTES, MAX_DATAGRAMS};
 use std::alloc::Global;
 use std::marker::Model;
-use tn_types::NoMemory;
+use tn_types::{MAX_DATAGRAM_BYTES, MAX_DATAGRAMS, NoMemory};
 
 /// The bytes of a datagram, at most 1,200.
 #[derive(Drop)]
@@ -15,7 +14,7 @@ pub(crate) struct Datagram {
 
 impl Model for Datagram {
     ghost use Rattle.std.specs.Prelude.{ℕ, List, ◌≤◌, length};
-    ghost use Rattle.pair_core.specs.declared.TheConstants.{MAX_DATAGRAM_BYTES};
+    ghost use Rattle.tn_types.specs.declared.limits.TheConstants.{MAX_DATAGRAM_BYTES};
 
     ghost Value = { List ℕ };
 
@@ -52,7 +51,7 @@ pub(crate) struct Datagrams {
 
 impl Model for Datagrams {
     ghost use Rattle.std.specs.Prelude.{ℕ, List, ◌≤◌, length};
-    ghost use Rattle.pair_core.specs.declared.TheConstants.{MAX_DATAGRAMS};
+    ghost use Rattle.tn_types.specs.declared.limits.TheConstants.{MAX_DATAGRAMS};
 
     ghost Value = { List (List ℕ) };
 

@@ -20,9 +20,3 @@ pub use loose_events::loose_events_in_order;
 pub use pair::Pair;
 pub use refusals::honest_runs_refuse_little;
 pub use verdicts::verdicts_are_true;
-
-/// The most datagrams that are sent one way.
-pub const MAX_DATAGRAMS: u32 = 4_294_967_295;
-
-/// The most bytes of a datagram.
-pub const MAX_DATAGRAM_BYTES: usize = 1200;

@@ -5,16 +5,16 @@ ghost use Rattle.tn_types.specs.declared.choices.Class.TheVariants.{Guaranteed, 
 
 use crate::datagrams::Datagrams;
 use crate::fault::{DownFault, Made, UpFault};
-use crate::{MAX_DATAGRAM_BYTES, MAX_DATAGRAMS};
-use datablocks::MAX_SCRIPT_BLOCKS;
-use event_manager::PostFault;
+use event_manager::{MAX_READY_EVENTS, PostFault};
 use move_manager::MoveFault;
 use notify_window::SendState;
 use quantised_fields::KindTable;
 use std::alloc::Global;
 use std::marker::Model;
 use stream_manager::{Client, ClientOut, Config, Conn, Taken};
-use tn_types::{BlockBytes, Class, Move, NoMemory, Payload};
+use tn_types::{
+    BlockBytes, Class, MAX_BLOCKS, MAX_DATAGRAM_BYTES, MAX_DATAGRAMS, Move, NoMemory, Payload,
+};
 
 /// The server's end, the client's end, and the datagrams that each sent.
 ///
@@ -56,7 +56,7 @@ impl Pair {
         blocks: &[BlockBytes],
     ) -> Result<Pair, NoMemory>
         requires config { IsConfig config }
-        requires few { length blocks.now ≤ MAX_SCRIPT_BLOCKS }
+        requires few { length blocks.now ≤ MAX_BLOCKS }
         ensures stands { IfOk result (λ p. StandsFor p (record { config = config; kinds = kinds.now; blocks = blocks.now }) []) }
         ensures conn_empty { IfOk result (λ p. p.conn.common.receiver.ready ≡ []) }
         ensures client_empty { IfOk result (λ p. p.client.common.receiver.ready ≡ []) }
@@ -243,7 +243,7 @@ impl Pair {
     /// How many events wait at the client, at most 95.
     pub fn client_waiting(&self) -> u32
         ensures count { result ≡ length self.now.client.common.receiver.ready }
-        ensures few { result ≤ 95 }
+        ensures few { result ≤ MAX_READY_EVENTS }
     {
         self.client.waiting()
     }
@@ -251,7 +251,7 @@ impl Pair {
     /// How many events wait at the server, at most 95.
     pub fn server_waiting(&self) -> u32
         ensures count { result ≡ length self.now.conn.common.receiver.ready }
-        ensures few { result ≤ 95 }
+        ensures few { result ≤ MAX_READY_EVENTS }
     {
         self.conn.waiting()
     }

@@ -14,17 +14,21 @@ use Rattle.wire_format.specs.Ghosts.{IsGhost, IsGhostInRange}
 use Rattle.wire_format.specs.Server.{IsServerBody}
 use Rattle.datablocks.specs.Holding.{after_all}
 use Rattle.ghost_client.specs.declared.fault.GhostFault.{GhostFault}
-use Rattle.ghost_client.specs.Fields.{slot_of}
-use Rattle.ghost_client.specs.Faults.{first_fault, or_else}
+use Rattle.ghost_client.specs.Fields.{slot_named}
+use Rattle.tn_types.specs.Checks.{first_fault}
+use Rattle.ghost_client.specs.declared.copy.GhostCopy.{GhostCopy}
+use Rattle.ghost_client.specs.Copies.{copy_of}
+use Rattle.ghost_client.specs.State.{copy_in}
+use Rattle.ghost_client.specs.Faults.{item_fault}
+use Rattle.std.specs.Option.{option_or}
 use Rattle.move_manager.specs.Sending.{Sender, acked_answer}
 use Rattle.wire_format.specs.declared.server.ServerPacket.{ServerPacket}
 use Rattle.stream_manager.specs.declared.fault.ClientFault.{ClientFault}
 use Rattle.tn_types.specs.Checks.{Checked}
 use Rattle.stream_manager.specs.Faults.{checked_packet, without_packet}
 use Rattle.stream_manager.proofs.Ends.{when_ok, when_err}
-use Rattle.stream_manager.specs.Client.{ClientEvent, blocks_came, ghosts_came, held_word, ghosts_refused, ghosts_check}
-use Rattle.stream_manager.specs.ClientCalls.{held_bits, control_missing}
-use Rattle.stream_manager.specs.GhostChecks.{first_fault_at, control_fault}
+use Rattle.stream_manager.specs.Client.{ClientEvent, blocks_came, ghosts_came, held_word, control_fault, ghosts_refused, ghosts_check}
+use Rattle.stream_manager.specs.ClientCalls.{held_bits}
 use Rattle.stream_manager.specs.Stands.{ClientState, ClientStandsFor}
 use Rattle.stream_manager.proofs.Came.{all_by_place, weaker, takes-all, held-same, faults-same, control-same}
 
@@ -32,13 +36,13 @@ module _ (kinds : List Kind) (p : ServerBody) (fits : IsServerBody kinds p) wher
   pub numbered : All (λ (x : BlockItem). x.number < 64) p.blocks
   numbered = all_by_place (λ (x : BlockItem). x.number < 64) p.blocks (weaker IsBlock (λ (x : BlockItem). x.number < 64) (λ x is. omega (arith, is.number)) p.blocks fits.blocks.each)
 
-  placed-one : (item : GhostItem) → IsGhost kinds item → slot_of item < 256
+  placed-one : (item : GhostItem) → IsGhost kinds item → slot_named item < 256
   placed-one (Kill slot) is = omega arith
   placed-one (Create slot kind block levels) is = omega (arith, is.0)
   placed-one (Update slot kind mask levels) is = omega (arith, is.0)
 
-  placed : AllByRecursion (λ (x : GhostItem). slot_of x < 256) p.ghosts
-  placed = weaker (IsGhost kinds) (λ (x : GhostItem). slot_of x < 256) placed-one p.ghosts fits.ghosts.each
+  placed : AllByRecursion (λ (x : GhostItem). slot_named x < 256) p.ghosts
+  placed = weaker (IsGhost kinds) (λ (x : GhostItem). slot_named x < 256) placed-one p.ghosts fits.ghosts.each
 
   in_range-one : (item : GhostItem) → IsGhost kinds item → IsGhostInRange kinds item
   in_range-one (Kill slot) is = tt
@@ -49,21 +53,27 @@ module _ (kinds : List Kind) (p : ServerBody) (fits : IsServerBody kinds p) wher
   ghosts-in_range = weaker (IsGhost kinds) (IsGhostInRange kinds) in_range-one p.ghosts fits.ghosts.each
 
   module _ (c : ClientState) (log : List ClientEvent) (s : ClientStandsFor c log) where
+    abbrev came : ℕ → Option GhostCopy
+    came = copy_of (ghosts_came log)
+
+    abbrev word : ℕ
+    word = held_bits (after_all c.blocks p.blocks)
+
     -- the ghosts' own faults by the copies are those by what came
-    pub faults-told : first_fault c.copies.slots (held_bits (after_all c.blocks p.blocks)) [] p.ghosts ≡ first_fault_at (ghosts_came log) (held_word (reverse p.blocks ++ blocks_came log)) [] p.ghosts
+    pub faults-told : first_fault (item_fault (copy_in c.copies.slots) word) [] p.ghosts ≡ first_fault (item_fault came (held_word (reverse p.blocks ++ blocks_came log))) [] p.ghosts
     faults-told =
-        faults-same p.ghosts [] (ghosts_came log) c.copies.slots (held_bits (after_all c.blocks p.blocks)) placed s.copies.copies
-        ∙ ap (λ (held : ℕ). first_fault_at (ghosts_came log) held [] p.ghosts) (held-same (after_all c.blocks p.blocks) (reverse p.blocks ++ blocks_came log) (takes-all p.blocks c.blocks (blocks_came log) numbered s.blocks))
+        faults-same (copy_in c.copies.slots) came s.copies.copies p.ghosts [] word placed
+        ∙ ap (λ (w : ℕ). first_fault (item_fault came w) [] p.ghosts) (held-same (after_all c.blocks p.blocks) (reverse p.blocks ++ blocks_came log) (takes-all p.blocks c.blocks (blocks_came log) numbered s.blocks))
 
     -- a fault of the ghosts is refused
-    pub ghosts-refused : (fault : GhostFault) → Some fault ≡ first_fault c.copies.slots (held_bits (after_all c.blocks p.blocks)) [] p.ghosts → ghosts_refused (Some fault) ≡ ghosts_check log p
-    ghosts-refused fault is = ap (λ (f : Option GhostFault). ghosts_refused (or_else f (control_fault (ghosts_came log) p.control))) (is ∙ faults-told)
+    pub ghosts-refused : (fault : GhostFault) → Some fault ≡ first_fault (item_fault (copy_in c.copies.slots) word) [] p.ghosts → ghosts_refused (Some fault) ≡ ghosts_check log p
+    ghosts-refused fault is = ap (λ (f : Option GhostFault). ghosts_refused (option_or f (control_fault came p.control))) (is ∙ faults-told)
 
     -- without one, what the control slot meets
-    pub ghosts-passed : None ≡ first_fault c.copies.slots (held_bits (after_all c.blocks p.blocks)) [] p.ghosts → ghosts_refused (control_missing c.copies.slots p.control) ≡ ghosts_check log p
+    pub ghosts-passed : None ≡ first_fault (item_fault (copy_in c.copies.slots) word) [] p.ghosts → ghosts_refused (control_fault (copy_in c.copies.slots) p.control) ≡ ghosts_check log p
     ghosts-passed is =
-        ap ghosts_refused (control-same p.control (ghosts_came log) c.copies.slots s.copies.copies fits.control)
-        ∙ ap (λ (f : Option GhostFault). ghosts_refused (or_else f (control_fault (ghosts_came log) p.control))) (is ∙ faults-told)
+        ap ghosts_refused (control-same (copy_in c.copies.slots) came s.copies.copies p.control fits.control)
+        ∙ ap (λ (f : Option GhostFault). ghosts_refused (option_or f (control_fault came p.control))) (is ∙ faults-told)
 
 -- what is taken where nothing refuses it
 pub when_none : {T E P : Type 0} (r : Result T E) → result_err r ≡ None → OnOk r P → P

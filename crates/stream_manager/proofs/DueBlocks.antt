@@ -6,8 +6,9 @@ use Rattle.std.proofs.lemmas.List.{append-nil, drop_all}
 use Rattle.std.proofs.lemmas.Bool.Decides.{nat_tests}
 use Rattle.wire_format.specs.declared.blocks.BlockItem.{BlockItem}
 use Rattle.wire_format.specs.Blocks.{block_size, IsBlockInRange}
-use Rattle.datablocks.specs.Sending.{SenderEvent, Wrote, those_below}
-use Rattle.datablocks.specs.SenderState.{SenderState, IsDue, is_due_now, due_now}
+use Rattle.tn_types.specs.Least.{those_below}
+use Rattle.datablocks.specs.Sending.{SenderEvent, Wrote}
+use Rattle.datablocks.specs.SenderState.{SenderState, IsDueBlock, is_due_now, due_now}
 use Rattle.tn_types.specs.Fitting.{fitting}
 use Rattle.stream_manager.specs.Server.{block_item, wrote_blocks}
 use Rattle.stream_manager.specs.Blocks.{IsAnother, AreDue}
@@ -29,7 +30,7 @@ map-push : (f : ℕ → BlockItem) (ns : List ℕ) (n : ℕ) → map f (ns ++ n 
 map-push f [] n = refl
 map-push f (m ∷ ns) n = ap (λ l. f m ∷ l) (map-push f ns n)
 
-due-push : (s : SenderState) (items : List BlockItem) (item : BlockItem) → AreDue s items → AllByRecursion (IsBelow item.number) items → IsDue s item.number → AreDue s (items ++ item ∷ [])
+due-push : (s : SenderState) (items : List BlockItem) (item : BlockItem) → AreDue s items → AllByRecursion (IsBelow item.number) items → IsDueBlock s item.number → AreDue s (items ++ item ∷ [])
 due-push s [] item h below due = (due, tt, tt)
 due-push s (x ∷ items) item h below due =
     (h.0, all-push (IsAnother x.number) items item h.1 (λ same. let l : x.number < item.number = below.0 in absurd (omega arith)), due-push s items item h.2 below.1 due)

@@ -1,5 +1,6 @@
 -- What happened at the client's end of a connection, the newest first, and what follows from it: what a post, a sampled
 -- move, a pack and an arrival do and answer.
+use Rattle.std.specs.Option.{option_or}
 use Rattle.std.specs.Prelude.{ℕ, ◌+◌, ◌-◌, ◌*◌, ◌==◌, nat_lt, List, [], ◌∷◌, ◌++◌, length, reverse, if◌then◌else◌, is_some, Option, Some, None, Result, Ok, Err}
 use Rattle.tn_types.specs.declared.choices.Class.{Class}
 use Rattle.tn_types.specs.declared.moves.Move.{Move}
@@ -13,27 +14,31 @@ use Rattle.wire_format.specs.declared.client.ClientPacket.TheVariants as up
 use Rattle.wire_format.specs.declared.server.ServerBody.{ServerBody}
 use Rattle.wire_format.specs.declared.server.ServerPacket.{ServerPacket}
 use Rattle.wire_format.specs.declared.server.ServerPacket.TheVariants as down
-use Rattle.wire_format.specs.declared.widths.TheConstants.{CLIENT_FIXED_BITS, MOVE_BITS, MAX_MOVES}
+use Rattle.wire_format.specs.declared.widths.TheConstants.{CLIENT_FIXED_BITS, MOVE_BITS}
+use Rattle.tn_types.specs.declared.limits.TheConstants.{MAX_UNACKNOWLEDGED_MOVES}
 use Rattle.notify_window.specs.declared.SendState.{SendState}
 use Rattle.notify_window.specs.declared.SendState.TheVariants.{Held, Worn, Room}
-use Rattle.notify_window.specs.Bits.{from_bits}
+use Rattle.tn_types.specs.BitWords.{from_bits}
 use Rattle.notify_window.specs.Log.{send_state_of}
 use Rattle.event_manager.specs.declared.sender.PostFault.{PostFault}
 use Rattle.event_manager.specs.Sending.{post_answer_of}
-use Rattle.datablocks.specs.declared.progress.TheConstants.{MAX_SCRIPT_BLOCKS}
-use Rattle.datablocks.specs.Holding.{held_of, differs}
+use Rattle.tn_types.specs.declared.limits.TheConstants.{MAX_BLOCKS}
+use Rattle.datablocks.specs.Holding.{held_of, bytes_differ}
 use Rattle.move_manager.specs.declared.faults.MoveFault.{MoveFault}
 use Rattle.move_manager.specs.declared.faults.MoveFault.TheVariants as move_refused
 use Rattle.move_manager.specs.Sending as moves
 use Rattle.move_manager.specs.Sending.{Packet, sampled_of, acked_of, packet_of}
+use Rattle.ghost_client.specs.declared.copy.GhostCopy.{GhostCopy}
 use Rattle.ghost_client.specs.declared.fault.GhostFault.{GhostFault}
+use Rattle.ghost_client.specs.declared.fault.GhostFault.TheVariants.{Unknown}
+use Rattle.ghost_client.specs.Copies.{copy_of}
+use Rattle.ghost_client.specs.Faults.{item_fault}
 use Rattle.ghost_client.specs.StandsFor.{taken}
 use Rattle.stream_manager.specs.declared.config.Config.{Config}
 use Rattle.stream_manager.specs.declared.fault.ClientFault.{ClientFault}
 use Rattle.stream_manager.specs.declared.fault.ClientFault.TheVariants as refused
-use Rattle.tn_types.specs.Checks.{Checked, then_check}
+use Rattle.tn_types.specs.Checks.{Checked, then_check, first_fault}
 use Rattle.stream_manager.specs.Faults.{head_at_client, events_at_client, checked_packet, without_packet}
-use Rattle.stream_manager.specs.GhostChecks.{ghosts_fault}
 use Rattle.stream_manager.specs.Wire.{read_down, bytes_up}
 use Rattle.stream_manager.specs.End.{Seen, EndEvent, window_log, sender_log, fates, data_head, ping_head, events_for, head_answer, events_answer}
 use Rattle.stream_manager.specs.End as common
@@ -62,12 +67,12 @@ client_end (Took p ∷ log) = common.Took (seen_down p) ∷ client_end log
 
 -- ---- moves
 
-abbrev pub moves_acked : ServerPacket → List moves.Event → List moves.Event
+abbrev pub moves_acked : ServerPacket → List moves.SenderEvent → List moves.SenderEvent
 moves_acked (down.Ping head) log = log
 moves_acked (down.Body p) log = moves.Acked p.accepted ∷ log
 
 -- what the sender of moves did
-abbrev pub sample_log : List ClientEvent → List moves.Event
+abbrev pub sample_log : List ClientEvent → List moves.SenderEvent
 sample_log [] = []
 sample_log (Posted class payload ∷ log) = sample_log log
 sample_log (Sampled m ∷ log) = moves.Sampled m ∷ sample_log log
@@ -129,7 +134,7 @@ posted_at_client c log = post_answer_of c.life (fates (client_end log)) (sender_
 abbrev pub sampled_answer : Config → List ClientEvent → Result ℕ MoveFault
 sampled_answer c log =
     if length (sampled_at log) == c.life then Err (move_refused.Worn c.life)
-    else if length (sampled_at log) == acked_of (sample_log log) + MAX_MOVES
+    else if length (sampled_at log) == acked_of (sample_log log) + MAX_UNACKNOWLEDGED_MOVES
     then Err (move_refused.Full (acked_of (sample_log log)) (length (sampled_at log) - 1))
     else Ok (length (sampled_at log))
 
@@ -194,21 +199,30 @@ moves_check log count =
 abbrev pub blocks_check : List BlockItem → List BlockItem → Checked ClientFault
 blocks_check came [] = Ok tt
 blocks_check came (item ∷ items) =
-    if differs (held_of item.number came) item.bytes then Err (refused.BlockDiffers item.number)
+    if bytes_differ (held_of item.number came) item.bytes then Err (refused.BlockDiffers item.number)
     else blocks_check (item ∷ came) items
 
 -- bit b is set where block b is among these
 abbrev pub held_word : List BlockItem → ℕ
-held_word came = from_bits (λ b. is_some (held_of b came)) MAX_SCRIPT_BLOCKS
+held_word came = from_bits (λ b. is_some (held_of b came)) MAX_BLOCKS
+
+-- a control slot with no copy, where `copies` tells the copy of each slot
+abbrev pub control_fault : (ℕ → Option GhostCopy) → Option ℕ → Option GhostFault
+control_fault copies None = None
+control_fault copies (Some slot) = if is_some (copies slot) then None else Some (Unknown slot)
+
+-- the first fault of a packet's ghosts, and behind them of its control slot
+abbrev pub ghosts_fault : (ℕ → Option GhostCopy) → ℕ → List GhostItem → Option ℕ → Option GhostFault
+ghosts_fault copies held items control = option_or (first_fault (item_fault copies held) [] items) (control_fault copies control)
 
 abbrev pub ghosts_refused : Option GhostFault → Checked ClientFault
 ghosts_refused None = Ok tt
 ghosts_refused (Some fault) = Err (refused.Ghost fault)
 
--- the blocks of the packet count for its ghosts
+-- the blocks of the packet count for its ghosts, which are looked at by the copies before it
 abbrev pub ghosts_check : List ClientEvent → ServerBody → Checked ClientFault
 ghosts_check log p =
-    ghosts_refused (ghosts_fault (ghosts_came log) (held_word (reverse p.blocks ++ blocks_came log)) p.ghosts p.control)
+    ghosts_refused (ghosts_fault (copy_of (ghosts_came log)) (held_word (reverse p.blocks ++ blocks_came log)) p.ghosts p.control)
 
 -- what stands behind the header: moves, blocks, events, ghosts
 abbrev pub body_check : List ClientEvent → ServerBody → Checked ClientFault

@@ -1,20 +1,18 @@
 -- What a call on the client's end does to the lists that it stands for, what it answers of them, and what it leaves alone;
 -- and the packets that nothing refuses.
-use Rattle.std.specs.Prelude.{◌≡◌, ℕ, ◌+◌, ◌≤◌, ◌++◌, false, is_some, List, [], ◌∷◌, length, Option, Some, None, if◌then◌else◌, Ok}
+use Rattle.std.specs.Prelude.{◌≡◌, ℕ, ◌+◌, ◌≤◌, ◌++◌, false, is_some, List, [], ◌∷◌, length, Option, None, Ok}
 use Rattle.tn_types.specs.Histories as histories
 use Rattle.notify_window.specs.declared.Arrival.TheVariants.{Fresh}
 use Rattle.notify_window.specs.Log.{arrival_of}
 use Rattle.notify_window.specs.declared.SendState.TheVariants.{Held, Worn, Room}
-use Rattle.notify_window.specs.Bits.{from_bits}
+use Rattle.tn_types.specs.BitWords.{from_bits}
 use Rattle.wire_format.specs.declared.server.ServerBody.{ServerBody}
 use Rattle.event_manager.specs.Receiving.{take_answer}
-use Rattle.datablocks.specs.declared.progress.TheConstants.{MAX_SCRIPT_BLOCKS}
-use Rattle.datablocks.specs.Holding.{block_at, after_all, check_answer}
-use Rattle.ghost_client.specs.declared.copy.GhostCopy.{GhostCopy}
-use Rattle.ghost_client.specs.declared.fault.GhostFault.{GhostFault}
-use Rattle.ghost_client.specs.declared.fault.GhostFault.TheVariants.{Unknown}
+use Rattle.tn_types.specs.declared.limits.TheConstants.{MAX_BLOCKS}
+use Rattle.datablocks.specs.Holding.{held_at, after_all, check_answer}
 use Rattle.ghost_client.specs.State.{copy_in}
-use Rattle.ghost_client.specs.Faults.{first_fault}
+use Rattle.ghost_client.specs.Faults.{item_fault}
+use Rattle.tn_types.specs.Checks.{first_fault}
 use Rattle.stream_manager.specs.declared.config.Config.{Config}
 use Rattle.stream_manager.specs.declared.client.ClientOut.{ClientOut}
 use Rattle.stream_manager.specs.declared.client.ClientOut.TheVariants as out
@@ -76,11 +74,11 @@ IsShort c (out.Worn life) = Unit {0}
 
 -- a word that tells which blocks are held, by the places of blocks
 abbrev pub held_bits : List (Option (List ℕ)) → ℕ
-held_bits blocks = from_bits (λ b. is_some (block_at blocks b)) MAX_SCRIPT_BLOCKS
+held_bits blocks = from_bits (λ b. is_some (held_at blocks b)) MAX_BLOCKS
 
 -- no ghost of a packet has a fault, by the copies and with the blocks that come with it
 abbrev pub FitGhosts : ClientState → ServerBody → Type 0
-FitGhosts c p = first_fault c.copies.slots (held_bits (after_all c.blocks p.blocks)) [] p.ghosts ≡ None
+FitGhosts c p = first_fault (item_fault (copy_in c.copies.slots) (held_bits (after_all c.blocks p.blocks))) [] p.ghosts ≡ None
 
 -- a data packet of the server that nothing refuses
 pub record AdmitsDown (c : ClientState) (p : ServerBody) : Type 0 where
@@ -90,8 +88,3 @@ pub record AdmitsDown (c : ClientState) (p : ServerBody) : Type 0 where
   pub blocks : check_answer c.blocks p.blocks ≡ Ok tt
   pub events : take_answer c.common.receiver.delivered p.events ≡ Ok tt
   pub ghosts : FitGhosts c p
-
--- a control slot with no copy, by the places of copies
-abbrev pub control_missing : List (Option GhostCopy) → Option ℕ → Option GhostFault
-control_missing slots None = None
-control_missing slots (Some slot) = if is_some (copy_in slots slot) then None else Some (Unknown slot)

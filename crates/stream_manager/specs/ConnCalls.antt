@@ -1,15 +1,11 @@
 -- What a call on the server's end does to the lists that it stands for, what it answers of them, and what it leaves alone;
 -- and the packets that nothing refuses.
-use Rattle.std.specs.Prelude.{◌≡◌, ℤ, ◌≤◌, ◌++◌, false, IsSome, IfSome, List, ◌∷◌, Ok}
+use Rattle.std.specs.Prelude.{◌≡◌, ℤ, ◌≤◌, ◌++◌, false, IsSome, List, ◌∷◌, Ok}
 use Rattle.tn_types.specs.Histories as histories
 use Rattle.notify_window.specs.declared.Arrival.TheVariants.{Fresh}
 use Rattle.notify_window.specs.Log.{arrival_of}
 use Rattle.wire_format.specs.declared.client.ClientBody.{ClientBody}
 use Rattle.event_manager.specs.Receiving.{take_answer}
-use Rattle.ghost_model.specs.Ghosts.{GhostEvent}
-use Rattle.ghost_masks.specs.Carried.{all_carried, AreValues}
-use Rattle.ghost_masks.specs.StandsFor.{MasksState}
-use Rattle.ghost_masks.specs.StandsFor.{StandsFor as MasksStandFor}
 use Rattle.stream_manager.specs.End.{delivered_at}
 use Rattle.stream_manager.specs.Server.{ServerEvent, Packed, Pinged, server_end, accepted_at, with_plan, data_body, server_ping}
 use Rattle.stream_manager.specs.Stands.{ConnState, ConnStandsFor, terms_of}
@@ -45,11 +41,6 @@ pub record Planning (old new : ConnState) : Type 0 where
   pub stands : Becomes old (with_plan (terms_of old)) new
   pub planned : IsSome new.masks.plan
   pub keeps : Keeps old new
-
--- one value for each field that the planned ghosts carry, in the order of the plan and rising field, each in its range
-abbrev pub AreForPlan : MasksState → List ℤ → Type 0
-AreForPlan m values = (log : List GhostEvent) → MasksStandFor m log →
-    IfSome m.plan (λ choices. AreValues (all_carried m.kinds log choices) values)
 
 -- behind a data packet with these values
 pub record Sealed (old : ConnState) (values : List ℤ) (new : ConnState) : Type 0 where

@@ -3,7 +3,6 @@ pub mod Limits
 pub mod Wire
 pub mod Settling
 pub mod End
-pub mod GhostChecks
 pub mod Server
 pub mod Client
 pub mod Blocks

@@ -14,15 +14,17 @@ use Rattle.wire_format.specs.declared.server.ServerPacket.TheVariants as down
 use Rattle.wire_format.specs.declared.client.ClientBody.{ClientBody}
 use Rattle.wire_format.specs.declared.client.ClientPacket.{ClientPacket}
 use Rattle.wire_format.specs.declared.client.ClientPacket.TheVariants as up
-use Rattle.wire_format.specs.declared.widths.TheConstants.{SERVER_FIXED_BITS, MAX_BLOCKS}
+use Rattle.wire_format.specs.declared.widths.TheConstants.{SERVER_FIXED_BITS}
+use Rattle.tn_types.specs.declared.limits.TheConstants.{MAX_PACKET_BLOCKS}
 use Rattle.wire_format.specs.Blocks.{block_size}
 use Rattle.notify_window.specs.declared.SendState.{SendState}
 use Rattle.notify_window.specs.declared.SendState.TheVariants.{Held, Worn, Room}
-use Rattle.notify_window.specs.Bits.{from_bits}
+use Rattle.tn_types.specs.BitWords.{from_bits}
 use Rattle.notify_window.specs.Log.{send_state_of}
+use Rattle.notify_window.specs.Fates.{any_received}
 use Rattle.event_manager.specs.declared.sender.PostFault.{PostFault}
 use Rattle.event_manager.specs.Sending.{post_answer_of}
-use Rattle.datablocks.specs.declared.progress.TheConstants.{MAX_SCRIPT_BLOCKS}
+use Rattle.tn_types.specs.declared.limits.TheConstants.{MAX_BLOCKS}
 use Rattle.datablocks.specs.Sending as blocks
 use Rattle.ghost_model.specs.Ghosts as ghosts
 use Rattle.ghost_model.specs.Ghosts.{GhostEvent, scope_log}
@@ -98,12 +100,12 @@ block_log (Took p room ∷ log) = block_log log
 
 -- ---- moves
 
-abbrev pub moves_taken : ClientPacket → ℕ → List moves.Event → List moves.Event
+abbrev pub moves_taken : ClientPacket → ℕ → List moves.ReceiverEvent → List moves.ReceiverEvent
 moves_taken (up.Ping head) room log = log
 moves_taken (up.Body p) room log = moves.Took (record { first = p.first; moves = p.moves }) room ∷ log
 
 -- what the receiver of moves took
-abbrev pub move_log : List ServerEvent → List moves.Event
+abbrev pub move_log : List ServerEvent → List moves.ReceiverEvent
 move_log [] = []
 move_log (Posted class payload ∷ log) = move_log log
 move_log (Shown kind block level control ∷ log) = move_log log
@@ -156,7 +158,7 @@ block_item bytes b = record { number = b; bytes = slice_index_or bytes b [] }
 -- the due blocks, as far as they have half of a packet's bits together with its fixed part
 abbrev pub blocks_at : Terms → List ServerEvent → List BlockItem
 blocks_at t log = fitting block_size (4 * t.config.size - SERVER_FIXED_BITS)
-    (take MAX_BLOCKS (map (block_item t.blocks) (blocks.due_of (fates (server_end log)) (block_log log) (length t.blocks))))
+    (take MAX_PACKET_BLOCKS (map (block_item t.blocks) (blocks.due_of (fates (server_end log)) (block_log log) (length t.blocks))))
 
 -- the bits that are left for events, which have three quarters together with the blocks and the fixed part
 abbrev pub event_room : Terms → List ServerEvent → ℕ
@@ -172,7 +174,7 @@ ghost_room t log =
 
 -- a word whose bit b is set where a packet that carries block b was received
 abbrev pub received_at : List ServerEvent → ℕ
-received_at log = from_bits (λ b. blocks.any_received (fates (server_end log)) (blocks.carriers b (block_log log))) MAX_SCRIPT_BLOCKS
+received_at log = from_bits (λ b. any_received (fates (server_end log)) (blocks.carriers b (block_log log))) MAX_BLOCKS
 
 -- the ghosts of the next data packet, once slots are granted
 abbrev pub choices_at : Terms → List ServerEvent → List Choice

@@ -8,24 +8,24 @@ use Rattle.wire_format.specs.declared.fault.BitsFault.{BitsFault}
 use Rattle.wire_format.specs.declared.events.EventItem.{EventItem}
 use Rattle.wire_format.specs.declared.client.ClientPacket.{ClientPacket}
 use Rattle.wire_format.specs.declared.server.ServerPacket.{ServerPacket}
-use Rattle.wire_format.specs.Client.{client, client_of}
+use Rattle.wire_format.specs.Client.{spell_client, read_client}
 use Rattle.wire_format.specs.Events.{event_size}
-use Rattle.wire_format.specs.Server.{server, server_of}
+use Rattle.wire_format.specs.Server.{spell_server, read_server}
 use Rattle.stream_manager.specs.declared.config.Config.{Config}
 use Rattle.stream_manager.specs.Limits.{Terms}
 
 -- the server's packets, and the client's
 abbrev pub spell_down : Config → List Kind → ServerPacket → List Bool
-spell_down c kinds p = server kinds p
+spell_down c kinds p = spell_server kinds p
 
 abbrev pub spell_up : Config → ClientPacket → List Bool
-spell_up c p = client p
+spell_up c p = spell_client p
 
 abbrev pub read_down : Config → List Kind → List ℕ → Result ServerPacket BitsFault
-read_down c kinds bytes = server_of kinds bytes
+read_down c kinds bytes = read_server kinds bytes
 
 abbrev pub read_up : Config → List ℕ → Result ClientPacket BitsFault
-read_up c bytes = client_of bytes
+read_up c bytes = read_client bytes
 
 -- an event takes so many bits, either way
 abbrev pub event_bits : Config → EventItem → ℕ

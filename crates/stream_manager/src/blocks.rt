@@ -7,13 +7,14 @@ ghost use Rattle.stream_manager.specs.Blocks.{AreDue, TellsDue, Notes};
 ghost use Rattle.stream_manager.specs.Server.{block_item};
 ghost use Rattle.tn_types.specs.Fitting.{fitting};
 
-use datablocks::{BlockSender, MAX_SCRIPT_BLOCKS};
-use wire_format::{BlockItem, BlockList, MAX_BLOCKS, block_bits};
+use datablocks::BlockSender;
+use tn_types::{MAX_BLOCKS, MAX_PACKET_BLOCKS};
+use wire_format::{BlockItem, BlockList, block_bits};
 
 /// The longest front of the due blocks that has at most `room` bits, at most 15 of them, and its bits. They may be
 /// noted as they stand.
 pub(crate) fn due_blocks(sender: &BlockSender, room: u32) -> (BlockList, u32)
-    ensures blocks { result.0 ≡ fitting block_size room (take MAX_BLOCKS (map (block_item sender.now.blocks) (due_now sender.now))) }
+    ensures blocks { result.0 ≡ fitting block_size room (take MAX_PACKET_BLOCKS (map (block_item sender.now.blocks) (due_now sender.now))) }
     ensures bits { result.1 ≡ sum_by block_size result.0 }
     ensures few { result.1 ≤ room }
     ensures ranges { AllByRecursion IsBlockInRange result.0 }
@@ -25,11 +26,11 @@ pub(crate) fn due_blocks(sender: &BlockSender, room: u32) -> (BlockList, u32)
 
 /// The longest front of the due blocks that has at most `room` bits, at most 15 of them, and its bits.
 fn fitting_blocks(sender: &BlockSender, room: u32) -> (BlockList, u32)
-    ensures blocks { result.0 ≡ fitting block_size room (take MAX_BLOCKS (map (block_item sender.now.blocks) (due_now sender.now))) }
+    ensures blocks { result.0 ≡ fitting block_size room (take MAX_PACKET_BLOCKS (map (block_item sender.now.blocks) (due_now sender.now))) }
     ensures bits { result.1 ≡ sum_by block_size result.0 }
     ensures few { result.1 ≤ room }
     ensures log { TellsDue sender.now }
-    ensures places { length sender.now.blocks ≤ MAX_SCRIPT_BLOCKS }
+    ensures places { length sender.now.blocks ≤ MAX_BLOCKS }
 {
     let due = sender.due();
     let mut blocks = BlockList::new();

@@ -10,7 +10,7 @@ ghost use Rattle.wire_format.specs.declared.client.ClientPacket.TheVariants as u
 ghost use Rattle.wire_format.specs.declared.server.ServerPacket.TheVariants as down;
 ghost use Rattle.wire_format.specs.Header.{IsHeader};
 ghost use Rattle.wire_format.specs.Server.{IsServerBody};
-ghost use Rattle.wire_format.specs.Client.{client, client_size, IsClientInRange};
+ghost use Rattle.wire_format.specs.Client.{spell_client, client_size, IsClientInRange};
 
 use crate::arriving::{check_control, check_same, take_blocks};
 use crate::config::Config;
@@ -19,14 +19,14 @@ use crate::fault::ClientFault;
 use arrayvec::ArrayVec;
 use bit_stream::BitWriter;
 use datablocks::BlockReceiver;
-use event_manager::{EventAhead, PostFault};
+use event_manager::{EventAhead, MAX_READY_EVENTS, PostFault};
 use ghost_client::Copies;
 use move_manager::{MoveFault, MoveSender};
 use notify_window::{Arrival, SendState};
 use quantised_fields::KindTable;
 use std::alloc::Global;
 use std::marker::Model;
-use tn_types::{Class, Move, NoMemory, Payload};
+use tn_types::{Class, MAX_DATAGRAM_BYTES, MAX_READ_BYTES, Move, NoMemory, Payload};
 use wire_format::{
     CLIENT_FIXED_BITS, ClientBody, ClientPacket, EventList, Header, MOVE_BITS, ServerBody,
     ServerPacket, client_bits, decode_server, encode_client,
@@ -54,7 +54,7 @@ pub struct Client {
     copies: Copies,
     control: Option<u8>,
     // the bytes of the datagram that was made last
-    datagram: ArrayVec<u8, 1200>,
+    datagram: ArrayVec<u8, MAX_DATAGRAM_BYTES>,
 }
 
 impl Model for Client {
@@ -224,7 +224,7 @@ impl Client {
     /// Takes bytes that came from the server, at most 65,536, or refuses them by the first refusal that holds; nothing
     /// changes then (docs/connection.md, "Arriving"). No event may wait.
     pub fn arrive(&mut self, bytes: &[u8]) -> Result<(), ClientFault>
-        requires few { length bytes.now ≤ 65536 }
+        requires few { length bytes.now ≤ MAX_READ_BYTES }
         requires none_waits { self.old.common.receiver.ready ≡ [] }
         ensures answer { Answers self.old (arrive_answer self.old.common.config self.old.copies.kinds bytes.now) result }
         ensures stands { Becomes self.old (arriving self.old.common.config self.old.copies.kinds bytes.now) self.new }
@@ -375,7 +375,7 @@ impl Client {
     /// How many events wait to be handed out, at most 95.
     pub fn waiting(&self) -> u32
         ensures count { result ≡ length self.now.common.receiver.ready }
-        ensures few { result ≤ 95 }
+        ensures few { result ≤ MAX_READY_EVENTS }
     {
         self.common.waiting()
     }
@@ -391,11 +391,11 @@ impl Client {
 }
 
 /// The datagram of a packet, in as many bytes as it takes, at most `size`.
-fn spelled(packet: &ClientPacket, size: u32) -> ArrayVec<u8, 1200>
+fn spelled(packet: &ClientPacket, size: u32) -> ArrayVec<u8, MAX_DATAGRAM_BYTES>
     requires fits { IsClientInRange packet.now }
     requires room { client_size packet.now ≤ 8 * size }
-    requires size { size ≤ 1200 }
-    ensures bytes { result.items ≡ datagram (client packet.now) }
+    requires size { size ≤ MAX_DATAGRAM_BYTES }
+    ensures bytes { result.items ≡ datagram (spell_client packet.now) }
     ensures few { length result.items ≤ size }
 {
     let _bits = client_bits(packet);

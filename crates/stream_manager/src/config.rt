@@ -1,12 +1,5 @@
 //! What a connection is made with.
 
-/// The most clients of a match.
-pub const MAX_CLIENTS: u8 = 16;
-/// The least size of a datagram in bytes.
-pub const MIN_SIZE: u32 = 128;
-/// The greatest size of a datagram in bytes.
-pub const MAX_SIZE: u32 = 1200;
-
 /// What a connection is made with.
 #[derive(Clone, Copy, Debug, PartialEq, Eq)]
 pub struct Config {

@@ -17,7 +17,7 @@ ghost use Rattle.tn_types.specs.declared.choices.Class.TheVariants.{Guaranteed, 
 use crate::config::Config;
 use crate::fault::HeadFault;
 use crate::settling::settle_events;
-use event_manager::{EventAhead, EventReceiver, EventSender, PostFault};
+use event_manager::{EventAhead, EventReceiver, EventSender, MAX_READY_EVENTS, PostFault};
 use notify_window::{Arrival, Notices, SendState, Window};
 use std::alloc::Global;
 use std::marker::Model;
@@ -270,7 +270,7 @@ impl End {
     /// How many events wait to be handed out, at most 95.
     pub(crate) fn waiting(&self) -> u32
         ensures count { result ≡ length self.now.receiver.ready }
-        ensures few { result ≤ 95 }
+        ensures few { result ≤ MAX_READY_EVENTS }
     {
         self.receiver.waiting()
     }

@@ -10,10 +10,11 @@ mod fault;
 mod sealing;
 mod server;
 mod settling;
+mod showing;
 #[cfg(test)]
 mod tests;
 
 pub use client::{Client, ClientOut};
-pub use config::{Config, MAX_CLIENTS, MAX_SIZE, MIN_SIZE};
+pub use config::Config;
 pub use fault::{ArriveFault, ClientFault, HeadFault};
 pub use server::{Conn, Taken};

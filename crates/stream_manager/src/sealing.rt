@@ -4,8 +4,9 @@ ghost use Rattle.std.specs.Borrow.{sem};
 ghost use Rattle.std.specs.Io.BufRead.{Rests};
 ghost use Rattle.notify_window.specs.State.{send_state};
 ghost use Rattle.bit_stream.specs.Bits.{datagram};
+ghost use Rattle.ghost_masks.specs.StandsFor.{FitPlan};
 ghost use Rattle.wire_format.specs.declared.server.ServerPacket.TheVariants as down;
-ghost use Rattle.wire_format.specs.Server.{server, server_size, IsServerInRange};
+ghost use Rattle.wire_format.specs.Server.{spell_server, server_size, IsServerInRange};
 
 use crate::Conn;
 use crate::blocks::{due_blocks, note_blocks};
@@ -13,13 +14,13 @@ use arrayvec::ArrayVec;
 use bit_stream::BitWriter;
 use notify_window::SendState;
 use quantised_fields::KindTable;
-use tn_types::Choice;
+use tn_types::{Choice, MAX_DATAGRAM_BYTES};
 use wire_format::{SERVER_FIXED_BITS, ServerBody, ServerPacket, encode_server, server_bits};
 
 impl Conn {
     ghost use Rattle.stream_manager.specs.Server.{choices_at, data_body, server_bytes, server_ping_bytes};
     ghost use Rattle.stream_manager.specs.Stands.{terms_of};
-    ghost use Rattle.stream_manager.specs.ConnCalls.{Answers, Planning, AreForPlan, Sealed, Pinging};
+    ghost use Rattle.stream_manager.specs.ConnCalls.{Answers, Planning, Sealed, Pinging};
     ghost use Rattle.stream_manager.specs.contracts.server.Conn.{the_row};
 
     /// Gives the lowest free slots to waiting periods, and chooses the ghosts of the next data packet, in order
@@ -52,7 +53,7 @@ impl Conn {
     /// Counts the data packet that was planned, and gives it.
     fn packed(&mut self, values: &[i64]) -> ServerBody
         requires planned { IsSome self.old.masks.plan }
-        requires values { AreForPlan self.old.masks values.now }
+        requires values { FitPlan self.old.masks values.now }
         ensures body { Answers self.old (λ log. data_body (terms_of self.old) log values.now) result }
         ensures fits { IsServerInRange self.old.masks.kinds (down.Body result) }
         ensures size { server_size self.old.masks.kinds (down.Body result) ≤ 8 * self.old.common.config.size }
@@ -76,10 +77,10 @@ impl Conn {
     }
 
     /// Makes the data packet that was planned, and lends its bytes. There is one value for each field that the planned
-    /// ghosts carry, in the order of the plan and by rising field, each in its field's range: `masks().fits` tells.
+    /// ghosts carry, in the order of the plan and by rising field, each in its field's range: `is_planned` and `fits` tell.
     pub fn seal(&mut self, values: &[i64]) -> &[u8]
         requires planned { IsSome self.old.masks.plan }
-        requires values { AreForPlan self.old.masks values.now }
+        requires values { FitPlan self.old.masks values.now }
         ensures bytes { Answers self.old (server_bytes (terms_of self.old) values.now) result.now }
         ensures few { length result.now ≤ self.old.common.config.size }
         ensures* after { sem 𝓛 (Rests the_row self.entry (Sealed self.old values.now)) }
@@ -103,11 +104,11 @@ impl Conn {
 }
 
 /// The datagram of a packet, in as many bytes as it takes, at most `size`.
-fn spelled(packet: &ServerPacket, kinds: &KindTable, size: u32) -> ArrayVec<u8, 1200>
+fn spelled(packet: &ServerPacket, kinds: &KindTable, size: u32) -> ArrayVec<u8, MAX_DATAGRAM_BYTES>
     requires fits { IsServerInRange kinds.now packet.now }
     requires room { server_size kinds.now packet.now ≤ 8 * size }
-    requires size { size ≤ 1200 }
-    ensures bytes { result.items ≡ datagram (server kinds.now packet.now) }
+    requires size { size ≤ MAX_DATAGRAM_BYTES }
+    ensures bytes { result.items ≡ datagram (spell_server kinds.now packet.now) }
     ensures few { length result.items ≤ size }
 {
     let _bits = server_bits(packet, kinds);

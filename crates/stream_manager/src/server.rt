@@ -1,13 +1,8 @@
 //! The server's end of a connection.
 ghost use Rattle.std.specs.Prelude.{◌≡◌, ℕ, true, false, ◌+◌, ◌-◌, ◌*◌, ◌<◌, ◌≤◌, ◌^◌, ◌&&◌, ◌↔◌, ◌⊎◌, List, [], ◌∷◌, ◌++◌, All, IfOk, IfErr, OnOk, OnErr, IsNone, None, Ok, Err, length, slice_get, drop, take, count_by};
-ghost use Rattle.std.specs.List.{list_any};
 ghost use Rattle.std.specs.Option.{option_copied};
 ghost use Rattle.notify_window.specs.State.{send_state};
 ghost use Rattle.notify_window.specs.Log.{arrival_of};
-ghost use Rattle.ghost_model.specs.Phases.{is_up};
-ghost use Rattle.ghost_model.specs.Ghosts.{scope_log, slot};
-ghost use Rattle.ghost_model.specs.Scope.{shows};
-ghost use Rattle.ghost_scope.specs.Table.{phase_of};
 ghost use Rattle.tn_types.specs.declared.choices.Class.TheVariants.{Guaranteed, Loose};
 ghost use Rattle.wire_format.specs.declared.client.ClientPacket.TheVariants as up;
 ghost use Rattle.wire_format.specs.Header.{IsHeader};
@@ -19,16 +14,17 @@ use crate::fault::ArriveFault;
 use crate::settling::{settle_blocks, settle_ghosts};
 use arrayvec::ArrayVec;
 use datablocks::BlockSender;
-use event_manager::{EventAhead, PostFault};
+use event_manager::{EventAhead, MAX_READY_EVENTS, PostFault};
 use ghost_masks::Masks;
-use ghost_model::Phase;
-use ghost_scope::periods::MOST_SHOWN;
 use move_manager::MoveReceiver;
 use notify_window::{Arrival, SendState};
 use quantised_fields::KindTable;
 use std::alloc::Global;
 use std::marker::Model;
-use tn_types::{BlockBytes, Class, Move, NoMemory, Payload};
+use tn_types::{
+    BlockBytes, Class, MAX_BLOCKS, MAX_DATAGRAM_BYTES, MAX_LIFE, MAX_READ_BYTES, Move, NoMemory,
+    Payload,
+};
 use wire_format::{ClientBody, ClientPacket, EventList, Header, MoveList, decode_client};
 
 /// What a packet of the client brought.
@@ -49,7 +45,7 @@ pub struct Conn {
     pub(crate) moves: MoveReceiver,
     pub(crate) taken: MoveList,
     // the bytes of the datagram that was made last
-    pub(crate) datagram: ArrayVec<u8, 1200>,
+    pub(crate) datagram: ArrayVec<u8, MAX_DATAGRAM_BYTES>,
 }
 
 impl Model for Conn {
@@ -72,7 +68,7 @@ impl Conn {
     ghost use Rattle.stream_manager.specs.Limits.{IsConfig};
     ghost use Rattle.stream_manager.specs.End.{seen, dropped_of, events_answer};
     ghost use Rattle.stream_manager.specs.EndCalls.{popped};
-    ghost use Rattle.stream_manager.specs.Server.{Posted, Shown, Hidden, Took, server_end, ghost_log, accepted_at, posted_at_server, server_state, arrive_answer, arriving, read_answer, head_check, packet_check, gap_check, moves_new};
+    ghost use Rattle.stream_manager.specs.Server.{Posted, Took, server_end, accepted_at, posted_at_server, server_state, arrive_answer, arriving, read_answer, head_check, packet_check, gap_check, moves_new};
     ghost use Rattle.stream_manager.specs.Stands.{ConnStandsFor, terms_of};
     ghost use Rattle.stream_manager.specs.ConnCalls.{Does, Answers, Becomes, Hands, Accepts, Keeps, Admits};
     ghost use Rattle.stream_manager.specs.Faults.{events_at_server};
@@ -87,7 +83,7 @@ impl Conn {
         blocks: &[BlockBytes],
     ) -> Result<Conn, NoMemory>
         requires config { IsConfig config }
-        requires few { length blocks.now ≤ 64 }
+        requires few { length blocks.now ≤ MAX_BLOCKS }
         ensures stands { IfOk result (λ c. ConnStandsFor c []) }
         ensures terms { IfOk result (λ c. terms_of c ≡ record { config = config; kinds = kinds.now; blocks = blocks.now }) }
         ensures empty { IfOk result (λ c. c.common.receiver.ready ≡ []) }
@@ -138,7 +134,7 @@ impl Conn {
     /// How many moves were accepted, which is the number of the next one.
     pub fn accepted(&self) -> u32
         ensures log { Answers self.now (λ log. length (accepted_at self.now.common.config log)) result }
-        ensures fits { result < 2 ^ 24 }
+        ensures fits { result ≤ MAX_LIFE }
     {
         let _life = self.common.config().life;
         self.moves.accepted()
@@ -167,43 +163,6 @@ impl Conn {
         self.common.post_loose(payload)
     }
 
-    /// A period of an object begins: it is of this kind, has this datablock below 64 and is at this level of distance, 0 to
-    /// 3. It waits for a slot. Gives its number: the number of periods shown before (docs/connection.md, "Periods and
-    /// slots"). One period with `control` may be shown and not hidden.
-    pub fn show(&mut self, kind: u8, block: u8, level: u8, control: bool) -> u32
-        requires kind { kind < length self.old.masks.kinds }
-        requires block { block < 64 }
-        requires level { level ≤ 3 }
-        requires few { count_by (λ e. is_up e.phase) self.old.masks.periods.entries < MOST_SHOWN }
-        requires numbers { self.old.masks.periods.shown < 2 ^ 32 - 1 }
-        requires alone { control ≡ true → list_any (λ e. e.control && is_up e.phase) self.old.masks.periods.entries ≡ false }
-        ensures number { result ≡ self.old.masks.periods.shown }
-        ensures told { Answers self.old (λ log. shows (scope_log (ghost_log log))) result }
-        ensures stands { Does self.old (Shown kind block level control) self.new }
-        ensures keeps { Keeps self.old self.new }
-    {
-        self.masks.show(kind, block, level, control)
-    }
-
-    /// The period's object isn't visible any more.
-    pub fn hide(&mut self, n: u32)
-        requires shown { n < self.old.masks.periods.shown }
-        requires up { is_up (phase_of self.old.masks.periods n) ≡ true }
-        ensures stands { Does self.old (Hidden n) self.new }
-        ensures keeps { Keeps self.old self.new }
-    {
-        self.masks.hide(n);
-    }
-
-    /// The slot that the period holds; `None` exactly where it is Waiting or Gone.
-    pub fn slot(&self, n: u32) -> Option<u8>
-        requires { n < self.now.masks.periods.shown }
-        ensures none { let phase = phase_of self.now.masks.periods n in IsNone result ↔ ((phase ≡ Phase.Waiting) ⊎ (phase ≡ Phase.Gone)) }
-        ensures told { Answers self.now (λ log. slot (ghost_log log) n) result }
-    {
-        self.masks.slot(n)
-    }
-
     /// What a pack makes now (docs/connection.md, "Sending").
     pub fn pack_state(&self) -> SendState
         ensures state { result ≡ send_state self.now.common.window }
@@ -215,7 +174,7 @@ impl Conn {
     /// Takes bytes that came from the client, at most 65,536, where `room` further moves have a place, or refuses them by
     /// the first refusal that holds; nothing changes then (docs/connection.md, "Arriving"). No event may wait.
     pub fn arrive(&mut self, bytes: &[u8], room: u32) -> Result<Taken, ArriveFault>
-        requires few { length bytes.now ≤ 65536 }
+        requires few { length bytes.now ≤ MAX_READ_BYTES }
         requires none_waits { self.old.common.receiver.ready ≡ [] }
         ensures answer { Answers self.old (arrive_answer self.old.common.config room bytes.now) result }
         ensures stands { Becomes self.old (arriving self.old.common.config room bytes.now) self.new }
@@ -364,7 +323,7 @@ impl Conn {
     /// How many events wait to be handed out, at most 95.
     pub fn waiting(&self) -> u32
         ensures count { result ≡ length self.now.common.receiver.ready }
-        ensures few { result ≤ 95 }
+        ensures few { result ≤ MAX_READY_EVENTS }
     {
         self.common.waiting()
     }

@@ -3,12 +3,11 @@ ghost use Rattle.std.specs.Prelude.{◌≤◌, length};
 
 use crate::{ArriveFault, Client, ClientFault, ClientOut, Config, Conn};
 use ghost_client::GhostFault;
-use ghost_scope::periods::MOST_SHOWN;
 use notify_window::SendState;
 use quantised_fields::{FieldSpec, Kind, KindTable};
 use std::alloc::Global;
 use std::test::Fail;
-use tn_types::{BlockBytes, Move};
+use tn_types::{BlockBytes, MAX_READ_BYTES, MAX_SHOWS, Move};
 use wire_format::{BitsCause, BitsFault};
 
 const CONFIG: Config = Config {
@@ -85,11 +84,10 @@ enum Step {
 
 /// Shows an object; whether it could be shown.
 fn shows(conn: &mut Conn, kind: u8, control: bool) -> bool {
-    let masks = conn.masks();
-    if !masks.has_kind(kind) || masks.count_up() >= MOST_SHOWN || masks.shown() == u32::MAX {
+    if !conn.has_kind(kind) || conn.is_full() || conn.shows() == MAX_SHOWS {
         return false;
     }
-    if control && masks.has_control() {
+    if control && conn.has_control() {
         return false;
     }
     let _ = conn.show(kind, 0, 0, control);
@@ -98,8 +96,7 @@ fn shows(conn: &mut Conn, kind: u8, control: bool) -> bool {
 
 /// Hides a period; whether it was shown.
 fn hides(conn: &mut Conn, n: u32) -> bool {
-    let masks = conn.masks();
-    if n >= masks.shown() || !masks.phase(n).is_up() {
+    if !conn.is_up(n) {
         return false;
     }
     conn.hide(n);
@@ -108,7 +105,7 @@ fn hides(conn: &mut Conn, n: u32) -> bool {
 
 /// Whether the period was shown and holds this slot.
 fn holds(conn: &Conn, n: u32, slot: Option<u8>) -> bool {
-    n < conn.masks().shown() && conn.slot(n) == slot
+    n < conn.shows() && conn.slot(n) == slot
 }
 
 /// Whether the server's next datagram is a data packet with these bytes, where its ghosts have these values.
@@ -117,7 +114,7 @@ fn sends(conn: &mut Conn, values: &[i64], bytes: &[u8]) -> bool {
         return false;
     }
     let _ = conn.plan();
-    conn.masks().fits(values) && conn.seal(values) == bytes
+    conn.fits(values) && conn.seal(values) == bytes
 }
 
 /// Whether the client's next datagram is a data packet with these bytes.
@@ -130,7 +127,7 @@ fn answers(client: &mut Client, bytes: &[u8]) -> bool {
 
 /// What the client says of a datagram; `None` where an event waits, or it is too long.
 fn at_client(client: &mut Client, bytes: &[u8]) -> Option<Result<(), ClientFault>> {
-    if client.waiting() > 0 || bytes.len() > 1200 {
+    if client.waiting() > 0 || bytes.len() > MAX_READ_BYTES {
         return None;
     }
     Some(client.arrive(bytes))
@@ -138,7 +135,7 @@ fn at_client(client: &mut Client, bytes: &[u8]) -> Option<Result<(), ClientFault
 
 /// What the server says of a datagram; `None` where an event waits, or it is too long.
 fn at_server(conn: &mut Conn, bytes: &[u8]) -> Option<Result<u32, ArriveFault>> {
-    if conn.waiting() > 0 || bytes.len() > 1200 {
+    if conn.waiting() > 0 || bytes.len() > MAX_READ_BYTES {
         return None;
     }
     Some(conn.arrive(bytes, 32).map(|taken| taken.moves))

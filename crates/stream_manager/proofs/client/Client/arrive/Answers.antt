@@ -1,6 +1,6 @@
 use Rattle.std.proofs.Common.{◌≡◌, ◌∙◌, List, ◌∷◌, Result, Ok, sym, ap, subst}
 use Rattle.quantised_fields.specs.declared.kind.Kind.{Kind}
-use Rattle.wire_format.specs.Server.{server_of}
+use Rattle.wire_format.specs.Server.{read_server}
 use Rattle.wire_format.specs.declared.fault.BitsFault.{BitsFault}
 use Rattle.wire_format.specs.declared.server.ServerPacket.{ServerPacket}
 use Rattle.stream_manager.specs.declared.fault.ClientFault.{ClientFault}
@@ -14,7 +14,7 @@ pub returns-clause-stands : goal.returns-clause-stands
 returns-clause-stands c log s =
     let cfg = c.args.self.now.common.config in
     let kinds : c.kinds.result.now ≡ c.args.self.now.copies.kinds = c.kinds.ensures ∙ ap (λ (x : ClientState). x.copies.kinds) c.self.view_is in
-    let read : Ok c.in-Ok.packet ≡ server_of c.args.self.now.copies.kinds c.args.bytes.now = sym c.in-Ok.is ∙ c.decode_server.ensures.exact ∙ ap (λ (k : List Kind). server_of k c.args.bytes.now) kinds in
+    let read : Ok c.in-Ok.packet ≡ read_server c.args.self.now.copies.kinds c.args.bytes.now = sym c.in-Ok.is ∙ c.decode_server.ensures.exact ∙ ap (λ (k : List Kind). read_server k c.args.bytes.now) kinds in
     subst (λ (r : Result ServerPacket BitsFault). ClientStandsFor c.take.new.self (took_at_client log (packet_answer cfg log r))) read
     (arrived c.in-Ok.packet (packet_check cfg log c.in-Ok.packet) c.take.result (λ (a : Result ServerPacket ClientFault). ClientStandsFor c.take.new.self (took_at_client log a)) (c.take.ensures.answer log s)
     (map_ok c.take.result (λ (f : (log : List ClientEvent) → ClientStandsFor c.args.self.now log → ClientStandsFor c.take.new.self (Took c.in-Ok.packet ∷ log)). f log s) c.take.ensures.stands)

@@ -35,7 +35,7 @@ module _ (c : goal.After-choose) where
     told = choices-told (before c) c.choose.new.self c.received-received.result _ log s received room c.choose.ensures.plan
 
     stands : ConnStandsFor (after c) (with_plan (terms_of (before c)) log)
-    stands = plan-stands (before c) c.choose.new.self c.received-received.result _ log s received room c.choose.ensures.plan state c.choose.ensures.stands c.choose.ensures.kinds
+    stands = plan-stands (before c) c.choose.new.self c.received-received.result _ log s received room c.choose.ensures.plan state c.choose.ensures.stands c.choose.ensures.keeps.kinds
 
 pub invariant_of-self : goal.invariant_of-self
 invariant_of-self c = (with_plan (terms_of (before c)) c.self.invariant.0, stands c c.self.invariant.0 c.self.invariant.1)
@@ -50,7 +50,7 @@ returns-clause-after c =
       stands = stands c;
       planned = c.choose.ensures.chosen;
       keeps = record {
-        terms = ap (λ (k : List Kind). let t : Terms = record { config = c.self.inside.common.config; kinds = k; blocks = c.self.inside.blocks.blocks } in t) c.choose.ensures.kinds;
+        terms = ap (λ (k : List Kind). let t : Terms = record { config = c.self.inside.common.config; kinds = k; blocks = c.self.inside.blocks.blocks } in t) c.choose.ensures.keeps.kinds;
         ready = refl;
         taken = refl;
       };
