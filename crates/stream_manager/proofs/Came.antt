@@ -18,7 +18,8 @@ use Rattle.ghost_client.specs.declared.copy.GhostCopy.{GhostCopy}
 use Rattle.ghost_client.specs.declared.fault.GhostFault.{GhostFault}
 use Rattle.ghost_client.specs.declared.fault.GhostFault.TheVariants.{Twice}
 use Rattle.ghost_client.specs.Copies.{copy_of}
-use Rattle.ghost_client.specs.Fields.{slot_named, names}
+use Rattle.wire_format.specs.Ghosts.{slot_named}
+use Rattle.ghost_client.specs.Fields.{names}
 use Rattle.ghost_client.specs.Faults.{fault_of, item_fault}
 use Rattle.tn_types.specs.Checks.{first_fault}
 use Rattle.std.specs.Option.{option_or}
