@@ -9,7 +9,7 @@ use Rattle.world_rules.specs.declared.object.State.{State}
 use Rattle.world_rules.specs.declared.object.State.TheVariants.{Player, Mine, Drone, Flag, Clock}
 use Rattle.world_rules.specs.declared.setup.Spawn.{Spawn}
 use Rattle.world_rules.specs.declared.setup.Setup.{Setup}
-use Rattle.world_rules.specs.Rules.{clamp}
+use Rattle.world_rules.specs.Places.{clamp}
 
 abbrev pub state_at_first : ℕ → ℕ → Option ℕ → State
 state_at_first number kind (Some client) = Player (record { client = client; hp = MAX_HP; ammo = MAX_AMMO; score = 0 })

@@ -8,7 +8,7 @@ use Rattle.std.proofs.lemmas.Nat.{div_below}
 use Rattle.std.proofs.lemmas.List.Elements.{All-from_recursion, All-contains, Contains-append_right}
 use Rattle.std.proofs.lemmas.Option.{slice_get_within}
 use Rattle.world_rules.specs.declared.object.Object.{Object}
-use Rattle.world_rules.specs.Rules.{is_player}
+use Rattle.world_rules.specs.Flags.{is_player}
 use Rattle.world_sim.specs.Worlds.{Worlds, alive_at}
 use Rattle.world_scope.specs.declared.viewer.Seen.{Seen}
 use Rattle.world_scope.specs.declared.viewer.Viewer.{Viewer}

@@ -3,7 +3,7 @@
 use Rattle.std.specs.Prelude.{ℕ, ◌+◌, ◌*◌, ◌/◌, List, Bool, false, not, ◌&&◌, ◌||◌, nat_le, if◌then◌else◌, Option, Some, None, find, slice_get, option_and_then}
 use Rattle.std.specs.List.{filter_map, enumerate_from}
 use Rattle.world_rules.specs.declared.object.Object.{Object}
-use Rattle.world_rules.specs.Rules.{is_player}
+use Rattle.world_rules.specs.Flags.{is_player}
 use Rattle.world_sim.specs.Worlds.{Worlds}
 use Rattle.world_scope.specs.declared.viewer.Seen.{Seen}
 use Rattle.world_scope.specs.declared.viewer.Viewer.{Viewer}

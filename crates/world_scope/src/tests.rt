@@ -26,10 +26,10 @@ fn field(
     ensures { IfOk result SetupFits }
 {
     let mut spawns = Spawns::new(alloc);
-    spawns.push(first)?;
-    spawns.push(second)?;
-    spawns.push(third)?;
-    spawns.push(fourth)?;
+    spawns.push(alloc, first)?;
+    spawns.push(alloc, second)?;
+    spawns.push(alloc, third)?;
+    spawns.push(alloc, fourth)?;
     Ok(Setup {
         clients: 2,
         radius: u32::from(radius),

@@ -1,7 +1,7 @@
 //! A client's look at one object.
 ghost use Rattle.std.specs.Prelude.{◌≡◌, ◌≤◌, ◌+◌, ◌*◌, ◌/◌, ◌||◌, Some, None, find, if◌then◌else◌};
 ghost use Rattle.std.specs.Option.{option_copied};
-ghost use Rattle.world_rules.specs.Rules.{is_player};
+ghost use Rattle.world_rules.specs.Flags.{is_player};
 ghost use Rattle.world_scope.specs.Sight.{distance, is_hidden, is_always};
 
 use world_rules::flags::is_player;

@@ -2,11 +2,20 @@
 use Rattle.std.proofs.Common.{◌≡◌, ℕ, zero, suc, ◌<◌, ◌≤◌, Bool, true, false, cond, not, ◌||◌, nat_lt, nat_le, List, [], ◌∷◌, ◌++◌, length, map, get_or, Option, Some, None, refl, sym, ap, ◌∙◌, arith}
 use Rattle.std.specs.Prelude.{ℤ, slice_get, option_map, find}
 use Rattle.tn_types.specs.declared.moves.Move.{Move}
+use Rattle.world_rules.specs.declared.object.TheConstants.{MAX_AGE}
+use Rattle.world_rules.specs.Discs.{aged}
 use Rattle.world_rules.specs.declared.object.Object.{Object}
 use Rattle.world_rules.specs.declared.object.State.{State}
 use Rattle.world_rules.specs.declared.object.State.TheVariants.{Player, Disc, Mine, Drone, Flag, Clock}
 use Rattle.world_rules.specs.Kinds.{kind_of}
-use Rattle.world_rules.specs.Rules.{player_next, disc_next, mine_next, drone_next, flag_next, clock_next, carried, is_player, is_leaving, is_standing, is_home, is_hitting, is_triggered, by_kind, object_next, Moment}
+use Rattle.world_rules.specs.Near.{is_standing}
+use Rattle.world_rules.specs.Discs.{disc_next, is_leaving, is_hitting}
+use Rattle.world_rules.specs.Mines.{mine_next, is_triggered}
+use Rattle.world_rules.specs.Players.{player_next}
+use Rattle.world_rules.specs.Drones.{drone_next}
+use Rattle.world_rules.specs.Flags.{flag_next, carried, is_player, is_home}
+use Rattle.world_rules.specs.Clocks.{clock_next}
+use Rattle.world_rules.specs.Next.{by_kind, object_next, Moment}
 use Rattle.world_rules.specs.Next.{discs_made}
 use Rattle.world_sim.specs.declared.rows.Row.{Row}
 use Rattle.world_sim.specs.Rows.{values_of}
@@ -24,7 +33,7 @@ carried_kind moves o client (Some p) h = either 4 (not (is_standing p)) _ _ refl
 by_kind_kind : (os : List Object) (moves : List (Option Move)) (t : Moment) (o : Object) (s : State) → o.state ≡ s → kind_of (by_kind os moves t o s).state ≡ kind_of s
 unfolding player_next disc_next mine_next drone_next flag_next clock_next
 by_kind_kind os moves t o (Player p) e = either 0 (nat_lt 0 p.hp) _ _ refl refl
-by_kind_kind os moves t o (Disc d) e = let k = ap kind_of e in either 1 (not o.alive) o _ k (either 1 (is_hitting os o) _ _ k (either 1 (nat_le 19 d.age || is_leaving o.place d) _ _ refl refl))
+by_kind_kind os moves t o (Disc d) e = let k = ap kind_of e in either 1 (not o.alive) o _ k (either 1 (is_hitting os o) _ _ k (either 1 (nat_le MAX_AGE (aged d.age) || is_leaving o.place d) _ _ refl refl))
 by_kind_kind os moves t o (Mine m) e = let k = ap kind_of e in either 2 (not o.alive) o _ k (either 2 (is_triggered os o) _ _ k refl)
 by_kind_kind os moves t o (Drone d) e = either 3 (not o.alive) o _ (ap kind_of e) refl
 by_kind_kind os moves t o (Flag f) e = held f.holder

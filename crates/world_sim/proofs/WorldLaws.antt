@@ -7,7 +7,8 @@ use Rattle.world_rules.specs.declared.object.Object.{Object}
 use Rattle.tn_types.specs.declared.moves.Move.{Move}
 use Rattle.world_sim.specs.declared.rows.Write.{Write}
 use Rattle.world_sim.specs.declared.rows.Row.{Row}
-use Rattle.world_rules.specs.Rules.{object_next, fired, Moment}
+use Rattle.world_rules.specs.Players.{fired}
+use Rattle.world_rules.specs.Next.{object_next, Moment}
 use Rattle.world_sim.specs.Rows.{values_of, row_versions, differs}
 use Rattle.world_sim.proofs.ForGood.{next_values, first_values}
 use Rattle.world_rules.specs.Ranges.{ObjectFits}

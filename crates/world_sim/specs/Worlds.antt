@@ -4,7 +4,7 @@ use Rattle.std.specs.List.{AllByRecursion}
 use Rattle.tn_types.specs.declared.limits.TheConstants.{MAX_OBJECTS}
 use Rattle.tn_types.specs.declared.moves.Move.{Move}
 use Rattle.world_rules.specs.declared.object.Object.{Object}
-use Rattle.world_rules.specs.Rules.{Moment}
+use Rattle.world_rules.specs.Next.{Moment}
 use Rattle.world_rules.specs.Kinds.{kind_of}
 use Rattle.world_rules.specs.Ranges.{ObjectFits}
 use Rattle.world_rules.specs.Next.{objects_next}

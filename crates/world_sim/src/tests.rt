@@ -16,8 +16,8 @@ fn arena(alloc: Global, first: Spawn, second: Spawn) -> Result<Setup, NoMemory>
     ensures { IfOk result SetupFits }
 {
     let mut spawns = Spawns::new(alloc);
-    spawns.push(first)?;
-    spawns.push(second)?;
+    spawns.push(alloc, first)?;
+    spawns.push(alloc, second)?;
     Ok(Setup {
         clients: 2,
         radius: 1000,
@@ -156,9 +156,9 @@ fn field(alloc: Global, first: Spawn, second: Spawn, third: Spawn) -> Result<Set
     ensures { IfOk result SetupFits }
 {
     let mut spawns = Spawns::new(alloc);
-    spawns.push(first)?;
-    spawns.push(second)?;
-    spawns.push(third)?;
+    spawns.push(alloc, first)?;
+    spawns.push(alloc, second)?;
+    spawns.push(alloc, third)?;
     Ok(Setup {
         clients: 2,
         radius: 1000,

@@ -1,7 +1,7 @@
 //! The world and its ticks.
 ghost use Rattle.std.specs.Prelude.{◌≡◌, ℕ, ◌<◌, ◌≤◌, ◌+◌, ◌-◌, ◌^◌, ◌++◌, List, length, map, take, OnOk, OnErr, [], IfOk, slice_get, Some};
 ghost use Rattle.std.specs.List.{filter_map, AllByRecursion};
-ghost use Rattle.world_rules.specs.Rules.{fired};
+ghost use Rattle.world_rules.specs.Players.{fired};
 ghost use Rattle.world_rules.specs.Next.{objects_next};
 ghost use Rattle.world_rules.specs.Spawning.{first_objects, SetupFits};
 ghost use Rattle.world_rules.specs.Ranges.{ObjectFits};
