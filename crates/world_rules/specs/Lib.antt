@@ -11,3 +11,4 @@ pub mod Next
 pub mod Kinds
 pub mod Spawning
 pub mod Ranges
+pub mod Identity

@@ -2,55 +2,45 @@
 use Rattle.std.proofs.Common.{◌≡◌, ℕ, zero, suc, ◌<◌, ◌≤◌, Bool, true, false, cond, not, ◌||◌, nat_lt, nat_le, List, [], ◌∷◌, ◌++◌, length, map, get_or, Option, Some, None, refl, sym, ap, ◌∙◌, arith}
 use Rattle.std.specs.Prelude.{ℤ, slice_get, option_map, find}
 use Rattle.tn_types.specs.declared.moves.Move.{Move}
-use Rattle.world_rules.specs.declared.object.TheConstants.{MAX_AGE}
-use Rattle.world_rules.specs.Discs.{aged}
 use Rattle.world_rules.specs.declared.object.Object.{Object}
-use Rattle.world_rules.specs.declared.object.State.{State}
-use Rattle.world_rules.specs.declared.object.State.TheVariants.{Player, Disc, Mine, Drone, Flag, Clock}
 use Rattle.world_rules.specs.Kinds.{kind_of}
-use Rattle.world_rules.specs.Near.{is_standing}
-use Rattle.world_rules.specs.Discs.{disc_next, is_leaving, is_hitting}
-use Rattle.world_rules.specs.Mines.{mine_next, is_triggered}
-use Rattle.world_rules.specs.Players.{player_next}
-use Rattle.world_rules.specs.Drones.{drone_next}
-use Rattle.world_rules.specs.Flags.{flag_next, carried, is_player, is_home}
-use Rattle.world_rules.specs.Clocks.{clock_next}
-use Rattle.world_rules.specs.Next.{by_kind, object_next, Moment}
-use Rattle.world_rules.specs.Next.{discs_made}
+use Rattle.world_rules.specs.Identity.{Identity, identity_of}
+use Rattle.std.proofs.lemmas.Iterator.Adapters.{position_from-zero}
+use Rattle.world_rules.specs.Flags.{is_player}
+use Rattle.world_rules.specs.Next.{object_next, objects_next, Moment, discs_made}
+use Rattle.world_rules.proofs.Identities.{stays_itself}
+use Rattle.world_rules.proofs.Peopled.{player_stays as owners_stay}
 use Rattle.world_sim.specs.declared.rows.Row.{Row}
 use Rattle.world_sim.specs.Rows.{values_of}
 use Rattle.world_sim.specs.RowsNext.{fresh_row, rows_next}
-use Rattle.world_sim.specs.Worlds.{Worlds, next, coming, kind_at, row_values, values_at}
+use Rattle.world_sim.specs.Worlds.{Worlds, next, coming, kind_at, identity_at, player_of, row_values, values_at}
 
-either : (k : ℕ) (b : Bool) (x y : Object) → kind_of x.state ≡ k → kind_of y.state ≡ k → kind_of (cond b x y).state ≡ k
-either k true x y p q = p
-either k false x y p q = q
+identities_next : (os : List Object) (moves : List (Option Move)) (t : Moment) (xs ys : List Object) (k : ℕ) → k < length xs → option_map identity_of (slice_get (map (object_next os moves t) xs ++ ys) k) ≡ option_map identity_of (slice_get xs k)
+identities_next os moves t [] ys k l = absurd (omega arith)
+identities_next os moves t (o ∷ xs) ys zero l = ap Some (stays_itself os moves t o)
+identities_next os moves t (o ∷ xs) ys (suc k) l = identities_next os moves t xs ys k (omega arith)
 
-carried_kind : (moves : List (Option Move)) (o : Object) (client : ℕ) (p : Option Object) → kind_of o.state ≡ 4 → kind_of (carried moves o client p).state ≡ 4
-carried_kind moves o client None h = refl
-carried_kind moves o client (Some p) h = either 4 (not (is_standing p)) _ _ refl (either 4 (is_home p) _ _ refl h)
+pub identity_stays : (w : Worlds) (moves : List (Option Move)) (object : ℕ) → object < length w.objects → identity_at (next w moves) object ≡ identity_at w object
+unfolding next
+identity_stays w moves object l = identities_next w.objects moves (coming w) w.objects (discs_made w.objects moves) object l
 
-by_kind_kind : (os : List Object) (moves : List (Option Move)) (t : Moment) (o : Object) (s : State) → o.state ≡ s → kind_of (by_kind os moves t o s).state ≡ kind_of s
-unfolding player_next disc_next mine_next drone_next flag_next clock_next
-by_kind_kind os moves t o (Player p) e = either 0 (nat_lt 0 p.hp) _ _ refl refl
-by_kind_kind os moves t o (Disc d) e = let k = ap kind_of e in either 1 (not o.alive) o _ k (either 1 (is_hitting os o) _ _ k (either 1 (nat_le MAX_AGE (aged d.age) || is_leaving o.place d) _ _ refl refl))
-by_kind_kind os moves t o (Mine m) e = let k = ap kind_of e in either 2 (not o.alive) o _ k (either 2 (is_triggered os o) _ _ k refl)
-by_kind_kind os moves t o (Drone d) e = either 3 (not o.alive) o _ (ap kind_of e) refl
-by_kind_kind os moves t o (Flag f) e = held f.holder
-  where
-    held : (holder : Option ℕ) → kind_of (flag_next os moves o holder).state ≡ 4
-    held None = refl
-    held (Some client) = carried_kind moves o client (find (is_player client) os) (ap kind_of e)
-by_kind_kind os moves t o (Clock c) e = refl
+kind_told : (os : List Object) (k : ℕ) → option_map (λ (o : Object). kind_of o.state) (slice_get os k) ≡ option_map (λ (i : Identity). i.kind) (option_map identity_of (slice_get os k))
+kind_told [] k = refl
+kind_told (o ∷ os) zero = refl
+kind_told (o ∷ os) (suc k) = kind_told os k
 
-kinds_next : (os : List Object) (moves : List (Option Move)) (t : Moment) (xs ys : List Object) (k : ℕ) → k < length xs → option_map (λ (o : Object). kind_of o.state) (slice_get (map (object_next os moves t) xs ++ ys) k) ≡ option_map (λ (o : Object). kind_of o.state) (slice_get xs k)
-kinds_next os moves t [] ys k l = absurd (omega arith)
-kinds_next os moves t (o ∷ xs) ys zero l = ap Some (by_kind_kind os moves t o o.state refl)
-kinds_next os moves t (o ∷ xs) ys (suc k) l = kinds_next os moves t xs ys k (omega arith)
+pub player_stays : (w : Worlds) (moves : List (Option Move)) (client : ℕ) → player_of (next w moves) client ≡ player_of w client
+unfolding next
+player_stays w moves client =
+    position_from-zero (is_player client) (objects_next w.objects moves (coming w))
+    ∙ owners_stay client w.objects moves (coming w)
+    ∙ sym (position_from-zero (is_player client) w.objects)
 
 pub kind_stays : (w : Worlds) (moves : List (Option Move)) (object : ℕ) → object < length w.objects → kind_at (next w moves) object ≡ kind_at w object
-unfolding next
-kind_stays w moves object l = kinds_next w.objects moves (coming w) w.objects (discs_made w.objects moves) object l
+kind_stays w moves object l =
+    kind_told (next w moves).objects object
+    ∙ ap (option_map (λ (i : Identity). i.kind)) (identity_stays w moves object l)
+    ∙ sym (kind_told w.objects object)
 
 fresh_values : (os : List Object) → map row_values (map fresh_row os) ≡ map values_of os
 fresh_values [] = refl

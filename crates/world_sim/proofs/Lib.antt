@@ -5,3 +5,4 @@ pub mod WorldLaws
 pub mod Started
 pub mod Gathered
 pub mod ForGood
+pub mod InRange

@@ -13,6 +13,8 @@ use Rattle.world_sim.specs.Rows.{values_of, row_versions, differs}
 use Rattle.world_sim.proofs.ForGood.{next_values, first_values}
 use Rattle.world_rules.specs.Ranges.{ObjectFits}
 use Rattle.world_rules.proofs.Ranging.{objects_fit}
+use Rattle.world_rules.specs.Identity.{IsPeopled}
+use Rattle.world_rules.proofs.Peopled.{peopled_next}
 use Rattle.world_sim.specs.RowsNext.{fresh_row, rows_next, rows_writes, IsSmallRow, WasCounted}
 use Rattle.world_sim.specs.Worlds.{Worlds, IsWorld, next, after, coming}
 use Rattle.world_rules.specs.Next.{discs_made, objects_next}
@@ -74,16 +76,17 @@ world_next w moves h = record {
   rows = length-rows_next w.rows (after w moves) (let m = more_objects w.objects moves (coming w) in omega (arith, h.rows));
   counted = counted_next w.ticks w.rows (after w moves) h.counted;
   fits = objects_fit w.objects moves (coming w) h.fits;
+  peopled = peopled_next w.clients w.objects moves (coming w) h.peopled;
   values = next_values w.rows (after w moves) (let m = more_objects w.objects moves (coming w) in omega (arith, h.rows));
 }
 
-world_by : (w : Worlds) (moves : List (Option Move)) (s t : ℕ) (os : List Object) (rows : List Row) (ws : List Write) → s ≡ w.seed → t ≡ w.ticks + 1 → os ≡ after w moves → rows ≡ rows_next w.rows (after w moves) → ws ≡ rows_writes 0 w.rows (after w moves) → IsWorld w → IsWorld (record { seed = s; radius = w.radius; ticks = t; objects = os; rows = rows; writes = ws })
+world_by : (w : Worlds) (moves : List (Option Move)) (s t : ℕ) (os : List Object) (rows : List Row) (ws : List Write) → s ≡ w.seed → t ≡ w.ticks + 1 → os ≡ after w moves → rows ≡ rows_next w.rows (after w moves) → ws ≡ rows_writes 0 w.rows (after w moves) → IsWorld w → IsWorld (record { seed = s; clients = w.clients; radius = w.radius; ticks = t; objects = os; rows = rows; writes = ws })
 unfolding next
 world_by w moves s t os rows ws d e f g h is = rw (d, e, f, g, h) (world_next w moves is)
 
-pub world_from : (w : Worlds) (moves : List (Option Move)) (was : List Object) (had : List Row) (os : List Object) (rows : List Row) (ws : List Write) → was ≡ w.objects → had ≡ w.rows → os ≡ objects_next was moves (coming w) → rows ≡ rows_next had (objects_next was moves (coming w)) → ws ≡ rows_writes 0 had (objects_next was moves (coming w)) → IsWorld w → IsWorld (record { seed = w.seed; radius = w.radius; ticks = w.ticks + 1; objects = os; rows = rows; writes = ws })
+pub world_from : (w : Worlds) (moves : List (Option Move)) (was : List Object) (had : List Row) (os : List Object) (rows : List Row) (ws : List Write) → was ≡ w.objects → had ≡ w.rows → os ≡ objects_next was moves (coming w) → rows ≡ rows_next had (objects_next was moves (coming w)) → ws ≡ rows_writes 0 had (objects_next was moves (coming w)) → IsWorld w → IsWorld (record { seed = w.seed; clients = w.clients; radius = w.radius; ticks = w.ticks + 1; objects = os; rows = rows; writes = ws })
 world_from w moves was had os rows ws a b f g h is = world_by w moves w.seed (w.ticks + 1) os rows ws refl refl (rw a at f) (rw (a, b) at g) (rw (a, b) at h) is
 
-pub fresh_world : (seed radius : ℕ) (os all : List Object) (rows : List Row) (ws : List Write) → length os ≤ 1024 → AllByRecursion ObjectFits os → all ≡ os → rows ≡ map fresh_row os → IsWorld (record { seed = seed; radius = radius; ticks = 0; objects = all; rows = rows; writes = ws })
-fresh_world seed radius os all rows ws few fits e f =
-    rw (e, f) (record { few = few; rows = simp length-map; counted = fresh_counted 0 os; fits = fits; values = first_values os os (map fresh_row os) refl refl })
+pub fresh_world : (seed clients radius : ℕ) (os all : List Object) (rows : List Row) (ws : List Write) → length os ≤ 1024 → AllByRecursion ObjectFits os → IsPeopled clients os → all ≡ os → rows ≡ map fresh_row os → IsWorld (record { seed = seed; clients = clients; radius = radius; ticks = 0; objects = all; rows = rows; writes = ws })
+fresh_world seed clients radius os all rows ws few fits peopled e f =
+    rw (e, f) (record { few = few; rows = simp length-map; counted = fresh_counted 0 os; fits = fits; peopled = peopled; values = first_values os os (map fresh_row os) refl refl })

@@ -1,5 +1,5 @@
 -- The world tick by tick: the objects after it by the world's rules, the rows of their values, and what the tick wrote.
-use Rattle.std.specs.Prelude.{ℕ, ℤ, Bool, option_map, slice_get, ◌+◌, ◌≤◌, ◌≡◌, List, ◌++◌, ◌∷◌, [], length, map, Option, Some, None, nat_lt, if◌then◌else◌}
+use Rattle.std.specs.Prelude.{ℕ, ℤ, Bool, option_map, slice_get, position, ◌+◌, ◌≤◌, ◌≡◌, List, ◌++◌, ◌∷◌, [], length, map, Option, Some, None, nat_lt, if◌then◌else◌}
 use Rattle.std.specs.List.{AllByRecursion}
 use Rattle.tn_types.specs.declared.limits.TheConstants.{MAX_OBJECTS}
 use Rattle.tn_types.specs.declared.moves.Move.{Move}
@@ -7,6 +7,10 @@ use Rattle.world_rules.specs.declared.object.Object.{Object}
 use Rattle.world_rules.specs.Next.{Moment}
 use Rattle.world_rules.specs.Kinds.{kind_of}
 use Rattle.world_rules.specs.Ranges.{ObjectFits}
+use Rattle.world_rules.specs.Flags.{is_player}
+use Rattle.world_rules.specs.Identity.{Identity, identity_of, IsPeopled}
+use Rattle.world_rules.specs.Spawning.{first_objects}
+use Rattle.world_rules.specs.declared.setup.Setup.{Setup}
 use Rattle.world_rules.specs.Next.{objects_next}
 use Rattle.world_sim.specs.declared.rows.Write.{Write}
 use Rattle.world_sim.specs.declared.rows.Row.{Row}
@@ -15,6 +19,7 @@ use Rattle.world_sim.specs.RowsNext.{fresh_row, rows_next, rows_writes, WasCount
 
 pub record Worlds : Type 0 where
   pub seed : ℕ
+  pub clients : ℕ
   pub radius : ℕ
   pub ticks : ℕ
   pub objects : List Object
@@ -36,6 +41,7 @@ after w moves = objects_next w.objects moves (coming w)
 unfoldable pub next : Worlds → List (Option Move) → Worlds
 next w moves = record {
   seed = w.seed;
+  clients = w.clients;
   radius = w.radius;
   ticks = w.ticks + 1;
   objects = after w moves;
@@ -53,15 +59,31 @@ pub record IsWorld (w : Worlds) : Type 0 where
   pub rows : length w.rows ≡ length w.objects
   pub counted : AllByRecursion (WasCounted w.ticks) w.rows
   pub fits : AllByRecursion ObjectFits w.objects
+  pub peopled : IsPeopled w.clients w.objects
   pub values : map row_values w.rows ≡ map values_of w.objects
 
--- the world before its first tick, in which players see so far
-abbrev pub first_world : ℕ → ℕ → List Object → Worlds
-first_world seed radius os = record { seed = seed; radius = radius; ticks = 0; objects = os; rows = map fresh_row os; writes = [] }
+-- the world before its first tick
+abbrev pub first_world : ℕ → Setup → Worlds
+first_world seed setup = record {
+  seed = seed;
+  clients = setup.clients;
+  radius = setup.radius;
+  ticks = 0;
+  objects = first_objects 0 setup.spawns;
+  rows = map fresh_row (first_objects 0 setup.spawns);
+  writes = [];
+}
 
 -- what stands at this number
 abbrev pub alive_at : Worlds → ℕ → Option Bool
 alive_at w object = option_map (λ o. o.alive) (slice_get w.objects object)
+
+abbrev pub identity_at : Worlds → ℕ → Option Identity
+identity_at w object = option_map identity_of (slice_get w.objects object)
+
+-- the number of the client's player
+abbrev pub player_of : Worlds → ℕ → Option ℕ
+player_of w client = position (is_player client) w.objects
 
 abbrev pub kind_at : Worlds → ℕ → Option ℕ
 kind_at w object = option_map (λ o. kind_of o.state) (slice_get w.objects object)

@@ -1,11 +1,14 @@
 //! The world and its ticks.
-ghost use Rattle.std.specs.Prelude.{◌≡◌, ℕ, ◌<◌, ◌≤◌, ◌+◌, ◌-◌, ◌^◌, ◌++◌, List, length, map, take, OnOk, OnErr, [], IfOk, slice_get, Some};
+ghost use Rattle.std.specs.Prelude.{◌≡◌, ℕ, ◌<◌, ◌≤◌, ◌+◌, ◌-◌, ◌^◌, ◌++◌, List, length, map, take, position, OnOk, OnErr, [], IfOk, IfSome, slice_get, Some};
+ghost use Rattle.world_rules.specs.Flags.{is_player};
 ghost use Rattle.std.specs.List.{filter_map, AllByRecursion};
 ghost use Rattle.world_rules.specs.Players.{fired};
 ghost use Rattle.world_rules.specs.Next.{objects_next};
 ghost use Rattle.world_rules.specs.Spawning.{first_objects, SetupFits};
 ghost use Rattle.world_rules.specs.Ranges.{ObjectFits};
-ghost use Rattle.world_sim.specs.Worlds.{next, added, first_world, alive_at, kind_at, block_at, values_at};
+ghost use Rattle.world_rules.specs.Identity.{IsPeopled};
+ghost use Rattle.world_sim.specs.Worlds.{next, added, first_world, alive_at, kind_at, block_at, values_at, identity_at, player_of};
+ghost use Rattle.world_sim.specs.Facts.{IsWriteOf, ValuesFit};
 ghost use Rattle.world_sim.specs.RowsNext.{fresh_row, rows_next, rows_writes, IsSmallRow};
 
 use crate::found::find_all;
@@ -16,7 +19,7 @@ use std::marker::Model;
 use std::mem;
 use tn_types::{MAX_OBJECTS, Move, NoMemory};
 use world_rules::fire::fired;
-use world_rules::flags::captures;
+use world_rules::flags::{captures, is_player};
 use world_rules::{Object, Setup, Spawn};
 
 // Writes of a tick at the most: five fields of each object.
@@ -53,6 +56,7 @@ fn workroom(alloc: Global) -> Result<Work, AllocError> {
 #[derive(Drop)]
 pub struct World {
     seed: u32,
+    clients: u8,
     // How far players see, in centimetres.
     radius: u32,
     ticks: u32,
@@ -69,6 +73,7 @@ impl Model for World {
 
     ghost view = { λ w. record {
       seed = w.seed;
+      clients = w.clients;
       radius = w.radius;
       ticks = w.ticks;
       objects = w.objects.items;
@@ -78,6 +83,7 @@ impl Model for World {
 
     ghost invariant = { λ w. IsWorld (record {
       seed = w.seed;
+      clients = w.clients;
       radius = w.radius;
       ticks = w.ticks;
       objects = w.objects.items;
@@ -205,31 +211,41 @@ fn first_rows(alloc: Global, objects: &[Object]) -> Result<Vec<Row>, AllocError>
     Ok(rows)
 }
 
+// The place of the client's player.
+fn place_of_player(client: u8, objects: &[Object]) -> Option<usize>
+    ensures place { result ≡ position (is_player client) objects.now }
+    ensures few { IfSome result (λ place. place < length objects.now) }
+{
+    objects.iter().position(|o| is_player(client, o))
+}
+
 impl World {
     /// The world before its first tick: the players and objects of a setup at their homes.
-    #[tactic(auto, using(world_rules::proofs::Ranging::first_objects_fit))]
+    #[tactic(auto, using(world_rules::proofs::Ranging::first_objects_fit, world_rules::proofs::Peopled::peopled_first))]
     pub fn new(alloc: Global, seed: u32, setup: &Setup) -> Result<World, NoMemory>
         requires { SetupFits setup.now }
-        ensures { IfOk result (λ w. w ≡ first_world seed setup.now.radius (first_objects 0 setup.now.spawns)) }
+        ensures { IfOk result (λ w. w ≡ first_world seed setup.now) }
     {
-        match World::start(alloc, seed, setup.radius, setup.spawns.as_slice()) {
+        match World::start(alloc, seed, setup) {
             Ok(world) => Ok(world),
             Err(_) => Err(NoMemory),
         }
     }
 
-    fn start(alloc: Global, seed: u32, radius: u32, spawns: &[Spawn]) -> Result<World, AllocError>
-        requires few { length spawns.now ≤ MAX_OBJECTS }
-        requires fits { AllByRecursion ObjectFits (first_objects 0 spawns.now) }
-        ensures { IfOk result (λ w. w ≡ first_world seed radius (first_objects 0 spawns.now)) }
+    fn start(alloc: Global, seed: u32, setup: &Setup) -> Result<World, AllocError>
+        requires few { length setup.now.spawns ≤ MAX_OBJECTS }
+        requires fits { AllByRecursion ObjectFits (first_objects 0 setup.now.spawns) }
+        requires peopled { IsPeopled setup.now.clients (first_objects 0 setup.now.spawns) }
+        ensures { IfOk result (λ w. w ≡ first_world seed setup.now) }
     {
-        let objects = start_objects(alloc, spawns)?;
+        let objects = start_objects(alloc, setup.spawns.as_slice())?;
         let rows = first_rows(alloc, &objects)?;
         let writes = Vec::with_capacity(alloc, MAX_WRITES)?;
         let work = workroom(alloc)?;
         Ok(World {
             seed,
-            radius,
+            clients: setup.clients,
+            radius: setup.radius,
             ticks: 0,
             objects,
             rows,
@@ -239,14 +255,17 @@ impl World {
     }
 
     /// The world makes one tick with a move or none of each client (docs/world.md). Nothing changes for want of
-    /// memory. An object keeps its number and its kind for good.
-    #[tactic(auto, using(crate::proofs::ForGood::kind_stays))]
+    /// memory. An object keeps its number, kind, owner, datablock, team and home for good.
+    #[tactic(auto, using(crate::proofs::ForGood::identity_stays, crate::proofs::ForGood::player_stays))]
     pub fn tick(&mut self, _alloc: Global, moves: &[Option<Move>]) -> Result<(), NoMemory>
         requires { self.old.ticks < 2 ^ 32 - 1 }
         ensures ok { OnOk result (self.new ≡ next self.old moves.now) }
         ensures err { OnErr result (self.new ≡ self.old) }
-        ensures kinds { OnOk result ((object : ℕ) → object < length self.old.objects
-            → kind_at self.new object ≡ kind_at self.old object) }
+        ensures more { OnOk result (length self.old.objects ≤ length self.new.objects) }
+        ensures same { OnOk result ((object : ℕ) → object < length self.old.objects
+            → identity_at self.new object ≡ identity_at self.old object) }
+        ensures players { OnOk result ((client : ℕ) → player_of self.new client ≡ player_of self.old client) }
+        ensures writes { OnOk result (AllByRecursion (IsWriteOf self.old) self.new.writes) }
     {
         match self.step(moves) {
             Ok(()) => Ok(()),
@@ -259,6 +278,8 @@ impl World {
         requires { self.old.ticks < 2 ^ 32 - 1 }
         ensures ok { OnOk result (self.new ≡ next self.old moves.now) }
         ensures err { OnErr result (self.new ≡ self.old) }
+        ensures more { OnOk result (length self.old.objects ≤ length self.new.objects) }
+        ensures writes { OnOk result (AllByRecursion (IsWriteOf self.old) self.new.writes) }
     {
         advance(
             &self.objects,
@@ -297,6 +318,23 @@ impl World {
         self.objects.len() as u32
     }
 
+    /// The clients of the match.
+    pub fn clients(&self) -> u8
+        ensures { result ≡ self.now.clients }
+    {
+        self.clients
+    }
+
+    /// The number of the client's player, for good; `None` exactly where it has none.
+    pub fn player(&self, client: u8) -> Option<u32>
+        ensures { result ≡ player_of self.now client }
+    {
+        match place_of_player(client, &self.objects) {
+            Some(place) => Some(place as u32),
+            None => None,
+        }
+    }
+
     /// How far players see, in centimetres.
     pub fn radius(&self) -> u32
         ensures { result ≡ self.now.radius }
@@ -304,10 +342,13 @@ impl World {
         self.radius
     }
 
-    /// The objects made so far, dead ones too, each at the place of its number.
+    /// The objects made so far, dead ones too, each at the place of its number. Players come first, by rising client;
+    /// they, flags and clocks are alive; a drone draws its chances by its number, and who holds a flag has a player.
     pub fn all_objects(&self) -> &[Object]
         ensures value { result.now ≡ self.now.objects }
         ensures few { length result.now ≤ MAX_OBJECTS }
+        ensures peopled { IsPeopled self.now.clients result.now }
+        ensures fits { AllByRecursion ObjectFits result.now }
     {
         self.objects.as_slice()
     }
@@ -340,7 +381,8 @@ impl World {
     #[tactic(auto, using(crate::proofs::ForGood::row_tells))]
     pub fn values(&self, object: u32) -> &[i64]
         requires { object < length self.now.objects }
-        ensures { Some result.now ≡ values_at self.now object }
+        ensures value { Some result.now ≡ values_at self.now object }
+        ensures fits { ValuesFit (kind_at self.now object) result.now }
     {
         self.rows[object as usize].values.as_slice()
     }
