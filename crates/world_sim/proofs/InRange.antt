@@ -115,10 +115,11 @@ writes_from old i (r ∷ rows) (o ∷ after) kinds fits few =
     let all = fit_from o o.state fits.0.place fits.0.state in
     let ws = row_writes i 0 r.values.items (values_of o) r.versions.items in
     let row : AllByRecursion (IsOf (ValueFits (kind_at old i)) i old.ticks) ws = subst (λ (k : Option ℕ). AllByRecursion (IsOf (ValueFits k) i old.ticks) ws) (sym kind)
-        (row_of (ValueFits (Some (kind_of o.state))) i 0 old.ticks r.values.items (values_of o) r.versions.items all few.0) in
+    (row_of (ValueFits (Some (kind_of o.state))) i 0 old.ticks r.values.items (values_of o) r.versions.items all few.0) in
     let later : KindsFrom old (suc i) rows after = λ k less. (
       omega (arith, (kinds (suc k) (omega (arith, less))).0),
-      ap (λ j. kind_at old j) (let e : suc i + k ≡ i + suc k = omega arith in e) ∙ (kinds (suc k) (omega (arith, less))).1) in
+      ap (λ j. kind_at old j) (let e : suc i + k ≡ i + suc k = omega arith in e) ∙ (kinds (suc k) (omega (arith, less))).1,
+    ) in
     both old ws (rows_writes (suc i) rows after) (told old i ws there row) (writes_from old (suc i) rows after later fits.1 few.1)
 
 -- each write of the tick behind a world
@@ -127,6 +128,7 @@ unfolding next
 writes_fit w moves ws e h =
     let kinds : KindsFrom w 0 w.rows (after w moves) = λ k less. (
       omega (arith, h.rows, less),
-      (let z : 0 + k ≡ k = omega arith in ap (λ j. kind_at w j) z ∙ sym (kind_stays w moves k (omega (arith, h.rows, less))))) in
+      (let z : 0 + k ≡ k = omega arith in ap (λ j. kind_at w j) z ∙ sym (kind_stays w moves k (omega (arith, h.rows, less)))),
+    ) in
     subst (λ (vs : List Write). AllByRecursion (IsWriteOf w) vs) (sym e)
-        (writes_from w 0 w.rows (after w moves) kinds (objects_fit w.objects moves (coming w) h.fits) h.counted)
+    (writes_from w 0 w.rows (after w moves) kinds (objects_fit w.objects moves (coming w) h.fits) h.counted)

@@ -1,6 +1,7 @@
 //! Small worlds, tick by tick.
 ghost use Rattle.std.specs.Prelude.{◌∷◌, [], IfOk};
-ghost use Rattle.world_rules.specs.Spawning.{OwnersRise, SetupFits, SpawnFits};
+ghost use Rattle.world_rules.specs.Identity.{OwnersRise};
+ghost use Rattle.world_rules.specs.Spawning.{SetupFits, SpawnFits};
 
 use crate::World;
 use std::alloc::Global;
@@ -12,7 +13,7 @@ use world_rules::{Setup, Spawn, Spawns};
 fn arena(alloc: Global, first: Spawn, second: Spawn) -> Result<Setup, NoMemory>
     requires first { SpawnFits 2 first }
     requires second { SpawnFits 2 second }
-    requires order { OwnersRise 0 (first ∷ second ∷ []) }
+    requires order { OwnersRise 2 0 (first.owner ∷ second.owner ∷ []) }
     ensures { IfOk result SetupFits }
 {
     let mut spawns = Spawns::new(alloc);
@@ -152,7 +153,7 @@ fn field(alloc: Global, first: Spawn, second: Spawn, third: Spawn) -> Result<Set
     requires first { SpawnFits 2 first }
     requires second { SpawnFits 2 second }
     requires third { SpawnFits 2 third }
-    requires order { OwnersRise 0 (first ∷ second ∷ third ∷ []) }
+    requires order { OwnersRise 2 0 (first.owner ∷ second.owner ∷ third.owner ∷ []) }
     ensures { IfOk result SetupFits }
 {
     let mut spawns = Spawns::new(alloc);
