@@ -40,7 +40,7 @@ unfolding player_next disc_next mine_next drone_next flag_next clock_next
 by_kind_same os moves t o (Player p) e = either (identity_of o) (nat_lt 0 p.hp) _ _ (sym (same o (Player p) e)) (sym (same o (Player p) e))
 by_kind_same os moves t o (Disc d) e =
     either (identity_of o) (not o.alive) o _ refl (either (identity_of o) (is_hitting os o) _ _ refl
-        (either (identity_of o) (nat_le MAX_AGE (aged d.age) || is_leaving o.place d) _ _ (sym (same o (Disc d) e)) (sym (same o (Disc d) e))))
+    (either (identity_of o) (nat_le MAX_AGE (aged d.age) || is_leaving o.place d) _ _ (sym (same o (Disc d) e)) (sym (same o (Disc d) e))))
 by_kind_same os moves t o (Mine m) e =
     either (identity_of o) (not o.alive) o _ refl (either (identity_of o) (is_triggered os o) _ _ refl (sym (same o (Mine m) e)))
 by_kind_same os moves t o (Drone d) e = either (identity_of o) (not o.alive) o _ refl (sym (same o (Drone d) e))

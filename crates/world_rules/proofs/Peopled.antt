@@ -54,7 +54,7 @@ by_kind_lives os moves t o (Player p) e h =
     either LivesOn (nat_lt 0 p.hp) _ _ (λ _. alive) (λ _. alive)
 by_kind_lives os moves t o (Disc d) e h =
     either LivesOn (not o.alive) o _ h (either LivesOn (is_hitting os o) _ _ (mortal o (Disc d) false e refl)
-        (either LivesOn (nat_le MAX_AGE (aged d.age) || is_leaving o.place d) _ _ (λ lives. absurd (never lives)) (λ lives. absurd (never lives))))
+    (either LivesOn (nat_le MAX_AGE (aged d.age) || is_leaving o.place d) _ _ (λ lives. absurd (never lives)) (λ lives. absurd (never lives))))
 by_kind_lives os moves t o (Mine m) e h =
     either LivesOn (not o.alive) o _ h (either LivesOn (is_triggered os o) _ _ (mortal o (Mine m) false e refl) (λ lives. absurd (never lives)))
 by_kind_lives os moves t o (Drone d) e h = either LivesOn (not o.alive) o _ h (λ lives. absurd (never lives))
@@ -222,7 +222,7 @@ unfolding player_next disc_next mine_next drone_next flag_next clock_next
 by_kind_holds os moves t o (Player p) e h = either (Holds (owners os)) (nat_lt 0 p.hp) _ _ tt tt
 by_kind_holds os moves t o (Disc d) e h =
     either (Holds (owners os)) (not o.alive) o _ h (either (Holds (owners os)) (is_hitting os o) _ _ h
-        (either (Holds (owners os)) (nat_le MAX_AGE (aged d.age) || is_leaving o.place d) _ _ tt tt))
+    (either (Holds (owners os)) (nat_le MAX_AGE (aged d.age) || is_leaving o.place d) _ _ tt tt))
 by_kind_holds os moves t o (Mine m) e h =
     either (Holds (owners os)) (not o.alive) o _ h (either (Holds (owners os)) (is_triggered os o) _ _ h tt)
 by_kind_holds os moves t o (Drone d) e h = either (Holds (owners os)) (not o.alive) o _ h tt
@@ -261,7 +261,7 @@ peopled_next clients os moves t h =
       numbered = subst (λ (ns : List (Option ℕ)). NumbersFit 0 ns) (sym numbered) (numbers_append 0 (numbers os) ds h.numbered plain);
       alive = lives_append (map (object_next os moves t) os) ds (all_live os moves t os h.alive) (plain_lives ds plain);
       held = subst (λ (ws : List (Option ℕ)). AllByRecursion (Holds ws) (objects_next os moves t)) (sym owned)
-        (hold_append (owners os ++ owners ds) (map (object_next os moves t) os) ds (all_hold os moves t (owners ds) os h.held) (plain_hold (owners os ++ owners ds) ds plain));
+          (hold_append (owners os ++ owners ds) (map (object_next os moves t) os) ds (all_hold os moves t (owners ds) os h.held) (plain_hold (owners os ++ owners ds) ds plain));
     }
 
 -- ---- the start
