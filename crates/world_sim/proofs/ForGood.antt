@@ -1,6 +1,6 @@
--- What stays for good: the kind of each object; and that each row has its object's values.
-use Rattle.std.proofs.Common.{◌≡◌, ℕ, zero, suc, ◌<◌, ◌≤◌, Bool, true, false, cond, not, ◌||◌, nat_lt, nat_le, List, [], ◌∷◌, ◌++◌, length, map, get_or, Option, Some, None, refl, sym, ap, ◌∙◌, arith}
-use Rattle.std.specs.Prelude.{ℤ, slice_get, option_map, find}
+-- What stays for good: the kind of each object; and what a row tells of its object.
+use Rattle.std.proofs.Common.{◌≡◌, ℕ, zero, suc, ◌<◌, List, [], ◌∷◌, ◌++◌, length, map, get_or, Option, Some, refl, sym, ap, ◌∙◌, arith}
+use Rattle.std.specs.Prelude.{ℤ, slice_get, option_map, option_and_then}
 use Rattle.tn_types.specs.declared.moves.Move.{Move}
 use Rattle.world_rules.specs.declared.object.Object.{Object}
 use Rattle.world_rules.specs.Kinds.{kind_of}
@@ -12,8 +12,8 @@ use Rattle.world_rules.proofs.Identities.{stays_itself}
 use Rattle.world_rules.proofs.Peopled.{player_stays as owners_stay}
 use Rattle.world_sim.specs.declared.rows.Row.{Row}
 use Rattle.world_sim.specs.Rows.{values_of}
-use Rattle.world_sim.specs.RowsNext.{fresh_row, rows_next}
-use Rattle.world_sim.specs.Worlds.{Worlds, next, coming, kind_at, identity_at, player_of, row_values, values_at}
+use Rattle.world_sim.specs.RowsNext.{row_values, row_counts}
+use Rattle.world_sim.specs.Worlds.{Worlds, next, coming, kind_at, identity_at, player_of, values_at, version_at}
 
 identities_next : (os : List Object) (moves : List (Option Move)) (t : Moment) (xs ys : List Object) (k : ℕ) → k < length xs → option_map identity_of (slice_get (map (object_next os moves t) xs ++ ys) k) ≡ option_map identity_of (slice_get xs k)
 identities_next os moves t [] ys k l = absurd (omega arith)
@@ -42,19 +42,6 @@ kind_stays w moves object l =
     ∙ ap (option_map (λ (i : Identity). i.kind)) (identity_stays w moves object l)
     ∙ sym (kind_told w.objects object)
 
-fresh_values : (os : List Object) → map row_values (map fresh_row os) ≡ map values_of os
-fresh_values [] = refl
-fresh_values (o ∷ os) = ap (λ vs. values_of o ∷ vs) (fresh_values os)
-
-pub first_values : (os all : List Object) (rows : List Row) → all ≡ os → rows ≡ map fresh_row os → map row_values rows ≡ map values_of all
-first_values os all rows e f = rw (e, f) (fresh_values os)
-
-pub next_values : (rows : List Row) (after : List Object) → length rows ≤ length after → map row_values (rows_next rows after) ≡ map values_of after
-unfolding rows_next
-next_values [] after h = fresh_values after
-next_values (r ∷ rows) [] h = absurd (omega arith)
-next_values (r ∷ rows) (o ∷ after) h = ap (λ vs. values_of o ∷ vs) (next_values rows after (omega arith))
-
 mapped : {A B C : Type 0} (f : A → C) (g : B → C) (xs : List A) (ys : List B) (k : ℕ) → map f xs ≡ map g ys → option_map f (slice_get xs k) ≡ option_map g (slice_get ys k)
 mapped f g [] [] k e = refl
 mapped f g [] (y ∷ ys) k e = absurd (cc)
@@ -70,6 +57,17 @@ got [] k x l e = absurd (omega arith)
 got (y ∷ ys) zero x l e = ap Some (sym e)
 got (y ∷ ys) (suc k) x l e = got ys k x (omega arith) e
 
-pub values_told : (w v : Worlds) (k : ℕ) (r : Row) (values : List ℤ) → w ≡ v → map row_values w.rows ≡ map values_of w.objects → k < length w.rows → r ≡ get_or w.rows k r → values ≡ row_values r → Some values ≡ values_at v k
-values_told w v k r values same told l at e =
-    ap Some e ∙ sym (ap (option_map row_values) (got w.rows k r l at)) ∙ row_tells w.rows w.objects k told ∙ ap (λ (u : Worlds). values_at u k) same
+pub values_told : (w v : Worlds) (rows : List Row) (k : ℕ) (r : Row) (values : List ℤ) → w ≡ v → map row_values rows ≡ map values_of w.objects → k < length rows → r ≡ get_or rows k r → values ≡ row_values r → Some values ≡ values_at v k
+values_told w v rows k r values same told l at e =
+    ap Some e ∙ sym (ap (option_map row_values) (got rows k r l at)) ∙ row_tells rows w.objects k told ∙ ap (λ (u : Worlds). values_at u k) same
+
+counts_at : (rows : List Row) (k : ℕ) (r : Row) → k < length rows → r ≡ get_or rows k r → slice_get (map row_counts rows) k ≡ Some (row_counts r)
+counts_at [] k r l e = absurd (omega arith)
+counts_at (x ∷ rows) zero r l e = ap (λ (y : Row). Some (row_counts y)) (sym e)
+counts_at (x ∷ rows) (suc k) r l e = counts_at rows k r (omega arith) e
+
+pub version_told : (w v : Worlds) (rows : List Row) (k field : ℕ) (r : Row) (version : Option ℕ) → w ≡ v → map row_counts rows ≡ w.versions → k < length rows → r ≡ get_or rows k r → version ≡ slice_get (row_counts r) field → version ≡ version_at v k field
+version_told w v rows k field r version same told l at e =
+    e ∙ sym (ap (option_and_then (λ versions. slice_get versions field)) (counts_at rows k r l at))
+    ∙ ap (λ (vs : List (List ℕ)). option_and_then (λ versions. slice_get versions field) (slice_get vs k)) told
+    ∙ ap (λ (u : Worlds). version_at u k field) same

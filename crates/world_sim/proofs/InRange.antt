@@ -1,21 +1,19 @@
 -- Values of objects that are in their ranges are in those of their kind.
 use Rattle.std.proofs.Common.{◌≡◌, ℕ, zero, suc, ◌+◌, ◌<◌, ◌≤◌, Bool, true, false, cond, List, [], ◌∷◌, ◌++◌, length, Option, Some, None, refl, arith, sym, ap, subst, ◌∙◌}
-use Rattle.std.specs.Prelude.{ℤ, pos, ◌≤ℤ◌, IfSome, slice_get, option_map}
+use Rattle.std.specs.Prelude.{ℤ, pos, ◌≤ℤ◌, slice_get, option_map}
 use Rattle.std.specs.List.{AllByRecursion}
 use Rattle.std.proofs.lemmas.Int.{ints}
 use Rattle.world_rules.specs.declared.object.Object.{Object}
 use Rattle.world_rules.specs.declared.object.State.{State}
 use Rattle.world_rules.specs.declared.object.State.TheVariants.{Player, Disc, Mine, Drone, Flag, Clock}
-use Rattle.world_rules.specs.Kinds.{match_kinds, kind_of}
+use Rattle.world_rules.specs.Kinds.{kind_of}
 use Rattle.world_rules.specs.Ranges.{ObjectFits, StateFits, PlaceFits, HolderFits}
-use Rattle.world_sim.specs.Rows.{values_of, part_values, as_number, holder_number, field_writes, row_writes, differs}
+use Rattle.world_sim.specs.Rows.{values_of, part_values, as_number, holder_number, field_writes, row_writes, world_writes, differs}
 use Rattle.world_sim.specs.declared.rows.Write.{Write}
-use Rattle.world_sim.specs.declared.rows.Row.{Row}
-use Rattle.world_sim.specs.RowsNext.{rows_writes, WasCounted}
-use Rattle.world_sim.specs.Facts.{AreInRange, ValuesFit, ValueFits, IsWriteOf}
+use Rattle.world_sim.specs.Facts.{ValuesFit, ValueFits, IsWriteOf}
 use Rattle.tn_types.specs.declared.moves.Move.{Move}
 use Rattle.world_rules.proofs.Ranging.{objects_fit}
-use Rattle.world_sim.specs.Worlds.{Worlds, IsWorld, next, after, coming, kind_at, values_at}
+use Rattle.world_sim.specs.Worlds.{Worlds, WasCounted, IsWorld, next, after, coming, kind_at}
 use Rattle.world_sim.proofs.ForGood.{kind_stays}
 
 low : (n : ℕ) → pos 0 ≤ℤ pos n
@@ -100,35 +98,36 @@ both old [] ys h k = k
 both old (x ∷ xs) ys h k = (h.0, both old xs ys h.1 k)
 
 -- the objects after the tick from this number on, whose kinds are those before it
-abbrev KindsFrom : Worlds → ℕ → List Row → List Object → Type 0
-KindsFrom old i rows after = (k : ℕ) → k < length rows → (i + k < length old.objects) × (kind_at old (i + k) ≡ option_map (λ (o : Object). kind_of o.state) (slice_get after k))
+abbrev KindsFrom : Worlds → ℕ → List Object → List Object → Type 0
+KindsFrom old i os after = (k : ℕ) → k < length os → (i + k < length old.objects) × (kind_at old (i + k) ≡ option_map (λ (o : Object). kind_of o.state) (slice_get after k))
 
-writes_from : (old : Worlds) (i : ℕ) (rows : List Row) (after : List Object) → KindsFrom old i rows after → AllByRecursion ObjectFits after → AllByRecursion (WasCounted old.ticks) rows → AllByRecursion (IsWriteOf old) (rows_writes i rows after)
-unfolding rows_writes
-writes_from old i [] after kinds fits few = tt
-writes_from old i (r ∷ rows) [] kinds fits few = tt
-writes_from old i (r ∷ rows) (o ∷ after) kinds fits few =
+writes_from : (old : Worlds) (i : ℕ) (os after : List Object) (vs : List (List ℕ)) → KindsFrom old i os after → AllByRecursion ObjectFits after → AllByRecursion (WasCounted old.ticks) vs → AllByRecursion (IsWriteOf old) (world_writes i os after vs)
+unfolding world_writes
+writes_from old i [] after vs kinds fits few = tt
+writes_from old i (r ∷ os) [] vs kinds fits few = tt
+writes_from old i (r ∷ os) (o ∷ after) [] kinds fits few = tt
+writes_from old i (r ∷ os) (o ∷ after) (v ∷ vs) kinds fits few =
     let here = kinds 0 (omega arith) in
     let there : i < length old.objects = omega (arith, here.0) in
     let place : i + 0 ≡ i = omega arith in
     let kind : kind_at old i ≡ Some (kind_of o.state) = ap (λ k. kind_at old k) (sym place) ∙ here.1 in
     let all = fit_from o o.state fits.0.place fits.0.state in
-    let ws = row_writes i 0 r.values.items (values_of o) r.versions.items in
+    let ws = row_writes i 0 (values_of r) (values_of o) v in
     let row : AllByRecursion (IsOf (ValueFits (kind_at old i)) i old.ticks) ws = subst (λ (k : Option ℕ). AllByRecursion (IsOf (ValueFits k) i old.ticks) ws) (sym kind)
-    (row_of (ValueFits (Some (kind_of o.state))) i 0 old.ticks r.values.items (values_of o) r.versions.items all few.0) in
-    let later : KindsFrom old (suc i) rows after = λ k less. (
+    (row_of (ValueFits (Some (kind_of o.state))) i 0 old.ticks (values_of r) (values_of o) v all few.0) in
+    let later : KindsFrom old (suc i) os after = λ k less. (
       omega (arith, (kinds (suc k) (omega (arith, less))).0),
       ap (λ j. kind_at old j) (let e : suc i + k ≡ i + suc k = omega arith in e) ∙ (kinds (suc k) (omega (arith, less))).1,
     ) in
-    both old ws (rows_writes (suc i) rows after) (told old i ws there row) (writes_from old (suc i) rows after later fits.1 few.1)
+    both old ws (world_writes (suc i) os after vs) (told old i ws there row) (writes_from old (suc i) os after vs later fits.1 few.1)
 
 -- each write of the tick behind a world
-pub writes_fit : (w : Worlds) (moves : List (Option Move)) (ws : List Write) → ws ≡ rows_writes 0 w.rows (after w moves) → IsWorld w → AllByRecursion (IsWriteOf w) ws
+pub writes_fit : (w : Worlds) (moves : List (Option Move)) (ws : List Write) → ws ≡ world_writes 0 w.objects (after w moves) w.versions → IsWorld w → AllByRecursion (IsWriteOf w) ws
 unfolding next
 writes_fit w moves ws e h =
-    let kinds : KindsFrom w 0 w.rows (after w moves) = λ k less. (
-      omega (arith, h.rows, less),
-      (let z : 0 + k ≡ k = omega arith in ap (λ j. kind_at w j) z ∙ sym (kind_stays w moves k (omega (arith, h.rows, less)))),
+    let kinds : KindsFrom w 0 w.objects (after w moves) = λ k less. (
+      omega (arith, less),
+      (let z : 0 + k ≡ k = omega arith in ap (λ j. kind_at w j) z ∙ sym (kind_stays w moves k less)),
     ) in
     subst (λ (vs : List Write). AllByRecursion (IsWriteOf w) vs) (sym e)
-    (writes_from w 0 w.rows (after w moves) kinds (objects_fit w.objects moves (coming w) h.fits) h.counted)
+    (writes_from w 0 w.objects (after w moves) w.versions kinds (objects_fit w.objects moves (coming w) h.fits) h.counted)

@@ -6,3 +6,5 @@ pub mod Started
 pub mod Gathered
 pub mod ForGood
 pub mod InRange
+pub mod Kept
+pub mod Histories

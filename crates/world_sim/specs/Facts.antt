@@ -1,7 +1,6 @@
 -- What a match may rely on of its world: values in the ranges of their kinds, and writes of objects that were there before
 -- the tick, of fields of their kind, with versions from 1 to the number of ticks.
-use Rattle.std.specs.Prelude.{◌≡◌, ℕ, ℤ, ◌+◌, ◌<◌, ◌≤◌, ◌≤ℤ◌, List, [], ◌∷◌, length, Option, Some, None, IfSome, slice_get}
-use Rattle.std.specs.List.{AllByRecursion}
+use Rattle.std.specs.Prelude.{ℕ, ℤ, ◌+◌, ◌<◌, ◌≤◌, ◌≤ℤ◌, List, [], ◌∷◌, length, Option, IfSome, slice_get}
 use Rattle.quantised_fields.specs.declared.field.FieldSpec.{FieldSpec}
 use Rattle.quantised_fields.specs.declared.kind.Kind.{Kind}
 use Rattle.world_rules.specs.Kinds.{match_kinds}

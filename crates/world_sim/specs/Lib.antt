@@ -3,3 +3,4 @@ pub mod RowsNext
 pub mod Worlds
 pub mod Found
 pub mod Facts
+pub mod History

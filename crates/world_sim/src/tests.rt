@@ -196,9 +196,7 @@ fn two_takers(rt: HostRuntime) -> Result<(), Fail> {
         (None, Some(using(0)), 2),
         (None, None, 0),
     ] {
-        let world = taken(rt.alloc(), &[first, second])
-            .ok()
-            .ok_or("no memory")?;
+        let world = taken(rt.alloc(), &[first, second]).ok().ok_or("no memory")?;
         assert_eq!(rt; value(&world, 2, 2), holder);
     }
     Ok(())

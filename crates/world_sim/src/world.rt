@@ -7,9 +7,10 @@ ghost use Rattle.world_rules.specs.Next.{objects_next};
 ghost use Rattle.world_rules.specs.Spawning.{first_objects, SetupFits};
 ghost use Rattle.world_rules.specs.Ranges.{ObjectFits};
 ghost use Rattle.world_rules.specs.Identity.{IsPeopled};
-ghost use Rattle.world_sim.specs.Worlds.{next, added, first_world, alive_at, kind_at, block_at, values_at, identity_at, player_of};
+ghost use Rattle.world_sim.specs.Worlds.{next, added, first_world, alive_at, kind_at, block_at, values_at, version_at, identity_at, player_of};
 ghost use Rattle.world_sim.specs.Facts.{IsWriteOf, ValuesFit};
-ghost use Rattle.world_sim.specs.RowsNext.{fresh_row, rows_next, rows_writes, IsSmallRow};
+ghost use Rattle.world_sim.specs.Rows.{values_of, versions_next, world_writes};
+ghost use Rattle.world_sim.specs.RowsNext.{fresh_row, row_values, row_counts, IsSmallRow};
 
 use crate::found::find_all;
 use crate::rows::{Row, Write, fresh_row, note_rows, step_rows};
@@ -67,7 +68,9 @@ pub struct World {
 }
 
 impl Model for World {
-    ghost use Rattle.world_sim.specs.Worlds.{Worlds, IsWorld};
+    ghost use Rattle.std.specs.Prelude.{map};
+    ghost use Rattle.world_sim.specs.RowsNext.{row_counts};
+    ghost use Rattle.world_sim.specs.Worlds.{Worlds, IsKept};
 
     ghost Value = { Worlds };
 
@@ -77,19 +80,19 @@ impl Model for World {
       radius = w.radius;
       ticks = w.ticks;
       objects = w.objects.items;
-      rows = w.rows.items;
+      versions = map row_counts w.rows.items;
       writes = w.writes.items;
     } };
 
-    ghost invariant = { λ w. IsWorld (record {
+    ghost invariant = { λ w. IsKept (record {
       seed = w.seed;
       clients = w.clients;
       radius = w.radius;
       ticks = w.ticks;
       objects = w.objects.items;
-      rows = w.rows.items;
+      versions = map row_counts w.rows.items;
       writes = w.writes.items;
-    }) };
+    }) w.rows.items };
 }
 
 // Adds a disc that is made, if there is a place.
@@ -162,7 +165,7 @@ fn next_objects(
 }
 
 // What a tick makes of the objects and their rows.
-#[tactic(auto, using(crate::proofs::WorldLaws::more_objects))]
+#[tactic(auto, using(crate::proofs::WorldLaws::more_objects, crate::proofs::Kept::values_kept, crate::proofs::Kept::counts_kept, crate::proofs::Kept::writes_kept))]
 fn advance(
     objects: &[Object],
     rows: &[Row],
@@ -173,12 +176,14 @@ fn advance(
 ) -> Result<(), AllocError>
     requires few { length objects.now ≤ MAX_OBJECTS }
     requires rows { length rows.now ≡ length objects.now }
+    requires kept { map row_values rows.now ≡ map values_of objects.now }
     requires small { AllByRecursion IsSmallRow rows.now }
     ensures objects { OnOk result (work.new.after.items ≡ objects_next objects.now moves.now (record { seed = seed; tick = tick })) }
-    ensures rows { OnOk result (work.new.after_rows.items
-        ≡ rows_next rows.now (objects_next objects.now moves.now (record { seed = seed; tick = tick }))) }
+    ensures kept { OnOk result (map row_values work.new.after_rows.items ≡ map values_of work.new.after.items) }
+    ensures versions { OnOk result (map row_counts work.new.after_rows.items
+        ≡ versions_next objects.now work.new.after.items (map row_counts rows.now)) }
     ensures writes { OnOk result (work.new.after_writes.items
-        ≡ rows_writes 0 rows.now (objects_next objects.now moves.now (record { seed = seed; tick = tick }))) }
+        ≡ world_writes 0 objects.now work.new.after.items (map row_counts rows.now)) }
 {
     next_objects(objects, moves, seed, tick, work)?;
     step_rows(rows, &work.after, &mut work.after_rows)?;
@@ -385,5 +390,16 @@ impl World {
         ensures fits { ValuesFit (kind_at self.now object) result.now }
     {
         self.rows[object as usize].values.as_slice()
+    }
+
+    /// How often a field was written; `None` exactly where the object has no such field.
+    pub fn version(&self, object: u32, field: u8) -> Option<u32>
+        requires { object < length self.now.objects }
+        ensures { result ≡ version_at self.now object field }
+    {
+        self.rows[object as usize]
+            .versions
+            .get(field as usize)
+            .copied()
     }
 }
