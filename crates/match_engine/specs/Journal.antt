@@ -57,4 +57,8 @@ journal t c lines = steps_of t (own c lines)
 
 -- what the header says of a client's connection
 abbrev pub client_terms : Head → ℕ → Terms
-client_terms head c = record { config = record { client = c; life = head.life; size = head.size }; kinds = plain_kinds; blocks = head.blocks }
+client_terms head c = record {
+  config = record { client = c; life = head.life; size = head.size };
+  kinds = plain_kinds;
+  blocks = head.blocks;
+}

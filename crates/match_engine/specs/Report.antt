@@ -47,7 +47,8 @@ client_post_told t steps c Loose = told_as.PostLoose true c (dropped_of (client_
 abbrev pub pack_told : Terms → List ServerEvent → ℕ → SendState → Told
 pack_told t log c Held = told_as.Packed false c (length (server_datagrams t log)) true (server_ping_bytes t log)
 pack_told t log c Worn = told_as.PackWorn false c t.config.life
-pack_told t log c Room = told_as.Packed false c (length (server_datagrams t log)) false (bytes_down t (server_packet.Body (next_body t log [])))
+pack_told t log c Room =
+    told_as.Packed false c (length (server_datagrams t log)) false (bytes_down t (server_packet.Body (next_body t log [])))
 
 abbrev pub client_pack_told : Config → List ClientEvent → ℕ → SendState → Told
 client_pack_told k log c Held = told_as.Packed true c (length (client_datagrams k log)) true (client_ping_bytes k log)
@@ -83,7 +84,9 @@ abbrev pub brought_down_told : ℕ → ℕ → Terms → List PairStep → Told
 brought_down_told c place t steps = down_told c place (handed_down t steps place) (down_answer t steps place)
 
 abbrev pub brought_up_told : ℕ → ℕ → Terms → List PairStep → Told
-brought_up_told c place t steps = let room = room_in t steps in up_told c place (handed_up t steps place room) (up_answer t steps place room)
+brought_up_told c place t steps =
+    let room = room_in t steps in
+    up_told c place (handed_up t steps place room) (up_answer t steps place room)
 
 -- no tick takes a move yet
 abbrev pub show_told : Terms → List PairStep → ℕ → Told

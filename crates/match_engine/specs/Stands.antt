@@ -30,7 +30,8 @@ pub record StandsFor (m : MatchState) (past : List BodyLine) : Type 0 where
   pub head : HeadFits m.head
   pub clients : length m.seats ≡ m.head.clients
   pub done : m.done ≡ length past
-  pub seats : (c : ℕ) (d : Seat) → c < m.head.clients → SeatStandsFor (slice_index_or m.seats c d) (client_terms m.head c) (journal (client_terms m.head c) c past)
+  pub seats : (c : ℕ) (d : Seat) → c < m.head.clients
+      → SeatStandsFor (slice_index_or m.seats c d) (client_terms m.head c) (journal (client_terms m.head c) c past)
   pub quiet : (c : ℕ) (d : Seat) → c < m.head.clients → IsQuiet (slice_index_or m.seats c d).pair
 
 -- for every list of lines that the old match stood for, the new one stands for it with the line

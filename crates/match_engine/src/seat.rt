@@ -46,7 +46,8 @@ impl Seat {
         requires { self.old.pair.conn.common.receiver.ready ≡ [] }
         ensures answer { SeatAnswers self.old (λ t steps. up_answer t steps k (room_in t steps)) result }
         ensures stands { SeatBecomes self.old (λ t steps. Up k (room_in t steps) ∷ steps) self.new }
-        ensures handed { (t : Terms) (steps : List PairStep) → SeatStandsFor self.old t steps → server_delivered t (Up k (room_in t steps) ∷ steps)
+        ensures handed { (t : Terms) (steps : List PairStep) → SeatStandsFor self.old t steps
+            → server_delivered t (Up k (room_in t steps) ∷ steps)
             ≡ server_delivered t steps ++ self.new.pair.conn.common.receiver.ready }
         ensures client { self.new.pair.client ≡ self.old.pair.client }
         ensures unchanged { OnErr result (self.new ≡ self.old) }

@@ -145,7 +145,8 @@ told_text (NotSent way c k sent) = arrival_words way c k ++ codes "notsent " ++ 
 told_text (ServerRefused way c k fault) = arrival_words way c k ++ server_refusal fault
 told_text (ClientRefused c k fault) = arrival_words Down c k ++ client_refusal fault
 told_text (Show c events sampled accepted taken control) =
-    codes "show " ++ decimal c ++ codes " events " ++ decimal events ++ codes " sampled " ++ decimal sampled ++ codes " accepted " ++ decimal accepted
+    codes "show " ++ decimal c ++ codes " events " ++ decimal events ++ codes " sampled " ++ decimal sampled
+    ++ codes " accepted " ++ decimal accepted
     ++ codes " taken " ++ decimal taken ++ codes " control " ++ control_word control ++ codes " ghosts 0"
 
 -- a line of the report, with its newline
