@@ -17,12 +17,10 @@ use Rattle.tn_types.specs.Checks.{then_check}
 use Rattle.ghost_client.specs.declared.copy.GhostCopy.{GhostCopy}
 use Rattle.ghost_client.specs.declared.fault.GhostFault.{GhostFault}
 use Rattle.ghost_client.specs.declared.fault.GhostFault.TheVariants.{Twice}
-use Rattle.ghost_client.specs.Copies.{copy_of}
 use Rattle.ghost_client.specs.Fields.{slot_named, names}
 use Rattle.ghost_client.specs.Faults.{fault_of, item_fault}
 use Rattle.tn_types.specs.Checks.{first_fault}
 use Rattle.std.specs.Option.{option_or}
-use Rattle.ghost_client.specs.State.{copy_in}
 use Rattle.stream_manager.specs.declared.fault.ClientFault.TheVariants as refused
 use Rattle.stream_manager.specs.Faults.{blocks_at_client}
 use Rattle.stream_manager.specs.Client.{blocks_check, held_word, control_fault}
