@@ -98,7 +98,8 @@ impl Conn {
     /// field, each in its field's range.
     pub fn fits(&self, values: &[i64]) -> bool
         requires { IsSome self.now.masks.plan }
-        ensures told { let m = self.now.masks in OfPlan m (λ log items. IsTrue result ↔ AreValues (all_carried m.kinds log items) values.now) }
+        ensures told { let m = self.now.masks in
+            OfPlan m (λ log items. IsTrue result ↔ AreValues (all_carried m.kinds log items) values.now) }
         ensures holds { IsTrue result → FitPlan self.now.masks values.now }
     {
         self.masks.fits(values)
