@@ -1,4 +1,4 @@
-use Rattle.std.proofs.Common.{◌≡◌, ◌≤◌, ◌∙◌, List, take, length, sym, subst, ap, arith, length-take}
+use Rattle.std.proofs.Common.{◌≡◌, ◌≤◌, List, take, length, sym, subst, ap, arith, length-take}
 use Rattle.wire_format.specs.declared.events.EventItem.{EventItem}
 use Rattle.wire_format.specs.Events.{event_size, IsEventInRange}
 use Rattle.event_manager.specs.SenderState.{due_now}
