@@ -145,8 +145,22 @@ fn pack(alloc: Global, pair: &mut Pair, client: u8) -> Result<Told, NoMemory>
             client,
             life,
         }),
-        Made::Data { place } => packed(alloc, false, client, place, false, pair.server_datagram(place)),
-        Made::Ping { place } => packed(alloc, false, client, place, true, pair.server_datagram(place)),
+        Made::Data { place } => packed(
+            alloc,
+            false,
+            client,
+            place,
+            false,
+            pair.server_datagram(place),
+        ),
+        Made::Ping { place } => packed(
+            alloc,
+            false,
+            client,
+            place,
+            true,
+            pair.server_datagram(place),
+        ),
     }
 }
 
@@ -163,8 +177,22 @@ fn client_pack(alloc: Global, pair: &mut Pair, client: u8) -> Result<Told, NoMem
             client,
             life,
         }),
-        Made::Data { place } => packed(alloc, true, client, place, false, pair.client_datagram(place)),
-        Made::Ping { place } => packed(alloc, true, client, place, true, pair.client_datagram(place)),
+        Made::Data { place } => packed(
+            alloc,
+            true,
+            client,
+            place,
+            false,
+            pair.client_datagram(place),
+        ),
+        Made::Ping { place } => packed(
+            alloc,
+            true,
+            client,
+            place,
+            true,
+            pair.client_datagram(place),
+        ),
     }
 }
 
