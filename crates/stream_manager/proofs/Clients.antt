@@ -14,7 +14,7 @@ use Rattle.wire_format.specs.Ghosts.{IsGhost, IsGhostInRange}
 use Rattle.wire_format.specs.Server.{IsServerBody}
 use Rattle.datablocks.specs.Holding.{after_all}
 use Rattle.ghost_client.specs.declared.fault.GhostFault.{GhostFault}
-use Rattle.ghost_client.specs.Fields.{slot_named}
+use Rattle.wire_format.specs.Ghosts.{slot_named}
 use Rattle.tn_types.specs.Checks.{first_fault}
 use Rattle.ghost_client.specs.declared.copy.GhostCopy.{GhostCopy}
 use Rattle.ghost_client.specs.Copies.{copy_of}

@@ -23,7 +23,9 @@ IsFaultless fault before (x ∷ xs) = (fault before x ≡ None) × IsFaultless f
 
 -- an item is faulty behind those before it, and none before it is; or none is
 abbrev pub IsFirstFault : {A E : Type 0} → (List A → A → Option E) → List A → List A → Option E → Type 0
-IsFirstFault {A} fault before xs (Some e) = (front : List A) × (x : A) × (rest : List A) × (xs ≡ front ++ x ∷ rest) × (fault (before ++ front) x ≡ Some e) × IsFaultless fault before front
+IsFirstFault {A} fault before xs (Some e) =
+    (front : List A) × (x : A) × (rest : List A)
+    × (xs ≡ front ++ x ∷ rest) × (fault (before ++ front) x ≡ Some e) × IsFaultless fault before front
 IsFirstFault fault before xs None = IsFaultless fault before xs
 
 -- a number that is less than the sum of those before it

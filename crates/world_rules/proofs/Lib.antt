@@ -1,3 +1,5 @@
 pub mod Drawn
 pub mod Taker
 pub mod Ranging
+pub mod Identities
+pub mod Peopled

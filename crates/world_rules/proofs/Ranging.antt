@@ -16,7 +16,18 @@ use Rattle.world_rules.specs.declared.object.Drone.{Drone as DronePart}
 use Rattle.world_rules.specs.declared.object.Clock.{Clock as ClockPart}
 use Rattle.world_rules.specs.declared.setup.Spawn.{Spawn}
 use Rattle.std.specs.Option.{option_or}
-use Rattle.world_rules.specs.Rules.{clamp, stepped, player_next, is_leaving, disc_next, mine_next, drone_next, flag_next, carried, went_home, is_standing, is_home, taker, taking, is_enemy_near, using_part, is_player, clock_next, move_of, is_firing, fired_by, fired_part, fired, by_kind, object_next, damage, harm, hits, drawn, captures, is_hitting, is_triggered, Moment, aged}
+use Rattle.world_rules.specs.declared.object.TheConstants.{MAX_AGE}
+use Rattle.world_rules.specs.declared.measures.TheConstants.{ARMING_AGE, FLAG_REACH}
+use Rattle.world_rules.specs.Places.{clamp, stepped}
+use Rattle.world_rules.specs.Moves.{move_of}
+use Rattle.world_rules.specs.Near.{is_standing, is_enemy_near}
+use Rattle.world_rules.specs.Discs.{is_leaving, disc_next, harm, hits, is_hitting, aged}
+use Rattle.world_rules.specs.Mines.{mine_next, is_triggered}
+use Rattle.world_rules.specs.Players.{player_next, is_firing, fired_by, fired_part, fired, damage}
+use Rattle.world_rules.specs.Drones.{drone_next, drawn}
+use Rattle.world_rules.specs.Flags.{flag_next, carried, went_home, is_home, taker, taking, using_part, is_player, captures}
+use Rattle.world_rules.specs.Clocks.{clock_next}
+use Rattle.world_rules.specs.Next.{by_kind, object_next, Moment}
 use Rattle.world_rules.specs.Next.{objects_next, discs_made}
 use Rattle.world_rules.specs.Spawning.{state_at_first, first_objects, SpawnFits, OwnerFits}
 use Rattle.world_rules.specs.Ranges.{PlaceFits, HolderFits, StateFits, ObjectFits}
@@ -49,14 +60,14 @@ player_fits harm scored o p m h s = either ObjectFits (nat_lt 0 p.hp) _ _
 disc_fits : (hitting : Bool) (o : Object) (d : DiscPart) → ObjectFits o → StateFits (Disc d) → ObjectFits (disc_next hitting o d)
 unfolding disc_next
 disc_fits hitting o d h s = either ObjectFits (not o.alive) o _ h (either ObjectFits hitting _ _ (fits_at o false o.place o.state h h.place h.state)
-    (either ObjectFits (nat_le 19 d.age || is_leaving o.place d) _ _
+    (either ObjectFits (nat_le MAX_AGE (aged d.age) || is_leaving o.place d) _ _
     (fits_at o false o.place (Disc (record d { age = aged d.age })) h h.place (omega arith))
     (fits_at o o.alive _ (Disc (record d { age = aged d.age })) h (clamp_fits _, clamp_fits _) (omega arith))))
 
 mine_fits : (triggered : Bool) (o : Object) (m : MinePart) → ObjectFits o → StateFits (Mine m) → ObjectFits (mine_next triggered o m)
 unfolding mine_next
 mine_fits triggered o m h s = either ObjectFits (not o.alive) o _ h (either ObjectFits triggered _ _ (fits_at o false o.place o.state h h.place h.state)
-    (fits_at o o.alive o.place (Mine (record { armed = m.armed || nat_le 9 m.age; age = aged m.age })) h h.place (omega arith)))
+    (fits_at o o.alive o.place (Mine (record { armed = m.armed || nat_le ARMING_AGE (aged m.age); age = aged m.age })) h h.place (omega arith)))
 
 drone_fits : (r harm : ℕ) (o : Object) (d : DronePart) → ObjectFits o → StateFits (Drone d) → ObjectFits (drone_next r harm o d)
 unfolding drone_next
@@ -84,7 +95,7 @@ first_fits (Some c) b h k = h
 
 taker_fits : (os : List Object) (moves : List (Option Move)) (o : Object) → AllByRecursion ObjectFits os → HolderFits (taker os moves o)
 taker_fits [] moves o h = tt
-taker_fits (p ∷ os) moves o h = first_fits (taking moves o p) (taker os moves o) (either HolderFits (is_enemy_near 300 o p) _ _ (using_fits moves p.state h.0.state) tt) (taker_fits os moves o h.1)
+taker_fits (p ∷ os) moves o h = first_fits (taking moves o p) (taker os moves o) (either HolderFits (is_enemy_near FLAG_REACH o p) _ _ (using_fits moves p.state h.0.state) tt) (taker_fits os moves o h.1)
 
 flag_fits : (os : List Object) (moves : List (Option Move)) (o : Object) (holder : Option ℕ) → AllByRecursion ObjectFits os → ObjectFits o → ObjectFits (flag_next os moves o holder)
 unfolding flag_next

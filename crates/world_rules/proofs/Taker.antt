@@ -4,7 +4,8 @@ use Rattle.std.proofs.lemmas.List.{drop_more, drop_all}
 use Rattle.world_rules.specs.declared.object.Object.{Object}
 use Rattle.tn_types.specs.declared.moves.Move.{Move}
 use Rattle.std.specs.Option.{option_or}
-use Rattle.world_rules.specs.Rules.{taker, taking, is_standing}
+use Rattle.world_rules.specs.Near.{is_standing}
+use Rattle.world_rules.specs.Flags.{taker, taking}
 
 pub taker_passes : (os : List Object) (moves : List (Option Move)) (o : Object) (i : ℕ) (x : Object) → i < length os → taking moves o (get_or os i x) ≡ None → taker (drop i os) moves o ≡ taker (drop (i + 1) os) moves o
 taker_passes os moves o i x lt e = rw (drop_more os i x lt, e) refl

@@ -1,5 +1,14 @@
-pub mod Rules
+pub mod Places
+pub mod Moves
+pub mod Near
+pub mod Discs
+pub mod Mines
+pub mod Players
+pub mod Drones
+pub mod Flags
+pub mod Clocks
 pub mod Next
 pub mod Kinds
 pub mod Spawning
 pub mod Ranges
+pub mod Identity

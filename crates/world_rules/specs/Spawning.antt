@@ -1,5 +1,5 @@
 -- What a match starts with: each object stands alive at its home, numbered in the order of the setup.
-use Rattle.std.specs.Prelude.{ℕ, suc, pos, ◌≡◌, ◌<◌, ◌≤◌, ◌≤ℤ◌, List, [], ◌∷◌, length, true, false, ◌==◌, if◌then◌else◌, Option, Some, None}
+use Rattle.std.specs.Prelude.{ℕ, suc, pos, ◌≡◌, ◌<◌, ◌≤◌, ◌≤ℤ◌, List, [], ◌∷◌, length, map, true, false, ◌==◌, if◌then◌else◌, Option, Some, None}
 use Rattle.std.specs.List.{All}
 use Rattle.tn_types.specs.declared.limits.TheConstants.{MAX_CLIENTS, MAX_BLOCKS, MAX_COORDINATE, MAX_OBJECTS}
 use Rattle.world_rules.specs.declared.kinds.TheConstants.{PLAYER, MINE, DRONE, FLAG, CLOCK}
@@ -9,7 +9,8 @@ use Rattle.world_rules.specs.declared.object.State.{State}
 use Rattle.world_rules.specs.declared.object.State.TheVariants.{Player, Mine, Drone, Flag, Clock}
 use Rattle.world_rules.specs.declared.setup.Spawn.{Spawn}
 use Rattle.world_rules.specs.declared.setup.Setup.{Setup}
-use Rattle.world_rules.specs.Rules.{clamp}
+use Rattle.world_rules.specs.Places.{clamp}
+use Rattle.world_rules.specs.Identity.{OwnersRise}
 
 abbrev pub state_at_first : ℕ → ℕ → Option ℕ → State
 state_at_first number kind (Some client) = Player (record { client = client; hp = MAX_HP; ammo = MAX_AMMO; score = 0 })
@@ -48,22 +49,10 @@ pub record SpawnFits (clients : ℕ) (s : Spawn) : Type 0 where
   pub y_least : pos 0 ≤ℤ s.y
   pub y_most : s.y ≤ℤ pos MAX_COORDINATE
 
--- players come first, by rising client, from this one on
-abbrev pub owner_rises : ℕ → Option ℕ → List Spawn → (ℕ → List Spawn → Type 0) → (List Spawn → Type 0) → Type 0
-owner_rises least (Some client) spawns more none = (least ≤ client) × more (suc client) spawns
-owner_rises least None spawns more none = none spawns
-
-abbrev pub HasNoOwner : Spawn → Type 0
-HasNoOwner s = s.owner ≡ None
-
-abbrev pub OwnersRise : ℕ → List Spawn → Type 0
-OwnersRise least [] = Unit {0}
-OwnersRise least (s ∷ spawns) = owner_rises least s.owner spawns (λ next rest. OwnersRise next spawns) (λ rest. All HasNoOwner spawns)
-
 -- the ranges and the order of a setup
 pub record SetupFits (setup : Setup) : Type 0 where
   pub clients_least : 1 ≤ setup.clients
   pub clients : setup.clients ≤ MAX_CLIENTS
   pub few : length setup.spawns ≤ MAX_OBJECTS
   pub spawns : All (SpawnFits setup.clients) setup.spawns
-  pub owners : OwnersRise 0 setup.spawns
+  pub owners : OwnersRise setup.clients 0 (map (λ s. s.owner) setup.spawns)

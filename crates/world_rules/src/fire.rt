@@ -1,7 +1,9 @@
 //! Moves of a tick, and the discs that they make.
 ghost use Rattle.std.specs.Prelude.{◌≡◌, ◌*ℤ◌, pos};
-ghost use Rattle.world_rules.specs.Rules.{move_of, still, is_firing, fired_by, fired, speed, is_still};
+ghost use Rattle.world_rules.specs.Moves.{move_of, still};
+ghost use Rattle.world_rules.specs.Players.{is_firing, fired_by, fired, speed, is_still};
 
+use crate::measures::{DISC_SPEED, STILL_DISC_SPEED};
 use crate::object::{Disc, Object, Player, State};
 use crate::places::stepped;
 use tn_types::Move;
@@ -40,16 +42,16 @@ fn speed_of(m: &Move) -> (i32, i32)
     ensures { result ≡ speed m.now }
 {
     if is_still(m) {
-        (800, 0)
+        (STILL_DISC_SPEED, 0)
     } else {
         (scaled_speed(m.dx), scaled_speed(m.dy))
     }
 }
 
 fn scaled_speed(d: i8) -> i32
-    ensures { result ≡ pos 100 *ℤ d }
+    ensures { result ≡ DISC_SPEED *ℤ d }
 {
-    100 * i32::from(d)
+    DISC_SPEED * i32::from(d)
 }
 
 fn is_firing(p: &Player, m: &Move) -> bool
@@ -59,7 +61,7 @@ fn is_firing(p: &Player, m: &Move) -> bool
 }
 
 // The disc that a player makes with this move.
-#[tactic(auto, unfolding(crate::specs::Rules::fired_by))]
+#[tactic(auto, unfolding(crate::specs::Players::fired_by))]
 fn fired_by(o: &Object, p: &Player, m: &Move) -> Option<Object>
     ensures { result ≡ fired_by o.now p.now m.now }
 {

@@ -1,15 +1,15 @@
 //! Flags and the clock, each after one tick.
 ghost use Rattle.std.specs.Prelude.{◌≡◌, ◌≤◌, filter, find, length};
 ghost use Rattle.std.specs.Option.{option_copied};
-ghost use Rattle.world_rules.specs.Rules.{is_standing, is_player, taking, using_part, taker, is_home, went_home, carried, flag_next, is_capturing, is_captured, captures, clock_next};
+ghost use Rattle.world_rules.specs.Near.{is_standing};
+ghost use Rattle.world_rules.specs.Flags.{is_player, taking, using_part, taker, is_home, went_home, carried, flag_next, is_capturing, is_captured, captures};
+ghost use Rattle.world_rules.specs.Clocks.{clock_next};
 
 use crate::fire::move_of;
+use crate::measures::FLAG_REACH;
 use crate::object::{Clock, Flag, MAX_SCORE, MAX_TICK, Object, State};
 use crate::places::{is_within, stepped};
 use tn_types::Move;
-
-/// How near a flag is taken, and how near home it is captured, in centimetres.
-pub const FLAG_REACH: u32 = 300;
 
 /// Whether this is the client's player.
 pub fn is_player(client: u8, o: &Object) -> bool
@@ -107,7 +107,7 @@ fn carried(moves: &[Option<Move>], o: &Object, client: u8, player: Option<&Objec
 }
 
 /// A flag after the tick, where these are the standing ones of all objects.
-#[tactic(auto, using(crate::proofs::Taker::taker_standing), unfolding(crate::specs::Rules::flag_next))]
+#[tactic(auto, using(crate::proofs::Taker::taker_standing), unfolding(crate::specs::Flags::flag_next))]
 pub fn flag_next(
     objects: &[Object],
     standing: &[Object],
@@ -153,7 +153,7 @@ pub fn is_captured(objects: &[Object], team: u8, f: &Object) -> bool
 }
 
 /// How many flags the team captures in the tick.
-#[tactic(auto, unfolding(crate::specs::Rules::captures))]
+#[tactic(auto, unfolding(crate::specs::Flags::captures))]
 pub fn captures(objects: &[Object], team: u8) -> usize
     ensures value { result ≡ captures objects.now team }
     ensures few { result ≤ length objects.now }
@@ -165,7 +165,7 @@ pub fn captures(objects: &[Object], team: u8) -> usize
 }
 
 /// The clock after the tick, with the captures of both teams.
-#[tactic(auto, unfolding(crate::specs::Rules::clock_next))]
+#[tactic(auto, unfolding(crate::specs::Clocks::clock_next))]
 pub fn clock_next(red: u32, blue: u32, o: &Object, c: &Clock) -> Object
     ensures { result ≡ clock_next red blue o.now c.now }
 {

@@ -5,6 +5,7 @@
 pub mod fire;
 pub mod flags;
 pub mod kinds;
+pub mod measures;
 pub mod movers;
 pub mod object;
 pub mod places;

@@ -1,30 +1,32 @@
 //! Players, discs, mines and drones, each after one tick.
 ghost use Rattle.std.specs.Prelude.{◌≡◌, ◌<◌, ◌+ℤ◌, ◌-ℤ◌, pos};
-ghost use Rattle.world_rules.specs.Rules.{clamp, player_next, disc_next, mine_next, flown, aged, is_leaving, drawn, drone_next};
+ghost use Rattle.world_rules.specs.Places.{clamp};
+ghost use Rattle.world_rules.specs.Discs.{disc_next, flown, aged, is_leaving};
+ghost use Rattle.world_rules.specs.Mines.{mine_next};
+ghost use Rattle.world_rules.specs.Players.{player_next};
+ghost use Rattle.world_rules.specs.Drones.{drawn, drone_next};
 
+use crate::measures::{
+    ARMING_AGE, CHANCE_BY_NUMBER, CHANCE_BY_TICK, CHANCE_SPREAD, DRONE_DRIFT, DRONE_WAYS,
+};
 use crate::object::{
     Disc, Drone, MAX_AGE, MAX_AMMO, MAX_HP, MAX_SCORE, Mine, Object, Place, Player, State,
 };
-use crate::places::{along, is_in_field, stepped};
+use crate::places::{along, is_in_field, spent, stepped};
 use tn_types::Move;
 
 /// A player after the tick: `harm` is what it loses, `scored` how many of its discs hit.
-#[tactic(auto, unfolding(crate::specs::Rules::player_next))]
+#[tactic(auto, unfolding(crate::specs::Players::player_next))]
 pub fn player_next(harm: u32, scored: u32, o: &Object, p: &Player, m: &Move) -> Object
     ensures { result ≡ player_next harm scored o.now p.now m.now }
 {
     let score = p.score.saturating_add(scored).min(MAX_SCORE);
     if p.hp > 0 {
-        let ammo = if m.fire {
-            p.ammo.saturating_sub(1)
-        } else {
-            p.ammo
-        };
         Object {
             place: stepped(&o.place, m),
             state: State::Player(Player {
                 hp: p.hp.saturating_sub(harm),
-                ammo,
+                ammo: spent(p.ammo, m.fire),
                 score,
                 ..*p
             }),
@@ -59,7 +61,7 @@ fn flown(o: &Object, d: &Disc) -> Object
     let age = aged(d.age);
     let vx = i64::from(d.vx);
     let vy = i64::from(d.vy);
-    if d.age >= 19 || is_leaving(&o.place, d) {
+    if age >= MAX_AGE || is_leaving(&o.place, d) {
         Object {
             alive: false,
             state: State::Disc(Disc { age, ..*d }),
@@ -85,7 +87,7 @@ fn aged(age: u32) -> u32
 }
 
 /// A disc after the tick.
-#[tactic(auto, unfolding(crate::specs::Rules::disc_next))]
+#[tactic(auto, unfolding(crate::specs::Discs::disc_next))]
 pub fn disc_next(hitting: bool, o: &Object, d: &Disc) -> Object
     ensures { result ≡ disc_next hitting o.now d.now }
 {
@@ -99,7 +101,7 @@ pub fn disc_next(hitting: bool, o: &Object, d: &Disc) -> Object
 }
 
 /// A mine after the tick.
-#[tactic(auto, unfolding(crate::specs::Rules::mine_next))]
+#[tactic(auto, unfolding(crate::specs::Mines::mine_next))]
 pub fn mine_next(triggered: bool, o: &Object, m: &Mine) -> Object
     ensures { result ≡ mine_next triggered o.now m.now }
 {
@@ -108,28 +110,28 @@ pub fn mine_next(triggered: bool, o: &Object, m: &Mine) -> Object
     } else if triggered {
         Object { alive: false, ..*o }
     } else {
-        let armed = m.armed || m.age >= 9;
+        let age = aged(m.age);
+        let armed = m.armed || age >= ARMING_AGE;
         Object {
-            state: State::Mine(Mine {
-                armed,
-                age: aged(m.age),
-            }),
+            state: State::Mine(Mine { armed, age }),
             ..*o
         }
     }
 }
 
 /// The chance of a drone in a tick: a number below 65,536.
-#[tactic(auto, using(crate::proofs::Drawn::drawn_is), unfolding(crate::specs::Rules::drawn))]
+#[tactic(auto, using(crate::proofs::Drawn::drawn_is), unfolding(crate::specs::Drones::drawn))]
 pub fn drawn(seed: u32, number: u32, tick: u32) -> u32
     ensures { result ≡ drawn seed number tick }
 {
-    let sum = u64::from(seed) + 1 + 7919 * u64::from(number) + 104_729 * u64::from(tick);
-    ((sum % (1 << 32)) * 2_654_435_761 % (1 << 32) / 65536) as u32
+    let by_drone = CHANCE_BY_NUMBER * u64::from(number);
+    let by_tick = CHANCE_BY_TICK * u64::from(tick);
+    let sum = u64::from(seed) + 1 + by_drone + by_tick;
+    ((sum % (1 << 32)) * CHANCE_SPREAD % (1 << 32) / 65536) as u32
 }
 
 /// A drone after the tick: `r` is its chance, `harm` what it loses.
-#[tactic(auto, unfolding(crate::specs::Rules::drone_next))]
+#[tactic(auto, unfolding(crate::specs::Drones::drone_next))]
 pub fn drone_next(r: u32, harm: u32, o: &Object, d: &Drone) -> Object
     ensures { result ≡ drone_next r harm o.now d.now }
 {
@@ -139,8 +141,8 @@ pub fn drone_next(r: u32, harm: u32, o: &Object, d: &Drone) -> Object
     Object {
         alive: harm < d.hp,
         place: Place {
-            x: drifted(o.place.x, r % 101),
-            y: drifted(o.place.y, r / 101 % 101),
+            x: drifted(o.place.x, r % DRONE_WAYS),
+            y: drifted(o.place.y, r / DRONE_WAYS % DRONE_WAYS),
         },
         state: State::Drone(Drone {
             hp: d.hp.saturating_sub(harm),
@@ -150,10 +152,10 @@ pub fn drone_next(r: u32, harm: u32, o: &Object, d: &Drone) -> Object
     }
 }
 
-// A coordinate after a drift of -50 to 50.
+// A coordinate after a drift to either side.
 fn drifted(x: u32, by: u32) -> u32
-    requires { by < 101 }
-    ensures { result ≡ clamp (pos x +ℤ (pos by -ℤ pos 50)) }
+    requires { by < DRONE_WAYS }
+    ensures { result ≡ clamp (pos x +ℤ (pos by -ℤ pos DRONE_DRIFT)) }
 {
-    along(x, i64::from(by) - 50)
+    along(x, i64::from(by) - i64::from(DRONE_DRIFT))
 }

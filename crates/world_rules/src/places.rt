@@ -1,12 +1,11 @@
 //! Places in the field, and steps.
 ghost use Rattle.std.specs.Prelude.{◌≡◌, ◌≤ℤ◌, ◌+ℤ◌, ◌*ℤ◌, ℤ, pos, negsuc};
-ghost use Rattle.world_rules.specs.Rules.{apart, is_within, clamp, is_in_field, stepped, spent};
+ghost use Rattle.world_rules.specs.Places.{apart, is_within, clamp, is_in_field, stepped};
+ghost use Rattle.world_rules.specs.Players.{spent, natural, signed_step};
 
+use crate::measures::PLAYER_STEP;
 use crate::object::{MAX_AMMO, Place};
 use tn_types::{MAX_COORDINATE, Move};
-
-/// How far a player goes in a tick for each unit of a move, in centimetres.
-pub const STEP: i64 = 25;
 
 // How far two numbers are apart.
 fn apart(a: u32, b: u32) -> u32
@@ -16,7 +15,7 @@ fn apart(a: u32, b: u32) -> u32
 }
 
 /// Whether two places are within this reach, the reach itself included. The distance is the greater of both ways.
-#[tactic(auto, unfolding(crate::specs::Rules::is_within))]
+#[tactic(auto, unfolding(crate::specs::Places::is_within))]
 pub fn is_within(reach: u32, a: &Place, b: &Place) -> bool
     ensures { result ≡ is_within reach a.now b.now }
 {
@@ -66,8 +65,8 @@ pub fn stepped(place: &Place, m: &Move) -> Place
     ensures { result ≡ stepped place.now m.now }
 {
     Place {
-        x: along(place.x, scaled(STEP, m.dx)),
-        y: along(place.y, scaled(STEP, m.dy)),
+        x: along(place.x, scaled(PLAYER_STEP, m.dx)),
+        y: along(place.y, scaled(PLAYER_STEP, m.dy)),
     }
 }
 
@@ -80,24 +79,29 @@ pub fn step_player(x: i64, y: i64, ammo: i64, m: Move) -> (i64, i64, i64)
     requires y_most { y ≤ℤ pos MAX_COORDINATE }
     requires ammo_least { pos 0 ≤ℤ ammo }
     requires ammo_most { ammo ≤ℤ pos MAX_AMMO }
-    ensures { result ≡ (pos (clamp (x +ℤ STEP *ℤ m.dx)), pos (clamp (y +ℤ STEP *ℤ m.dy)), spent ammo m.fire) }
+    ensures { result ≡ signed_step x y ammo m }
 {
-    (moved(x, m.dx), moved(y, m.dy), spent(ammo, m.fire))
+    let place = Place {
+        x: natural(x),
+        y: natural(y),
+    };
+    let next = stepped(&place, &m);
+    let left = spent(natural(ammo), m.fire);
+    (i64::from(next.x), i64::from(next.y), i64::from(left))
 }
 
-// A coordinate after a step.
-fn moved(x: i64, d: i8) -> i64
-    requires least { pos 0 ≤ℤ x }
-    requires most { x ≤ℤ pos MAX_COORDINATE }
-    ensures { result ≡ pos (clamp (x +ℤ STEP *ℤ d)) }
+// A number that isn't below 0.
+fn natural(z: i64) -> u32
+    requires least { pos 0 ≤ℤ z }
+    requires most { z ≤ℤ pos MAX_COORDINATE }
+    ensures { result ≡ natural z }
 {
-    i64::from(clamp(x + scaled(STEP, d)))
+    z as u32
 }
 
-// Ammo after a move.
-fn spent(ammo: i64, fire: bool) -> i64
-    requires { pos 0 ≤ℤ ammo }
+// Ammo after a move that fires or not.
+pub(crate) fn spent(ammo: u32, fire: bool) -> u32
     ensures { result ≡ spent ammo fire }
 {
-    if fire && ammo > 0 { ammo - 1 } else { ammo }
+    if fire { ammo.saturating_sub(1) } else { ammo }
 }

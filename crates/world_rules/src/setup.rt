@@ -50,7 +50,7 @@ impl Spawns {
     }
 
     /// One more, behind the others. Nothing changes for want of memory.
-    pub fn push(&mut self, spawn: Spawn) -> Result<(), NoMemory>
+    pub fn push(&mut self, _alloc: Global, spawn: Spawn) -> Result<(), NoMemory>
         ensures ok { OnOk result (self.new ≡ self.old ++ spawn ∷ []) }
         ensures err { OnErr result (self.new ≡ self.old) }
     {

@@ -1,7 +1,9 @@
 //! Who is what to whom: targets, enemies and what is near.
 ghost use Rattle.std.specs.Prelude.{◌≡◌, ◌&&◌};
 ghost use Rattle.world_rules.specs.Kinds.{kind_of};
-ghost use Rattle.world_rules.specs.Rules.{is_standing, is_other_near, is_flying, is_armed, is_target, is_drone_part, is_of};
+ghost use Rattle.world_rules.specs.Near.{is_standing, is_other_near, is_target, is_drone_part};
+ghost use Rattle.world_rules.specs.Discs.{is_flying, is_of};
+ghost use Rattle.world_rules.specs.Mines.{is_armed};
 
 use crate::kinds::{CLOCK, DISC, DRONE, FLAG, MINE, PLAYER};
 use crate::object::{Object, State};

@@ -8,12 +8,11 @@ use Rattle.std.proofs.lemmas.Nat.{div_below}
 use Rattle.std.proofs.lemmas.List.Elements.{All-from_recursion, All-contains, Contains-append_right}
 use Rattle.std.proofs.lemmas.Option.{slice_get_within}
 use Rattle.world_rules.specs.declared.object.Object.{Object}
-use Rattle.world_rules.specs.Rules.{is_player}
+use Rattle.world_rules.specs.Flags.{is_player}
 use Rattle.world_sim.specs.Worlds.{Worlds, alive_at}
 use Rattle.world_scope.specs.declared.viewer.Seen.{Seen}
-use Rattle.world_scope.specs.declared.viewer.Viewer.{Viewer}
 use Rattle.world_scope.specs.Sight.{distance, is_always}
-use Rattle.world_scope.specs.Scope.{player_sees, is_visible, quarter, level, seen, seen_at, viewer_of, visible_list}
+use Rattle.world_scope.specs.Scope.{Look, player_sees, is_visible, quarter, level, seen, seen_at, look_of, visible_list}
 
 -- ---- one object
 
@@ -21,7 +20,7 @@ chosen : {X : Type 0} (b : Bool) (x y : X) → cond b (Some x) None ≡ Some y �
 chosen true x y e = (refl, cc)
 chosen false x y e = absurd (cc)
 
-seen_is : (v : Viewer) (m : ℕ) (o : Object) (s : Seen) → seen v (m, o) ≡ Some s → (is_visible v o ≡ true) × (record { object = m; level = level v o } ≡ s)
+seen_is : (v : Look) (m : ℕ) (o : Object) (s : Seen) → seen v (m, o) ≡ Some s → (is_visible v o ≡ true) × (record { object = m; level = level v o } ≡ s)
 seen_is v m o s e = chosen (is_visible v o) (record { object = m; level = level v o }) s e
 
 pub quarter_few : (radius away : ℕ) → away ≤ radius → 4 * away / (radius + 1) ≤ 3
@@ -37,7 +36,7 @@ few_by : (anywhere sees : Bool) (q : ℕ) → (sees ≡ true → q ≤ 3) → (a
 few_by true sees q h e = omega arith
 few_by false sees q h e = h e
 
-level_few : (v : Viewer) (o : Object) → is_visible v o ≡ true → level v o ≤ 3
+level_few : (v : Look) (o : Object) → is_visible v o ≡ true → level v o ≤ 3
 level_few v o e =
     few_by (is_player v.client o || is_always o) (player_sees v.radius v.player o) (quarter v.radius v.player o) (sight_few v.radius v.player o) (and_parts o.alive _ e).1
 
@@ -54,18 +53,18 @@ each f P n (x ∷ xs) h =
     (λ y e. h 0 n x y (omega arith) refl e)
     (each f P (n + 1) xs (λ k m z y i at e. h (suc k) m z y (omega arith) at e))
 
-all_seen : (P : Seen → Type 0) (w : Worlds) (client : ℕ) → ((m : ℕ) (o : Object) (s : Seen) → slice_get w.objects m ≡ Some o → is_visible (viewer_of w client) o ≡ true → record { object = m; level = level (viewer_of w client) o } ≡ s → P s) → All P (visible_list w client)
+all_seen : (P : Seen → Type 0) (w : Worlds) (client : ℕ) → ((m : ℕ) (o : Object) (s : Seen) → slice_get w.objects m ≡ Some o → is_visible (look_of w client) o ≡ true → record { object = m; level = level (look_of w client) o } ≡ s → P s) → All P (visible_list w client)
 unfolding visible_list
 all_seen P w client h =
-    All-from_recursion P _ (each (seen (viewer_of w client)) P 0 w.objects (λ k m o s i at e.
-    let is = seen_is (viewer_of w client) m o s e in
+    All-from_recursion P _ (each (seen (look_of w client)) P 0 w.objects (λ k m o s i at e.
+    let is = seen_is (look_of w client) m o s e in
     let here : slice_get w.objects m ≡ Some o = (let j : m ≡ k = omega arith in rw j at) in
     h m o s here is.0 is.1))
 
 pub levels_few : (w : Worlds) (client : ℕ) → All (λ s. s.level ≤ 3) (visible_list w client)
 levels_few w client =
     let P : Seen → Type 0 = λ s. s.level ≤ 3 in
-    all_seen P w client (λ m o s at is e. subst P e (level_few (viewer_of w client) o is))
+    all_seen P w client (λ m o s at is e. subst P e (level_few (look_of w client) o is))
 
 pub all_there : (w : Worlds) (client : ℕ) → All (λ s. s.object < length w.objects) (visible_list w client)
 all_there w client =
@@ -101,15 +100,15 @@ listed_in f n (z ∷ xs) (suc k) m x y i at e =
 told : (w : Worlds) (client : ℕ) → All (λ s. seen_at w client s.object ≡ Some s) (visible_list w client)
 told w client =
     let P : Seen → Type 0 = λ s. seen_at w client s.object ≡ Some s in
-    all_seen P w client (λ m o s at is e. subst P e (ap (option_and_then (λ (x : Object). seen (viewer_of w client) (m, x))) at ∙ ap (λ b. cond b (Some (seen_as w client m o)) None) is))
+    all_seen P w client (λ m o s at is e. subst P e (ap (option_and_then (λ (x : Object). seen (look_of w client) (m, x))) at ∙ ap (λ b. cond b (Some (seen_as w client m o)) None) is))
   where
     seen_as : Worlds → ℕ → ℕ → Object → Seen
-    seen_as w client m o = record { object = m; level = level (viewer_of w client) o }
+    seen_as w client m o = record { object = m; level = level (look_of w client) o }
 
-found : (w : Worlds) (client : ℕ) (s : Seen) (o : Option Object) → slice_get w.objects s.object ≡ o → option_and_then (λ (x : Object). seen (viewer_of w client) (s.object, x)) o ≡ Some s → Contains (visible_list w client) s
+found : (w : Worlds) (client : ℕ) (s : Seen) (o : Option Object) → slice_get w.objects s.object ≡ o → option_and_then (λ (x : Object). seen (look_of w client) (s.object, x)) o ≡ Some s → Contains (visible_list w client) s
 unfolding visible_list
 found w client s None at e = absurd (cc)
-found w client s (Some o) at e = listed_in (seen (viewer_of w client)) 0 w.objects s.object s.object o s (omega arith) at e
+found w client s (Some o) at e = listed_in (seen (look_of w client)) 0 w.objects s.object s.object o s (omega arith) at e
 
 pub exactly_seen : (w : Worlds) (client : ℕ) (s : Seen) → Contains (visible_list w client) s ↔ (seen_at w client s.object ≡ Some s)
 exactly_seen w client s =
@@ -140,7 +139,7 @@ numbers_by : (n : ℕ) (y : Option Seen) (ys : List Seen) → ((s : Seen) → y 
 numbers_by n None ys h r = rises_sooner n (n + 1) (map (λ s. s.object) ys) (omega arith) r
 numbers_by n (Some s) ys h r = let e = h s refl in (omega (arith, e), rw e r)
 
-numbers_rise : (v : Viewer) (n : ℕ) (os : List Object) → Rises n (map (λ s. s.object) (filter_map (seen v) (enumerate_from n os)))
+numbers_rise : (v : Look) (n : ℕ) (os : List Object) → Rises n (map (λ s. s.object) (filter_map (seen v) (enumerate_from n os)))
 numbers_rise v n [] = tt
 numbers_rise v n (o ∷ os) =
     numbers_by n (seen v (n, o)) (filter_map (seen v) (enumerate_from (n + 1) os))
@@ -149,10 +148,10 @@ numbers_rise v n (o ∷ os) =
 
 pub objects_rise : (w : Worlds) (client : ℕ) → IsStrictlyIncreasing (map (λ s. s.object) (visible_list w client))
 unfolding visible_list
-objects_rise w client = increasing 0 _ (numbers_rise (viewer_of w client) 0 w.objects)
+objects_rise w client = increasing 0 _ (numbers_rise (look_of w client) 0 w.objects)
 
 -- ---- the list as the code has it
 
-pub is_list : (w : Worlds) (client : ℕ) (v : Viewer) (os : List Object) (listed : List Seen) → v ≡ viewer_of w client → os ≡ w.objects → listed ≡ filter_map (seen v) (enumerate_from 0 os) → listed ≡ visible_list w client
+pub is_list : (w : Worlds) (client : ℕ) (v : Look) (os : List Object) (listed : List Seen) → v ≡ look_of w client → os ≡ w.objects → listed ≡ filter_map (seen v) (enumerate_from 0 os) → listed ≡ visible_list w client
 unfolding visible_list
 is_list w client v os listed e f g = g ∙ rw (e, f) refl

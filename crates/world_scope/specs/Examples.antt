@@ -29,7 +29,7 @@ abbrev drone : ℕ → State
 drone number = Drone (record { number = number; hp = 100 })
 
 abbrev world : List Object → Worlds
-world os = record { seed = 1; radius = 1000; ticks = 0; objects = os; rows = []; writes = [] }
+world os = record { seed = 1; clients = 2; radius = 1000; ticks = 0; objects = os; versions = []; writes = [] }
 
 -- an object and the level at which it is seen
 abbrev at_level : ℕ → ℕ → Seen

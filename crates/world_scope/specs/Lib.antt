@@ -1,3 +1,4 @@
 pub mod Sight
 pub mod Scope
+pub mod Views
 pub mod Examples

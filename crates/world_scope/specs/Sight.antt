@@ -5,7 +5,7 @@ use Rattle.std.specs.Option.{option_map_or}
 use Rattle.world_rules.specs.declared.object.Object.{Object}
 use Rattle.world_rules.specs.declared.object.Place.{Place}
 use Rattle.world_rules.specs.Kinds.{kind_of, match_kinds}
-use Rattle.world_rules.specs.Rules.{is_armed_part}
+use Rattle.world_rules.specs.Mines.{is_armed_part}
 
 -- the greater of the ways along x and along y
 abbrev pub distance : Place → Place → ℕ

@@ -4,6 +4,7 @@ ghost use Rattle.std.specs.List.{All, Contains, filter_map, enumerate_from};
 ghost use Rattle.std.specs.List.Sorted.{IsStrictlyIncreasing};
 ghost use Rattle.world_sim.specs.Worlds.{alive_at};
 ghost use Rattle.world_scope.specs.Scope.{seen, seen_at, visible_list};
+ghost use Rattle.world_scope.specs.Views.{look};
 
 use crate::viewer::{Seen, Viewer};
 use std::alloc::{AllocError, Global};
@@ -14,8 +15,8 @@ use world_sim::World;
 // The objects that are seen, in place of what was in `out`.
 fn gather(viewer: &Viewer, objects: &[Object], out: &mut Vec<Seen>) -> Result<(), AllocError>
     requires { length objects.now ≤ MAX_OBJECTS }
-    ensures ok { OnOk result (out.new.items ≡ filter_map (seen viewer.now) (enumerate_from 0 objects.now)) }
-    ensures room { OnErr result (vec_capacity out.old < length (filter_map (seen viewer.now) (enumerate_from 0 objects.now))) }
+    ensures ok { OnOk result (out.new.items ≡ filter_map (seen (look viewer.now)) (enumerate_from 0 objects.now)) }
+    ensures room { OnErr result (vec_capacity out.old < length (filter_map (seen (look viewer.now)) (enumerate_from 0 objects.now))) }
     ensures kept { vec_capacity out.old ≤ vec_capacity out.new }
 {
     out.clear();

@@ -1,6 +1,7 @@
 //! What clients see of small worlds.
 ghost use Rattle.std.specs.Prelude.{◌∷◌, [], IfOk};
-ghost use Rattle.world_rules.specs.Spawning.{OwnersRise, SetupFits, SpawnFits};
+ghost use Rattle.world_rules.specs.Identity.{OwnersRise};
+ghost use Rattle.world_rules.specs.Spawning.{SetupFits, SpawnFits};
 
 use crate::{Seen, visible};
 use std::alloc::Global;
@@ -22,14 +23,14 @@ fn field(
     requires second { SpawnFits 2 second }
     requires third { SpawnFits 2 third }
     requires fourth { SpawnFits 2 fourth }
-    requires order { OwnersRise 0 (first ∷ second ∷ third ∷ fourth ∷ []) }
+    requires order { OwnersRise 2 0 (first.owner ∷ second.owner ∷ third.owner ∷ fourth.owner ∷ []) }
     ensures { IfOk result SetupFits }
 {
     let mut spawns = Spawns::new(alloc);
-    spawns.push(first)?;
-    spawns.push(second)?;
-    spawns.push(third)?;
-    spawns.push(fourth)?;
+    spawns.push(alloc, first)?;
+    spawns.push(alloc, second)?;
+    spawns.push(alloc, third)?;
+    spawns.push(alloc, fourth)?;
     Ok(Setup {
         clients: 2,
         radius: u32::from(radius),

@@ -1,7 +1,7 @@
 //! A client's look at one object.
 ghost use Rattle.std.specs.Prelude.{◌≡◌, ◌≤◌, ◌+◌, ◌*◌, ◌/◌, ◌||◌, Some, None, find, if◌then◌else◌};
 ghost use Rattle.std.specs.Option.{option_copied};
-ghost use Rattle.world_rules.specs.Rules.{is_player};
+ghost use Rattle.world_rules.specs.Flags.{is_player};
 ghost use Rattle.world_scope.specs.Sight.{distance, is_hidden, is_always};
 
 use world_rules::flags::is_player;
@@ -66,11 +66,12 @@ fn player_of(client: u8, objects: &[Object]) -> Option<&Object>
 }
 
 impl Viewer {
-    ghost use Rattle.world_scope.specs.Scope.{player_sees, quarter, seen, viewer_of};
+    ghost use Rattle.world_scope.specs.Scope.{player_sees, quarter, seen, look_of};
+    ghost use Rattle.world_scope.specs.Views.{look};
 
     /// The look of a client at a world.
     pub fn of(world: &World, client: u8) -> Viewer
-        ensures { result ≡ viewer_of world.now client }
+        ensures { look result ≡ look_of world.now client }
     {
         Viewer {
             client,
@@ -104,7 +105,7 @@ impl Viewer {
 
     /// An object with this number as the client sees it, if it does.
     pub fn seen(&self, object: u32, o: &Object) -> Option<Seen>
-        ensures { result ≡ seen self.now (object, o.now) }
+        ensures { result ≡ seen (look self.now) (object, o.now) }
     {
         if !o.alive {
             return None;

@@ -2,10 +2,15 @@
 use Rattle.std.proofs.Common.{◌≡◌, ℕ, suc, ◌≤◌, arith, ◌+◌, ◌*◌, Bool, true, false, cond, ◌&&◌, ◌||◌, List, [], ◌∷◌, length, filter, count_by, refl, sym, ap, ◌∙◌}
 use Rattle.std.specs.List.{list_any}
 use Rattle.std.proofs.lemmas.List.Sums.{length-filter}
+use Rattle.world_rules.specs.declared.measures.TheConstants.{DISC_REACH, MINE_REACH, DISC_HARM, MINE_HARM}
 use Rattle.world_rules.specs.declared.object.Object.{Object}
 use Rattle.world_sim.specs.declared.step.Old.{Old}
 use Rattle.world_sim.specs.Found.{hits_any, is_triggered_by, AreFound, IsOld}
-use Rattle.world_rules.specs.Rules.{is_flying, is_target, is_standing, is_armed, is_other_near, is_harming, is_target_near, is_enemy_near, is_hitting, is_triggered, is_of, harm, damage, hits, captures}
+use Rattle.world_rules.specs.Near.{is_target, is_standing, is_other_near, is_target_near, is_enemy_near}
+use Rattle.world_rules.specs.Discs.{is_flying, is_harming, is_hitting, is_of, harm, hits}
+use Rattle.world_rules.specs.Mines.{is_armed, is_triggered}
+use Rattle.world_rules.specs.Players.{damage}
+use Rattle.world_rules.specs.Flags.{captures}
 
 any_step : (v b c : Bool) (q : Object → Bool) (x : Object) (ys : List Object) → list_any q ys ≡ c → list_any q (cond v (x ∷ ys) ys) ≡ ((v && q x) || c)
 any_step true b c q x ys e = ap (λ d. q x || d) e
@@ -26,32 +31,32 @@ filter_filter p q (x ∷ xs) = filter_step (p x) q x (filter p xs) (filter (λ x
 count_filter : (p q : Object → Bool) (xs : List Object) → count_by q (filter p xs) ≡ count_by (λ x. p x && q x) xs
 count_filter p q xs = sym (length-filter q (filter p xs)) ∙ ap (λ (ys : List Object). length ys) (filter_filter p q xs) ∙ length-filter (λ x. p x && q x) xs
 
-pub count_harming : (o : Object) (os flying : List Object) → flying ≡ filter is_flying os → count_by (is_other_near 200 o) flying ≡ count_by (is_harming o) os
-count_harming o os flying e = rw e (count_filter is_flying (is_other_near 200 o) os)
+pub count_harming : (o : Object) (os flying : List Object) → flying ≡ filter is_flying os → count_by (is_other_near DISC_REACH o) flying ≡ count_by (is_harming o) os
+count_harming o os flying e = rw e (count_filter is_flying (is_other_near DISC_REACH o) os)
 
-pub any_target : (o : Object) (os targets : List Object) → targets ≡ filter is_target os → list_any (is_other_near 200 o) targets ≡ list_any (is_target_near 200 o) os
-any_target o os targets e = rw e (any_filter is_target (is_other_near 200 o) os)
+pub any_target : (o : Object) (os targets : List Object) → targets ≡ filter is_target os → list_any (is_other_near DISC_REACH o) targets ≡ list_any (is_target_near DISC_REACH o) os
+any_target o os targets e = rw e (any_filter is_target (is_other_near DISC_REACH o) os)
 
-pub any_enemy : (o : Object) (os standing : List Object) → standing ≡ filter is_standing os → list_any (is_other_near 300 o) standing ≡ list_any (is_enemy_near 300 o) os
-any_enemy o os standing e = rw e (any_filter is_standing (is_other_near 300 o) os)
+pub any_enemy : (o : Object) (os standing : List Object) → standing ≡ filter is_standing os → list_any (is_other_near MINE_REACH o) standing ≡ list_any (is_enemy_near MINE_REACH o) os
+any_enemy o os standing e = rw e (any_filter is_standing (is_other_near MINE_REACH o) os)
 
-pub hitting_is : (os targets : List Object) (o : Object) → targets ≡ filter is_target os → (is_flying o && list_any (is_other_near 200 o) targets) ≡ is_hitting os o
+pub hitting_is : (os targets : List Object) (o : Object) → targets ≡ filter is_target os → (is_flying o && list_any (is_other_near DISC_REACH o) targets) ≡ is_hitting os o
 unfolding is_hitting
 hitting_is os targets o e = ap (λ b. is_flying o && b) (any_target o os targets e)
 
-pub triggered_is : (os standing : List Object) (o : Object) → standing ≡ filter is_standing os → (is_armed o && list_any (is_other_near 300 o) standing) ≡ is_triggered os o
+pub triggered_is : (os standing : List Object) (o : Object) → standing ≡ filter is_standing os → (is_armed o && list_any (is_other_near MINE_REACH o) standing) ≡ is_triggered os o
 unfolding is_triggered
 triggered_is os standing o e = ap (λ b. is_armed o && b) (any_enemy o os standing e)
 
-pub harm_is : (os flying : List Object) (o : Object) → flying ≡ filter is_flying os → 25 * count_by (is_other_near 200 o) flying ≡ harm os o
+pub harm_is : (os flying : List Object) (o : Object) → flying ≡ filter is_flying os → DISC_HARM * count_by (is_other_near DISC_REACH o) flying ≡ harm os o
 unfolding harm
-harm_is os flying o e = ap (λ n. 25 * n) (count_harming o os flying e)
+harm_is os flying o e = ap (λ n. DISC_HARM * n) (count_harming o os flying e)
 
-pub damage_is : (os flying triggered : List Object) (o : Object) → flying ≡ filter is_flying os → triggered ≡ filter (is_triggered os) os → 25 * count_by (is_other_near 200 o) flying + 50 * count_by (is_other_near 300 o) triggered ≡ damage os o
+pub damage_is : (os flying triggered : List Object) (o : Object) → flying ≡ filter is_flying os → triggered ≡ filter (is_triggered os) os → DISC_HARM * count_by (is_other_near DISC_REACH o) flying + MINE_HARM * count_by (is_other_near MINE_REACH o) triggered ≡ damage os o
 unfolding damage
 damage_is os flying triggered o e f =
-    ap (λ n. n + 50 * count_by (is_other_near 300 o) triggered) (harm_is os flying o e)
-    ∙ ap (λ n. harm os o + 50 * n) (rw f (count_filter (is_triggered os) (is_other_near 300 o) os))
+    ap (λ n. n + MINE_HARM * count_by (is_other_near MINE_REACH o) triggered) (harm_is os flying o e)
+    ∙ ap (λ n. harm os o + MINE_HARM * n) (rw f (count_filter (is_triggered os) (is_other_near MINE_REACH o) os))
 
 pub hits_is : (os hitting : List Object) (client : ℕ) → hitting ≡ filter (is_hitting os) os → count_by (λ d. is_of client d.state) hitting ≡ hits os client
 unfolding hits

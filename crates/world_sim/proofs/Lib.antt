@@ -5,3 +5,6 @@ pub mod WorldLaws
 pub mod Started
 pub mod Gathered
 pub mod ForGood
+pub mod InRange
+pub mod Kept
+pub mod Histories

@@ -1,5 +1,5 @@
 -- What holds of every world.
-use Rattle.std.proofs.Common.{◌≡◌, ℕ, zero, suc, ◌<◌, ◌≤◌, ◌+◌, ◌-◌, ◌^◌, Bool, true, false, cond, List, [], ◌∷◌, length, map, replicate, refl, ap, arith, length-append, Option}
+use Rattle.std.proofs.Common.{◌≡◌, ℕ, zero, suc, ◌<◌, ◌≤◌, ◌+◌, ◌-◌, ◌^◌, Bool, true, false, cond, List, [], ◌∷◌, length, map, replicate, refl, arith, length-append, Option}
 use Rattle.std.specs.Prelude.{ℤ}
 use Rattle.std.specs.List.{AllByRecursion, filter_map}
 use Rattle.std.proofs.lemmas.List.{length-map, length-take}
@@ -7,20 +7,26 @@ use Rattle.world_rules.specs.declared.object.Object.{Object}
 use Rattle.tn_types.specs.declared.moves.Move.{Move}
 use Rattle.world_sim.specs.declared.rows.Write.{Write}
 use Rattle.world_sim.specs.declared.rows.Row.{Row}
-use Rattle.world_rules.specs.Rules.{object_next, fired, Moment}
-use Rattle.world_sim.specs.Rows.{values_of, row_versions, differs}
-use Rattle.world_sim.proofs.ForGood.{next_values, first_values}
+use Rattle.world_rules.specs.Players.{fired}
+use Rattle.world_rules.specs.Next.{object_next, Moment}
+use Rattle.world_sim.specs.Rows.{values_of, fresh_versions, row_versions, versions_next, world_writes, differs}
+use Rattle.world_sim.proofs.Kept.{first_values, first_counts}
+use Rattle.world_sim.proofs.Histories.{of_fields_fresh, of_fields_next, same_fields_next}
 use Rattle.world_rules.specs.Ranges.{ObjectFits}
 use Rattle.world_rules.proofs.Ranging.{objects_fit}
-use Rattle.world_sim.specs.RowsNext.{fresh_row, rows_next, rows_writes, IsSmallRow, WasCounted}
-use Rattle.world_sim.specs.Worlds.{Worlds, IsWorld, next, after, coming}
+use Rattle.world_rules.specs.Identity.{IsPeopled}
+use Rattle.world_rules.proofs.Peopled.{peopled_next}
+use Rattle.world_sim.specs.RowsNext.{fresh_row, row_values, row_counts, IsSmallRow}
+use Rattle.world_sim.specs.Worlds.{Worlds, WasCounted, IsWorld, IsKept, next, after, coming, first_world}
 use Rattle.world_rules.specs.Next.{discs_made, objects_next}
+use Rattle.world_rules.specs.declared.setup.Setup.{Setup}
+use Rattle.world_rules.specs.Spawning.{first_objects}
 
 small_row : (t : ℕ) (vs : List ℕ) → t < 2 ^ 32 - 1 → AllByRecursion (λ v. v ≤ t) vs → AllByRecursion (λ v. v < 2 ^ 32 - 1) vs
 small_row t [] h a = tt
 small_row t (v ∷ vs) h a = (omega (arith, a.0), small_row t vs h a.1)
 
-pub small_rows : (t : ℕ) (rows : List Row) → t < 2 ^ 32 - 1 → AllByRecursion (WasCounted t) rows → AllByRecursion IsSmallRow rows
+pub small_rows : (t : ℕ) (rows : List Row) → t < 2 ^ 32 - 1 → AllByRecursion (WasCounted t) (map row_counts rows) → AllByRecursion IsSmallRow rows
 small_rows t [] h a = tt
 small_rows t (r ∷ rows) h a = (small_row t r.versions.items h a.0, small_rows t rows h a.1)
 
@@ -39,21 +45,16 @@ zeros_counted : (t n : ℕ) → AllByRecursion (λ v. v ≤ t) (replicate n 0)
 zeros_counted t zero = tt
 zeros_counted t (suc n) = (omega arith, zeros_counted t n)
 
-fresh_counted : (t : ℕ) (os : List Object) → AllByRecursion (WasCounted t) (map fresh_row os)
+fresh_counted : (t : ℕ) (os : List Object) → AllByRecursion (WasCounted t) (map fresh_versions os)
 fresh_counted t [] = tt
 fresh_counted t (o ∷ os) = (zeros_counted t (length (values_of o)), fresh_counted t os)
 
-pub counted_next : (t : ℕ) (rows : List Row) (after : List Object) → AllByRecursion (WasCounted t) rows → AllByRecursion (WasCounted (t + 1)) (rows_next rows after)
-unfolding rows_next
-counted_next t [] after a = fresh_counted (t + 1) after
-counted_next t (r ∷ rows) [] a = tt
-counted_next t (r ∷ rows) (o ∷ after) a = (counted_row t r.values.items (values_of o) r.versions.items a.0, counted_next t rows after a.1)
-
-pub length-rows_next : (rows : List Row) (after : List Object) → length rows ≤ length after → length (rows_next rows after) ≡ length after
-unfolding rows_next
-length-rows_next [] after h = simp length-map
-length-rows_next (r ∷ rows) [] h = absurd (omega arith)
-length-rows_next (r ∷ rows) (o ∷ after) h = ap suc (length-rows_next rows after (omega arith))
+counted_next : (t : ℕ) (os after : List Object) (vs : List (List ℕ)) → AllByRecursion (WasCounted t) vs → AllByRecursion (WasCounted (t + 1)) (versions_next os after vs)
+unfolding versions_next
+counted_next t [] after vs a = fresh_counted (t + 1) after
+counted_next t (o ∷ os) [] vs a = tt
+counted_next t (o ∷ os) (p ∷ after) [] a = fresh_counted (t + 1) (p ∷ after)
+counted_next t (o ∷ os) (p ∷ after) (v ∷ vs) a = (counted_row t (values_of o) (values_of p) v a.0, counted_next t os after vs a.1)
 
 pub more_objects : (os : List Object) (moves : List (Option Move)) (t : Moment) → length os ≤ length (objects_next os moves t)
 more_objects os moves t = let l = length-append (map (object_next os moves t) os) (discs_made os moves) in let m : length (map (object_next os moves t) os) ≡ length os = simp length-map in omega (arith, l, m)
@@ -70,19 +71,30 @@ pub world_next : (w : Worlds) (moves : List (Option Move)) → IsWorld w → IsW
 unfolding next
 world_next w moves h = record {
   few = few_objects w.objects moves (coming w) h.few;
-  rows = length-rows_next w.rows (after w moves) (let m = more_objects w.objects moves (coming w) in omega (arith, h.rows));
-  counted = counted_next w.ticks w.rows (after w moves) h.counted;
+  versions = of_fields_next w.objects (after w moves) w.versions (same_fields_next w.objects moves (coming w)) h.versions;
+  counted = counted_next w.ticks w.objects (after w moves) w.versions h.counted;
   fits = objects_fit w.objects moves (coming w) h.fits;
-  values = next_values w.rows (after w moves) (let m = more_objects w.objects moves (coming w) in omega (arith, h.rows));
+  peopled = peopled_next w.clients w.objects moves (coming w) h.peopled;
 }
 
-world_by : (w : Worlds) (moves : List (Option Move)) (s t : ℕ) (os : List Object) (rows : List Row) (ws : List Write) → s ≡ w.seed → t ≡ w.ticks + 1 → os ≡ after w moves → rows ≡ rows_next w.rows (after w moves) → ws ≡ rows_writes 0 w.rows (after w moves) → IsWorld w → IsWorld (record { seed = s; radius = w.radius; ticks = t; objects = os; rows = rows; writes = ws })
+world_by : (w : Worlds) (moves : List (Option Move)) (os : List Object) (vs : List (List ℕ)) (ws : List Write) → os ≡ after w moves → vs ≡ versions_next w.objects (after w moves) w.versions → ws ≡ world_writes 0 w.objects (after w moves) w.versions → IsWorld w → IsWorld (record { seed = w.seed; clients = w.clients; radius = w.radius; ticks = w.ticks + 1; objects = os; versions = vs; writes = ws })
 unfolding next
-world_by w moves s t os rows ws d e f g h is = rw (d, e, f, g, h) (world_next w moves is)
+world_by w moves os vs ws f g h is = rw (f, g, h) (world_next w moves is)
 
-pub world_from : (w : Worlds) (moves : List (Option Move)) (was : List Object) (had : List Row) (os : List Object) (rows : List Row) (ws : List Write) → was ≡ w.objects → had ≡ w.rows → os ≡ objects_next was moves (coming w) → rows ≡ rows_next had (objects_next was moves (coming w)) → ws ≡ rows_writes 0 had (objects_next was moves (coming w)) → IsWorld w → IsWorld (record { seed = w.seed; radius = w.radius; ticks = w.ticks + 1; objects = os; rows = rows; writes = ws })
-world_from w moves was had os rows ws a b f g h is = world_by w moves w.seed (w.ticks + 1) os rows ws refl refl (rw a at f) (rw (a, b) at g) (rw (a, b) at h) is
+pub kept_from : (w : Worlds) (moves : List (Option Move)) (was : List Object) (had : List (List ℕ)) (os : List Object) (rows : List Row) (ws : List Write) → was ≡ w.objects → had ≡ w.versions → os ≡ objects_next was moves (coming w) → map row_values rows ≡ map values_of os → map row_counts rows ≡ versions_next was os had → ws ≡ world_writes 0 was os had → IsWorld w → IsKept (record { seed = w.seed; clients = w.clients; radius = w.radius; ticks = w.ticks + 1; objects = os; versions = map row_counts rows; writes = ws }) rows
+kept_from w moves was had os rows ws a b f k g h is =
+    let now : os ≡ after w moves = rw a at f in
+    record {
+      world = world_by w moves os (map row_counts rows) ws now (rw (a, b, now) at g) (rw (a, b, now) at h) is;
+      values = k;
+    }
 
-pub fresh_world : (seed radius : ℕ) (os all : List Object) (rows : List Row) (ws : List Write) → length os ≤ 1024 → AllByRecursion ObjectFits os → all ≡ os → rows ≡ map fresh_row os → IsWorld (record { seed = seed; radius = radius; ticks = 0; objects = all; rows = rows; writes = ws })
-fresh_world seed radius os all rows ws few fits e f =
-    rw (e, f) (record { few = few; rows = simp length-map; counted = fresh_counted 0 os; fits = fits; values = first_values os os (map fresh_row os) refl refl })
+pub fresh_world : (seed clients radius : ℕ) (os all : List Object) (rows : List Row) (ws : List Write) → length os ≤ 1024 → AllByRecursion ObjectFits os → IsPeopled clients os → all ≡ os → rows ≡ map fresh_row os → IsKept (record { seed = seed; clients = clients; radius = radius; ticks = 0; objects = all; versions = map row_counts rows; writes = ws }) rows
+fresh_world seed clients radius os all rows ws few fits peopled e f =
+    record {
+      world = rw (e, first_counts os rows f) (record { few = few; versions = of_fields_fresh os; counted = fresh_counted 0 os; fits = fits; peopled = peopled });
+      values = first_values os all rows e f;
+    }
+
+pub first_is : (seed : ℕ) (setup : Setup) (os : List Object) (rows : List Row) (ws : List Write) → os ≡ first_objects 0 setup.spawns → rows ≡ map fresh_row os → ws ≡ [] → (let w : Worlds = record { seed = seed; clients = setup.clients; radius = setup.radius; ticks = 0; objects = os; versions = map row_counts rows; writes = ws } in w ≡ first_world seed setup)
+first_is seed setup os rows ws e f g = rw (first_counts os rows f, e, g) refl

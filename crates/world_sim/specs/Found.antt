@@ -2,17 +2,21 @@
 use Rattle.std.specs.Prelude.{◌≡◌, ◌≤◌, ◌&&◌, Bool, List, filter, length}
 use Rattle.std.specs.List.{list_any}
 use Rattle.tn_types.specs.declared.limits.TheConstants.{MAX_OBJECTS}
+use Rattle.world_rules.specs.declared.measures.TheConstants.{DISC_REACH, MINE_REACH}
 use Rattle.world_rules.specs.declared.object.Object.{Object}
 use Rattle.world_sim.specs.declared.step.Old.{Old}
-use Rattle.world_rules.specs.Rules.{captures, is_flying, is_target, is_standing, is_armed, is_hitting, is_triggered, is_other_near}
+use Rattle.world_rules.specs.Near.{is_target, is_standing, is_other_near}
+use Rattle.world_rules.specs.Discs.{is_flying, is_hitting}
+use Rattle.world_rules.specs.Mines.{is_armed, is_triggered}
+use Rattle.world_rules.specs.Flags.{captures}
 
 -- a living disc that is near one of these
 abbrev pub hits_any : List Object → Object → Bool
-hits_any targets o = is_flying o && list_any (is_other_near 200 o) targets
+hits_any targets o = is_flying o && list_any (is_other_near DISC_REACH o) targets
 
 -- an armed mine that is near one of these
 abbrev pub is_triggered_by : List Object → Object → Bool
-is_triggered_by standing o = is_armed o && list_any (is_other_near 300 o) standing
+is_triggered_by standing o = is_armed o && list_any (is_other_near MINE_REACH o) standing
 
 pub record AreFound (os flying targets standing hitting triggered : List Object) : Type 0 where
   pub flying_are : flying ≡ filter is_flying os

@@ -1,6 +1,6 @@
 -- The values of an object's fields with their versions, and what a tick writes: a field whose value differs from
--- before gets the next version.
-use Rattle.std.specs.Prelude.{ℕ, ℤ, pos, suc, ◌+◌, List, [], ◌∷◌, ◌++◌, map, Bool, ◌||◌, Option, Some, None, int_lt, if◌then◌else◌}
+-- before gets the next version. The fields of a new object begin with version 0, which is no write.
+use Rattle.std.specs.Prelude.{ℕ, ℤ, pos, suc, ◌+◌, List, [], ◌∷◌, ◌++◌, map, length, replicate, Bool, ◌||◌, Option, Some, None, int_lt, if◌then◌else◌}
 use Rattle.world_rules.specs.declared.object.State.{State}
 use Rattle.world_rules.specs.declared.object.State.TheVariants.{Player, Disc, Mine, Drone, Flag, Clock}
 use Rattle.world_rules.specs.declared.object.Object.{Object}
@@ -44,5 +44,17 @@ unfoldable pub row_writes : ℕ → ℕ → List ℤ → List ℤ → List ℕ �
 row_writes object field (a ∷ xs) (b ∷ ys) (v ∷ zs) = field_writes object field a b v ++ row_writes object (suc field) xs ys zs
 row_writes object field _ _ _ = []
 
-abbrev pub no_versions : List ℤ → List ℕ
-no_versions values = map (λ _. 0) values
+abbrev pub fresh_versions : Object → List ℕ
+fresh_versions o = replicate (length (values_of o)) 0
+
+-- the versions of all objects' fields after a tick, by the objects before and after it
+unfoldable pub versions_next : List Object → List Object → List (List ℕ) → List (List ℕ)
+versions_next (o ∷ before) (p ∷ after) (v ∷ versions) =
+    row_versions (values_of o) (values_of p) v ∷ versions_next before after versions
+versions_next _ after _ = map fresh_versions after
+
+-- the writes of a tick from the object of this number on, by the objects before and after it
+unfoldable pub world_writes : ℕ → List Object → List Object → List (List ℕ) → List Write
+world_writes i (o ∷ before) (p ∷ after) (v ∷ versions) =
+    row_writes i 0 (values_of o) (values_of p) v ++ world_writes (suc i) before after versions
+world_writes i _ _ _ = []

@@ -1,11 +1,11 @@
--- The rows of all objects after a tick, and the writes: the objects that were there keep their rows, new ones
--- begin with version 0.
-use Rattle.std.specs.Prelude.{ℕ, suc, ◌-◌, ◌^◌, ◌<◌, ◌≤◌, List, [], ◌∷◌, ◌++◌, length, map, replicate}
+-- How the code keeps the values and versions of all objects: one row for each, whose values are those of the object.
+-- So what a tick makes of the rows is what it makes of the objects.
+use Rattle.std.specs.Prelude.{ℕ, ℤ, suc, ◌-◌, ◌^◌, ◌<◌, List, [], ◌∷◌, ◌++◌, map}
 use Rattle.std.specs.List.{AllByRecursion}
 use Rattle.world_rules.specs.declared.object.Object.{Object}
 use Rattle.world_sim.specs.declared.rows.Write.{Write}
 use Rattle.world_sim.specs.declared.rows.Row.{Row}
-use Rattle.world_sim.specs.Rows.{values_of, row_versions, row_writes}
+use Rattle.world_sim.specs.Rows.{values_of, fresh_versions, row_versions, row_writes}
 
 abbrev pub row_next : Row → Object → Row
 row_next r o = record {
@@ -14,7 +14,7 @@ row_next r o = record {
 }
 
 abbrev pub fresh_row : Object → Row
-fresh_row o = record { values = record { items = values_of o }; versions = record { items = replicate (length (values_of o)) 0 } }
+fresh_row o = record { values = record { items = values_of o }; versions = record { items = fresh_versions o } }
 
 unfoldable pub rows_next : List Row → List Object → List Row
 rows_next [] after = map fresh_row after
@@ -28,5 +28,9 @@ rows_writes i _ _ = []
 abbrev pub IsSmallRow : Row → Type 0
 IsSmallRow r = AllByRecursion (λ v. v < 2 ^ 32 - 1) r.versions.items
 
-abbrev pub WasCounted : ℕ → Row → Type 0
-WasCounted ticks r = AllByRecursion (λ v. v ≤ ticks) r.versions.items
+-- what a row keeps of its object
+abbrev pub row_values : Row → List ℤ
+row_values r = r.values.items
+
+abbrev pub row_counts : Row → List ℕ
+row_counts r = r.versions.items

@@ -1,17 +1,13 @@
 //! What a tick finds of the objects before anything moves, so that each rule looks through a short list only.
 ghost use Rattle.std.specs.Prelude.{◌≡◌, ◌≤◌, ◌+◌, ◌*◌, ◌&&◌, OnOk, filter, length, count_by, List};
 ghost use Rattle.std.specs.List.{list_any};
-ghost use Rattle.world_rules.specs.Rules.{is_flying, is_target, is_standing, is_other_near, is_of};
+ghost use Rattle.world_rules.specs.Near.{is_target, is_standing, is_other_near};
+ghost use Rattle.world_rules.specs.Discs.{is_flying, is_of};
 ghost use Rattle.world_sim.specs.Found.{hits_any, is_triggered_by, AreFound};
 
 use std::alloc::AllocError;
 use world_rules::Object;
-
-/// How near a disc hits, in centimetres.
-pub const DISC_REACH: u32 = 200;
-
-/// How near a mine is triggered and harms, in centimetres.
-pub const MINE_REACH: u32 = 300;
+use world_rules::measures::{DISC_REACH, MINE_REACH};
 
 // Whether an object of the other team is that near.
 fn any_near(reach: u32, o: &Object, others: &[Object]) -> bool

@@ -2,6 +2,7 @@
 #![tactic(auto)]
 
 mod found;
+pub mod laws;
 mod rows;
 mod step;
 #[cfg(test)]

@@ -2,7 +2,7 @@
 ghost use Rattle.std.specs.Prelude.{◌≡◌, ◌<◌, ◌≤◌, ◌+◌, ◌-◌, ◌^◌, ◌++◌, ℤ, ℕ, List, length, OnOk, IfOk, [], ◌∷◌, slice_index, slice_index_or, pos, ◌⊎◌, replicate};
 ghost use Rattle.std.specs.List.{AllByRecursion};
 ghost use Rattle.world_sim.specs.RowsNext.{row_next, fresh_row, rows_next, rows_writes, IsSmallRow};
-ghost use Rattle.world_sim.specs.Rows.{values_of, differs, version_next, field_writes, row_versions, row_writes, no_versions, as_number, holder_number};
+ghost use Rattle.world_sim.specs.Rows.{values_of, differs, version_next, field_writes, row_versions, row_writes, as_number, holder_number};
 
 use arrayvec::ArrayVec;
 use std::alloc::AllocError;

@@ -1,13 +1,17 @@
 //! Each object after the tick, by what the tick found of all of them.
 ghost use Rattle.std.specs.Prelude.{◌≡◌, ◌≤◌, ◌-◌, ◌++◌, OnOk, map, take, length, filter};
 ghost use Rattle.std.specs.List.{filter_map};
-ghost use Rattle.world_rules.specs.Rules.{object_next, fired, damage, harm, hits, captures};
+ghost use Rattle.world_rules.specs.Discs.{harm, hits};
+ghost use Rattle.world_rules.specs.Players.{fired, damage};
+ghost use Rattle.world_rules.specs.Flags.{captures};
+ghost use Rattle.world_rules.specs.Next.{object_next};
 ghost use Rattle.world_sim.specs.Found.{IsOld};
 
-use crate::found::{DISC_REACH, MINE_REACH, count_near, count_of, hits_any, is_triggered_by};
+use crate::found::{count_near, count_of, hits_any, is_triggered_by};
 use tn_types::Move;
 use world_rules::fire::move_of;
 use world_rules::flags::{clock_next, flag_next};
+use world_rules::measures::{DISC_HARM, DISC_REACH, MINE_HARM, MINE_REACH};
 use world_rules::movers::{disc_next, drawn, drone_next, mine_next, player_next};
 use world_rules::{Object, State};
 
@@ -34,7 +38,7 @@ fn harm(old: &Old<'_>, o: &Object) -> u32
     requires { IsOld old.now }
     ensures { result ≡ harm old.now.objects.now o.now }
 {
-    25 * count_near(DISC_REACH, o, old.flying) as u32
+    DISC_HARM * count_near(DISC_REACH, o, old.flying) as u32
 }
 
 // What discs and mines take from a player.
@@ -43,8 +47,8 @@ fn damage(old: &Old<'_>, o: &Object) -> u32
     requires { IsOld old.now }
     ensures { result ≡ damage old.now.objects.now o.now }
 {
-    25 * count_near(DISC_REACH, o, old.flying) as u32
-        + 50 * count_near(MINE_REACH, o, old.triggered) as u32
+    DISC_HARM * count_near(DISC_REACH, o, old.flying) as u32
+        + MINE_HARM * count_near(MINE_REACH, o, old.triggered) as u32
 }
 
 // How many discs of a client hit.

@@ -1,12 +1,16 @@
 //! The world and its ticks.
-ghost use Rattle.std.specs.Prelude.{◌≡◌, ℕ, ◌<◌, ◌≤◌, ◌+◌, ◌-◌, ◌^◌, ◌++◌, List, length, map, take, OnOk, OnErr, [], IfOk, slice_get, Some};
+ghost use Rattle.std.specs.Prelude.{◌≡◌, ℕ, ◌<◌, ◌≤◌, ◌+◌, ◌-◌, ◌^◌, ◌++◌, List, length, map, take, position, OnOk, OnErr, [], IfOk, IfSome, slice_get, Some};
+ghost use Rattle.world_rules.specs.Flags.{is_player};
 ghost use Rattle.std.specs.List.{filter_map, AllByRecursion};
-ghost use Rattle.world_rules.specs.Rules.{fired};
+ghost use Rattle.world_rules.specs.Players.{fired};
 ghost use Rattle.world_rules.specs.Next.{objects_next};
 ghost use Rattle.world_rules.specs.Spawning.{first_objects, SetupFits};
 ghost use Rattle.world_rules.specs.Ranges.{ObjectFits};
-ghost use Rattle.world_sim.specs.Worlds.{next, added, first_world, alive_at, kind_at, block_at, values_at};
-ghost use Rattle.world_sim.specs.RowsNext.{fresh_row, rows_next, rows_writes, IsSmallRow};
+ghost use Rattle.world_rules.specs.Identity.{IsPeopled};
+ghost use Rattle.world_sim.specs.Worlds.{next, added, first_world, alive_at, kind_at, block_at, values_at, version_at, identity_at, player_of};
+ghost use Rattle.world_sim.specs.Facts.{IsWriteOf, ValuesFit};
+ghost use Rattle.world_sim.specs.Rows.{values_of, versions_next, world_writes};
+ghost use Rattle.world_sim.specs.RowsNext.{fresh_row, row_values, row_counts, IsSmallRow};
 
 use crate::found::find_all;
 use crate::rows::{Row, Write, fresh_row, note_rows, step_rows};
@@ -16,7 +20,7 @@ use std::marker::Model;
 use std::mem;
 use tn_types::{MAX_OBJECTS, Move, NoMemory};
 use world_rules::fire::fired;
-use world_rules::flags::captures;
+use world_rules::flags::{captures, is_player};
 use world_rules::{Object, Setup, Spawn};
 
 // Writes of a tick at the most: five fields of each object.
@@ -53,6 +57,7 @@ fn workroom(alloc: Global) -> Result<Work, AllocError> {
 #[derive(Drop)]
 pub struct World {
     seed: u32,
+    clients: u8,
     // How far players see, in centimetres.
     radius: u32,
     ticks: u32,
@@ -63,27 +68,31 @@ pub struct World {
 }
 
 impl Model for World {
-    ghost use Rattle.world_sim.specs.Worlds.{Worlds, IsWorld};
+    ghost use Rattle.std.specs.Prelude.{map};
+    ghost use Rattle.world_sim.specs.RowsNext.{row_counts};
+    ghost use Rattle.world_sim.specs.Worlds.{Worlds, IsKept};
 
     ghost Value = { Worlds };
 
     ghost view = { λ w. record {
       seed = w.seed;
+      clients = w.clients;
       radius = w.radius;
       ticks = w.ticks;
       objects = w.objects.items;
-      rows = w.rows.items;
+      versions = map row_counts w.rows.items;
       writes = w.writes.items;
     } };
 
-    ghost invariant = { λ w. IsWorld (record {
+    ghost invariant = { λ w. IsKept (record {
       seed = w.seed;
+      clients = w.clients;
       radius = w.radius;
       ticks = w.ticks;
       objects = w.objects.items;
-      rows = w.rows.items;
+      versions = map row_counts w.rows.items;
       writes = w.writes.items;
-    }) };
+    }) w.rows.items };
 }
 
 // Adds a disc that is made, if there is a place.
@@ -156,7 +165,7 @@ fn next_objects(
 }
 
 // What a tick makes of the objects and their rows.
-#[tactic(auto, using(crate::proofs::WorldLaws::more_objects))]
+#[tactic(auto, using(crate::proofs::WorldLaws::more_objects, crate::proofs::Kept::values_kept, crate::proofs::Kept::counts_kept, crate::proofs::Kept::writes_kept))]
 fn advance(
     objects: &[Object],
     rows: &[Row],
@@ -167,12 +176,14 @@ fn advance(
 ) -> Result<(), AllocError>
     requires few { length objects.now ≤ MAX_OBJECTS }
     requires rows { length rows.now ≡ length objects.now }
+    requires kept { map row_values rows.now ≡ map values_of objects.now }
     requires small { AllByRecursion IsSmallRow rows.now }
     ensures objects { OnOk result (work.new.after.items ≡ objects_next objects.now moves.now (record { seed = seed; tick = tick })) }
-    ensures rows { OnOk result (work.new.after_rows.items
-        ≡ rows_next rows.now (objects_next objects.now moves.now (record { seed = seed; tick = tick }))) }
+    ensures kept { OnOk result (map row_values work.new.after_rows.items ≡ map values_of work.new.after.items) }
+    ensures versions { OnOk result (map row_counts work.new.after_rows.items
+        ≡ versions_next objects.now work.new.after.items (map row_counts rows.now)) }
     ensures writes { OnOk result (work.new.after_writes.items
-        ≡ rows_writes 0 rows.now (objects_next objects.now moves.now (record { seed = seed; tick = tick }))) }
+        ≡ world_writes 0 objects.now work.new.after.items (map row_counts rows.now)) }
 {
     next_objects(objects, moves, seed, tick, work)?;
     step_rows(rows, &work.after, &mut work.after_rows)?;
@@ -205,31 +216,41 @@ fn first_rows(alloc: Global, objects: &[Object]) -> Result<Vec<Row>, AllocError>
     Ok(rows)
 }
 
+// The place of the client's player.
+fn place_of_player(client: u8, objects: &[Object]) -> Option<usize>
+    ensures place { result ≡ position (is_player client) objects.now }
+    ensures few { IfSome result (λ place. place < length objects.now) }
+{
+    objects.iter().position(|o| is_player(client, o))
+}
+
 impl World {
     /// The world before its first tick: the players and objects of a setup at their homes.
-    #[tactic(auto, using(world_rules::proofs::Ranging::first_objects_fit))]
+    #[tactic(auto, using(world_rules::proofs::Ranging::first_objects_fit, world_rules::proofs::Peopled::peopled_first))]
     pub fn new(alloc: Global, seed: u32, setup: &Setup) -> Result<World, NoMemory>
         requires { SetupFits setup.now }
-        ensures { IfOk result (λ w. w ≡ first_world seed setup.now.radius (first_objects 0 setup.now.spawns)) }
+        ensures { IfOk result (λ w. w ≡ first_world seed setup.now) }
     {
-        match World::start(alloc, seed, setup.radius, setup.spawns.as_slice()) {
+        match World::start(alloc, seed, setup) {
             Ok(world) => Ok(world),
             Err(_) => Err(NoMemory),
         }
     }
 
-    fn start(alloc: Global, seed: u32, radius: u32, spawns: &[Spawn]) -> Result<World, AllocError>
-        requires few { length spawns.now ≤ MAX_OBJECTS }
-        requires fits { AllByRecursion ObjectFits (first_objects 0 spawns.now) }
-        ensures { IfOk result (λ w. w ≡ first_world seed radius (first_objects 0 spawns.now)) }
+    fn start(alloc: Global, seed: u32, setup: &Setup) -> Result<World, AllocError>
+        requires few { length setup.now.spawns ≤ MAX_OBJECTS }
+        requires fits { AllByRecursion ObjectFits (first_objects 0 setup.now.spawns) }
+        requires peopled { IsPeopled setup.now.clients (first_objects 0 setup.now.spawns) }
+        ensures { IfOk result (λ w. w ≡ first_world seed setup.now) }
     {
-        let objects = start_objects(alloc, spawns)?;
+        let objects = start_objects(alloc, setup.spawns.as_slice())?;
         let rows = first_rows(alloc, &objects)?;
         let writes = Vec::with_capacity(alloc, MAX_WRITES)?;
         let work = workroom(alloc)?;
         Ok(World {
             seed,
-            radius,
+            clients: setup.clients,
+            radius: setup.radius,
             ticks: 0,
             objects,
             rows,
@@ -239,14 +260,17 @@ impl World {
     }
 
     /// The world makes one tick with a move or none of each client (docs/world.md). Nothing changes for want of
-    /// memory. An object keeps its number and its kind for good.
-    #[tactic(auto, using(crate::proofs::ForGood::kind_stays))]
+    /// memory. An object keeps its number, kind, owner, datablock, team and home for good.
+    #[tactic(auto, using(crate::proofs::ForGood::identity_stays, crate::proofs::ForGood::player_stays))]
     pub fn tick(&mut self, _alloc: Global, moves: &[Option<Move>]) -> Result<(), NoMemory>
         requires { self.old.ticks < 2 ^ 32 - 1 }
         ensures ok { OnOk result (self.new ≡ next self.old moves.now) }
         ensures err { OnErr result (self.new ≡ self.old) }
-        ensures kinds { OnOk result ((object : ℕ) → object < length self.old.objects
-            → kind_at self.new object ≡ kind_at self.old object) }
+        ensures more { OnOk result (length self.old.objects ≤ length self.new.objects) }
+        ensures same { OnOk result ((object : ℕ) → object < length self.old.objects
+            → identity_at self.new object ≡ identity_at self.old object) }
+        ensures players { OnOk result ((client : ℕ) → player_of self.new client ≡ player_of self.old client) }
+        ensures writes { OnOk result (AllByRecursion (IsWriteOf self.old) self.new.writes) }
     {
         match self.step(moves) {
             Ok(()) => Ok(()),
@@ -259,6 +283,8 @@ impl World {
         requires { self.old.ticks < 2 ^ 32 - 1 }
         ensures ok { OnOk result (self.new ≡ next self.old moves.now) }
         ensures err { OnErr result (self.new ≡ self.old) }
+        ensures more { OnOk result (length self.old.objects ≤ length self.new.objects) }
+        ensures writes { OnOk result (AllByRecursion (IsWriteOf self.old) self.new.writes) }
     {
         advance(
             &self.objects,
@@ -297,6 +323,23 @@ impl World {
         self.objects.len() as u32
     }
 
+    /// The clients of the match.
+    pub fn clients(&self) -> u8
+        ensures { result ≡ self.now.clients }
+    {
+        self.clients
+    }
+
+    /// The number of the client's player, for good; `None` exactly where it has none.
+    pub fn player(&self, client: u8) -> Option<u32>
+        ensures { result ≡ player_of self.now client }
+    {
+        match place_of_player(client, &self.objects) {
+            Some(place) => Some(place as u32),
+            None => None,
+        }
+    }
+
     /// How far players see, in centimetres.
     pub fn radius(&self) -> u32
         ensures { result ≡ self.now.radius }
@@ -304,10 +347,13 @@ impl World {
         self.radius
     }
 
-    /// The objects made so far, dead ones too, each at the place of its number.
+    /// The objects made so far, dead ones too, each at the place of its number. Players come first, by rising client;
+    /// they, flags and clocks are alive; a drone draws its chances by its number, and who holds a flag has a player.
     pub fn all_objects(&self) -> &[Object]
         ensures value { result.now ≡ self.now.objects }
         ensures few { length result.now ≤ MAX_OBJECTS }
+        ensures peopled { IsPeopled self.now.clients result.now }
+        ensures fits { AllByRecursion ObjectFits result.now }
     {
         self.objects.as_slice()
     }
@@ -340,8 +386,20 @@ impl World {
     #[tactic(auto, using(crate::proofs::ForGood::row_tells))]
     pub fn values(&self, object: u32) -> &[i64]
         requires { object < length self.now.objects }
-        ensures { Some result.now ≡ values_at self.now object }
+        ensures value { Some result.now ≡ values_at self.now object }
+        ensures fits { ValuesFit (kind_at self.now object) result.now }
     {
         self.rows[object as usize].values.as_slice()
+    }
+
+    /// How often a field was written; `None` exactly where the object has no such field.
+    pub fn version(&self, object: u32, field: u8) -> Option<u32>
+        requires { object < length self.now.objects }
+        ensures { result ≡ version_at self.now object field }
+    {
+        self.rows[object as usize]
+            .versions
+            .get(field as usize)
+            .copied()
     }
 }

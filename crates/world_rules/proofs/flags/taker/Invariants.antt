@@ -1,5 +1,5 @@
 use Rattle.std.proofs.Common.{◌≡◌, drop}
-use Rattle.world_rules.specs.Rules.{taker}
+use Rattle.world_rules.specs.Flags.{taker}
 use Rattle.world_rules.proofs.flags.taker.Given as goal
 
 abbrev pub invariant-loop-p : goal.invariant-loop-p

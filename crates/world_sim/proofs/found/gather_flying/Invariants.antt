@@ -1,5 +1,5 @@
 use Rattle.std.proofs.Common.{◌≡◌, take, filter}
-use Rattle.world_rules.specs.Rules.{is_flying}
+use Rattle.world_rules.specs.Discs.{is_flying}
 use Rattle.world_sim.proofs.found.gather_flying.Given as goal
 
 abbrev pub invariant-loop-o : goal.invariant-loop-o

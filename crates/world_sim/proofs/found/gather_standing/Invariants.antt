@@ -1,5 +1,5 @@
 use Rattle.std.proofs.Common.{◌≡◌, take, filter}
-use Rattle.world_rules.specs.Rules.{is_standing}
+use Rattle.world_rules.specs.Near.{is_standing}
 use Rattle.world_sim.proofs.found.gather_standing.Given as goal
 
 abbrev pub invariant-loop-o : goal.invariant-loop-o

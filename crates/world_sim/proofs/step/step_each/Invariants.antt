@@ -1,5 +1,5 @@
 use Rattle.std.proofs.Common.{◌≡◌, take, map}
-use Rattle.world_rules.specs.Rules.{object_next}
+use Rattle.world_rules.specs.Next.{object_next}
 use Rattle.world_sim.proofs.step.step_each.Given as goal
 
 abbrev pub invariant-loop-o : goal.invariant-loop-o

@@ -1,5 +1,5 @@
 use Rattle.std.proofs.Common.{◌≡◌, arith}
-use Rattle.world_rules.specs.Rules.{fired}
+use Rattle.world_rules.specs.Players.{fired}
 use Rattle.world_sim.specs.Worlds.{added}
 use Rattle.world_sim.proofs.Made.{added_at, added_few}
 use Rattle.world_sim.proofs.world.make_discs.Goals as goal

@@ -1,6 +1,6 @@
 use Rattle.std.proofs.Common.{◌≡◌, ◌≤◌, ◌++◌, ◌-◌, take, length}
 use Rattle.std.specs.List.{filter_map}
-use Rattle.world_rules.specs.Rules.{fired}
+use Rattle.world_rules.specs.Players.{fired}
 use Rattle.world_sim.proofs.world.make_discs.Given as goal
 
 abbrev pub invariant-loop-o : goal.invariant-loop-o

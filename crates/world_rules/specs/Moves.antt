@@ -1,0 +1,15 @@
+-- The move of each client in a tick. One that has none counts as having no step, no shot and no use.
+use Rattle.std.specs.Prelude.{ℕ, pos, List, false, Option, Some, None, slice_get, refl}
+use Rattle.tn_types.specs.declared.moves.Move.{Move}
+
+abbrev pub still : Move
+still = record { dx = pos 0; dy = pos 0; fire = false; act = false; dx_range = refl; dy_range = refl }
+
+abbrev pub or_still : Option (Option Move) → Move
+or_still None = still
+or_still (Some None) = still
+or_still (Some (Some m)) = m
+
+-- the move of this client in this tick
+abbrev pub move_of : List (Option Move) → ℕ → Move
+move_of moves client = or_still (slice_get moves client)
