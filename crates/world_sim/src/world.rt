@@ -12,7 +12,7 @@ ghost use Rattle.world_sim.specs.Facts.{IsWriteOf, ValuesFit};
 ghost use Rattle.world_sim.specs.Rows.{values_of, versions_next, world_writes};
 ghost use Rattle.world_sim.specs.RowsNext.{fresh_row, row_values, row_counts, rows_next, IsSoundRow};
 
-use crate::found::find_all;
+use crate::found::{Found, captures_of, find_all, nothing};
 use crate::rows::{Row, Write, fresh_row, note_rows, step_rows};
 use crate::step::{Old, step_each};
 use std::alloc::{AllocError, Global};
@@ -20,7 +20,7 @@ use std::marker::Model;
 use std::mem;
 use tn_types::{MAX_OBJECTS, Move, NoMemory};
 use world_rules::fire::fired;
-use world_rules::flags::{captures, is_player};
+use world_rules::flags::is_player;
 use world_rules::{Object, Setup, Spawn};
 
 // Writes of a tick at the most: five fields of each object.
@@ -31,22 +31,14 @@ const MAX_WRITES: usize = 5 * MAX_OBJECTS;
 pub struct Work {
     pub after: Vec<Object>,
     pub after_writes: Vec<Write>,
-    pub flying: Vec<Object>,
-    pub targets: Vec<Object>,
-    pub standing: Vec<Object>,
-    pub hitting: Vec<Object>,
-    pub triggered: Vec<Object>,
+    pub found: Found,
 }
 
 fn workroom(alloc: Global) -> Result<Work, AllocError> {
     Ok(Work {
         after: Vec::with_capacity(alloc, MAX_OBJECTS)?,
         after_writes: Vec::with_capacity(alloc, MAX_WRITES)?,
-        flying: Vec::with_capacity(alloc, MAX_OBJECTS)?,
-        targets: Vec::with_capacity(alloc, MAX_OBJECTS)?,
-        standing: Vec::with_capacity(alloc, MAX_OBJECTS)?,
-        hitting: Vec::with_capacity(alloc, MAX_OBJECTS)?,
-        triggered: Vec::with_capacity(alloc, MAX_OBJECTS)?,
+        found: nothing(alloc)?,
     })
 }
 
@@ -124,7 +116,7 @@ fn make_discs(
 }
 
 // The objects after a tick.
-#[tactic(auto, unfolding(world_rules::specs::Next::discs_made))]
+#[tactic(auto, using(crate::proofs::Gathered::flags_few))]
 fn next_objects(
     objects: &[Object],
     moves: &[Option<Move>],
@@ -136,29 +128,20 @@ fn next_objects(
     ensures objects { OnOk result (work.new.after.items ≡ objects_next objects.now moves.now (record { seed = seed; tick = tick })) }
     ensures few { OnOk result (length work.new.after.items ≤ MAX_OBJECTS) }
 {
-    find_all(
-        objects,
-        &mut work.flying,
-        &mut work.targets,
-        &mut work.standing,
-        &mut work.hitting,
-        &mut work.triggered,
-    )?;
+    find_all(objects, &mut work.found)?;
+    let red = captures_of(objects, &work.found.flags, 0) as u32;
+    let blue = captures_of(objects, &work.found.flags, 1) as u32;
     let old = Old {
         objects,
-        flying: work.flying.as_slice(),
-        targets: work.targets.as_slice(),
-        standing: work.standing.as_slice(),
-        hitting: work.hitting.as_slice(),
-        triggered: work.triggered.as_slice(),
-        red: captures(objects, 0) as u32,
-        blue: captures(objects, 1) as u32,
+        found: &work.found,
+        red,
+        blue,
         moves,
         seed,
         tick,
     };
     step_each(&old, &mut work.after)?;
-    make_discs(objects, moves, &mut work.after)?;
+    make_discs(&work.found.standing, moves, &mut work.after)?;
     Ok(())
 }
 
