@@ -1,25 +1,21 @@
 -- No tick changes what an object is, and players, flags and clocks live on.
-use Rattle.std.proofs.Common.{◌≡◌, ℕ, zero, suc, ◌+◌, ◌-◌, ◌≤◌, Bool, true, false, cond, not, ◌||◌, nat_lt, nat_le, List, [], ◌∷◌, ◌++◌, length, take, map, Option, Some, None, refl, sym, ap, ◌∙◌, arith}
+use Rattle.std.proofs.Common.{◌≡◌, ℕ, Bool, true, false, cond, not, ◌||◌, nat_lt, nat_le, List, [], ◌∷◌, map, Option, Some, None, refl, sym, ap, ◌∙◌}
 use Rattle.std.specs.Prelude.{find}
-use Rattle.std.specs.List.{AllByRecursion, filter_map, cons_option}
 use Rattle.tn_types.specs.declared.moves.Move.{Move}
-use Rattle.tn_types.specs.declared.limits.TheConstants.{MAX_OBJECTS}
 use Rattle.world_rules.specs.declared.object.TheConstants.{MAX_AGE}
 use Rattle.world_rules.specs.declared.object.Object.{Object}
 use Rattle.world_rules.specs.declared.object.State.{State}
 use Rattle.world_rules.specs.declared.object.State.TheVariants.{Player, Disc, Mine, Drone, Flag, Clock}
-use Rattle.world_rules.specs.declared.object.Player.{Player as PlayerPart}
 use Rattle.world_rules.specs.Near.{is_standing}
-use Rattle.world_rules.specs.Moves.{move_of}
 use Rattle.world_rules.specs.Discs.{disc_next, is_leaving, is_hitting, aged}
 use Rattle.world_rules.specs.Mines.{mine_next, is_triggered}
-use Rattle.world_rules.specs.Players.{player_next, fired_by, fired_part, fired, is_firing}
+use Rattle.world_rules.specs.Players.{player_next}
 use Rattle.world_rules.specs.Drones.{drone_next}
 use Rattle.world_rules.specs.Flags.{flag_next, carried, is_player, is_home}
 use Rattle.world_rules.specs.Clocks.{clock_next}
-use Rattle.world_rules.specs.Next.{by_kind, object_next, discs_made, objects_next, Moment}
+use Rattle.world_rules.specs.Next.{by_kind, object_next, Moment}
 use Rattle.world_rules.specs.Kinds.{kind_of}
-use Rattle.world_rules.specs.Identity.{Identity, identity_of, owner_in, number_in, lives_on, LivesOn, OwnersRise, HaveNoOwner, NumbersFit, NumberFits}
+use Rattle.world_rules.specs.Identity.{Identity, identity_of, owner_in, number_in}
 
 -- ---- one object
 

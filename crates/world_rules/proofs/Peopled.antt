@@ -1,10 +1,9 @@
 -- Who plays in a match stays as it was at the start, tick after tick.
-use Rattle.std.proofs.Common.{◌≡◌, ℕ, zero, suc, ◌+◌, ◌-◌, ◌<◌, ◌≤◌, Bool, true, false, cond, not, ◌||◌, ◌==◌, nat_lt, nat_le, nat_eq, List, [], ◌∷◌, ◌++◌, length, take, map, Option, Some, None, refl, sym, ap, subst, ◌∙◌, arith}
+use Rattle.std.proofs.Common.{◌≡◌, ℕ, zero, suc, ◌+◌, ◌-◌, Bool, true, false, cond, not, ◌||◌, ◌==◌, nat_lt, nat_le, nat_eq, List, [], ◌∷◌, ◌++◌, length, take, map, Option, Some, None, refl, sym, ap, subst, ◌∙◌, arith}
 use Rattle.std.specs.Prelude.{find}
-use Rattle.std.specs.List.{AllByRecursion, All, list_any, filter_map, cons_option, position_from}
+use Rattle.std.specs.List.{AllByRecursion, list_any, filter_map, cons_option, position_from}
 use Rattle.std.specs.Option.{option_or}
 use Rattle.std.proofs.lemmas.Bool.Decides.{nat_tests}
-use Rattle.std.proofs.lemmas.List.Elements.{recursion_from_All}
 use Rattle.tn_types.specs.declared.moves.Move.{Move}
 use Rattle.tn_types.specs.declared.limits.TheConstants.{MAX_OBJECTS}
 use Rattle.world_rules.specs.declared.kinds.TheConstants.{MINE, DRONE, FLAG}
@@ -13,7 +12,6 @@ use Rattle.world_rules.specs.declared.object.TheConstants.{MAX_AGE}
 use Rattle.world_rules.specs.declared.object.Object.{Object}
 use Rattle.world_rules.specs.declared.object.State.{State}
 use Rattle.world_rules.specs.declared.object.State.TheVariants.{Player, Disc, Mine, Drone, Flag, Clock}
-use Rattle.world_rules.specs.declared.object.Player.{Player as PlayerPart}
 use Rattle.world_rules.specs.Near.{is_standing, is_enemy_near}
 use Rattle.world_rules.specs.Moves.{move_of}
 use Rattle.world_rules.specs.Discs.{disc_next, is_leaving, is_hitting, aged}

@@ -1,5 +1,5 @@
 -- Discs: what they hit and harm, and a disc after one tick.
-use Rattle.std.specs.Prelude.{ℕ, ℤ, pos, ◌+◌, ◌*◌, ◌+ℤ◌, min, List, count_by, Bool, true, false, not, ◌&&◌, ◌||◌, nat_le, ◌==◌, if◌then◌else◌}
+use Rattle.std.specs.Prelude.{ℕ, pos, ◌+◌, ◌*◌, ◌+ℤ◌, min, List, count_by, Bool, true, false, not, ◌&&◌, ◌||◌, nat_le, ◌==◌, if◌then◌else◌}
 use Rattle.std.specs.List.{list_any}
 use Rattle.world_rules.specs.declared.object.TheConstants.{MAX_AGE}
 use Rattle.world_rules.specs.declared.object.Place.{Place}

@@ -1,5 +1,5 @@
 -- Drones: the chance of each in a tick, and a drone after one tick.
-use Rattle.std.specs.Prelude.{ℕ, ℤ, pos, ◌+◌, ◌-◌, ◌*◌, ◌+ℤ◌, ◌-ℤ◌, ◌/◌, ◌%◌, ◌^◌, not, nat_lt, if◌then◌else◌}
+use Rattle.std.specs.Prelude.{ℕ, pos, ◌+◌, ◌-◌, ◌*◌, ◌+ℤ◌, ◌-ℤ◌, ◌/◌, ◌%◌, ◌^◌, not, nat_lt, if◌then◌else◌}
 use Rattle.world_rules.specs.declared.object.Drone.{Drone as DronePart}
 use Rattle.world_rules.specs.declared.measures.TheConstants.{DRONE_DRIFT, DRONE_WAYS, CHANCE_BY_NUMBER, CHANCE_BY_TICK, CHANCE_SPREAD}
 use Rattle.world_rules.specs.declared.object.Object.{Object}

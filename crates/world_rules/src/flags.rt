@@ -1,8 +1,8 @@
 //! Flags and the clock, each after one tick.
-ghost use Rattle.std.specs.Prelude.{◌≡◌, ◌≤◌, filter, find, length};
+ghost use Rattle.std.specs.Prelude.{◌≡◌, filter, find};
 ghost use Rattle.std.specs.Option.{option_copied};
 ghost use Rattle.world_rules.specs.Near.{is_standing};
-ghost use Rattle.world_rules.specs.Flags.{is_player, taking, using_part, taker, is_home, went_home, carried, flag_next, is_capturing, is_captured, captures};
+ghost use Rattle.world_rules.specs.Flags.{is_player, taking, using_part, taker, is_home, went_home, carried, flag_next, is_capturing, is_captured};
 ghost use Rattle.world_rules.specs.Clocks.{clock_next};
 
 use crate::fire::move_of;
@@ -150,18 +150,6 @@ pub fn is_captured(objects: &[Object], team: u8, f: &Object) -> bool
         },
         _ => false,
     }
-}
-
-/// How many flags the team captures in the tick.
-#[tactic(auto, unfolding(crate::specs::Flags::captures))]
-pub fn captures(objects: &[Object], team: u8) -> usize
-    ensures value { result ≡ captures objects.now team }
-    ensures few { result ≤ length objects.now }
-{
-    objects
-        .iter()
-        .filter(|f| is_captured(objects, team, f))
-        .count()
 }
 
 /// The clock after the tick, with the captures of both teams.

@@ -11,7 +11,7 @@ use tn_types::{MAX_COORDINATE, Move};
 fn apart(a: u32, b: u32) -> u32
     ensures { result ≡ apart a b }
 {
-    a.saturating_sub(b) + b.saturating_sub(a)
+    a.abs_diff(b)
 }
 
 /// Whether two places are within this reach, the reach itself included. The distance is the greater of both ways.
@@ -19,7 +19,7 @@ fn apart(a: u32, b: u32) -> u32
 pub fn is_within(reach: u32, a: &Place, b: &Place) -> bool
     ensures { result ≡ is_within reach a.now b.now }
 {
-    apart(a.x, b.x).max(apart(a.y, b.y)) <= reach
+    apart(a.x, b.x) <= reach && apart(a.y, b.y) <= reach
 }
 
 // The number, brought into the field.

@@ -5,6 +5,7 @@ use Rattle.std.specs.List.{All, AllByRecursion, Contains, filter_map, enumerate_
 use Rattle.std.specs.List.Sorted.{IsStrictlyIncreasing}
 use Rattle.std.proofs.lemmas.Bool.{and_parts, leb-true}
 use Rattle.std.proofs.lemmas.Nat.{div_below}
+use Rattle.std.proofs.Math.Nat.{le-div_iff_mul-le}
 use Rattle.std.proofs.lemmas.List.Elements.{All-from_recursion, All-contains, Contains-append_right}
 use Rattle.std.proofs.lemmas.Option.{slice_get_within}
 use Rattle.world_rules.specs.declared.object.Object.{Object}
@@ -22,6 +23,12 @@ chosen false x y e = absurd (cc)
 
 seen_is : (v : Look) (m : ℕ) (o : Object) (s : Seen) → seen v (m, o) ≡ Some s → (is_visible v o ≡ true) × (record { object = m; level = level v o } ≡ s)
 seen_is v m o s e = chosen (is_visible v o) (record { object = m; level = level v o }) s e
+
+pub quarter_is : (q radius away : ℕ) → q * (radius + 1) ≤ 4 * away → 4 * away < (q + 1) * (radius + 1) → q ≡ 4 * away / (radius + 1)
+quarter_is q radius away h k =
+    let below : 4 * away / (radius + 1) < q + 1 = div_below (4 * away) (radius + 1) (q + 1) (omega arith) k in
+    let reached : q ≤ 4 * away / (radius + 1) = (le-div_iff_mul-le {k = radius + 1} {x = q} {y = 4 * away} (omega arith)).1 h in
+    omega (arith, below, reached)
 
 pub quarter_few : (radius away : ℕ) → away ≤ radius → 4 * away / (radius + 1) ≤ 3
 quarter_few radius away h = let q = div_below (4 * away) (radius + 1) 4 (omega arith) (omega arith) in omega (arith, q)

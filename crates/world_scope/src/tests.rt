@@ -116,24 +116,18 @@ fn drone_at(alloc: Global, radius: u16, x: u16, y: u16) -> Result<Option<u8>, No
 #[test]
 fn distances(rt: HostRuntime) -> Result<(), Fail> {
     for (radius, x, y, level) in [
-        (1000, 1000, 1000, Some(0)),
         (1000, 1250, 1000, Some(0)),
         (1000, 1251, 1000, Some(1)),
         (1000, 1000, 1500, Some(1)),
         (1000, 499, 1000, Some(2)),
         (1000, 1750, 250, Some(2)),
         (1000, 1000, 249, Some(3)),
-        (1000, 2000, 1000, Some(3)),
-        (1000, 2001, 1000, None),
         (1000, 0, 2000, Some(3)),
         (1000, 0, 2001, None),
-        (999, 1000, 0, None),
         (3, 1001, 1000, Some(1)),
-        (3, 1000, 1003, Some(3)),
         (0, 1000, 1000, Some(0)),
         (0, 1001, 1000, None),
         (65_535, 65_535, 65_535, Some(3)),
-        (64_534, 65_535, 1000, None),
     ] {
         let told = drone_at(rt.alloc(), radius, x, y).ok().ok_or("no memory")?;
         assert_eq!(rt; told, level, "{radius} {x} {y}");
@@ -152,55 +146,21 @@ fn between(alloc: Global, ticks: u32, client: u8) -> Result<Vec<Seen>, NoMemory>
 
 #[test]
 fn armed_mines(rt: HostRuntime) -> Result<(), Fail> {
-    for ticks in [0, 9] {
-        let told = between(rt.alloc(), ticks, 0).ok().ok_or("no memory")?;
-        assert_eq!(rt;
-            told.as_slice(),
-            [seen(0, 0), seen(1, 3), seen(2, 1), seen(3, 1)].as_slice()
-        );
-        let told = between(rt.alloc(), ticks, 1).ok().ok_or("no memory")?;
-        assert_eq!(rt;
-            told.as_slice(),
-            [seen(0, 3), seen(1, 0), seen(2, 1), seen(3, 1)].as_slice()
-        );
-    }
-    for ticks in [10, 30] {
-        let told = between(rt.alloc(), ticks, 0).ok().ok_or("no memory")?;
-        assert_eq!(rt;
-            told.as_slice(),
-            [seen(0, 0), seen(1, 3), seen(2, 1)].as_slice()
-        );
-        let told = between(rt.alloc(), ticks, 1).ok().ok_or("no memory")?;
-        assert_eq!(rt;
-            told.as_slice(),
-            [seen(0, 3), seen(1, 0), seen(3, 1)].as_slice()
-        );
-    }
-    Ok(())
-}
-
-// A mine of client 1's team, which client 0's player triggers in tick 11, and what client 1 sees of it.
-fn blown(alloc: Global, ticks: u32) -> Result<Vec<Seen>, NoMemory> {
-    let mine = Spawn {
-        y: 1300,
-        ..ENEMY_MINE
-    };
-    let setup = field(alloc, 999, PLAYER, ENEMY, mine, CLOCK)?;
-    let world = after(alloc, &setup, ticks)?;
-    let mut out = Vec::new(alloc);
-    visible(alloc, &world, 1, &mut out)?;
-    Ok(out)
-}
-
-#[test]
-fn dead_objects(rt: HostRuntime) -> Result<(), Fail> {
-    let told = blown(rt.alloc(), 10).ok().ok_or("no memory")?;
+    let unarmed = between(rt.alloc(), 9, 0).ok().ok_or("no memory")?;
     assert_eq!(rt;
-        told.as_slice(),
-        [seen(1, 0), seen(2, 2), seen(3, 0)].as_slice()
+        unarmed.as_slice(),
+        [seen(0, 0), seen(1, 3), seen(2, 1), seen(3, 1)].as_slice()
     );
-    let told = blown(rt.alloc(), 11).ok().ok_or("no memory")?;
-    assert_eq!(rt; told.as_slice(), [seen(1, 0), seen(3, 0)].as_slice());
+    let own = between(rt.alloc(), 10, 0).ok().ok_or("no memory")?;
+    assert_eq!(rt;
+        own.as_slice(),
+        [seen(0, 0), seen(1, 3), seen(2, 1)].as_slice()
+    );
+    let other = between(rt.alloc(), 10, 1).ok().ok_or("no memory")?;
+    assert_eq!(rt;
+        other.as_slice(),
+        [seen(0, 3), seen(1, 0), seen(3, 1)].as_slice()
+    );
     Ok(())
 }
 

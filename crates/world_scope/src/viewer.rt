@@ -51,11 +51,22 @@ fn is_always(o: &Object) -> bool
 }
 
 // The quarter of the radius that lies so far away.
+#[tactic(auto, using(crate::proofs::SeenList::quarter_is))]
 fn quarter(radius: u32, away: u32) -> u8
     requires { away ≤ radius }
     ensures value { result ≡ 4 * away / (radius + 1) }
 {
-    (4 * u64::from(away) / (u64::from(radius) + 1)) as u8
+    let whole = u64::from(radius) + 1;
+    let four = 4 * u64::from(away);
+    if four < whole {
+        0
+    } else if four < 2 * whole {
+        1
+    } else if four < 3 * whole {
+        2
+    } else {
+        3
+    }
 }
 
 // The client's player.

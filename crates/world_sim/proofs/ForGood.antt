@@ -52,7 +52,7 @@ mapped f g (x ∷ xs) (y ∷ ys) (suc k) e = let t : map f xs ≡ map g ys = cc 
 pub row_tells : (rows : List Row) (os : List Object) (k : ℕ) → map row_values rows ≡ map values_of os → option_map row_values (slice_get rows k) ≡ option_map values_of (slice_get os k)
 row_tells rows os k e = mapped row_values values_of rows os k e
 
-got : {A : Type 0} (xs : List A) (k : ℕ) (x : A) → k < length xs → x ≡ get_or xs k x → slice_get xs k ≡ Some x
+pub got : {A : Type 0} (xs : List A) (k : ℕ) (x : A) → k < length xs → x ≡ get_or xs k x → slice_get xs k ≡ Some x
 got [] k x l e = absurd (omega arith)
 got (y ∷ ys) zero x l e = ap Some (sym e)
 got (y ∷ ys) (suc k) x l e = got ys k x (omega arith) e

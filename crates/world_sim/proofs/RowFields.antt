@@ -1,9 +1,12 @@
 -- The versions and writes of one object, field by field.
-use Rattle.std.proofs.Common.{◌≡◌, ℕ, suc, ◌<◌, ◌≤◌, ◌+◌, List, [], ◌∷◌, ◌++◌, length, get_or, drop, refl, ap, ◌∙◌, arith, append_assoc, ◌⊎◌, inl, inr}
-use Rattle.std.specs.Prelude.{ℤ}
+use Rattle.std.proofs.Common.{Bool, false, cond, ◌||◌, nat_lt, ◌≡◌, ℕ, suc, ◌<◌, ◌≤◌, ◌+◌, List, [], ◌∷◌, ◌++◌, length, get_or, drop, refl, ap, ◌∙◌, arith, append_assoc, ◌⊎◌, inl, inr}
+use Rattle.std.specs.Prelude.{ℤ, pos, negsuc}
 use Rattle.std.proofs.lemmas.List.{drop_more, drop_all, append-nil}
 use Rattle.world_sim.specs.declared.rows.Write.{Write}
-use Rattle.world_sim.specs.Rows.{row_versions, row_writes, version_next, field_writes}
+use Rattle.world_sim.specs.Rows.{values_of, differs, row_versions, row_writes, version_next, field_writes}
+use Rattle.world_sim.specs.declared.rows.Row.{Row}
+use Rattle.world_rules.specs.declared.object.Object.{Object}
+use Rattle.world_sim.specs.RowsNext.{row_next}
 
 step : (a b : ℤ) (v : ℕ) (ps qs : List ℤ) (rs : List ℕ) (xs ys : List ℤ) (zs : List ℕ) → xs ≡ a ∷ ps → ys ≡ b ∷ qs → zs ≡ v ∷ rs → row_versions xs ys zs ≡ version_next a b v ∷ row_versions ps qs rs
 unfolding row_versions
@@ -71,3 +74,24 @@ pub writes_end : (front : List Write) (o i : ℕ) (before now : List ℤ) (versi
 writes_end front o i before now versions (inl h) = rw (drop_all i before h, no_before_writes o i (drop i now) (drop i versions), append-nil) refl
 writes_end front o i before now versions (inr (inl h)) = rw (drop_all i now h, no_more_writes o i (drop i before) (drop i versions), append-nil) refl
 writes_end front o i before now versions (inr (inr h)) = rw (drop_all i versions h, no_count_writes o i (drop i before) (drop i now), append-nil) refl
+
+-- ---- a row whose values stay
+
+same_not_less : (n : ℕ) → (nat_lt n n || nat_lt n n) ≡ false
+same_not_less n = let t : nat_lt n n ≡ false = grind arith in rw t refl
+
+same_differs : (x : ℤ) → differs x x ≡ false
+same_differs (pos n) = same_not_less n
+same_differs (negsuc n) = same_not_less n
+
+stay : (xs : List ℤ) (vs : List ℕ) → length xs ≡ length vs → row_versions xs xs vs ≡ vs
+unfolding row_versions
+stay [] [] e = refl
+stay [] (v ∷ vs) e = absurd (omega (arith, e))
+stay (x ∷ xs) [] e = absurd (omega (arith, e))
+stay (x ∷ xs) (v ∷ vs) e =
+    ap (λ (b : Bool). cond b (v + 1) v ∷ row_versions xs xs vs) (same_differs x)
+    ∙ ap (λ (ws : List ℕ). v ∷ ws) (stay xs vs (omega (arith, e)))
+
+pub row_stays : (r : Row) (o : Object) → values_of o ≡ r.values.items → length r.values.items ≡ length r.versions.items → r ≡ row_next r o
+row_stays r o e h = rw (e, stay r.values.items r.versions.items h) refl

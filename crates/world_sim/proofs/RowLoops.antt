@@ -1,45 +1,19 @@
 -- The rows and the writes, object by object.
-use Rattle.std.proofs.Common.{◌≡◌, ℕ, zero, suc, ◌<◌, ◌≤◌, ◌+◌, List, [], ◌∷◌, ◌++◌, length, get_or, drop, refl, sym, ap, ◌∙◌, arith, append_assoc}
+use Rattle.std.proofs.Common.{◌≡◌, ℕ, zero, suc, ◌<◌, ◌≤◌, ◌+◌, List, [], ◌∷◌, ◌++◌, length, get_or, take, drop, set, map, replicate, subst, add-one, ◌^◌, ◌-◌, refl, sym, ap, ◌∙◌, arith, append_assoc}
 use Rattle.std.specs.List.{AllByRecursion}
-use Rattle.std.proofs.lemmas.List.{get_or_default, drop_more, drop_all, append-nil}
+use Rattle.std.proofs.lemmas.List.{length-replicate, get_or_default, drop_more, drop_all, append-nil}
 use Rattle.world_rules.specs.declared.object.Object.{Object}
 use Rattle.world_sim.specs.declared.rows.Write.{Write}
 use Rattle.world_sim.specs.declared.rows.Row.{Row}
 use Rattle.world_sim.specs.Rows.{values_of, row_writes}
-use Rattle.world_sim.specs.RowsNext.{row_next, fresh_row, rows_next, rows_writes, IsSmallRow}
-
-abbrev pub rows_from : List Row → ℕ → List Row → List Object → List Row
-rows_from front i rows after = front ++ rows_next (drop i rows) (drop i after)
+use Rattle.world_sim.specs.RowsNext.{row_next, fresh_row, rows_next, rows_updated, rows_writes, IsSoundRow}
 
 abbrev pub row_writes_from : List Write → ℕ → List Row → List Object → List Write
 row_writes_from front i rows after = front ++ rows_writes i (drop i rows) (drop i after)
 
-step : (r : Row) (o : Object) (ps rows : List Row) (qs after : List Object) → rows ≡ r ∷ ps → after ≡ o ∷ qs → rows_next rows after ≡ row_next r o ∷ rows_next ps qs
-unfolding rows_next
-step r o ps rows qs after e f = rw (e, f) refl
-
-fresh : (o : Object) (rows : List Row) (qs after : List Object) → rows ≡ [] → after ≡ o ∷ qs → rows_next rows after ≡ fresh_row o ∷ rows_next [] qs
-unfolding rows_next
-fresh o rows qs after e f = rw (e, f) refl
-
 write_step : (i : ℕ) (r : Row) (o : Object) (ps rows : List Row) (qs after : List Object) → rows ≡ r ∷ ps → after ≡ o ∷ qs → rows_writes i rows after ≡ row_writes i 0 r.values.items (values_of o) r.versions.items ++ rows_writes (suc i) ps qs
 unfolding rows_writes
 write_step i r o ps rows qs after e f = rw (e, f) refl
-
-pub rows_more : (front : List Row) (i : ℕ) (rows : List Row) (after : List Object) (r : Row) (o : Object) → i < length rows → i < length after → rows_from front i rows after ≡ rows_from (front ++ row_next (get_or rows i r) (get_or after i o) ∷ []) (i + 1) rows after
-rows_more front i rows after r o l m =
-    rw (step (get_or rows i r) (get_or after i o) (drop (i + 1) rows) (drop i rows) (drop (i + 1) after) (drop i after) (drop_more rows i r l) (drop_more after i o m), append_assoc) refl
-
-pub rows_fresh : (front : List Row) (i : ℕ) (rows : List Row) (after : List Object) (o : Object) → length rows ≤ i → i < length after → rows_from front i rows after ≡ rows_from (front ++ fresh_row (get_or after i o) ∷ []) (i + 1) rows after
-rows_fresh front i rows after o l m =
-    rw (fresh (get_or after i o) (drop i rows) (drop (i + 1) after) (drop i after) (drop_all i rows l) (drop_more after i o m), drop_all (i + 1) rows (omega arith), append_assoc) refl
-
-none_left : rows_next [] [] ≡ []
-unfolding rows_next
-none_left = refl
-
-pub rows_end : (front : List Row) (i : ℕ) (rows : List Row) (after : List Object) → length rows ≤ length after → length after ≤ i → rows_from front i rows after ≡ front
-rows_end front i rows after few h = rw (drop_all i after h, drop_all i rows (omega arith), none_left, append-nil) refl
 
 pub row_writes_more : (front next : List Write) (i : ℕ) (rows : List Row) (after : List Object) (r : Row) (o : Object) → r ≡ get_or rows i r → o ≡ get_or after i o → i < length rows → i < length after → next ≡ front ++ row_writes i 0 r.values.items (values_of o) r.versions.items → row_writes_from front i rows after ≡ row_writes_from next (i + 1) rows after
 row_writes_more front next i rows after r o at_r at_o l m k =
@@ -58,7 +32,57 @@ no_writes i after = refl
 pub row_writes_end : (front : List Write) (i : ℕ) (rows : List Row) (after : List Object) → length rows ≤ i → row_writes_from front i rows after ≡ front
 row_writes_end front i rows after h = rw (drop_all i rows h, no_writes i (drop i after), append-nil) refl
 
-pub small_at : (rows : List Row) (i : ℕ) (r : Row) → AllByRecursion IsSmallRow rows → i < length rows → IsSmallRow (get_or rows i r)
-small_at [] i r h lt = absurd (omega arith)
-small_at (x ∷ rows) zero r h lt = h.0
-small_at (x ∷ rows) (suc i) r h lt = small_at rows i r h.1 (omega arith)
+pub sound_at : (rows : List Row) (i : ℕ) (r : Row) → AllByRecursion IsSoundRow rows → i < length rows → IsSoundRow (get_or rows i r)
+sound_at [] i r h lt = absurd (omega arith)
+sound_at (x ∷ rows) zero r h lt = h.0
+sound_at (x ∷ rows) (suc i) r h lt = sound_at rows i r h.1 (omega arith)
+
+-- ---- rows in place
+
+updated_at : (i : ℕ) (rows : List Row) (after : List Object) (r : Row) → i < length rows → get_or (rows_updated i rows after) i r ≡ get_or rows i r
+updated_at i [] after r l = absurd (omega arith)
+updated_at zero (x ∷ rows) after r l = refl
+updated_at (suc i) (x ∷ rows) [] r l = refl
+updated_at (suc i) (x ∷ rows) (o ∷ after) r l = updated_at i rows after r (omega arith)
+
+update_at : (i : ℕ) (rows : List Row) (after : List Object) (r : Row) (o : Object) → i < length rows → i < length after → set (rows_updated i rows after) i (row_next (get_or rows i r) (get_or after i o)) ≡ rows_updated (suc i) rows after
+update_at i [] after r o l m = absurd (omega arith)
+update_at i (x ∷ rows) [] r o l m = absurd (omega arith)
+update_at zero (x ∷ rows) (p ∷ after) r o l m = refl
+update_at (suc i) (x ∷ rows) (p ∷ after) r o l m = ap (λ (xs : List Row). row_next x p ∷ xs) (update_at i rows after r o (omega arith) (omega arith))
+
+pub length_updated : (i : ℕ) (rows : List Row) (after : List Object) → length (rows_updated i rows after) ≡ length rows
+length_updated zero rows after = refl
+length_updated (suc i) [] after = refl
+length_updated (suc i) (x ∷ rows) [] = refl
+length_updated (suc i) (x ∷ rows) (o ∷ after) = ap suc (length_updated i rows after)
+
+pub update_more : (i : ℕ) (rows now : List Row) (after : List Object) (r next : Row) (o : Object) → now ≡ rows_updated i rows after → i < length rows → i < length after → next ≡ row_next (get_or now i r) (get_or after i o) → set now i next ≡ rows_updated (i + 1) rows after
+update_more i rows now after r next o e l m f =
+    let g : next ≡ row_next (get_or rows i r) (get_or after i o) = f ∙ ap (λ (x : Row). row_next x (get_or after i o)) (ap (λ (xs : List Row). get_or xs i r) e ∙ updated_at i rows after r l) in
+    rw (e, g, add-one) (update_at i rows after r o l m)
+
+pub sound_now : (i : ℕ) (rows now : List Row) (after : List Object) (r : Row) → now ≡ rows_updated i rows after → i < length rows → AllByRecursion IsSoundRow rows → IsSoundRow (get_or now i r)
+sound_now i rows now after r e l h = subst IsSoundRow (sym (ap (λ (xs : List Row). get_or xs i r) e ∙ updated_at i rows after r l)) (sound_at rows i r h l)
+
+small_zeros : (n : ℕ) → AllByRecursion (λ v. v < 2 ^ 32 - 1) (replicate n 0)
+small_zeros zero = tt
+small_zeros (suc n) = (omega arith, small_zeros n)
+
+fresh_sound : (os : List Object) → AllByRecursion IsSoundRow (map fresh_row os)
+fresh_sound [] = tt
+fresh_sound (o ∷ os) = ((small_zeros (length (values_of o)), sym (length-replicate (length (values_of o)) 0)), fresh_sound os)
+
+pub all_sound : (rows : List Row) (made : List Object) → AllByRecursion IsSoundRow rows → AllByRecursion IsSoundRow (rows ++ map fresh_row made)
+all_sound [] made h = fresh_sound made
+all_sound (r ∷ rows) made h = (h.0, all_sound rows made h.1)
+
+pub rows_are : (rows : List Row) (after : List Object) → length rows ≤ length after → rows_updated (length rows) (rows ++ map fresh_row (drop (length rows) after)) after ≡ rows_next rows after
+unfolding rows_next
+rows_are [] after h = refl
+rows_are (r ∷ rows) [] h = absurd (omega arith)
+rows_are (r ∷ rows) (o ∷ after) h = ap (λ (xs : List Row). row_next r o ∷ xs) (rows_are rows after (omega arith))
+
+pub take_front : (rows more : List Row) → take (length rows) (rows ++ more) ≡ rows
+take_front [] more = refl
+take_front (r ∷ rows) more = ap (λ (xs : List Row). r ∷ xs) (take_front rows more)

@@ -1,5 +1,5 @@
 -- What holds of every world.
-use Rattle.std.proofs.Common.{◌≡◌, ℕ, zero, suc, ◌<◌, ◌≤◌, ◌+◌, ◌-◌, ◌^◌, Bool, true, false, cond, List, [], ◌∷◌, length, map, replicate, refl, arith, length-append, Option}
+use Rattle.std.proofs.Common.{ap, ◌∙◌, ◌≡◌, ℕ, zero, suc, ◌<◌, ◌≤◌, ◌+◌, ◌-◌, ◌^◌, Bool, true, false, cond, List, [], ◌∷◌, length, map, replicate, refl, arith, length-append, Option}
 use Rattle.std.specs.Prelude.{ℤ}
 use Rattle.std.specs.List.{AllByRecursion, filter_map}
 use Rattle.std.proofs.lemmas.List.{length-map, length-take}
@@ -16,8 +16,8 @@ use Rattle.world_rules.specs.Ranges.{ObjectFits}
 use Rattle.world_rules.proofs.Ranging.{objects_fit}
 use Rattle.world_rules.specs.Identity.{IsPeopled}
 use Rattle.world_rules.proofs.Peopled.{peopled_next}
-use Rattle.world_sim.specs.RowsNext.{fresh_row, row_values, row_counts, IsSmallRow}
-use Rattle.world_sim.specs.Worlds.{Worlds, WasCounted, IsWorld, IsKept, next, after, coming, first_world}
+use Rattle.world_sim.specs.RowsNext.{fresh_row, row_values, row_counts, IsSoundRow}
+use Rattle.world_sim.specs.Worlds.{Worlds, WasCounted, AreOfFields, IsWorld, IsKept, next, after, coming, first_world}
 use Rattle.world_rules.specs.Next.{discs_made, objects_next}
 use Rattle.world_rules.specs.declared.setup.Setup.{Setup}
 use Rattle.world_rules.specs.Spawning.{first_objects}
@@ -26,9 +26,14 @@ small_row : (t : ℕ) (vs : List ℕ) → t < 2 ^ 32 - 1 → AllByRecursion (λ 
 small_row t [] h a = tt
 small_row t (v ∷ vs) h a = (omega (arith, a.0), small_row t vs h a.1)
 
-pub small_rows : (t : ℕ) (rows : List Row) → t < 2 ^ 32 - 1 → AllByRecursion (WasCounted t) (map row_counts rows) → AllByRecursion IsSmallRow rows
-small_rows t [] h a = tt
-small_rows t (r ∷ rows) h a = (small_row t r.versions.items h a.0, small_rows t rows h a.1)
+pub sound_rows : (t : ℕ) (os : List Object) (rows : List Row) → t < 2 ^ 32 - 1 → map row_values rows ≡ map values_of os → AreOfFields os (map row_counts rows) → AllByRecursion (WasCounted t) (map row_counts rows) → AllByRecursion IsSoundRow rows
+sound_rows t [] [] h e f a = tt
+sound_rows t [] (r ∷ rows) h e f a = absurd f
+sound_rows t (o ∷ os) [] h e f a = absurd f
+sound_rows t (o ∷ os) (r ∷ rows) h e f a =
+    let here : row_values r ≡ values_of o = cc in
+    let later : map row_values rows ≡ map values_of os = cc in
+    ((small_row t r.versions.items h a.0, ap (λ (xs : List ℤ). length xs) here ∙ f.0), sound_rows t os rows h later f.1 a.1)
 
 bumped : (t v : ℕ) (b : Bool) → v ≤ t → cond b (v + 1) v ≤ t + 1
 bumped t v true h = omega arith

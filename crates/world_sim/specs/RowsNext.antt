@@ -1,6 +1,6 @@
 -- How the code keeps the values and versions of all objects: one row for each, whose values are those of the object.
 -- So what a tick makes of the rows is what it makes of the objects.
-use Rattle.std.specs.Prelude.{ℕ, ℤ, suc, ◌-◌, ◌^◌, ◌<◌, List, [], ◌∷◌, ◌++◌, map}
+use Rattle.std.specs.Prelude.{length, ◌≡◌, ℕ, ℤ, zero, suc, ◌-◌, ◌^◌, ◌<◌, List, [], ◌∷◌, ◌++◌, map}
 use Rattle.std.specs.List.{AllByRecursion}
 use Rattle.world_rules.specs.declared.object.Object.{Object}
 use Rattle.world_sim.specs.declared.rows.Write.{Write}
@@ -25,8 +25,16 @@ unfoldable pub rows_writes : ℕ → List Row → List Object → List Write
 rows_writes i (r ∷ rows) (o ∷ after) = row_writes i 0 r.values.items (values_of o) r.versions.items ++ rows_writes (suc i) rows after
 rows_writes i _ _ = []
 
-abbrev pub IsSmallRow : Row → Type 0
-IsSmallRow r = AllByRecursion (λ v. v < 2 ^ 32 - 1) r.versions.items
+-- the first rows after a tick, the others as they were
+abbrev pub rows_updated : ℕ → List Row → List Object → List Row
+rows_updated zero rows after = rows
+rows_updated (suc had) (r ∷ rows) (o ∷ after) = row_next r o ∷ rows_updated had rows after
+rows_updated (suc had) [] after = []
+rows_updated (suc had) (r ∷ rows) [] = r ∷ rows
+
+-- a version for each value, and none that is the last
+abbrev pub IsSoundRow : Row → Type 0
+IsSoundRow r = AllByRecursion (λ v. v < 2 ^ 32 - 1) r.versions.items × (length r.values.items ≡ length r.versions.items)
 
 -- what a row keeps of its object
 abbrev pub row_values : Row → List ℤ

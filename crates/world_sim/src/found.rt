@@ -1,13 +1,42 @@
 //! What a tick finds of the objects before anything moves, so that each rule looks through a short list only.
-ghost use Rattle.std.specs.Prelude.{◌≡◌, ◌≤◌, ◌+◌, ◌*◌, ◌&&◌, OnOk, filter, length, count_by, List};
+ghost use Rattle.std.specs.Prelude.{◌≡◌, ◌≤◌, ◌+◌, ◌*◌, ◌&&◌, ◌||◌, ◌++◌, ◌∷◌, [], OnOk, filter, map, length, count_by, List, if◌then◌else◌};
 ghost use Rattle.std.specs.List.{list_any};
 ghost use Rattle.world_rules.specs.Near.{is_target, is_standing, is_other_near};
-ghost use Rattle.world_rules.specs.Discs.{is_flying, is_of};
-ghost use Rattle.world_sim.specs.Found.{hits_any, is_triggered_by, AreFound};
+ghost use Rattle.world_rules.specs.Discs.{is_of};
+ghost use Rattle.world_rules.specs.Flags.{captures};
+ghost use Rattle.world_sim.specs.Found.{hits_any, is_triggered_by, is_flag, AreFound};
 
-use std::alloc::AllocError;
-use world_rules::Object;
+use std::alloc::{AllocError, Global};
+use tn_types::MAX_OBJECTS;
+use world_rules::flags::is_captured;
 use world_rules::measures::{DISC_REACH, MINE_REACH};
+use world_rules::{Object, State};
+
+/// What a tick found. All room is made at the start.
+#[derive(Drop)]
+pub struct Found {
+    pub targets: Vec<Object>,
+    pub standing: Vec<Object>,
+    pub flags: Vec<Object>,
+    /// The discs that hit.
+    pub hitting: Vec<Object>,
+    /// The mines that are triggered.
+    pub triggered: Vec<Object>,
+    /// For each object whether it is one of these discs or mines.
+    pub marks: Vec<bool>,
+}
+
+/// Nothing found yet.
+pub fn nothing(alloc: Global) -> Result<Found, AllocError> {
+    Ok(Found {
+        targets: Vec::with_capacity(alloc, MAX_OBJECTS)?,
+        standing: Vec::with_capacity(alloc, MAX_OBJECTS)?,
+        flags: Vec::with_capacity(alloc, MAX_OBJECTS)?,
+        hitting: Vec::with_capacity(alloc, MAX_OBJECTS)?,
+        triggered: Vec::with_capacity(alloc, MAX_OBJECTS)?,
+        marks: Vec::with_capacity(alloc, MAX_OBJECTS)?,
+    })
+}
 
 // Whether an object of the other team is that near.
 fn any_near(reach: u32, o: &Object, others: &[Object]) -> bool
@@ -32,110 +61,118 @@ pub fn count_of(client: u8, discs: &[Object]) -> usize
     discs.iter().filter(|d| d.is_of(client)).count()
 }
 
-/// Whether an object is a living disc that hits one of these targets.
-pub fn hits_any(targets: &[Object], o: &Object) -> bool
+// Whether an object is a living disc that hits one of these targets.
+fn hits_any(targets: &[Object], o: &Object) -> bool
     ensures { result ≡ hits_any targets.now o.now }
 {
     o.is_flying() && any_near(DISC_REACH, o, targets)
 }
 
-/// Whether an object is an armed mine that one of these players triggers.
-pub fn is_triggered_by(standing: &[Object], o: &Object) -> bool
+// Whether an object is an armed mine that one of these players triggers.
+fn is_triggered_by(standing: &[Object], o: &Object) -> bool
     ensures { result ≡ is_triggered_by standing.now o.now }
 {
     o.is_armed() && any_near(MINE_REACH, o, standing)
 }
 
-/// The living discs.
-pub fn gather_flying(objects: &[Object], flying: &mut Vec<Object>) -> Result<(), AllocError>
-    ensures { OnOk result (flying.new.items ≡ filter is_flying objects.now) }
+fn is_flag(o: &Object) -> bool
+    ensures { result ≡ is_flag o.now }
 {
-    flying.clear();
-    for o in objects {
-        if o.is_flying() {
-            flying.push(*o)?;
-        }
+    matches!(o.state, State::Flag(_))
+}
+
+// One more, if it passes.
+fn keep(passes: bool, o: &Object, list: &mut Vec<Object>) -> Result<(), AllocError>
+    ensures { OnOk result (list.new.items ≡ list.old.items ++ (if passes then o.now ∷ [] else [])) }
+{
+    if passes {
+        list.push(*o)?;
     }
     Ok(())
 }
 
-/// What discs hit.
-pub fn gather_targets(objects: &[Object], targets: &mut Vec<Object>) -> Result<(), AllocError>
-    ensures { OnOk result (targets.new.items ≡ filter is_target objects.now) }
-{
-    targets.clear();
-    for o in objects {
-        if o.is_target() {
-            targets.push(*o)?;
-        }
-    }
-    Ok(())
-}
-
-/// The standing players.
-pub fn gather_standing(objects: &[Object], standing: &mut Vec<Object>) -> Result<(), AllocError>
-    ensures { OnOk result (standing.new.items ≡ filter is_standing objects.now) }
-{
-    standing.clear();
-    for o in objects {
-        if o.is_standing() {
-            standing.push(*o)?;
-        }
-    }
-    Ok(())
-}
-
-/// The discs that hit.
-pub fn gather_hitting(
+// The targets, the standing players and the flags.
+#[tactic(auto, using(crate::proofs::Gathered::filter_more))]
+fn gather(
     objects: &[Object],
-    targets: &[Object],
-    hitting: &mut Vec<Object>,
-) -> Result<(), AllocError>
-    ensures { OnOk result (hitting.new.items ≡ filter (hits_any targets.now) objects.now) }
-{
-    hitting.clear();
-    for o in objects {
-        if hits_any(targets, o) {
-            hitting.push(*o)?;
-        }
-    }
-    Ok(())
-}
-
-/// The mines that are triggered.
-pub fn gather_triggered(
-    objects: &[Object],
-    standing: &[Object],
-    triggered: &mut Vec<Object>,
-) -> Result<(), AllocError>
-    ensures { OnOk result (triggered.new.items ≡ filter (is_triggered_by standing.now) objects.now) }
-{
-    triggered.clear();
-    for o in objects {
-        if is_triggered_by(standing, o) {
-            triggered.push(*o)?;
-        }
-    }
-    Ok(())
-}
-
-/// The lists that a tick looks through; all but the objects are written anew.
-#[tactic(auto, using(crate::proofs::Gathered::are_found))]
-pub fn find_all(
-    objects: &[Object],
-    flying: &mut Vec<Object>,
     targets: &mut Vec<Object>,
     standing: &mut Vec<Object>,
+    flags: &mut Vec<Object>,
+) -> Result<(), AllocError>
+    ensures targets { OnOk result (targets.new.items ≡ filter is_target objects.now) }
+    ensures standing { OnOk result (standing.new.items ≡ filter is_standing objects.now) }
+    ensures flags { OnOk result (flags.new.items ≡ filter is_flag objects.now) }
+{
+    targets.clear();
+    standing.clear();
+    flags.clear();
+    for o in objects {
+        keep(o.is_target(), o, targets)?;
+        keep(o.is_standing(), o, standing)?;
+        keep(is_flag(o), o, flags)?;
+    }
+    Ok(())
+}
+
+// The discs that hit and the mines that are triggered, with a mark for each object.
+#[tactic(auto, using(crate::proofs::Gathered::filter_more))]
+fn gather_ending(
+    objects: &[Object],
+    targets: &[Object],
+    standing: &[Object],
     hitting: &mut Vec<Object>,
     triggered: &mut Vec<Object>,
+    marks: &mut Vec<bool>,
 ) -> Result<(), AllocError>
-    ensures { OnOk result (AreFound objects.now flying.new.items targets.new.items standing.new.items
-        hitting.new.items triggered.new.items) }
+    ensures hitting { OnOk result (hitting.new.items ≡ filter (hits_any targets.now) objects.now) }
+    ensures triggered { OnOk result (triggered.new.items ≡ filter (is_triggered_by standing.now) objects.now) }
+    ensures marks { OnOk result (marks.new.items
+        ≡ map (λ o. hits_any targets.now o || is_triggered_by standing.now o) objects.now) }
 {
-    gather_flying(objects, flying)?;
-    gather_targets(objects, targets)?;
-    gather_standing(objects, standing)?;
-    gather_hitting(objects, targets, hitting)?;
-    gather_triggered(objects, standing, triggered)?;
+    hitting.clear();
+    triggered.clear();
+    marks.clear();
+    for o in objects {
+        let hits = hits_any(targets, o);
+        let triggers = is_triggered_by(standing, o);
+        keep(hits, o, hitting)?;
+        keep(triggers, o, triggered)?;
+        marks.push(hits || triggers)?;
+    }
     Ok(())
+}
+
+/// What a tick looks through, written anew.
+#[tactic(auto, using(crate::proofs::Gathered::are_found))]
+pub fn find_all(objects: &[Object], found: &mut Found) -> Result<(), AllocError>
+    ensures { OnOk result (AreFound objects.now found.new) }
+{
+    gather(
+        objects,
+        &mut found.targets,
+        &mut found.standing,
+        &mut found.flags,
+    )?;
+    gather_ending(
+        objects,
+        &found.targets,
+        &found.standing,
+        &mut found.hitting,
+        &mut found.triggered,
+        &mut found.marks,
+    )?;
+    Ok(())
+}
+
+/// How many flags the team captures in the tick, where these are the flags of all objects.
+#[tactic(auto, using(crate::proofs::Gathered::captures_are))]
+pub fn captures_of(objects: &[Object], flags: &[Object], team: u8) -> usize
+    requires { flags.now ≡ filter is_flag objects.now }
+    ensures value { result ≡ captures objects.now team }
+    ensures few { result ≤ length flags.now }
+{
+    flags
+        .iter()
+        .filter(|f| is_captured(objects, team, f))
+        .count()
 }

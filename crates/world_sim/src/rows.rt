@@ -1,7 +1,7 @@
 //! The values of all objects, their versions, and what a tick writes.
-ghost use Rattle.std.specs.Prelude.{◌≡◌, ◌<◌, ◌≤◌, ◌+◌, ◌-◌, ◌^◌, ◌++◌, ℤ, ℕ, List, length, OnOk, IfOk, [], ◌∷◌, slice_index, slice_index_or, pos, ◌⊎◌, replicate};
+ghost use Rattle.std.specs.Prelude.{OnErr, map, take, ◌≡◌, ◌<◌, ◌≤◌, ◌+◌, ◌-◌, ◌^◌, ◌++◌, ℤ, ℕ, List, length, OnOk, IfOk, [], ◌∷◌, slice_index, slice_index_or, pos, ◌⊎◌, replicate};
 ghost use Rattle.std.specs.List.{AllByRecursion};
-ghost use Rattle.world_sim.specs.RowsNext.{row_next, fresh_row, rows_next, rows_writes, IsSmallRow};
+ghost use Rattle.world_sim.specs.RowsNext.{row_next, fresh_row, rows_next, rows_updated, rows_writes, IsSoundRow};
 ghost use Rattle.world_sim.specs.Rows.{values_of, differs, version_next, field_writes, row_versions, row_writes, as_number, holder_number};
 
 use arrayvec::ArrayVec;
@@ -171,23 +171,28 @@ fn note_row(
     Ok(())
 }
 
-// The row of an object that had this one.
-fn next_row(old: &Row, o: &Object) -> Row
-    requires { IsSmallRow old.now }
-    ensures { result ≡ row_next old.now o.now }
+// The row of an object after a tick that made this of it. Most rows stay as they are.
+#[tactic(auto, using(crate::proofs::RowFields::row_stays))]
+fn update_row(row: &mut Row, o: &Object)
+    requires { IsSoundRow row.old }
+    ensures { row.new ≡ row_next row.old o.now }
 {
     let values = values_of(o);
+    if values.as_slice() == row.values.as_slice() {
+        return;
+    }
     let versions = row_versions(
-        old.values.as_slice(),
+        row.values.as_slice(),
         values.as_slice(),
-        old.versions.as_slice(),
+        row.versions.as_slice(),
     );
-    Row { values, versions }
+    row.values = values;
+    row.versions = versions;
 }
 
 // Notes the writes of an object that had this row.
 fn note_next(object: u32, old: &Row, o: &Object, writes: &mut Vec<Write>) -> Result<(), AllocError>
-    requires { IsSmallRow old.now }
+    requires { IsSoundRow old.now }
     ensures { OnOk result (writes.new.items ≡ writes.old.items
         ++ row_writes object 0 old.now.values.items (values_of o.now) old.now.versions.items) }
 {
@@ -222,30 +227,59 @@ pub fn fresh_row(o: &Object) -> Row
     Row { values, versions }
 }
 
-// Each object's row after the tick.
-#[tactic(auto, using(crate::proofs::RowLoops::rows_more, crate::proofs::RowLoops::rows_fresh, crate::proofs::RowLoops::rows_end, crate::proofs::RowLoops::small_at))]
-pub fn step_rows(rows: &[Row], after: &[Object], next: &mut Vec<Row>) -> Result<(), AllocError>
-    requires few { length rows.now ≤ length after.now }
-    requires small { AllByRecursion IsSmallRow rows.now }
-    ensures { OnOk result (next.new.items ≡ rows_next rows.now after.now) }
+// The first rows after a tick, in place.
+#[tactic(auto, using(crate::proofs::RowLoops::update_more, crate::proofs::RowLoops::sound_now, crate::proofs::RowLoops::length_updated))]
+fn update_rows(had: usize, rows: &mut Vec<Row>, after: &[Object])
+    requires rows { had ≤ length rows.old.items }
+    requires few { had ≤ length after.now }
+    requires sound { AllByRecursion IsSoundRow rows.old.items }
+    ensures { rows.new.items ≡ rows_updated had rows.old.items after.now }
 {
-    next.clear();
-    for (i, o) in after.iter().enumerate() {
-        if i < rows.len() {
-            next.push(next_row(&rows[i], o))?;
-        } else {
-            next.push(fresh_row(o))?;
-        }
+    for i in 0..had {
+        let row = &mut rows[i];
+        update_row(row, &after[i]);
+    }
+}
+
+// The rows of new objects, behind the others.
+#[tactic(auto, using(crate::proofs::RowLoops::take_front))]
+fn add_rows(rows: &mut Vec<Row>, made: &[Object]) -> Result<(), AllocError>
+    ensures ok { OnOk result (rows.new.items ≡ rows.old.items ++ map fresh_row made.now) }
+    ensures err { OnErr result (take (length rows.old.items) rows.new.items ≡ rows.old.items) }
+{
+    for o in made {
+        rows.push(fresh_row(o))?;
     }
     Ok(())
 }
 
+/// Each object's row after the tick, in place. Nothing changes for want of memory.
+#[tactic(auto, using(crate::proofs::RowLoops::all_sound, crate::proofs::RowLoops::rows_are))]
+pub fn step_rows(rows: &mut Vec<Row>, after: &[Object]) -> Result<(), AllocError>
+    requires few { length rows.old.items ≤ length after.now }
+    requires sound { AllByRecursion IsSoundRow rows.old.items }
+    ensures ok { OnOk result (rows.new.items ≡ rows_next rows.old.items after.now) }
+    ensures err { OnErr result (rows.new.items ≡ rows.old.items) }
+{
+    let had = rows.len();
+    match add_rows(rows, &after[had..]) {
+        Ok(()) => {
+            update_rows(had, rows, after);
+            Ok(())
+        }
+        Err(_) => {
+            rows.truncate(had);
+            Err(AllocError)
+        }
+    }
+}
+
 // The writes of a tick, by object and field.
-#[tactic(auto, using(crate::proofs::RowLoops::small_at, crate::proofs::RowLoops::row_writes_more, crate::proofs::RowLoops::row_writes_end))]
+#[tactic(auto, using(crate::proofs::RowLoops::sound_at, crate::proofs::RowLoops::row_writes_more, crate::proofs::RowLoops::row_writes_end))]
 pub fn note_rows(rows: &[Row], after: &[Object], writes: &mut Vec<Write>) -> Result<(), AllocError>
     requires few { length rows.now ≤ length after.now }
     requires most { length rows.now ≤ MAX_OBJECTS }
-    requires small { AllByRecursion IsSmallRow rows.now }
+    requires sound { AllByRecursion IsSoundRow rows.now }
     ensures { OnOk result (writes.new.items ≡ rows_writes 0 rows.now after.now) }
 {
     writes.clear();

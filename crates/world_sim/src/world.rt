@@ -10,9 +10,9 @@ ghost use Rattle.world_rules.specs.Identity.{IsPeopled};
 ghost use Rattle.world_sim.specs.Worlds.{next, added, first_world, alive_at, kind_at, block_at, values_at, version_at, identity_at, player_of};
 ghost use Rattle.world_sim.specs.Facts.{IsWriteOf, ValuesFit};
 ghost use Rattle.world_sim.specs.Rows.{values_of, versions_next, world_writes};
-ghost use Rattle.world_sim.specs.RowsNext.{fresh_row, row_values, row_counts, IsSmallRow};
+ghost use Rattle.world_sim.specs.RowsNext.{fresh_row, row_values, row_counts, rows_next, IsSoundRow};
 
-use crate::found::find_all;
+use crate::found::{Found, captures_of, find_all, nothing};
 use crate::rows::{Row, Write, fresh_row, note_rows, step_rows};
 use crate::step::{Old, step_each};
 use std::alloc::{AllocError, Global};
@@ -20,7 +20,7 @@ use std::marker::Model;
 use std::mem;
 use tn_types::{MAX_OBJECTS, Move, NoMemory};
 use world_rules::fire::fired;
-use world_rules::flags::{captures, is_player};
+use world_rules::flags::is_player;
 use world_rules::{Object, Setup, Spawn};
 
 // Writes of a tick at the most: five fields of each object.
@@ -30,25 +30,15 @@ const MAX_WRITES: usize = 5 * MAX_OBJECTS;
 #[derive(Drop)]
 pub struct Work {
     pub after: Vec<Object>,
-    pub after_rows: Vec<Row>,
     pub after_writes: Vec<Write>,
-    pub flying: Vec<Object>,
-    pub targets: Vec<Object>,
-    pub standing: Vec<Object>,
-    pub hitting: Vec<Object>,
-    pub triggered: Vec<Object>,
+    pub found: Found,
 }
 
 fn workroom(alloc: Global) -> Result<Work, AllocError> {
     Ok(Work {
         after: Vec::with_capacity(alloc, MAX_OBJECTS)?,
-        after_rows: Vec::with_capacity(alloc, MAX_OBJECTS)?,
         after_writes: Vec::with_capacity(alloc, MAX_WRITES)?,
-        flying: Vec::with_capacity(alloc, MAX_OBJECTS)?,
-        targets: Vec::with_capacity(alloc, MAX_OBJECTS)?,
-        standing: Vec::with_capacity(alloc, MAX_OBJECTS)?,
-        hitting: Vec::with_capacity(alloc, MAX_OBJECTS)?,
-        triggered: Vec::with_capacity(alloc, MAX_OBJECTS)?,
+        found: nothing(alloc)?,
     })
 }
 
@@ -126,7 +116,7 @@ fn make_discs(
 }
 
 // The objects after a tick.
-#[tactic(auto, unfolding(world_rules::specs::Next::discs_made))]
+#[tactic(auto, using(crate::proofs::Gathered::flags_few))]
 fn next_objects(
     objects: &[Object],
     moves: &[Option<Move>],
@@ -138,34 +128,25 @@ fn next_objects(
     ensures objects { OnOk result (work.new.after.items ≡ objects_next objects.now moves.now (record { seed = seed; tick = tick })) }
     ensures few { OnOk result (length work.new.after.items ≤ MAX_OBJECTS) }
 {
-    find_all(
-        objects,
-        &mut work.flying,
-        &mut work.targets,
-        &mut work.standing,
-        &mut work.hitting,
-        &mut work.triggered,
-    )?;
+    find_all(objects, &mut work.found)?;
+    let red = captures_of(objects, &work.found.flags, 0) as u32;
+    let blue = captures_of(objects, &work.found.flags, 1) as u32;
     let old = Old {
         objects,
-        flying: work.flying.as_slice(),
-        targets: work.targets.as_slice(),
-        standing: work.standing.as_slice(),
-        hitting: work.hitting.as_slice(),
-        triggered: work.triggered.as_slice(),
-        red: captures(objects, 0) as u32,
-        blue: captures(objects, 1) as u32,
+        found: &work.found,
+        red,
+        blue,
         moves,
         seed,
         tick,
     };
     step_each(&old, &mut work.after)?;
-    make_discs(objects, moves, &mut work.after)?;
+    make_discs(&work.found.standing, moves, &mut work.after)?;
     Ok(())
 }
 
-// What a tick makes of the objects and their rows.
-#[tactic(auto, using(crate::proofs::WorldLaws::more_objects, crate::proofs::Kept::values_kept, crate::proofs::Kept::counts_kept, crate::proofs::Kept::writes_kept))]
+// The objects after a tick, and what the tick writes.
+#[tactic(auto, using(crate::proofs::WorldLaws::more_objects, crate::proofs::Kept::writes_kept))]
 fn advance(
     objects: &[Object],
     rows: &[Row],
@@ -177,16 +158,13 @@ fn advance(
     requires few { length objects.now ≤ MAX_OBJECTS }
     requires rows { length rows.now ≡ length objects.now }
     requires kept { map row_values rows.now ≡ map values_of objects.now }
-    requires small { AllByRecursion IsSmallRow rows.now }
+    requires sound { AllByRecursion IsSoundRow rows.now }
     ensures objects { OnOk result (work.new.after.items ≡ objects_next objects.now moves.now (record { seed = seed; tick = tick })) }
-    ensures kept { OnOk result (map row_values work.new.after_rows.items ≡ map values_of work.new.after.items) }
-    ensures versions { OnOk result (map row_counts work.new.after_rows.items
-        ≡ versions_next objects.now work.new.after.items (map row_counts rows.now)) }
+    ensures more { OnOk result (length rows.now ≤ length work.new.after.items) }
     ensures writes { OnOk result (work.new.after_writes.items
         ≡ world_writes 0 objects.now work.new.after.items (map row_counts rows.now)) }
 {
     next_objects(objects, moves, seed, tick, work)?;
-    step_rows(rows, &work.after, &mut work.after_rows)?;
     note_rows(rows, &work.after, &mut work.after_writes)?;
     Ok(())
 }
@@ -278,7 +256,7 @@ impl World {
         }
     }
 
-    #[tactic(auto, using(crate::proofs::WorldLaws::small_rows), unfolding(crate::specs::Worlds::next))]
+    #[tactic(auto, using(crate::proofs::WorldLaws::sound_rows, crate::proofs::Kept::as_many, crate::proofs::Kept::counts_kept), unfolding(crate::specs::Worlds::next))]
     fn step(&mut self, moves: &[Option<Move>]) -> Result<(), AllocError>
         requires { self.old.ticks < 2 ^ 32 - 1 }
         ensures ok { OnOk result (self.new ≡ next self.old moves.now) }
@@ -294,8 +272,8 @@ impl World {
             self.ticks + 1,
             &mut self.work,
         )?;
+        step_rows(&mut self.rows, &self.work.after)?;
         mem::swap(&mut self.objects, &mut self.work.after);
-        mem::swap(&mut self.rows, &mut self.work.after_rows);
         mem::swap(&mut self.writes, &mut self.work.after_writes);
         self.ticks += 1;
         Ok(())

@@ -1,7 +1,13 @@
+use Rattle.std.proofs.Common.{refl}
+use Rattle.world_sim.specs.declared.found.Found.{Found}
 use Rattle.world_sim.proofs.Gathered.{are_found}
 use Rattle.world_sim.proofs.found.find_all.Goals as goal
 
 pub returns : goal.returns
 returns c =
-    are_found _ _ _ _ _ _ c.in_ok-gather_flying.ensures c.in_ok-gather_targets.ensures c.in_ok-gather_standing.ensures
-    (rw c.deref.ensures.value at c.in_ok-gather_hitting.ensures) (rw c.deref-2.ensures.value at c.in_ok-gather_triggered.ensures)
+    let found : Found = record { targets = c.gather.new.targets; standing = c.gather.new.standing; flags = c.gather.new.flags; hitting = c.gather_ending.new.hitting; triggered = c.gather_ending.new.triggered; marks = c.gather_ending.new.marks } in
+    are_found c.args.objects.now found c.gather.new.targets.items c.gather.new.standing.items
+    c.in_ok-gather.ensures.targets c.in_ok-gather.ensures.standing refl c.in_ok-gather.ensures.flags
+    (rw c.deref.ensures.value at c.in_ok-gather_ending.ensures.hitting)
+    (rw c.deref-2.ensures.value at c.in_ok-gather_ending.ensures.triggered)
+    (rw (c.deref.ensures.value, c.deref-2.ensures.value) at c.in_ok-gather_ending.ensures.marks)

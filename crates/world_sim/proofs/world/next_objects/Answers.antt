@@ -1,8 +1,7 @@
-use Rattle.world_sim.proofs.Gathered.{is_old}
+use Rattle.world_sim.proofs.Gathered.{objects_are}
 use Rattle.world_sim.proofs.world.next_objects.Goals as goal
 
-pub step_each-requires : goal.step_each-requires
-step_each-requires c =
-    is_old _ _ _ _ _ _ c.in_ok-find_all.ensures
-    c.as_slice.ensures.value c.as_slice-2.ensures.value c.as_slice-3.ensures.value c.as_slice-4.ensures.value c.as_slice-5.ensures.value
-    c.requires c.captures-2.ensures.value c.captures-2-2.ensures.value
+pub returns-clause-objects : goal.returns-clause-objects
+returns-clause-objects c =
+    objects_are c.args.objects.now c.find_all.new.found c.args.moves.now (record { seed = c.args.seed; tick = c.args.tick }) c.deref-3.result.now c.step_each.new.after.items c.make_discs.new.after.items
+    c.in_ok-find_all.ensures c.deref-3.ensures.value c.in_ok-step_each.ensures c.in_ok-make_discs.ensures.made

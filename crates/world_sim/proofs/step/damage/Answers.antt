@@ -1,0 +1,7 @@
+use Rattle.world_sim.proofs.Gathered.{damage_is}
+use Rattle.world_sim.proofs.step.damage.Goals as goal
+
+pub returns : goal.returns
+returns c = λ target.
+    rw (c.count_near.ensures.value, c.count_near-2.ensures.value, c.deref.ensures.value, c.deref-2.ensures.value)
+    (damage_is c.args.old.now.objects.now c.args.old.now.found.now c.args.i c.args.o.now c.requires.old.found_is c.requires.there target)
