@@ -1,6 +1,6 @@
 -- What each step does to what is known of one client.
-use Rattle.std.proofs.Common.{◌≡◌, ◌≢◌, ℕ, zero, suc, ◌+◌, ◌-◌, ◌*◌, ◌/◌, ◌%◌, ◌<◌, ◌≤◌, Bool, true, false, not, ◌&&◌, ◌||◌, ◌==◌, List, [], ◌∷◌, ◌++◌, length, get_or, set, Some, refl, sym, ap, ◌∙◌, subst, arith, length-append}
-use Rattle.std.specs.Prelude.{slice_get, slice_index, if◌then◌else◌}
+use Rattle.std.proofs.Common.{◌≡◌, ℕ, ◌+◌, ◌≤◌, Bool, true, false, not, ◌&&◌, ◌||◌, ◌==◌, List, [], ◌∷◌, ◌++◌, length, set, Some, refl, arith, length-append}
+use Rattle.std.specs.Prelude.{slice_get, if◌then◌else◌}
 use Rattle.std.specs.Int.Bits.{bit_or}
 use Rattle.dirty_lanes.specs.declared.view.WrittenField.{WrittenField}
 use Rattle.dirty_lanes.specs.declared.view.RaisedBits.{RaisedBits}
@@ -13,7 +13,7 @@ use Rattle.dirty_lanes.specs.declared.view.PackStep.TheVariants.{Drain, Read}
 use Rattle.tn_types.specs.BitWords.{has_bit}
 use Rattle.dirty_lanes.specs.Views.{is_at, newest, newest_value, values, pending, last_read, owes}
 use Rattle.dirty_lanes.specs.Rule.{covered, ReadsStand}
-use Rattle.dirty_lanes.proofs.LaneWords.{bool_cases, or_true, and_true, and_false, same_out, same_here, test_here, test_out, bit_or_set, bit_or_unset, no_bit, get_front, get_last}
+use Rattle.dirty_lanes.proofs.LaneWords.{or_true, and_true, test_here, bit_or_set, bit_or_unset, no_bit, get_front, get_last}
 
 -- a value by the test of the last write
 pick-length : (b : Bool) (xs : List ℕ) (x n : ℕ) → length xs ≡ n + 1 → length (if b then xs ++ x ∷ [] else xs) ≡ (if b then n + 1 else n) + 1

@@ -1,14 +1,14 @@
 -- Each kind of step keeps the rule.
-use Rattle.std.proofs.Common.{◌≡◌, ◌≢◌, ◌⊎◌, ℕ, zero, suc, ◌+◌, ◌-◌, ◌*◌, ◌/◌, ◌%◌, ◌<◌, ◌≤◌, Bool, true, false, not, ◌&&◌, ◌||◌, ◌==◌, List, [], ◌∷◌, ◌++◌, length, get_or, set, Some, refl, sym, ap, ◌∙◌, subst, ⊎_elim, inl, inr, arith, length-set, get_or-set_other, get_or-set_same}
+use Rattle.std.proofs.Common.{◌≡◌, ◌≢◌, ◌⊎◌, ℕ, zero, suc, ◌+◌, ◌-◌, ◌*◌, ◌/◌, ◌%◌, ◌<◌, ◌≤◌, Bool, true, false, ◌==◌, List, [], ◌∷◌, ◌++◌, length, get_or, set, Some, refl, sym, ap, ◌∙◌, subst, ⊎_elim, inl, inr, arith, length-set, get_or-set_other, get_or-set_same}
 use Rattle.std.specs.Prelude.{slice_get, slice_index, if◌then◌else◌}
 use Rattle.std.specs.Int.Bits.{bit_or}
 use Rattle.std.proofs.lemmas.Nat.{or_of_16}
 use native.Mathlib.Decide.{ℕ_discrete}
 use mathlib.Core.Logic.{dite}
-use mathlib.Core.Option.{none, some, some-injective, some-ne-none}
+use mathlib.Core.Option.{some, some-injective, some-ne-none}
 use lib.ListN.{get_elem?}
-use Rattle.atomic_table.specs.Table.{State, Me, Step, step, stepped, keeps, Allows, Splits, Joins, opening}
-use Rattle.atomic_table.proofs.Lists.{at_set, at_snoc, set_here, set_else, at_longer, at_last}
+use Rattle.atomic_table.specs.Table.{State, keeps, Allows, Splits, Joins, opening}
+use Rattle.atomic_table.proofs.Lists.{at_set, set_here, set_else, at_longer}
 use Rattle.dirty_lanes.specs.declared.view.WrittenField.{WrittenField}
 use Rattle.dirty_lanes.specs.declared.view.RaisedBits.{RaisedBits}
 use Rattle.dirty_lanes.specs.declared.view.DrainedBits.{DrainedBits}
@@ -21,11 +21,10 @@ use Rattle.dirty_lanes.specs.declared.view.PackView.{PackView}
 use Rattle.dirty_lanes.specs.declared.view.SimView.{SimView}
 use Rattle.dirty_lanes.specs.declared.view.View.{View}
 use Rattle.dirty_lanes.specs.declared.view.View.TheVariants.{Spent, Sim, Packer}
-use Rattle.tn_types.specs.BitWords.{has_bit}
-use Rattle.dirty_lanes.specs.Views.{is_at, newest, newest_value, values, pending, last_read, owes}
+use Rattle.dirty_lanes.specs.Views.{is_at, newest, newest_value, values, last_read}
 use Rattle.dirty_lanes.specs.Words.{field_word, mask_word, packed}
-use Rattle.dirty_lanes.specs.Rule.{object_of, place_of, covered, ReadsStand, Follows, Joined, Fits, RuleHolds, with_write, with_raise, with_drain, with_read, NotBelow, IsOpened, one_less, new_packer, with_packer}
-use Rattle.dirty_lanes.proofs.LaneWords.{bool_cases, or_true, and_true, same_out, same_here, test_here, test_out, field_object, field_place, mask_object, mask_client, fields_apart, masks_apart, kinds_apart, set_back}
+use Rattle.dirty_lanes.specs.Rule.{covered, Follows, Joined, Fits, RuleHolds, with_write, with_raise, with_drain, with_read, NotBelow, IsOpened, one_less, new_packer, with_packer}
+use Rattle.dirty_lanes.proofs.LaneWords.{bool_cases, same_out, test_here, test_out, field_object, field_place, mask_object, mask_client, fields_apart, masks_apart, kinds_apart, set_back}
 use Rattle.dirty_lanes.proofs.Covers.{values-newest, stand_write, stand_raise, below_write, covered_write, covered_raise_else, covered_raise, covered_drain_else, covered_drain, covered_read_else, covered_read, opening_value}
 
 abbrev St : Type 0

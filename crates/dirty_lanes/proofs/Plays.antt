@@ -1,22 +1,19 @@
 -- The moves at a seat and a word that are known by equations, and what the seat knows afterwards.
-use Rattle.std.proofs.Common.{◌≡◌, ◌≢◌, ℕ, zero, suc, ◌+◌, ◌-◌, ◌*◌, ◌/◌, ◌%◌, ◌<◌, ◌≤◌, Bool, true, false, List, [], ◌∷◌, length, get_or, set, refl, sym, ap, ◌∙◌, subst, arith, length-set, get_or-set_other, get_or-set_same}
-use Rattle.std.specs.Prelude.{slice_index, if◌then◌else◌}
+use Rattle.std.proofs.Common.{◌≡◌, ℕ, ◌+◌, ◌*◌, ◌/◌, ◌%◌, ◌<◌, ◌≤◌, true, false, List, [], ◌∷◌, length, get_or, set, sym, ap, ◌∙◌, subst, arith, get_or-set_other, get_or-set_same}
+use Rattle.std.specs.Prelude.{slice_index}
 use Rattle.std.specs.Int.Bits.{bit_or}
-use native.Mathlib.Decide.{ℕ_discrete}
-use mathlib.Core.Logic.{dite}
-use Rattle.atomic_table.specs.Table.{State, Me, Allows}
+use Rattle.atomic_table.specs.Table.{Me, Allows}
 use Rattle.dirty_lanes.specs.declared.view.SimStep.{SimStep}
 use Rattle.dirty_lanes.specs.declared.view.SimStep.TheVariants.{Write, Raise}
-use Rattle.dirty_lanes.specs.declared.view.PackStep.{PackStep}
 use Rattle.dirty_lanes.specs.declared.view.PackStep.TheVariants.{Drain, Read}
 use Rattle.dirty_lanes.specs.declared.view.PackView.{PackView}
 use Rattle.dirty_lanes.specs.declared.view.SimView.{SimView}
 use Rattle.dirty_lanes.specs.declared.view.View.{View}
-use Rattle.dirty_lanes.specs.declared.view.View.TheVariants.{Spent, Sim, Packer}
-use Rattle.dirty_lanes.specs.Views.{is_at, newest, last_read, VersionsRise}
+use Rattle.dirty_lanes.specs.declared.view.View.TheVariants.{Sim, Packer}
+use Rattle.dirty_lanes.specs.Views.{is_at, newest, last_read}
 use Rattle.dirty_lanes.specs.Words.{field_word, mask_word, packed}
-use Rattle.dirty_lanes.specs.Rule.{object_of, place_of, RuleHolds, with_write, with_raise, with_drain, with_read, NotBelow, IsOpened, sim_of, pack_of}
-use Rattle.dirty_lanes.proofs.LaneWords.{bool_cases, same_out, same_here, test_here, field_object, field_place, mask_object, mask_client}
+use Rattle.dirty_lanes.specs.Rule.{RuleHolds, with_write, with_raise, with_drain, with_read, NotBelow, IsOpened, sim_of, pack_of}
+use Rattle.dirty_lanes.proofs.LaneWords.{bool_cases, same_out, same_here, field_object, field_place}
 use Rattle.dirty_lanes.proofs.Moves.{writes, raises, swaps, loads, wrote_is, raised_is, drained_is, loaded_is}
 
 abbrev pub Mine : Type 0

@@ -1,12 +1,12 @@
 -- Rows of seats, and the end.
-use Rattle.std.proofs.Common.{◌≡◌, ◌≢◌, ℕ, zero, suc, ◌+◌, ◌-◌, ◌*◌, ◌/◌, ◌%◌, ◌^◌, ◌<◌, ◌≤◌, Bool, true, false, List, [], ◌∷◌, ◌++◌, length, take, get_or, refl, sym, ap, ◌∙◌, subst, arith}
+use Rattle.std.proofs.Common.{◌≡◌, ℕ, zero, suc, ◌+◌, ◌-◌, ◌*◌, ◌/◌, ◌%◌, ◌^◌, ◌<◌, ◌≤◌, List, [], ◌∷◌, ◌++◌, length, get_or, refl, sym, ap, ◌∙◌, subst, arith}
 use Rattle.std.specs.Prelude.{slice_index, replicate}
-use Rattle.std.proofs.lemmas.List.{get_or-replicate, length-replicate, take_more, length-take}
+use Rattle.std.proofs.lemmas.List.{get_or-replicate, length-replicate}
 use mathlib.Core.Logic.{dite}
 use native.Mathlib.Decide.{dec_lt}
 use mathlib.Core.Option.{some, some-injective, some-ne-none}
 use lib.ListN.{get_elem?}
-use Rattle.atomic_table.specs.Table.{State, Me, Splits, Joins, Final, Seen}
+use Rattle.atomic_table.specs.Table.{Me, Splits, Joins, Final, Seen}
 use Rattle.atomic_table.specs.Seated.{TableId}
 use Rattle.atomic_table.specs.declared.shared.Seat.{Seat}
 use Rattle.dirty_lanes.specs.declared.view.SimStep.{SimStep}
@@ -17,11 +17,10 @@ use Rattle.dirty_lanes.specs.declared.view.View.{View}
 use Rattle.dirty_lanes.specs.declared.view.View.TheVariants.{Spent, Sim, Packer}
 use Rattle.dirty_lanes.specs.Views.{newest, newest_value}
 use Rattle.dirty_lanes.specs.Words.{field_word, mask_word, packed, version_at, value_at, mask_at, IsLaidOut}
-use Rattle.dirty_lanes.specs.Rule.{covered, Follows, Joined, RuleHolds, one_less, new_packer, with_packer}
-use Rattle.dirty_lanes.specs.Words.{Words}
+use Rattle.dirty_lanes.specs.Rule.{Follows, Joined, RuleHolds, one_less, new_packer, with_packer}
 use Rattle.tn_types.specs.declared.limits.TheConstants.{MAX_FIELDS, MAX_CLIENTS, MAX_OBJECTS}
 use Rattle.dirty_lanes.specs.declared.words.TheConstants.{VERSION}
-use Rattle.dirty_lanes.specs.Named.{IsRow, IsNumbered, IsHeard, AreHeard, IsFinal}
+use Rattle.dirty_lanes.specs.Named.{IsRow, IsNumbered, AreHeard, IsFinal}
 use Rattle.dirty_lanes.proofs.Moves.{mine, gives, ends}
 
 pub from_get : (xs : List ℕ) (i x : ℕ) → get_elem? xs i ≡ some x → get_or xs i 0 ≡ x

@@ -2,8 +2,6 @@
 -- packer's its drains and reads. All that the lane rule says of fields and bits is a short look back over these two lists.
 use Rattle.std.specs.Prelude.{ℕ, ◌+◌, ◌≡◌, ◌≤◌, Bool, true, false, not, ◌&&◌, ◌||◌, ◌==◌, if◌then◌else◌, List, [], ◌∷◌, ◌++◌, refl}
 use Rattle.tn_types.specs.BitWords.{has_bit}
-use Rattle.dirty_lanes.specs.declared.view.WrittenField.{WrittenField}
-use Rattle.dirty_lanes.specs.declared.view.RaisedBits.{RaisedBits}
 use Rattle.dirty_lanes.specs.declared.view.DrainedBits.{DrainedBits}
 use Rattle.dirty_lanes.specs.declared.view.ReadField.{ReadField}
 use Rattle.dirty_lanes.specs.declared.view.SimStep.{SimStep}

@@ -1,15 +1,12 @@
-use Rattle.std.proofs.Common.{◌≡◌, ◌∙◌, sym, ap, ◌-◌, ◌+◌, ◌*◌, ◌<◌, ◌≤◌, ◌++◌, ◌∷◌, [], ℕ, List, subst, arith, rules, refl, length, length-append}
-use Rattle.std.proofs.Common.{append_assoc, append-nil}
-use Rattle.std.specs.Slots.{slots_items}
+use Rattle.std.proofs.Common.{◌≡◌, ◌∙◌, sym, ap, ◌≤◌, ◌++◌, ◌∷◌, [], ℕ, List, subst, arith, refl, length}
 use Rattle.atomic_table.specs.Table.{Final, Seen}
 use Rattle.dirty_lanes.specs.declared.rule.LaneSize.{LaneSize}
 use Rattle.dirty_lanes.specs.declared.view.PackView.{PackView}
 use Rattle.dirty_lanes.specs.declared.view.SimView.{SimView}
 use Rattle.dirty_lanes.specs.declared.view.SimStep.{SimStep}
-use Rattle.dirty_lanes.specs.declared.view.View.{View}
-use Rattle.dirty_lanes.specs.declared.view.View.TheVariants.{Sim, Packer}
-use Rattle.dirty_lanes.specs.Rule.{RuleHolds, pack_of, sim_of, with_packer}
-use Rattle.dirty_lanes.specs.Words.{Words, IsLaidOut}
+use Rattle.dirty_lanes.specs.declared.view.View.TheVariants.{Sim}
+use Rattle.dirty_lanes.specs.Rule.{RuleHolds, pack_of}
+use Rattle.dirty_lanes.specs.Words.{IsLaidOut}
 use Rattle.dirty_lanes.specs.Named.{IsFinal}
 use Rattle.dirty_lanes.proofs.Plays.{Mine}
 use Rattle.dirty_lanes.proofs.Rows.{ends_as, final_is, final_laid}

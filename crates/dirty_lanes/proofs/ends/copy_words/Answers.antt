@@ -1,5 +1,5 @@
-use Rattle.std.proofs.Common.{◌≡◌, ◌∙◌, sym, ap, ◌<◌, ◌+◌, ◌++◌, ◌∷◌, [], ℕ, List, length, take, get_or, subst, arith, length-set}
-use Rattle.std.proofs.lemmas.List.{take_more, take_more_set, take_all}
+use Rattle.std.proofs.Common.{◌≡◌, ◌∙◌, sym, ap, ◌<◌, ◌++◌, ◌∷◌, [], ℕ, List, length, take, arith, length-set}
+use Rattle.std.proofs.lemmas.List.{take_more, take_more_set}
 use Rattle.std.specs.Slots.{slots_items, slots_len}
 use Rattle.std.specs.Mem.Slots.{slots_counts}
 use Rattle.dirty_lanes.proofs.Rows.{from_get, there}

@@ -1,4 +1,4 @@
-use Rattle.std.proofs.Common.{◌<◌, subst, ◌∙◌, arith}
+use Rattle.std.proofs.Common.{◌<◌, subst, arith}
 use Rattle.tn_types.specs.declared.limits.TheConstants.{MAX_CLIENTS}
 use Rattle.dirty_lanes.specs.Words.{IsLaidOut}
 use Rattle.dirty_lanes.proofs.Calls.{mask_read}

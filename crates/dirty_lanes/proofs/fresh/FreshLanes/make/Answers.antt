@@ -1,5 +1,4 @@
-use Rattle.std.proofs.Common.{◌≡◌, ◌∙◌, sym, ap, ◌-◌, ◌+◌, ◌*◌, ◌<◌, ◌≤◌, ◌++◌, ◌∷◌, [], ℕ, subst, arith, rules, refl, length, length-append, get_or}
-use Rattle.std.specs.Prelude.{replicate}
+use Rattle.std.proofs.Common.{◌≡◌, ◌∙◌, sym, ap, ◌-◌, ◌+◌, ◌*◌, ◌∷◌, [], ℕ, subst, arith, length, length-append, get_or}
 use Rattle.std.proofs.lemmas.List.{length-replicate}
 use Rattle.dirty_lanes.specs.declared.view.SimView.{SimView}
 use Rattle.dirty_lanes.specs.declared.view.View.TheVariants.{Sim, Packer}

@@ -1,4 +1,4 @@
-use Rattle.std.proofs.Common.{◌≡◌, ◌-◌, [], ◌∷◌, length}
+use Rattle.std.proofs.Common.{◌≡◌, ◌-◌, [], length}
 use Rattle.dirty_lanes.specs.declared.view.View.TheVariants.{Sim}
 use Rattle.dirty_lanes.specs.Named.{IsRow}
 use Rattle.dirty_lanes.proofs.fresh.FreshLanes.make.Given as goal

@@ -1,8 +1,7 @@
-use Rattle.std.proofs.Common.{◌≡◌, ◌∙◌, sym, ap, ◌-◌, ◌+◌, ◌++◌, ◌∷◌, [], ℕ, subst, arith, refl, length, length-append}
+use Rattle.std.proofs.Common.{◌≡◌, ◌∙◌, sym, ap, ◌-◌, ◌+◌, ◌∷◌, [], ℕ, subst, arith, length, length-append}
 use Rattle.dirty_lanes.specs.declared.view.GivenSeats.{GivenSeats}
-use Rattle.dirty_lanes.specs.declared.view.View.TheVariants.{Packer}
 use Rattle.dirty_lanes.specs.Rule.{pack_of}
-use Rattle.dirty_lanes.specs.Named.{IsRow, IsPacker}
+use Rattle.dirty_lanes.specs.Named.{IsRow}
 use Rattle.dirty_lanes.specs.Views.{VersionsRise}
 use Rattle.dirty_lanes.proofs.Plays.{Mine, pack_sits}
 use Rattle.dirty_lanes.proofs.Rows.{row_last, row_front}

@@ -1,8 +1,7 @@
-use Rattle.std.proofs.Common.{rules, arith, ◌≡◌, ◌∙◌, sym, ap, ◌<◌}
+use Rattle.std.proofs.Common.{arith, ◌∙◌, sym, ap}
 use Rattle.dirty_lanes.specs.declared.rule.LaneSize.{LaneSize}
-use Rattle.dirty_lanes.specs.declared.view.PackView.{PackView}
 use Rattle.dirty_lanes.specs.Rule.{pack_of}
-use Rattle.dirty_lanes.proofs.Plays.{swaps_as, seat_after_drain, pack_sits}
+use Rattle.dirty_lanes.proofs.Plays.{swaps_as}
 use Rattle.dirty_lanes.proofs.seats.PackSeat.drain.Goals as goal
 
 pub swap-requires : goal.swap-requires

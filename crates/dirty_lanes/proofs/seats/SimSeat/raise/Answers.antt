@@ -1,8 +1,7 @@
-use Rattle.std.proofs.Common.{rules, arith, ◌≡◌, ◌∙◌, sym, ap, ◌<◌}
+use Rattle.std.proofs.Common.{arith, ◌∙◌, sym, ap, ◌<◌}
 use Rattle.dirty_lanes.specs.declared.rule.LaneSize.{LaneSize}
-use Rattle.dirty_lanes.specs.declared.view.SimView.{SimView}
 use Rattle.dirty_lanes.specs.Rule.{sim_of}
-use Rattle.dirty_lanes.proofs.Plays.{raises_as, seat_after_raise, sim_sits}
+use Rattle.dirty_lanes.proofs.Plays.{raises_as}
 use Rattle.dirty_lanes.proofs.seats.SimSeat.raise.Goals as goal
 
 pub fetch_or-requires : goal.fetch_or-requires

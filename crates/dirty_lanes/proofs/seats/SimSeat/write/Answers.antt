@@ -1,12 +1,11 @@
-use Rattle.std.proofs.Common.{rules, arith, ℕ, ◌+◌, ◌*◌, ◌<◌, ◌≡◌, ◌∙◌, sym, ap, subst, ◌∷◌, [], length, set, length-set, slice_index}
+use Rattle.std.proofs.Common.{arith, ℕ, ◌+◌, ◌*◌, ◌<◌, ◌∙◌, sym, ap, subst, length}
 use Rattle.dirty_lanes.specs.declared.rule.LaneSize.{LaneSize}
 use Rattle.dirty_lanes.specs.declared.view.SimView.{SimView}
-use Rattle.dirty_lanes.specs.declared.view.SimStep.TheVariants.{Write}
 use Rattle.dirty_lanes.specs.Views.{newest}
 use Rattle.dirty_lanes.specs.Words.{packed}
 use Rattle.dirty_lanes.specs.Rule.{sim_of}
 use Rattle.dirty_lanes.proofs.LaneWords.{any_default}
-use Rattle.dirty_lanes.proofs.Plays.{writes_as, seat_after_write, sim_sits, counts_write}
+use Rattle.dirty_lanes.proofs.Plays.{writes_as}
 use Rattle.dirty_lanes.proofs.seats.SimSeat.write.Goals as goal
 
 pub overflow_add-version : goal.overflow_add-version
