@@ -1,5 +1,5 @@
 -- What each step does to what is known of one client.
-use Rattle.std.proofs.Common.{◌≡◌, ℕ, ◌+◌, ◌≤◌, Bool, true, false, not, ◌&&◌, ◌||◌, ◌==◌, List, [], ◌∷◌, ◌++◌, length, set, Some, refl, arith, length-append}
+use Rattle.std.proofs.Common.{◌≡◌, ℕ, suc, ap, ◌+◌, ◌≤◌, Bool, true, false, not, ◌&&◌, ◌||◌, ◌==◌, List, [], ◌∷◌, ◌++◌, length, set, Some, refl, arith, length-append}
 use Rattle.std.specs.Prelude.{slice_get, if◌then◌else◌}
 use Rattle.std.specs.Int.Bits.{bit_or}
 use Rattle.dirty_lanes.specs.declared.view.WrittenField.{WrittenField}
@@ -11,8 +11,8 @@ use Rattle.dirty_lanes.specs.declared.view.SimStep.TheVariants.{Write, Raise}
 use Rattle.dirty_lanes.specs.declared.view.PackStep.{PackStep}
 use Rattle.dirty_lanes.specs.declared.view.PackStep.TheVariants.{Drain, Read}
 use Rattle.tn_types.specs.BitWords.{has_bit}
-use Rattle.dirty_lanes.specs.Views.{is_at, newest, newest_value, values, pending, last_read, owes}
-use Rattle.dirty_lanes.specs.Rule.{covered, ReadsStand}
+use Rattle.dirty_lanes.specs.Views.{is_at, newest, newest_value, values, pending, raises_of, last_read, owes, drains_of}
+use Rattle.dirty_lanes.specs.Rule.{covered, ReadsStand, DrainsTake}
 use Rattle.dirty_lanes.proofs.LaneWords.{or_true, and_true, test_here, bit_or_set, bit_or_unset, no_bit, get_front, get_last}
 
 -- a value by the test of the last write
@@ -103,3 +103,20 @@ covered_read_else sim r log c m o f ne e = rw (ne, and_true (owes log o f)) e
 
 pub covered_read : (sim : List SimStep) (r : ReadField) (log : List PackStep) (c m o f : ℕ) → is_at r.object r.field o f ≡ true → r.version ≡ newest sim o f → covered sim (Read r ∷ log) c m o f ≡ true
 covered_read sim r log c m o f here new = rw (here, new, test_here (newest sim o f)) refl
+
+-- the word after one more raise
+takes_raise : (mask bits : ℕ) (ds rs : List ℕ) → DrainsTake mask ds rs → DrainsTake (bit_or mask bits) ds (bits ∷ rs)
+takes_raise mask bits [] rs h = ap (λ (n : ℕ). bit_or n bits) h
+takes_raise mask bits (d ∷ ds) rs h = (suc h.0, ap (λ (n : ℕ). bit_or n bits) h.1, h.2)
+
+pub takes_raise_here : (sim : List SimStep) (r : RaisedBits) (ds : List ℕ) (c m o : ℕ) → is_at r.client r.object c o ≡ true → DrainsTake m ds (raises_of sim c o) → DrainsTake (bit_or m r.bits) ds (raises_of (Raise r ∷ sim) c o)
+takes_raise_here sim r ds c m o here h = rw here (takes_raise m r.bits ds (raises_of sim c o) h)
+
+pub takes_raise_else : (sim : List SimStep) (r : RaisedBits) (ds : List ℕ) (c m o : ℕ) → is_at r.client r.object c o ≡ false → DrainsTake m ds (raises_of sim c o) → DrainsTake m ds (raises_of (Raise r ∷ sim) c o)
+takes_raise_else sim r ds c m o ne h = rw ne h
+
+pub takes_drain_here : (d : DrainedBits) (pack : List PackStep) (o : ℕ) (rs : List ℕ) → (d.object == o) ≡ true → DrainsTake d.bits (drains_of pack o) rs → DrainsTake 0 (drains_of (Drain d ∷ pack) o) rs
+takes_drain_here d pack o rs here h = rw here (0, refl, h)
+
+pub takes_drain_else : (d : DrainedBits) (pack : List PackStep) (o m : ℕ) (rs : List ℕ) → (d.object == o) ≡ false → DrainsTake m (drains_of pack o) rs → DrainsTake m (drains_of (Drain d ∷ pack) o) rs
+takes_drain_else d pack o m rs ne h = rw ne h

@@ -1,5 +1,5 @@
 -- Words, bits and lists, away from the rule.
-use Rattle.std.proofs.Common.{◌≡◌, ◌≢◌, ℕ, zero, suc, ◌-◌, ◌<◌, Bool, true, false, ◌&&◌, ◌||◌, ◌==◌, List, [], ◌∷◌, ◌++◌, length, get_or, set, Some, refl, ap, ◌∙◌, arith}
+use Rattle.std.proofs.Common.{not, ◌≡◌, ◌≢◌, ℕ, zero, suc, ◌-◌, ◌<◌, Bool, true, false, ◌&&◌, ◌||◌, ◌==◌, List, [], ◌∷◌, ◌++◌, length, get_or, set, Some, refl, ap, ◌∙◌, arith}
 use Rattle.std.specs.Prelude.{slice_get}
 use Rattle.std.specs.Int.{bit_at}
 use Rattle.std.specs.Int.Bits.{bit_or}
@@ -96,3 +96,17 @@ pub any_default : (xs : List ℕ) (i a b : ℕ) → i < length xs → get_or xs 
 any_default [] i a b h = absurd (omega arith)
 any_default (x ∷ xs) zero a b h = refl
 any_default (x ∷ xs) (suc i) a b h = any_default xs i a b (omega arith)
+
+pub or_left : (a b : Bool) → a ≡ true → (a || b) ≡ true
+or_left a b e = rw e refl
+
+pub and_not : (a b : Bool) → b ≡ true → (a && not b) ≡ false
+and_not true b e = rw e refl
+and_not false b e = refl
+
+pub first_of : (a b c d : Bool) → (((a || b) || c) || d) ≡ true → b ≡ false → c ≡ false → d ≡ false → a ≡ true
+first_of true b c d e nb nc nd = refl
+first_of false true c d e nb nc nd = absurd (cc)
+first_of false false true d e nb nc nd = absurd (cc)
+first_of false false false true e nb nc nd = absurd (cc)
+first_of false false false false e nb nc nd = e

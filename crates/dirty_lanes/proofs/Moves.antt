@@ -21,11 +21,11 @@ use Rattle.dirty_lanes.specs.declared.view.PackView.{PackView}
 use Rattle.dirty_lanes.specs.declared.view.SimView.{SimView}
 use Rattle.dirty_lanes.specs.declared.view.View.{View}
 use Rattle.dirty_lanes.specs.declared.view.View.TheVariants.{Spent, Sim, Packer}
-use Rattle.dirty_lanes.specs.Views.{is_at, newest, newest_value, values, last_read}
+use Rattle.dirty_lanes.specs.Views.{is_at, newest, newest_value, values, last_read, raises_of, drains_of}
 use Rattle.dirty_lanes.specs.Words.{field_word, mask_word, packed}
-use Rattle.dirty_lanes.specs.Rule.{covered, Follows, Joined, Fits, RuleHolds, with_write, with_raise, with_drain, with_read, NotBelow, IsOpened, one_less, new_packer, with_packer}
+use Rattle.dirty_lanes.specs.Rule.{covered, Follows, Joined, Fits, RuleHolds, with_write, with_raise, with_drain, with_read, NotBelow, IsOpened, one_less, new_packer, with_packer, DrainsTake}
 use Rattle.dirty_lanes.proofs.LaneWords.{bool_cases, same_out, test_here, test_out, field_object, field_place, mask_object, mask_client, fields_apart, masks_apart, kinds_apart, set_back}
-use Rattle.dirty_lanes.proofs.Covers.{values-newest, stand_write, stand_raise, below_write, covered_write, covered_raise_else, covered_raise, covered_drain_else, covered_drain, covered_read_else, covered_read, opening_value}
+use Rattle.dirty_lanes.proofs.Covers.{values-newest, stand_write, stand_raise, below_write, covered_write, covered_raise_else, covered_raise, covered_drain_else, covered_drain, covered_read_else, covered_read, opening_value, takes_raise_here, takes_raise_else, takes_drain_here, takes_drain_else}
 
 abbrev St : Type 0
 St = State (Unit {0}) View
@@ -100,6 +100,9 @@ follows_write : (objects : ℕ) (sim : List SimStep) (words : List ℕ) (w : Wri
 follows_write objects sim words w n c log small few h = record {
   stand = stand_write sim w log h.stand;
   below = λ o f. below_write sim w log o f (h.below o f);
+  takes = λ o here.
+      subst (λ (m : ℕ). DrainsTake m (drains_of log o) (raises_of sim c o))
+      (sym (get_or-set_other words (field_word w.object w.field) (mask_word c o) n 0 (λ e. kinds_apart w.object w.field c o small few (sym e)))) (h.takes o here);
   covers = λ o f lt here.
       covered_write sim w log c _ o f
       (subst (λ (m : ℕ). covered sim log c m o f ≡ true) (sym (get_or-set_other words (field_word w.object w.field) (mask_word c o) n 0 (λ e. kinds_apart w.object w.field c o small few (sym e)))) (h.covers o f lt here));
@@ -149,6 +152,16 @@ follows_raise objects sim words r c log there inside wide few h =
     record {
       stand = stand_raise sim r log h.stand;
       below = h.below;
+      takes = λ o here.
+          bool_cases (is_at r.client r.object c o)
+          (λ e.
+          let p = same_out r.client r.object c o e in
+          let is : get_or (set words (mask_word r.client r.object) n) (mask_word c o) 0 ≡ bit_or (get_or words (mask_word c o) 0) r.bits =
+          subst (λ (z : ℕ × ℕ). get_or (set words (mask_word r.client r.object) n) (mask_word z.0 z.1) 0 ≡ bit_or (get_or words (mask_word z.0 z.1) 0) r.bits) (λ j. (p.0 j, p.1 j)) (get_or-set_same words (mask_word r.client r.object) n 0 (omega arith)) in
+          subst (λ (m : ℕ). DrainsTake m (drains_of log o) (raises_of (Raise r ∷ sim) c o)) (sym is) (takes_raise_here sim r (drains_of log o) c (get_or words (mask_word c o) 0) o e (h.takes o here)))
+          (λ e.
+          let is = get_or-set_other words (mask_word r.client r.object) (mask_word c o) n 0 (masks_apart c o r.client r.object few there e) in
+          subst (λ (m : ℕ). DrainsTake m (drains_of log o) (raises_of (Raise r ∷ sim) c o)) (sym is) (takes_raise_else sim r (drains_of log o) c (get_or words (mask_word c o) 0) o e (h.takes o here)));
       covers = λ o f lt here.
           bool_cases (is_at r.client r.object c o)
           (λ e.
@@ -264,6 +277,17 @@ follows_drain objects sim words c a log few inside wide h =
     record {
       stand = h.stand;
       below = h.below;
+      takes = λ o here.
+          bool_cases (a == o)
+          (λ e.
+          let p : a ≡ o = test_out a o e in
+          let is : get_or (set words (mask_word c a) 0) (mask_word c o) 0 ≡ 0 = subst (λ (z : ℕ). get_or (set words (mask_word c a) 0) (mask_word c z) 0 ≡ 0) p (get_or-set_same words (mask_word c a) 0 0 (omega arith)) in
+          subst (λ (m : ℕ). DrainsTake m (drains_of (Drain d ∷ log) o) (raises_of sim c o)) (sym is)
+          (takes_drain_here d log o (raises_of sim c o) e (subst (λ (z : ℕ). DrainsTake (get_or words (mask_word c z) 0) (drains_of log o) (raises_of sim c o)) (sym p) (h.takes o here))))
+          (λ e.
+          let ne : a ≢ o = λ p. absurd (differs a o p e) in
+          let is = get_or-set_other words (mask_word c a) (mask_word c o) 0 0 (λ w. ne (omega arith)) in
+          subst (λ (m : ℕ). DrainsTake m (drains_of (Drain d ∷ log) o) (raises_of sim c o)) (sym is) (takes_drain_else d log o (get_or words (mask_word c o) 0) (raises_of sim c o) e (h.takes o here)));
       covers = λ o f lt here.
           bool_cases (a == o)
           (λ e.
@@ -284,6 +308,7 @@ follows_beside : (objects : ℕ) (sim : List SimStep) (words : List ℕ) (d o n 
 follows_beside objects sim words d a n c log there few ne h = record {
   stand = h.stand;
   below = h.below;
+  takes = λ o here. subst (λ (m : ℕ). DrainsTake m (drains_of log o) (raises_of sim c o)) (sym (get_or-set_other words (mask_word d a) (mask_word c o) n 0 (λ w. ne (omega arith)))) (h.takes o here);
   covers = λ o f lt here. subst (λ (m : ℕ). covered sim log c m o f ≡ true) (sym (get_or-set_other words (mask_word d a) (mask_word c o) n 0 (λ w. ne (omega arith)))) (h.covers o f lt here);
 }
 
@@ -312,6 +337,7 @@ follows_load : (objects : ℕ) (sim : List SimStep) (words : List ℕ) (c : ℕ)
 follows_load objects sim words c r log version value h = record {
   stand = (subst (λ (z : ℕ × ℕ). slice_get (values sim r.object r.field) z.0 ≡ Some z.1) (λ j. (sym version j, sym value j)) (values-newest sim r.object r.field), h.stand);
   below = λ o f. bool_cases (is_at r.object r.field o f) (λ e. let p = same_out r.object r.field o f e in rw e (subst (λ (z : ℕ × ℕ). r.version ≤ newest sim z.0 z.1) (λ j. (p.0 j, p.1 j)) (omega arith))) (λ e. rw e (h.below o f));
+  takes = h.takes;
   covers = λ o f lt here.
       bool_cases (is_at r.object r.field o f)
       (λ e. let p = same_out r.object r.field o f e in covered_read sim r log c _ o f e (version ∙ (λ j. newest sim (p.0 j) (p.1 j))))
@@ -456,7 +482,7 @@ opens objects clients words wide zeros = record {
   small = λ o f. omega arith;
   fields = λ o f lt here. zeros (field_word o f);
   masks = λ c o few here. rw (zeros (mask_word c o)) (omega arith);
-  follows = λ c lt. record { stand = tt; below = λ o f. omega arith; covers = λ o f lt here. refl };
+  follows = λ c lt. record { stand = tt; below = λ o f. omega arith; takes = λ o here. zeros (mask_word c o); covers = λ o f lt here. refl };
 }
   where
     one : (i : ℕ) (v : View) → get_elem? (Sim (record { left = clients; joined = []; steps = [] }) ∷ []) i ≡ some v → Fits 0 (record { left = clients; joined = []; steps = [] }) (λ c. []) (λ c. 0) i v

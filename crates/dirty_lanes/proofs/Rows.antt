@@ -79,7 +79,7 @@ heard objects clients sim ws seat logs owner left k [] few num follows j = tt
 heard objects clients sim ws seat logs owner left k (p ∷ ps) few num follows j =
     let c = num.0 in
     let f : Follows objects sim ws p.client p.steps = subst (λ (l : List PackStep). Follows objects sim ws p.client l) (sym j.1) (follows p.client (omega arith)) in
-    (record { stand = f.stand; covers = λ o i lt here. f.covers o i lt here }, heard objects clients sim ws seat logs owner left (k + 1) ps (omega arith) num.1 follows j.3)
+    (record { stand = f.stand; takes = λ o here. f.takes o here; covers = λ o i lt here. f.covers o i lt here }, heard objects clients sim ws seat logs owner left (k + 1) ps (omega arith) num.1 follows j.3)
 
 final_field : (objects id : ℕ) (v : SimView) (ws : List ℕ) (xs : List (Unit {0})) → Final (Seen (RuleHolds objects) id (Sim v)) ws xs → (o i : ℕ) → i < 16 → o < objects
     → (slice_index ws (field_word o i) ≡ packed (newest v.steps o i) (newest_value v.steps o i)) × (newest_value v.steps o i < VERSION)

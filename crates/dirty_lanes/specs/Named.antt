@@ -13,8 +13,8 @@ use Rattle.dirty_lanes.specs.declared.view.View.{View}
 use Rattle.dirty_lanes.specs.declared.view.View.TheVariants.{Sim, Packer}
 use Rattle.dirty_lanes.specs.declared.rule.LaneSize.{LaneSize}
 use Rattle.dirty_lanes.specs.Words.{Words, version_at, value_at, mask_at}
-use Rattle.dirty_lanes.specs.Views.{newest, newest_value, VersionsRise}
-use Rattle.dirty_lanes.specs.Rule.{sim_of, pack_of, covered, ReadsStand}
+use Rattle.dirty_lanes.specs.Views.{newest, newest_value, raises_of, drains_of, VersionsRise}
+use Rattle.dirty_lanes.specs.Rule.{sim_of, pack_of, covered, ReadsStand, DrainsTake}
 
 abbrev pub no_table : TableId
 no_table = record { words = 0; slots = 0; views_name = 0; atom = 0; block = 0; offset = 0; slot_names = [] }
@@ -100,6 +100,8 @@ IsNumbered k (p ∷ ps) = (p.client ≡ k) × IsNumbered (k + 1) ps
 -- what holds of one packer at the end
 pub record IsHeard (sim : List SimStep) (f : Words) (p : PackView) : Type 0 where
   pub stand : ReadsStand sim p.steps
+  pub takes : (object : ℕ) → object < f.objects
+      → DrainsTake (mask_at f p.client object) (drains_of p.steps object) (raises_of sim p.client object)
   pub covers : (object field : ℕ) → field < MAX_FIELDS → object < f.objects
       → covered sim p.steps p.client (mask_at f p.client object) object field ≡ true
 
@@ -108,7 +110,8 @@ AreHeard sim f [] = Unit {0}
 AreHeard sim f (p ∷ ps) = IsHeard sim f p × AreHeard sim f ps
 
 -- the words at the end: each field has the version and the value of its last write, each read of each packer stands in the
--- simulation's list, and each field of each packer was read newest, or its bit is set, or it is owed, or it is pending
+-- simulation's list, each drain took what was raised since the one before, and each field of each packer was read newest,
+-- or its bit is set, or it is owed, or it is pending
 pub record IsFinal (sim : List SimStep) (packs : List PackView) (f : Words) : Type 0 where
   pub versions : (object field : ℕ) → field < MAX_FIELDS → object < f.objects → version_at f object field ≡ newest sim object field
   pub values : (object field : ℕ) → field < MAX_FIELDS → object < f.objects → value_at f object field ≡ newest_value sim object field

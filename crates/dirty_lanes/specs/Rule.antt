@@ -1,7 +1,7 @@
 -- The lane rule: what holds of all words and all views between any two steps, and what each kind of step does to the
 -- view of the seat that makes it. A step sees its word and what it stores or finds there, and names its object, field
 -- and client by the place of the word.
-use Rattle.std.specs.Prelude.{ℕ, ◌+◌, ◌-◌, ◌*◌, ◌/◌, ◌%◌, ◌^◌, ◌≡◌, ◌<◌, ◌≤◌, Bool, true, ◌||◌, ◌==◌, List, [], ◌∷◌, length, Some, slice_get, slice_index}
+use Rattle.std.specs.Prelude.{ℕ, ◌+◌, ◌-◌, ◌*◌, ◌/◌, ◌%◌, ◌^◌, ◌≡◌, ◌<◌, ◌≤◌, Bool, true, ◌||◌, ◌==◌, List, [], ◌∷◌, length, Some, slice_get, slice_index, take, drop, refl}
 use mathlib.Core.Option.{some}
 use lib.ListN.{get_elem?}
 use Rattle.atomic_table.specs.Table.{State}
@@ -16,7 +16,8 @@ use Rattle.dirty_lanes.specs.declared.view.SimView.{SimView}
 use Rattle.dirty_lanes.specs.declared.view.View.{View}
 use Rattle.dirty_lanes.specs.declared.view.View.TheVariants.{Spent, Sim, Packer}
 use Rattle.dirty_lanes.specs.Words.{field_word, mask_word, packed}
-use Rattle.dirty_lanes.specs.Views.{newest, newest_value, values, pending, last_read, owes, a_write, a_raise, a_drain, a_read, sim_with, pack_with}
+use Rattle.dirty_lanes.specs.Log.{or_of}
+use Rattle.dirty_lanes.specs.Views.{newest, newest_value, values, pending, raises_of, last_read, owes, drains_of, a_write, a_raise, a_drain, a_read, sim_with, pack_with}
 
 -- the version last read is the newest, or the bit is set, or the field is owed, or it is pending
 abbrev pub covered : List SimStep → List PackStep → ℕ → ℕ → ℕ → ℕ → Bool
@@ -29,10 +30,18 @@ ReadsStand sim [] = Unit {0}
 ReadsStand sim (Drain d ∷ l) = ReadsStand sim l
 ReadsStand sim (Read r ∷ l) = (slice_get (values sim r.object r.field) r.version ≡ Some r.value) × ReadsStand sim l
 
+-- Each drain took the or of what was raised since the drain before it, and the word has the or of what was raised since
+-- the last: the raises, the newest first, are cut into one part for each drain and one for the word.
+abbrev pub DrainsTake : ℕ → List ℕ → List ℕ → Type 0
+DrainsTake mask [] raises = mask ≡ or_of raises
+DrainsTake mask (d ∷ ds) raises = (k : ℕ) × (mask ≡ or_of (take k raises)) × DrainsTake d ds (drop k raises)
+
 -- what the rule says of one client, whose steps these are
 pub record Follows (objects : ℕ) (sim : List SimStep) (words : List ℕ) (client : ℕ) (pack : List PackStep) : Type 0 where
   pub stand : ReadsStand sim pack
   pub below : (object field : ℕ) → last_read pack object field ≤ newest sim object field
+  pub takes : (object : ℕ) → object < objects
+      → DrainsTake (slice_index words (mask_word client object)) (drains_of pack object) (raises_of sim client object)
   pub covers : (object field : ℕ) → field < MAX_FIELDS → object < objects
       → covered sim pack client (slice_index words (mask_word client object)) object field ≡ true
 
@@ -127,3 +136,7 @@ abbrev pub pack_of : View → PackView
 pack_of (Packer p) = p
 pack_of (Sim v) = record { client = 0; steps = [] }
 pack_of Spent = record { client = 0; steps = [] }
+
+-- three raises, of which a drain took the older two
+two_taken : DrainsTake 4 (3 ∷ []) (4 ∷ 2 ∷ 1 ∷ [])
+two_taken = (1, refl, refl)

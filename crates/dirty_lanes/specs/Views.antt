@@ -58,6 +58,12 @@ pending [] client object field = false
 pending (Write w ∷ l) client object field = is_at w.object w.field object field || pending l client object field
 pending (Raise r ∷ l) client object field = pending l client object field && not (is_at r.client r.object client object && has_bit r.bits field)
 
+-- the bits that were raised for the client and the object, raise by raise, the newest first
+abbrev pub raises_of : List SimStep → ℕ → ℕ → List ℕ
+raises_of [] client object = []
+raises_of (Write w ∷ l) client object = raises_of l client object
+raises_of (Raise r ∷ l) client object = if is_at r.client r.object client object then r.bits ∷ raises_of l client object else raises_of l client object
+
 -- the version that was read last, and 0 before the first read
 abbrev pub last_read : List PackStep → ℕ → ℕ → ℕ
 last_read [] object field = 0
@@ -69,6 +75,12 @@ abbrev pub owes : List PackStep → ℕ → ℕ → Bool
 owes [] object field = false
 owes (Drain d ∷ l) object field = ((d.object == object) && has_bit d.bits field) || owes l object field
 owes (Read r ∷ l) object field = owes l object field && not (is_at r.object r.field object field)
+
+-- the bits that were drained of the object, drain by drain, the newest first
+abbrev pub drains_of : List PackStep → ℕ → List ℕ
+drains_of [] object = []
+drains_of (Drain d ∷ l) object = if d.object == object then d.bits ∷ drains_of l object else drains_of l object
+drains_of (Read r ∷ l) object = drains_of l object
 
 -- the versions read of a field never go down
 abbrev pub VersionsRise : List PackStep → Type 0
@@ -106,10 +118,6 @@ pending_for_first_client = refl
 told_second_client : pending simulated 1 3 0 ≡ false
 unfolding simulated
 told_second_client = refl
-
--- a raise before its write doesn't count for it
-raised_too_early : pending (a_write 3 0 8 ∷ a_raise 0 3 1 ∷ []) 0 3 0 ≡ true
-raised_too_early = refl
 
 -- a packer drained the bit, and owes the field until it reads it
 drained_only : owes (a_drain 3 1 ∷ []) 3 0 ≡ true
