@@ -92,6 +92,12 @@ pub record IsFresh (f : FreshParts) : Type 0 where
   pub count : length f.packs ≡ f.clients
   pub versions_are : f.versions ≡ replicate (MAX_FIELDS * f.objects) 0
 
+-- the seats that are left, where `next` seats of `clients` were given
+pub record AreLeft (table : TableId) (clients next : ℕ) (packs : List (Seat (Unit {0}) View)) : Type 0 where
+  pub row : IsRow table clients packs
+  pub count : length packs + next ≡ clients
+  pub few : clients ≤ MAX_CLIENTS
+
 -- the clients are k, k + 1 and so on
 abbrev pub IsNumbered : ℕ → List PackView → Type 0
 IsNumbered k [] = Unit {0}

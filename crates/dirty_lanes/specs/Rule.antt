@@ -22,7 +22,8 @@ use Rattle.dirty_lanes.specs.Views.{newest, newest_value, values, pending, raise
 -- the version last read is the newest, or the bit is set, or the field is owed, or it is pending
 abbrev pub covered : List SimStep → List PackStep → ℕ → ℕ → ℕ → ℕ → Bool
 covered sim pack client mask object field =
-    (last_read pack object field == newest sim object field) || has_bit mask field || owes pack object field || pending sim client object field
+    (last_read pack object field == newest sim object field) || has_bit mask field || owes pack object field
+    || pending sim client object field
 
 -- each read stands in the simulation's list at its version
 abbrev pub ReadsStand : List SimStep → List PackStep → Type 0
@@ -48,7 +49,8 @@ pub record Follows (objects : ℕ) (sim : List SimStep) (words : List ℕ) (clie
 -- the packers that were joined into the simulation's seat
 abbrev pub Joined : ℕ → (ℕ → List PackStep) → (ℕ → ℕ) → ℕ → List PackView → Type 0
 Joined seat logs owner left [] = Unit {0}
-Joined seat logs owner left (p ∷ ps) = (owner p.client ≡ seat) × (p.steps ≡ logs p.client) × (left ≤ p.client) × Joined seat logs owner left ps
+Joined seat logs owner left (p ∷ ps) =
+    (owner p.client ≡ seat) × (p.steps ≡ logs p.client) × (left ≤ p.client) × Joined seat logs owner left ps
 
 -- what the rule says of the view of seat i, where the simulation sits on `seat` and knows `now`
 abbrev pub Fits : ℕ → SimView → (ℕ → List PackStep) → (ℕ → ℕ) → ℕ → View → Type 0

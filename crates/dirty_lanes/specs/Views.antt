@@ -49,20 +49,23 @@ newest_value (Raise r ∷ l) object field = newest_value l object field
 -- the values of the field by version; the first is the opening entry
 abbrev pub values : List SimStep → ℕ → ℕ → List ℕ
 values [] object field = 0 ∷ []
-values (Write w ∷ l) object field = if is_at w.object w.field object field then values l object field ++ w.value ∷ [] else values l object field
+values (Write w ∷ l) object field =
+    if is_at w.object w.field object field then values l object field ++ w.value ∷ [] else values l object field
 values (Raise r ∷ l) object field = values l object field
 
 -- the field was written, and its bit not raised for this client since
 abbrev pub pending : List SimStep → ℕ → ℕ → ℕ → Bool
 pending [] client object field = false
 pending (Write w ∷ l) client object field = is_at w.object w.field object field || pending l client object field
-pending (Raise r ∷ l) client object field = pending l client object field && not (is_at r.client r.object client object && has_bit r.bits field)
+pending (Raise r ∷ l) client object field =
+    pending l client object field && not (is_at r.client r.object client object && has_bit r.bits field)
 
 -- the bits that were raised for the client and the object, raise by raise, the newest first
 abbrev pub raises_of : List SimStep → ℕ → ℕ → List ℕ
 raises_of [] client object = []
 raises_of (Write w ∷ l) client object = raises_of l client object
-raises_of (Raise r ∷ l) client object = if is_at r.client r.object client object then r.bits ∷ raises_of l client object else raises_of l client object
+raises_of (Raise r ∷ l) client object =
+    if is_at r.client r.object client object then r.bits ∷ raises_of l client object else raises_of l client object
 
 -- the version that was read last, and 0 before the first read
 abbrev pub last_read : List PackStep → ℕ → ℕ → ℕ
@@ -99,7 +102,7 @@ reads [] = []
 reads (Drain d ∷ l) = reads l
 reads (Read r ∷ l) = reads l ++ r ∷ []
 
--- field 0 of object 3 was written twice; client 1 was told of both writes, client 0 of the first alone
+-- field 0 of object 3 was written twice, and client 1 was told of both writes
 simulated : List SimStep
 simulated = a_raise 1 3 1 ∷ a_write 3 0 8 ∷ a_raise 0 3 1 ∷ a_raise 1 3 1 ∷ a_write 3 0 5 ∷ []
 
@@ -110,10 +113,6 @@ second_version = refl
 values_by_version : values simulated 3 0 ≡ 0 ∷ 5 ∷ 8 ∷ []
 unfolding simulated
 values_by_version = refl
-
-pending_for_first_client : pending simulated 0 3 0 ≡ true
-unfolding simulated
-pending_for_first_client = refl
 
 told_second_client : pending simulated 1 3 0 ≡ false
 unfolding simulated

@@ -30,7 +30,15 @@ impl Model for FreshLanes {
 
     ghost view = { λ f. record { table = f.table.shared.table_id; objects = f.objects; clients = f.clients } };
 
-    ghost invariant = { λ f. IsFresh (record { table = f.table.shared.table_id; key = f.table.shared.key; sim = f.sim; packs = f.packs.items; versions = f.versions.items; objects = f.objects; clients = f.clients }) };
+    ghost invariant = { λ f. IsFresh (record {
+      table = f.table.shared.table_id;
+      key = f.table.shared.key;
+      sim = f.sim;
+      packs = f.packs.items;
+      versions = f.versions.items;
+      objects = f.objects;
+      clients = f.clients;
+    }) };
 }
 
 fn no_versions(alloc: Global, n: usize) -> Result<Vec<u32>, AllocError>
@@ -139,16 +147,14 @@ pub struct PackSeats<N: LaneName> {
 }
 
 impl<N: LaneName> Model for PackSeats<N> {
-    ghost use Rattle.std.specs.Prelude.{◌≡◌, ◌+◌, ◌≤◌, length};
-    ghost use Rattle.tn_types.specs.declared.limits.TheConstants.{MAX_CLIENTS};
     ghost use Rattle.dirty_lanes.specs.declared.view.GivenSeats.{GivenSeats};
-    ghost use Rattle.dirty_lanes.specs.Named.{IsRow};
+    ghost use Rattle.dirty_lanes.specs.Named.{AreLeft};
 
     ghost Value = { GivenSeats };
 
     ghost view = { λ s. record { next = s.next; clients = s.clients } };
 
-    ghost invariant = { λ s. IsRow N.table s.clients s.packs.items × (length s.packs.items + s.next ≡ s.clients) × (s.clients ≤ MAX_CLIENTS) };
+    ghost invariant = { λ s. AreLeft N.table s.clients s.next s.packs.items };
 }
 
 impl<N: LaneName> PackSeats<N> {

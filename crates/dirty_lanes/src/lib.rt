@@ -23,8 +23,6 @@ mod words;
 pub use ends::{CloseRefused, FinalWords, close};
 pub use fresh::{FreshLanes, PackSeats};
 pub use lanes::{LaneName, Lanes};
-pub use laws::{
-    each_bit_was_raised, newest_was_read, raise_tells, read_pays, write_is_pending,
-};
+pub use laws::{each_bit_was_raised, newest_was_read, raise_tells, read_pays, write_is_pending};
 pub use plain::PlainLanes;
 pub use seats::{PackSeat, SimSeat};

@@ -9,4 +9,4 @@ pub returns : goal.returns
 returns c sim words pack object field heard inside there owed waits bit =
     test_out (last_read pack.steps object field) (newest sim object field)
     (first_of (last_read pack.steps object field == newest sim object field) (has_bit (mask_at words pack.client object) field) (owes pack.steps object field) (pending sim pack.client object field)
-        (heard.covers object field inside there) bit owed waits)
+    (heard.covers object field inside there) bit owed waits)
