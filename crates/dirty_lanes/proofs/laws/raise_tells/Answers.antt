@@ -1,4 +1,4 @@
-use Rattle.std.proofs.Common.{◌&&◌, true, refl}
+use Rattle.std.proofs.Common.{◌&&◌}
 use Rattle.tn_types.specs.BitWords.{has_bit}
 use Rattle.dirty_lanes.specs.Views.{is_at, pending}
 use Rattle.dirty_lanes.proofs.LaneWords.{same_here, and_not}
