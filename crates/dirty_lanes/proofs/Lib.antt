@@ -3,3 +3,8 @@ pub mod Changes
 pub mod Logs
 pub mod Calls
 pub mod Bits
+pub mod LaneWords
+pub mod Covers
+pub mod Moves
+pub mod Plays
+pub mod Rows

@@ -1,2 +1,5 @@
 pub mod Words
 pub mod Log
+pub mod Views
+pub mod Rule
+pub mod Named

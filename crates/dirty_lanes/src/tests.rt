@@ -2,7 +2,7 @@ use crate::PlainLanes;
 use std::test::Fail;
 
 #[test]
-fn lane_words(rt: HostRuntime) -> Result<(), Fail> {
+fn plain_lane_words(rt: HostRuntime) -> Result<(), Fail> {
     let mut lanes = PlainLanes::new(rt.alloc(), 1, 1)?;
     assert_eq!(rt; lanes.read(0, 0, 0), (0, 0));
     lanes.write(0, 0, 5);

@@ -1,0 +1,4 @@
+use Rattle.dirty_lanes.proofs.thread_tests.lane_words.Given as goal
+
+abbrev pub ghosts-row : goal.ghosts-row
+ghosts-row g a = record { table = a.fresh.table; objects = a.fresh.objects }
