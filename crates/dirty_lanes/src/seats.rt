@@ -1,9 +1,11 @@
 //! The seats of the simulation and of the packers, and their four steps.
 
-ghost use Rattle.std.specs.Prelude.{◌≡◌, ◌+◌, ◌<◌, ◌≤◌, ◌^◌, ◌∷◌};
-ghost use Rattle.dirty_lanes.specs.Views.{newest, last_read, VersionsRise, a_write, a_raise, a_drain, a_read, sim_with, pack_with};
+ghost use Rattle.std.specs.Prelude.{◌≡◌, ◌+◌, ◌<◌, ◌≤◌, ◌^◌, ◌∷◌, true, false};
+ghost use Rattle.tn_types.specs.BitWords.{has_bit};
+ghost use Rattle.dirty_lanes.specs.Views.{newest, pending, last_read, VersionsRise, a_write, a_raise, a_drain, a_read, sim_with, pack_with};
 
 use crate::lanes::{LaneName, LaneSeat, Lanes};
+use crate::laws::raise_tells;
 use crate::rule::{Loads, Raises, Stores, Swaps};
 use crate::words::{field_word, mask_word, packed, value_in, version_in};
 use std::marker::{Model, PhantomData};
@@ -69,6 +71,31 @@ impl<N: LaneName> SimSeat<N> {
             .table
             .shared
             .fetch_or::<Raises>(&mut self.seat, mask_word(client, object), bits as u64);
+    }
+
+    /// Writes a field and then raises bits for a client, the field's own among them: from here on the field isn't pending
+    /// for this client.
+    pub fn write_and_raise(
+        &mut self,
+        lanes: &Lanes<N>,
+        object: u32,
+        field: u8,
+        value: u32,
+        client: u8,
+        bits: u32,
+    )
+        requires object { object < lanes.now.objects }
+        requires field { field < MAX_FIELDS }
+        requires not_worn { newest self.old.steps object field < u32.MAX }
+        requires client { client < lanes.now.clients }
+        requires bits { bits < 2 ^ MAX_FIELDS }
+        requires own { has_bit bits field ≡ true }
+        ensures steps { self.new ≡ sim_with (sim_with self.old (a_write object field value)) (a_raise client object bits) }
+        ensures told { pending self.new.steps client object field ≡ false }
+    {
+        raise_tells();
+        self.write(lanes, object, field, value);
+        self.raise(lanes, client, object, bits)
     }
 }
 
