@@ -26,7 +26,6 @@ use Rattle.move_manager.specs.declared.faults.MoveFault.TheVariants as move_refu
 use Rattle.move_manager.specs.Accepting as moves
 use Rattle.std.proofs.lemmas.Bool.Decides.{nat_tests}
 use Rattle.std.proofs.lemmas.List.{take_all}
-use Rattle.quantised_fields.specs.declared.kind.Kind.{Kind}
 use Rattle.tn_types.specs.declared.moves.Move.{Move}
 use Rattle.stream_manager.specs.declared.fault.ArriveFault.{ArriveFault}
 use Rattle.stream_manager.specs.declared.fault.ClientFault.{ClientFault}
@@ -40,9 +39,9 @@ use Rattle.move_manager.specs.Accepting.{accepted_of, accept}
 use Rattle.move_manager.proofs.InOrder.{Holds, IsFront, holds-push, front-push, front-accept}
 use Rattle.stream_manager.specs.End.{came_of, with_event}
 use Rattle.stream_manager.specs.Server as server_log
-use Rattle.stream_manager.specs.Server.{ServerEvent, server_end, server_datagrams, seen_up, server_state, posted_at_server, with_plan, next_body, server_ping, ghost_log, took_at_server, server_answer, packet_answer, accepted_at, move_log, moves_taken}
+use Rattle.stream_manager.specs.Server.{ServerEvent, server_end, server_datagrams, seen_up, server_state, posted_at_server, with_plan, next_body, server_ping, ghost_log, took_at_server, packet_answer, accepted_at, move_log, moves_taken}
 use Rattle.stream_manager.specs.Client as client_log
-use Rattle.stream_manager.specs.Client.{ClientEvent, client_end, client_datagrams, seen_down, client_state, posted_at_client, client_body, client_ping, took_at_client, client_answer, sampled_answer, sampled_at, sample_log, moves_acked}
+use Rattle.stream_manager.specs.Client.{ClientEvent, client_end, client_datagrams, seen_down, client_state, posted_at_client, client_body, client_ping, took_at_client, sampled_answer, sampled_at, sample_log, moves_acked}
 use Rattle.pair_core.specs.History.{PairStep, Post, ClientPost, Sample, Pack, ClientPack, Down, Up, history, server_posts, client_posts, client_samples, client_gets, server_gets}
 use Rattle.pair_core.specs.Laws.{IsPayload, StepFits, posted_at}
 use Rattle.pair_core.specs.Stands.{ShowsNothing}

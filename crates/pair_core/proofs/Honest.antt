@@ -38,7 +38,7 @@ use Rattle.stream_manager.proofs.Fitting.{fitting-all}
 use Rattle.stream_manager.specs.Server as server_log
 use Rattle.stream_manager.specs.Server.{ServerEvent, server_end, block_log, server_datagrams, server_state, posted_at_server, seen_up, next_body, server_ping, took_at_server, block_item, ghost_log, accepted_at, move_log}
 use Rattle.stream_manager.specs.Client as client_log
-use Rattle.stream_manager.specs.Client.{ClientEvent, client_end, client_datagrams, client_state, posted_at_client, sampled_answer, seen_down, client_body, client_ping, took_at_client, blocks_in, blocks_came, sample_log, sampled_at}
+use Rattle.stream_manager.specs.Client.{ClientEvent, client_end, client_datagrams, client_state, posted_at_client, sampled_answer, seen_down, client_body, client_ping, took_at_client, sample_log, sampled_at}
 use Rattle.pair_core.specs.History.{PairStep, Post, ClientPost, Sample, Pack, ClientPack, Down, Up, history, server_posts, client_posts, client_samples, client_gets, server_gets}
 use Rattle.pair_core.specs.Laws.{StepFits, posted_at}
 use Rattle.pair_core.proofs.NoGhosts.{no-plan, no-control}

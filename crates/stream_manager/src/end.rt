@@ -1,6 +1,6 @@
 //! What the two ends of a connection have in common.
 
-ghost use Rattle.std.specs.Prelude.{◌≡◌, ℕ, ◌+◌, ◌-◌, ◌<◌, ◌≤◌, ◌^◌, List, [], ◌∷◌, ◌++◌, IfOk, OnOk, OnErr, length, take};
+ghost use Rattle.std.specs.Prelude.{◌≡◌, ℕ, ◌+◌, ◌-◌, ◌<◌, ◌≤◌, List, [], ◌∷◌, ◌++◌, IfOk, OnOk, OnErr, length, take};
 ghost use Rattle.notify_window.specs.State.{send_state};
 ghost use Rattle.notify_window.specs.Log.{send_state_of};
 ghost use Rattle.event_manager.specs.SenderState.{due_now};
@@ -12,6 +12,7 @@ ghost use Rattle.event_manager.specs.Receiving.{take_answer, run_of};
 ghost use Rattle.wire_format.specs.Events.{event_size, IsEventInRange};
 ghost use Rattle.tn_types.specs.Fitting.{fitting};
 ghost use Rattle.wire_format.specs.Header.{IsHeaderInRange};
+ghost use Rattle.tn_types.specs.declared.limits.TheConstants.{MAX_LIFE};
 ghost use Rattle.tn_types.specs.declared.choices.Class.TheVariants.{Guaranteed, Loose};
 
 use crate::config::Config;
@@ -241,7 +242,7 @@ impl End {
     pub(crate) fn take(&mut self, ping: bool, head: &Header, events: &EventList) -> Notices
         requires fresh { arrival_of ping head.now.seq self.old.window.horizon ≡ Arrival.Fresh }
         requires known { head.now.horizon ≤ self.old.window.sent }
-        requires fits { head.now.seq < 2 ^ 24 }
+        requires fits { head.now.seq ≤ MAX_LIFE }
         requires none_waits { self.old.receiver.ready ≡ [] }
         requires near { take_answer self.old.receiver.delivered events.now ≡ Ok tt }
         requires numbers { All IsEventInRange events.now }
