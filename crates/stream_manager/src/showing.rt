@@ -12,7 +12,7 @@ use ghost_model::Phase;
 use tn_types::{MAX_BLOCKS, MAX_DISTANCE_LEVEL, MAX_SHOWN_PERIODS, MAX_SHOWS};
 
 impl Conn {
-    ghost use Rattle.stream_manager.specs.Server.{Shown, Hidden, ghost_log};
+    ghost use Rattle.stream_manager.specs.Server.{Scoped, Show, Hide, ghost_log};
     ghost use Rattle.stream_manager.specs.ConnCalls.{Does, Answers, Keeps};
 
     /// A period of an object begins: it is of this kind, has this datablock and is at this level of distance. It waits for a
@@ -27,7 +27,7 @@ impl Conn {
         requires alone { control ≡ true → has_control self.old.masks.periods ≡ false }
         ensures number { result ≡ show_count self.old.masks.periods }
         ensures told { Answers self.old (λ log. shows (scope_log (ghost_log log))) result }
-        ensures stands { Does self.old (Shown kind block level control) self.new }
+        ensures stands { Does self.old (Scoped (Show kind block level control)) self.new }
         ensures keeps { Keeps self.old self.new }
     {
         self.masks.show(kind, block, level, control)
@@ -36,7 +36,7 @@ impl Conn {
     /// The period's object isn't visible any more.
     pub fn hide(&mut self, n: u32)
         requires { IsUp self.old.masks.periods n }
-        ensures stands { Does self.old (Hidden n) self.new }
+        ensures stands { Does self.old (Scoped (Hide n)) self.new }
         ensures keeps { Keeps self.old self.new }
     {
         self.masks.hide(n);
