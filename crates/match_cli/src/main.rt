@@ -2,6 +2,8 @@
 #![tactic(auto)]
 
 mod command;
+#[cfg(test)]
+mod examples;
 mod input;
 mod status;
 #[cfg(test)]

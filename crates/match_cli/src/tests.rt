@@ -303,7 +303,7 @@ fn served<'a>(
 }
 
 /// What the command `run` answers and writes where nothing fails.
-fn run_on(rt: &HostRuntime, text: &str) -> Result<(Status, Vec<u8>), Fail> {
+pub(crate) fn run_on(rt: &HostRuntime, text: &str) -> Result<(Status, Vec<u8>), Fail> {
     served(rt, &["run"], text.as_bytes(), ALL, &[], &[])
 }
 
