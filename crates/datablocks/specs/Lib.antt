@@ -3,3 +3,4 @@ pub mod ProgressWords
 pub mod SenderState
 pub mod SenderStands
 pub mod Holding
+pub mod Said

@@ -4,6 +4,7 @@
 
 mod progress;
 mod receiver;
+mod said;
 mod sender;
 #[cfg(test)]
 mod tests;

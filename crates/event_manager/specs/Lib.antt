@@ -6,3 +6,4 @@ pub mod Receiving
 pub mod ReceiverState
 pub mod ReceiverStands
 pub mod Posted
+pub mod Said

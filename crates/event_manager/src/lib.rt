@@ -9,6 +9,7 @@ mod entries;
 mod held;
 mod laws;
 mod receiver;
+mod said;
 mod sender;
 #[cfg(test)]
 mod tests;

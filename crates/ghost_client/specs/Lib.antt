@@ -4,3 +4,4 @@ pub mod Faults
 pub mod State
 pub mod StandsFor
 pub mod Examples
+pub mod Said

@@ -12,5 +12,6 @@ pub use copies::Copies;
 pub use copy::GhostCopy;
 pub use fault::GhostFault;
 
+mod said;
 #[cfg(test)]
 mod tests;

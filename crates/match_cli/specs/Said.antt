@@ -1,8 +1,7 @@
 -- What the program says of an answer: its exit status, and its words on standard error.
 use Rattle.std.specs.Prelude.{ℕ, List, ◌++◌, codes}
 use Rattle.std.specs.Fmt.{decimal}
-use Rattle.match_script.specs.declared.types.ScriptFault.{ScriptFault}
-use Rattle.match_script.specs.declared.types.ScriptFault.TheVariants.{NotText, BadHeader, TooManyLines, UnknownWord, BadNumber, OutOfRange, BadHex, NotBuilt}
+use Rattle.match_script.specs.Said.{fault_word}
 use Rattle.match_cli.specs.declared.status.Status.{Status}
 use Rattle.match_cli.specs.declared.status.Status.TheVariants.{Done, Usage, Script, TooLong, ReadFault, WriteFault, NoMemory}
 
@@ -14,16 +13,6 @@ exit_of TooLong = 4
 exit_of ReadFault = 5
 exit_of WriteFault = 6
 exit_of NoMemory = 7
-
-abbrev pub fault_word : ScriptFault → List ℕ
-fault_word NotText = codes "NotText"
-fault_word BadHeader = codes "BadHeader"
-fault_word TooManyLines = codes "TooManyLines"
-fault_word UnknownWord = codes "UnknownWord"
-fault_word BadNumber = codes "BadNumber"
-fault_word OutOfRange = codes "OutOfRange"
-fault_word BadHex = codes "BadHex"
-fault_word NotBuilt = codes "NotBuilt"
 
 abbrev pub words_of : Status → List ℕ
 words_of Done = codes ""

@@ -1,6 +1,6 @@
 //! How a call ended, and what the program says of it.
 ghost use Rattle.std.specs.Prelude.{◌≡◌};
-ghost use Rattle.match_cli.specs.Said.{exit_of, fault_word};
+ghost use Rattle.match_cli.specs.Said.{exit_of};
 
 use match_script::ScriptFault;
 use std::fmt;
@@ -39,21 +39,6 @@ pub fn exit_of(status: Status) -> u8
     }
 }
 
-fn fault_word(fault: ScriptFault) -> &'static str
-    ensures { result.now ≡ fault_word fault }
-{
-    match fault {
-        ScriptFault::NotText => "NotText",
-        ScriptFault::BadHeader => "BadHeader",
-        ScriptFault::TooManyLines => "TooManyLines",
-        ScriptFault::UnknownWord => "UnknownWord",
-        ScriptFault::BadNumber => "BadNumber",
-        ScriptFault::OutOfRange => "OutOfRange",
-        ScriptFault::BadHex => "BadHex",
-        ScriptFault::NotBuilt => "NotBuilt",
-    }
-}
-
 /// The words on standard error.
 impl fmt::Display for Status {
     ghost use Rattle.std.specs.Prelude.{Some};
@@ -65,10 +50,7 @@ impl fmt::Display for Status {
         match *self {
             Status::Done => Ok(()),
             Status::Usage(place) => write!(f, "usage {place}"),
-            Status::Script(line, fault) => {
-                let word = fault_word(fault);
-                write!(f, "script {line} {word}")
-            }
+            Status::Script(line, fault) => write!(f, "script {line} {fault}"),
             Status::TooLong => write!(f, "toolong"),
             Status::ReadFault => write!(f, "readfault"),
             Status::WriteFault => write!(f, "writefault"),

@@ -6,19 +6,11 @@ use Rattle.std.specs.Fmt.{decimal}
 use Rattle.hex.specs.Hex.{encode_lower}
 use Rattle.tn_types.specs.declared.choices.Class.{Class}
 use Rattle.tn_types.specs.declared.choices.Class.TheVariants.{Guaranteed, Loose}
-use Rattle.wire_format.specs.declared.fault.BitsFault.{BitsFault}
-use Rattle.wire_format.specs.declared.fault.BitsCause.{BitsCause}
-use Rattle.wire_format.specs.declared.fault.BitsCause.TheVariants.{Short, Padding, KindBits, OpBits, CountBits, LengthBits, UnknownKind, EmptyMask, ZeroSeq}
 use Rattle.event_manager.specs.declared.sender.PostFault.{PostFault}
-use Rattle.event_manager.specs.declared.sender.PostFault.TheVariants.{Worn, Full}
+use Rattle.event_manager.specs.Said.{post_fault_text}
 use Rattle.move_manager.specs.declared.faults.MoveFault.{MoveFault}
-use Rattle.move_manager.specs.declared.faults.MoveFault.TheVariants as sampling
-use Rattle.ghost_client.specs.declared.fault.GhostFault.{GhostFault}
-use Rattle.ghost_client.specs.declared.fault.GhostFault.TheVariants.{Twice, Unknown, Taken, KindDiffers, BlockMissing}
-use Rattle.stream_manager.specs.declared.fault.ArriveFault.{ArriveFault}
-use Rattle.stream_manager.specs.declared.fault.ArriveFault.TheVariants as server
-use Rattle.stream_manager.specs.declared.fault.ClientFault.{ClientFault}
-use Rattle.stream_manager.specs.declared.fault.ClientFault.TheVariants as client
+use Rattle.move_manager.specs.Said.{move_fault_text}
+use Rattle.stream_manager.specs.Said.{server_refusal, client_refusal}
 use Rattle.match_report.specs.declared.told.Way.{Way}
 use Rattle.match_report.specs.declared.told.Way.TheVariants.{Down, Up, Raw}
 use Rattle.match_report.specs.declared.told.EventTold.{EventTold}
@@ -50,12 +42,11 @@ abbrev pub control_word : Option ℕ → List ℕ
 control_word None = codes "-"
 control_word (Some slot) = decimal slot
 
--- ---- refusals
+-- ---- posts and moves
 
 abbrev pub posted_text : Result ℕ PostFault → List ℕ
 posted_text (Ok number) = codes "g " ++ decimal number
-posted_text (Err (Worn life)) = codes "worn " ++ decimal life
-posted_text (Err (Full first last)) = codes "full " ++ decimal first ++ codes " " ++ decimal last
+posted_text (Err fault) = post_fault_text fault
 
 abbrev pub dropped_text : Option (List ℕ) → List ℕ
 dropped_text None = codes "u"
@@ -63,61 +54,11 @@ dropped_text (Some payload) = codes "u dropped " ++ hex_text payload
 
 abbrev pub moved_text : Result ℕ MoveFault → List ℕ
 moved_text (Ok number) = decimal number
-moved_text (Err (sampling.Worn life)) = codes "worn " ++ decimal life
-moved_text (Err (sampling.Full first last)) = codes "full " ++ decimal first ++ codes " " ++ decimal last
-
-abbrev pub cause_word : BitsCause → List ℕ
-cause_word Short = codes "Short"
-cause_word Padding = codes "Padding"
-cause_word KindBits = codes "KindBits"
-cause_word OpBits = codes "OpBits"
-cause_word CountBits = codes "CountBits"
-cause_word LengthBits = codes "LengthBits"
-cause_word UnknownKind = codes "UnknownKind"
-cause_word EmptyMask = codes "EmptyMask"
-cause_word ZeroSeq = codes "ZeroSeq"
+moved_text (Err fault) = move_fault_text fault
 
 -- a word and two numbers
 abbrev pub two_numbers : List ℕ → ℕ → ℕ → List ℕ
 two_numbers word first second = word ++ decimal first ++ codes " " ++ decimal second
-
-abbrev pub bits_text : BitsFault → List ℕ
-bits_text fault = codes "bits " ++ decimal fault.place ++ codes " " ++ cause_word fault.cause
-
-abbrev pub ghost_slot : GhostFault → ℕ
-ghost_slot (Twice slot) = slot
-ghost_slot (Unknown slot) = slot
-ghost_slot (Taken slot) = slot
-ghost_slot (KindDiffers slot held) = slot
-ghost_slot (BlockMissing slot block) = slot
-
-abbrev pub ghost_word : GhostFault → List ℕ
-ghost_word (Twice slot) = codes "Twice"
-ghost_word (Unknown slot) = codes "Unknown"
-ghost_word (Taken slot) = codes "Taken"
-ghost_word (KindDiffers slot held) = codes "KindDiffers"
-ghost_word (BlockMissing slot block) = codes "BlockMissing"
-
-abbrev pub ghost_text : GhostFault → List ℕ
-ghost_text fault = codes "ghost " ++ decimal (ghost_slot fault) ++ codes " " ++ ghost_word fault
-
-abbrev pub server_refusal : ArriveFault → List ℕ
-server_refusal (server.Bits fault) = bits_text fault
-server_refusal (server.WrongClient named) = codes "client " ++ decimal named
-server_refusal (server.Old seq horizon) = two_numbers (codes "old ") seq horizon
-server_refusal (server.AckAhead horizon last) = two_numbers (codes "ackahead ") horizon last
-server_refusal (server.MoveGap first accepted) = two_numbers (codes "movegap ") first accepted
-server_refusal (server.EventAhead number delivered) = two_numbers (codes "eventahead ") number delivered
-
-abbrev pub client_refusal : ClientFault → List ℕ
-client_refusal (client.Bits fault) = bits_text fault
-client_refusal (client.WrongClient named) = codes "client " ++ decimal named
-client_refusal (client.Old seq horizon) = two_numbers (codes "old ") seq horizon
-client_refusal (client.AckAhead horizon last) = two_numbers (codes "ackahead ") horizon last
-client_refusal (client.MoveAhead count sampled) = two_numbers (codes "moveahead ") count sampled
-client_refusal (client.BlockDiffers number) = codes "block " ++ decimal number
-client_refusal (client.EventAhead number delivered) = two_numbers (codes "eventahead ") number delivered
-client_refusal (client.Ghost fault) = ghost_text fault
 
 -- ---- lines
 

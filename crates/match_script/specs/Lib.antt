@@ -6,3 +6,4 @@ pub mod Lines
 pub mod Script
 pub mod Ranges
 pub mod Print
+pub mod Said

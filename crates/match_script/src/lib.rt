@@ -8,6 +8,7 @@ mod limits;
 mod line;
 mod printer;
 mod reader;
+mod said;
 #[cfg(test)]
 mod tests;
 mod types;

@@ -1,3 +1,4 @@
 pub mod Sending
 pub mod Accepting
 pub mod InOrder
+pub mod Said

@@ -7,6 +7,7 @@ ghost use Rattle.move_manager.specs.InOrder.{Step, history, AcceptsInOrder, Leav
 
 mod faults;
 mod receiver;
+mod said;
 mod sender;
 #[cfg(test)]
 mod tests;

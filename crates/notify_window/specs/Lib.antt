@@ -5,3 +5,4 @@ pub mod Stands
 pub mod Fates
 pub mod Carriers
 pub mod View
+pub mod Said

@@ -7,6 +7,7 @@
 mod laws;
 mod masks;
 mod progress;
+mod said;
 #[cfg(test)]
 mod tests;
 mod window;

@@ -7,6 +7,7 @@
 pub mod field;
 pub mod kind;
 pub mod levels;
+mod said;
 pub mod table;
 
 pub use field::{FieldList, FieldSpec};

@@ -7,6 +7,7 @@ mod client;
 mod config;
 mod end;
 mod fault;
+mod said;
 mod sealing;
 mod server;
 mod settling;

@@ -8,3 +8,4 @@ pub mod Server
 pub mod Client
 pub mod Sizes
 pub mod Ghosts
+pub mod Said

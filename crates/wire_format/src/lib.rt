@@ -16,6 +16,7 @@ mod laws;
 mod lists;
 mod moves;
 mod parts;
+mod said;
 mod server;
 #[cfg(test)]
 mod tests;
