@@ -7,4 +7,5 @@ pub mod Moves
 pub mod Server
 pub mod Client
 pub mod Sizes
+pub mod Parts
 pub mod Ghosts
