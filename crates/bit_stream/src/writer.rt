@@ -147,6 +147,7 @@ impl BitWriter {
     pub fn end(&mut self)
         ensures bytes { self.new.whole ≡ datagram self.old.bits }
         ensures len { length self.new.whole ≡ bytes_for self.old.bits }
+        ensures few { length self.new.whole ≤ self.new.size }
         ensures bits { self.new.bits ≡ bits_of (datagram self.old.bits) }
         ensures size { self.new.size ≡ self.old.size }
     {

@@ -13,6 +13,9 @@ invariant_of-self c = record {
   bytes = c.close.ensures.are_bytes;
 }
 
+pub returns-clause-few : goal.returns-clause-few
+returns-clause-few c = omega (arith, c.close.ensures.len, length-written c.self.inside, c.self.invariant.room)
+
 pub returns-clause-bits : goal.returns-clause-bits
 unfolding number
 returns-clause-bits c =
