@@ -2,9 +2,8 @@
 
 ghost use Rattle.std.specs.Prelude.{◌≡◌, ◌+◌, ◌*◌, ◌≤◌, ◌++◌, length, sum_by, IsSome, List};
 ghost use Rattle.wire_format.specs.Ghosts.{spell_ghosts};
-ghost use Rattle.ghost_model.specs.Ghosts.{GhostEvent};
 ghost use Rattle.ghost_masks.specs.Plan.{item_bits};
-ghost use Rattle.ghost_masks.specs.StandsFor.{StandsFor, OfPlan, FitPlan};
+ghost use Rattle.ghost_masks.specs.StandsFor.{OfPlan, OfSomePlan, FitPlan};
 ghost use Rattle.ghost_masks.specs.Carried.{ghosts_for};
 
 use crate::Masks;
@@ -17,9 +16,8 @@ use wire_format::{GHOST_COUNT_WIDTH, put_ghost, put_ghost_count};
 // choices and rising field.
 pub(crate) fn write_ghosts(masks: &Masks, values: &[i64], out: &mut BitWriter)
     requires chosen { IsSome masks.now.plan }
-    requires stands { (log : List GhostEvent) × StandsFor masks.now log }
     requires values { FitPlan masks.now values.now }
-    requires room { OfPlan masks.now (λ log items.
+    requires room { OfSomePlan masks.now (λ log items.
         length out.old.bits + (GHOST_COUNT_WIDTH + sum_by (item_bits masks.now.kinds log) items) ≤ 8 * out.old.size) }
     ensures bits { OfPlan masks.now (λ log items.
         out.new.bits ≡ out.old.bits ++ spell_ghosts masks.now.kinds (ghosts_for masks.now.kinds log items values.now)) }

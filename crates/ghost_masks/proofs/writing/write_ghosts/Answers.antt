@@ -25,8 +25,8 @@ pub split_at-requires : goal.split_at-requires
 split_at-requires c =
     let m = c.args.masks.now in
     let items = c.chosen-chosen.result.now in
-    let log = c.requires.stands.0 in
-    let stands = c.requires.stands.1 in
+    let log = c.requires.room.0 in
+    let stands = c.requires.room.1 in
     omega (arith, next_enough m.kinds log items c.writing.choice-index none c.writing-test.true c.writing.left.now (c.writing.invariant.left log stands), c.carried.ensures log stands)
 
 pub ghost_item-item-requires-clause-values : goal.ghost_item-item-requires-clause-values
@@ -41,11 +41,11 @@ pub put_ghost-requires-clause-room : goal.put_ghost-requires-clause-room
 put_ghost-requires-clause-room c =
     let m = c.args.masks.now in
     let items = c.chosen-chosen.result.now in
-    let log = c.requires.stands.0 in
-    let stands = c.requires.stands.1 in
+    let log = c.requires.room.0 in
+    let stands = c.requires.room.1 in
     let g = c.ghost_item-item.result in
     let room : length c.args.out.now.bits + (8 + sum_by (item_bits m.kinds log) items) ≤ 8 * c.args.out.now.size =
-    subst (λ (o : Option (List Choice)). IfSome o (λ cs. length c.args.out.now.bits + (8 + sum_by (item_bits m.kinds log) cs) ≤ 8 * c.args.out.now.size)) c.chosen-chosen.ensures.value (c.requires.room log stands) in
+    subst (λ (o : Option (List Choice)). IfSome o (λ cs. length c.args.out.now.bits + (8 + sum_by (item_bits m.kinds log) cs) ≤ 8 * c.args.out.now.size)) c.chosen-chosen.ensures.value c.requires.room.2 in
     omega (arith, room, length-ghost c.kinds.result.now g, ap (λ (k : List Kind). ghost_size k g) c.kinds.ensures, c.ghost_item-item.ensures.size log stands, sum_by_more_le (item_bits m.kinds log) items c.writing.choice-index none c.writing-test.true, c.writing.invariant.len log stands, c.writing.invariant.size)
 
 pub writing-preserved : goal.writing-preserved
