@@ -1,5 +1,5 @@
 -- What a writer keeps.
-use Rattle.std.proofs.Common.{◌≡◌, ℕ, zero, suc, ◌+◌, ◌-◌, ◌*◌, ◌/◌, ◌%◌, ◌^◌, ◌<◌, ◌≤◌, Bool, List, [], ◌∷◌, ◌++◌, length, refl, sym, ap, ◌∙◌, arith, append_assoc, length-append}
+use Rattle.std.proofs.Common.{◌≡◌, ℕ, zero, suc, ◌+◌, ◌-◌, ◌*◌, ◌/◌, ◌%◌, ◌^◌, ◌<◌, ◌≤◌, Bool, List, [], ◌∷◌, ◌++◌, length, refl, sym, ap, ◌∙◌, subst, arith, append_assoc, length-append}
 use Rattle.std.proofs.lemmas.Nat.{shl_whole, pow-add, shr_below, pow_below}
 use Rattle.std.proofs.lemmas.List.{append-nil}
 use Rattle.std.proofs.Math.Nat.{mul-le-mul_left}
@@ -9,9 +9,11 @@ use Rattle.tn_types.specs.Bytes.{AreBytes}
 use Rattle.tn_types.specs.declared.limits.TheConstants.{MAX_WORD_BITS}
 use Rattle.bit_stream.specs.declared.writer.BitWriter.TheInside.{Inside}
 use Rattle.bit_stream.proofs.Numbers.{number-split, length-number, number_from-number}
-use Rattle.bit_stream.proofs.Datagrams.{bits_of-push, low_bytes-whole, length-bits_of}
+use Rattle.bit_stream.proofs.Datagrams.{bits_of-push, bits_of-low_bytes, low_bytes-whole, length-bits_of}
+use Rattle.std.proofs.lemmas.Grind.{flat_map-append}
+use Rattle.std.specs.Int.{w32, to_le_bytes}
 
-pub shifted : (value width count : ℕ) → value < 2 ^ width → count + width ≤ MAX_WORD_BITS + 8 → (value * 2 ^ count) % 2 ^ 64 ≡ 2 ^ count * value
+pub shifted : (value width count : ℕ) → value < 2 ^ width → count + width < 2 * MAX_WORD_BITS → (value * 2 ^ count) % 2 ^ 64 ≡ 2 ^ count * value
 shifted value width count fits few =
     shl_whole value width count 64 fits (omega arith) ∙ grind arith
 
@@ -19,6 +21,45 @@ pub join_below : (a b x y : ℕ) → x < 2 ^ a → y < 2 ^ b → x + 2 ^ a * y <
 join_below a b x y hx hy =
     let m : 2 ^ a * (y + 1) ≤ 2 ^ a * 2 ^ b = mul-le-mul_left (2 ^ a) (omega arith) in
     rw pow-add (omega arith)
+
+-- the four bytes of a word are its 32 bits
+word_bytes : (n : ℕ) → to_le_bytes w32 n ≡ low_bytes 4 n
+unfolding low_bytes
+word_bytes n =
+    let second : n / 256 / 256 ≡ n / 65536 = omega arith in
+    let third : n / 65536 / 256 ≡ n / 16777216 = omega arith in
+    rw (second, third) refl
+
+bits_of-append : (bytes more : List ℕ) → bits_of (bytes ++ more) ≡ bits_of bytes ++ bits_of more
+unfolding bits_of
+bits_of-append bytes more = flat_map-append (number 8) bytes more
+
+AreBytes-append : (bytes more : List ℕ) → AreBytes bytes → AreBytes more → AreBytes (bytes ++ more)
+AreBytes-append [] more fits others = others
+AreBytes-append (b ∷ bytes) more fits others = (fits.0, AreBytes-append bytes more fits.1 others)
+
+AreBytes-low_bytes : (count n : ℕ) → AreBytes (low_bytes count n)
+unfolding low_bytes
+AreBytes-low_bytes zero n = tt
+AreBytes-low_bytes (suc count) n = (omega arith, AreBytes-low_bytes count (n / 256))
+
+-- four bytes leave the pending bits
+pub flushed_word : (whole : List ℕ) (pending count : ℕ) → MAX_WORD_BITS ≤ count → bits_of (whole ++ to_le_bytes w32 (pending % 2 ^ 32)) ++ number (count - MAX_WORD_BITS) (pending / 2 ^ 32) ≡ bits_of whole ++ number count pending
+flushed_word whole pending count h =
+    let word = pending % 2 ^ 32 in
+    let high = number (count - MAX_WORD_BITS) (pending / 2 ^ 32) in
+    ap (λ (t : List Bool). t ++ high) (bits_of-append whole (to_le_bytes w32 word))
+    ∙ append_assoc (bits_of whole) (bits_of (to_le_bytes w32 word)) high
+    ∙ ap (λ (t : List Bool). bits_of whole ++ (t ++ high)) (ap bits_of (word_bytes word) ∙ bits_of-low_bytes 4 32 word refl)
+    ∙ ap (λ (t : List Bool). bits_of whole ++ t) (sym (number-split 32 (count - MAX_WORD_BITS) count pending (omega arith)))
+
+pub word_below : (pending count : ℕ) → MAX_WORD_BITS ≤ count → pending < 2 ^ count → pending / 2 ^ 32 < 2 ^ (count - MAX_WORD_BITS)
+word_below pending count h lt =
+    let e : count ≡ (count - MAX_WORD_BITS) + 32 = omega arith in
+    shr_below pending (count - MAX_WORD_BITS) 32 (rw (← e) lt)
+
+pub word_fits : (whole : List ℕ) (n : ℕ) → AreBytes whole → AreBytes (whole ++ to_le_bytes w32 n)
+word_fits whole n fits = AreBytes-append whole (to_le_bytes w32 n) fits (subst AreBytes (sym (word_bytes n)) (AreBytes-low_bytes 4 n))
 
 -- one byte leaves the pending bits
 pub flushed : (whole : List ℕ) (pending count : ℕ) → 8 ≤ count → bits_of (whole ++ pending % 256 ∷ []) ++ number (count - 8) (pending / 256) ≡ bits_of whole ++ number count pending
@@ -31,6 +72,11 @@ pub flushed_below : (pending count : ℕ) → 8 ≤ count → pending < 2 ^ coun
 flushed_below pending count h lt =
     let e : count ≡ (count - 8) + 8 = omega arith in
     shr_below pending (count - 8) 8 (rw (← e) lt)
+
+pub byte_below : (pending count : ℕ) → count < 8 → pending < 2 ^ count → pending < 256
+byte_below pending count few lt =
+    let p : 2 ^ count < 2 ^ 8 = pow_below count 8 few in
+    omega arith
 
 pub finished : (whole : List ℕ) (pending count : ℕ) → AreBytes whole → 0 < count → count < 8 → pending < 2 ^ count → datagram (bits_of whole ++ number count pending) ≡ whole ++ pending ∷ []
 unfolding datagram low_bytes

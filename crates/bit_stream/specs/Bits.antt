@@ -32,10 +32,11 @@ bytes_for bits = (length bits + 7) / 8
 unfoldable pub datagram : List Bool → List ℕ
 datagram bits = low_bytes (bytes_for bits) (number_from bits)
 
--- a writer: the bits so far, and the bytes that there is room for in all
+-- a writer: the bits so far, the bytes that there is room for in all, and those that stand in its buffer already
 pub record Written : Type 0 where
   pub bits : List Bool
   pub size : ℕ
+  pub whole : List ℕ
 
 -- ---- examples
 

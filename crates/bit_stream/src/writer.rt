@@ -7,8 +7,11 @@ use arrayvec::ArrayVec;
 use std::marker::Model;
 use tn_types::{MAX_DATAGRAM_BYTES, MAX_WORD_BITS};
 
-/// A buffer that takes numbers of a few bits each. A contract sees the bits so far and the bytes
-/// that there is room for in all.
+/// The numbers that 32 bits hold.
+const WORDS: u64 = 1 << MAX_WORD_BITS;
+
+/// A buffer that takes numbers of a few bits each. A contract sees the bits so far, the bytes that
+/// there is room for in all, and the whole bytes that stand in the buffer already.
 #[derive(Drop)]
 pub struct BitWriter {
     whole: ArrayVec<u8, MAX_DATAGRAM_BYTES>,
@@ -29,10 +32,32 @@ impl Model for BitWriter {
     ghost invariant = { IsWriter };
 }
 
-/// Moves the whole bytes out of the pending bits, and gives the bits that are left.
+/// Moves four whole bytes out of the pending bits where there are so many, and gives the bits that
+/// are left.
 fn flush(whole: &mut ArrayVec<u8, MAX_DATAGRAM_BYTES>, pending: u64, count: u32) -> (u64, u32)
     requires below { pending < 2 ^ count }
-    requires few { count < MAX_WORD_BITS + 8 }
+    requires few { count < 2 * MAX_WORD_BITS }
+    requires room { 8 * length whole.old.items + count ≤ 8 * MAX_DATAGRAM_BYTES }
+    ensures bits { bits_of whole.new.items ++ number result.1 result.0 ≡ bits_of whole.old.items ++ number count pending }
+    ensures below { result.0 < 2 ^ result.1 }
+    ensures few { result.1 < MAX_WORD_BITS }
+    ensures bytes { AreBytes whole.old.items → AreBytes whole.new.items }
+    ensures len { 8 * length whole.new.items + result.1 ≡ 8 * length whole.old.items + count }
+{
+    if count < MAX_WORD_BITS {
+        return (pending, count);
+    }
+    let word = (pending % WORDS) as u32;
+    let Ok(()) = whole.try_extend_from_slice(&word.to_le_bytes()) else {
+        unreachable!()
+    };
+    (pending / WORDS, count - MAX_WORD_BITS)
+}
+
+/// Moves each whole byte out of the pending bits, and gives the bits that are left.
+fn drain(whole: &mut ArrayVec<u8, MAX_DATAGRAM_BYTES>, pending: u64, count: u32) -> (u64, u32)
+    requires below { pending < 2 ^ count }
+    requires few { count < MAX_WORD_BITS }
     requires room { 8 * length whole.old.items + count ≤ 8 * MAX_DATAGRAM_BYTES }
     ensures bits { bits_of whole.new.items ++ number result.1 result.0 ≡ bits_of whole.old.items ++ number count pending }
     ensures below { result.0 < 2 ^ result.1 }
@@ -50,6 +75,22 @@ fn flush(whole: &mut ArrayVec<u8, MAX_DATAGRAM_BYTES>, pending: u64, count: u32)
     (pending, count)
 }
 
+/// Moves all of the pending bits out, the last byte filled with zero bits.
+fn close(whole: &mut ArrayVec<u8, MAX_DATAGRAM_BYTES>, pending: u64, count: u32)
+    requires below { pending < 2 ^ count }
+    requires few { count < MAX_WORD_BITS }
+    requires room { 8 * length whole.old.items + count ≤ 8 * MAX_DATAGRAM_BYTES }
+    requires bytes { AreBytes whole.old.items }
+    ensures bytes { whole.new.items ≡ datagram (bits_of whole.old.items ++ number count pending) }
+    ensures are_bytes { AreBytes whole.new.items }
+    ensures len { length whole.new.items ≡ bytes_for (bits_of whole.old.items ++ number count pending) }
+{
+    let (pending, count) = drain(whole, pending, count);
+    if count > 0 {
+        whole.push(pending as u8);
+    }
+}
+
 impl BitWriter {
     /// An empty buffer with room for `size` bytes, at most 1,200.
     pub fn new(size: u32) -> Self
@@ -63,6 +104,19 @@ impl BitWriter {
             count: 0,
             size,
         }
+    }
+
+    /// Forgets what was written, and has room for `size` bytes from now on, at most 1,200. So one
+    /// buffer serves one datagram after the other.
+    pub fn begin(&mut self, size: u32)
+        requires { size ≤ MAX_DATAGRAM_BYTES }
+        ensures bits { self.new.bits ≡ [] }
+        ensures size { self.new.size ≡ size }
+    {
+        self.whole.clear();
+        self.pending = 0;
+        self.count = 0;
+        self.size = size;
     }
 
     /// The number of bits that there is still room for.
@@ -88,15 +142,35 @@ impl BitWriter {
         self.count = count;
     }
 
+    /// Fills the last byte with zero bits. All bytes of the datagram stand in the buffer then, and
+    /// [`bytes`](Self::bytes) lends them.
+    pub fn end(&mut self)
+        ensures bytes { self.new.whole ≡ datagram self.old.bits }
+        ensures len { length self.new.whole ≡ bytes_for self.old.bits }
+        ensures few { length self.new.whole ≤ self.new.size }
+        ensures bits { self.new.bits ≡ bits_of (datagram self.old.bits) }
+        ensures size { self.new.size ≡ self.old.size }
+    {
+        close(&mut self.whole, self.pending, self.count);
+        self.pending = 0;
+        self.count = 0;
+    }
+
+    /// The whole bytes that stand in the buffer, lent: after [`end`](Self::end) those of the
+    /// datagram. Before that up to four of the last bytes may be missing.
+    pub fn bytes(&self) -> &[u8]
+        ensures { result.now ≡ self.now.whole }
+    {
+        self.whole.as_slice()
+    }
+
     /// The bytes used, the last one filled with zero bits.
     pub fn finish(self) -> ArrayVec<u8, MAX_DATAGRAM_BYTES>
         ensures bytes { result.items ≡ datagram self.bits }
         ensures len { length result.items ≡ bytes_for self.bits }
     {
         let mut whole = self.whole;
-        if self.count > 0 {
-            whole.push(self.pending as u8);
-        }
+        close(&mut whole, self.pending, self.count);
         whole
     }
 }

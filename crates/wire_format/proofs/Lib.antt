@@ -2,7 +2,9 @@ pub mod Formats
 pub mod Counted
 pub mod Whole
 pub mod Lengths
+pub mod InParts
 pub mod Sizes
+pub mod PartSizes
 pub mod HeaderFormat
 pub mod ItemFormats
 pub mod MoveFormat

@@ -55,11 +55,11 @@ length-move m = grind (arith, length-append, length-number)
 pub length-server_rest : (kinds : List Kind) (p : ServerBody) → length (server_rest kinds p) ≡ 41 + length (optional SLOT_WIDTH p.control) + length (flat_map spell_block p.blocks) + length (flat_map spell_event p.events) + length (flat_map (spell_ghost kinds) p.ghosts)
 length-server_rest kinds p = grind (arith, length-append, length-number)
 
-length-optional : (width : ℕ) (o : Option ℕ) → length (optional width o) ≡ 1 + (if is_some o then width else 0)
+pub length-optional : (width : ℕ) (o : Option ℕ) → length (optional width o) ≡ 1 + (if is_some o then width else 0)
 length-optional width None = grind (arith, length-append, length-number)
 length-optional width (Some n) = grind (arith, length-append, length-number)
 
-length-moves : (ms : List Move) → length (flat_map spell_move ms) ≡ 10 * length ms
+pub length-moves : (ms : List Move) → length (flat_map spell_move ms) ≡ 10 * length ms
 length-moves [] = refl
 length-moves (m ∷ ms) = omega (arith, length-append (spell_move m) (flat_map spell_move ms), length-move m, length-moves ms)
 

@@ -11,19 +11,27 @@ use Rattle.wire_format.specs.declared.header.Header.{Header}
 use Rattle.wire_format.specs.declared.client.ClientBody.{ClientBody}
 use Rattle.wire_format.specs.declared.client.ClientPacket.{ClientPacket}
 use Rattle.wire_format.specs.declared.client.ClientPacket.TheVariants.{Ping, Body}
-use Rattle.wire_format.specs.Reading.{◌>>=◌, parts_in_order, part_at, within_at, listed, listed_at, AreListed, whole_of}
+use Rattle.wire_format.specs.Reading.{◌>>=◌, parts_in_order, part_at, within_at, listed_at, AreListed, whole_of}
 use Rattle.wire_format.specs.Header.{spell_header, header_at, IsHeader, IsHeaderInRange}
-use Rattle.wire_format.specs.Moves.{spell_move, move_at, AnyMove}
-use Rattle.wire_format.specs.Events.{spell_event, event_at, event_size, IsEvent, IsEventInRange}
+use Rattle.wire_format.specs.Moves.{spell_moves, move_at, AnyMove}
+use Rattle.wire_format.specs.Events.{spell_events, event_at, event_size, IsEvent, IsEventInRange}
 
 -- ---- what stands behind the header of a data packet
 
 abbrev pub client_rest : ClientBody → List Bool
 client_rest p = parts_in_order (
     number NUMBER_WIDTH p.first
-    ∷ listed MOVE_COUNT_WIDTH spell_move p.moves
-    ∷ listed EVENT_COUNT_WIDTH spell_event p.events
+    ∷ spell_moves p.moves
+    ∷ spell_events p.events
     ∷ [])
+
+-- all that stands before the lists of a data packet
+abbrev pub client_front : Header → ℕ → List Bool
+client_front head first = parts_in_order (number KIND_WIDTH DATA ∷ spell_header head ∷ number NUMBER_WIDTH first ∷ [])
+
+-- a data packet as it is written: what stands before the lists, and then each list
+abbrev pub client_in_parts : ClientBody → List Bool
+client_in_parts p = (client_front p.head p.first ++ spell_moves p.moves) ++ spell_events p.events
 
 unfoldable pub client_body_at : Header → Unread → Result (ClientBody × Unread) BitsFault
 client_body_at head s = do

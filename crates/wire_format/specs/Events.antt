@@ -6,11 +6,11 @@ use Rattle.tn_types.specs.Bytes.{AreBytes}
 use Rattle.bit_stream.specs.Bits.{number}
 use Rattle.bit_stream.specs.Reading.{Unread}
 use Rattle.tn_types.specs.declared.limits.TheConstants.{MAX_EVENT_BYTES}
-use Rattle.wire_format.specs.declared.widths.TheConstants.{FLAG_WIDTH, NUMBER_WIDTH, BYTE_WIDTH, EVENT_LENGTH_WIDTH}
+use Rattle.wire_format.specs.declared.widths.TheConstants.{FLAG_WIDTH, NUMBER_WIDTH, BYTE_WIDTH, EVENT_COUNT_WIDTH, EVENT_LENGTH_WIDTH}
 use Rattle.wire_format.specs.declared.fault.BitsFault.{BitsFault}
 use Rattle.wire_format.specs.declared.fault.BitsCause.TheVariants.{LengthBits}
 use Rattle.wire_format.specs.declared.events.EventItem.{EventItem}
-use Rattle.wire_format.specs.Reading.{◌>>=◌, parts_in_order, part_at, within_at, optional, optional_at, counted_at}
+use Rattle.wire_format.specs.Reading.{◌>>=◌, parts_in_order, part_at, within_at, optional, optional_at, counted_at, listed}
 
 abbrev pub spell_event : EventItem → List Bool
 spell_event e = parts_in_order (
@@ -18,6 +18,10 @@ spell_event e = parts_in_order (
     ∷ number EVENT_LENGTH_WIDTH (length e.payload)
     ∷ flat_map (number BYTE_WIDTH) e.payload
     ∷ [])
+
+-- the events of a packet
+abbrev pub spell_events : List EventItem → List Bool
+spell_events events = listed EVENT_COUNT_WIDTH spell_event events
 
 unfoldable pub event_at : Unread → Result (EventItem × Unread) BitsFault
 event_at s = do

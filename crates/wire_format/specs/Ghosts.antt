@@ -4,12 +4,12 @@ use Rattle.std.specs.Prelude.{ℕ, ◌≡◌, ◌<◌, ◌+◌, ◌/◌, ◌%◌
 use Rattle.quantised_fields.specs.declared.kind.Kind.{Kind}
 use Rattle.bit_stream.specs.Bits.{number}
 use Rattle.bit_stream.specs.Reading.{Unread}
-use Rattle.wire_format.specs.declared.widths.TheConstants.{SLOT_WIDTH, OP_WIDTH, KIND_NUMBER_WIDTH, BLOCK_NUMBER_WIDTH, KILL, CREATE, UPDATE}
+use Rattle.wire_format.specs.declared.widths.TheConstants.{SLOT_WIDTH, GHOST_COUNT_WIDTH, OP_WIDTH, KIND_NUMBER_WIDTH, BLOCK_NUMBER_WIDTH, KILL, CREATE, UPDATE}
 use Rattle.wire_format.specs.declared.fault.BitsFault.{BitsFault}
 use Rattle.wire_format.specs.declared.fault.BitsCause.TheVariants.{OpBits, UnknownKind, EmptyMask}
 use Rattle.wire_format.specs.declared.ghosts.GhostItem.{GhostItem}
 use Rattle.wire_format.specs.declared.ghosts.GhostItem.TheVariants.{Kill, Create, Update}
-use Rattle.wire_format.specs.Reading.{◌>>=◌, part_at, such_at, within_at}
+use Rattle.wire_format.specs.Reading.{◌>>=◌, part_at, such_at, within_at, listed}
 
 -- ---- levels, each with the width of its field
 
@@ -73,6 +73,10 @@ behind_op kinds (Update slot kind mask ls) = update_rest kinds kind mask ls
 
 abbrev pub spell_ghost : List Kind → GhostItem → List Bool
 spell_ghost kinds g = number SLOT_WIDTH (slot_named g) ++ (number OP_WIDTH (op_of g) ++ behind_op kinds g)
+
+-- the ghosts of a packet
+abbrev pub spell_ghosts : List Kind → List GhostItem → List Bool
+spell_ghosts kinds ghosts = listed GHOST_COUNT_WIDTH (spell_ghost kinds) ghosts
 
 -- a kind of the table
 abbrev pub kind_number_at : List Kind → Unread → Result (ℕ × Unread) BitsFault

@@ -2,7 +2,7 @@
 use Rattle.std.specs.Prelude.{◌<◌, ◌≤◌, ◌^◌, List, [], ◌∷◌, Bool, Result, Ok}
 use Rattle.bit_stream.specs.Bits.{number}
 use Rattle.bit_stream.specs.Reading.{Unread}
-use Rattle.wire_format.specs.declared.widths.TheConstants.{CLIENT_WIDTH, NUMBER_WIDTH, MASK_WIDTH, MAX_NUMBER}
+use Rattle.wire_format.specs.declared.widths.TheConstants.{KIND_WIDTH, PING, CLIENT_WIDTH, NUMBER_WIDTH, MASK_WIDTH, MAX_NUMBER}
 use Rattle.wire_format.specs.declared.fault.BitsFault.{BitsFault}
 use Rattle.wire_format.specs.declared.fault.BitsCause.TheVariants.{ZeroSeq}
 use Rattle.wire_format.specs.declared.header.Header.{Header}
@@ -15,6 +15,10 @@ spell_header h = parts_in_order (
     ∷ number NUMBER_WIDTH h.horizon
     ∷ number MASK_WIDTH h.mask
     ∷ [])
+
+-- a ping is its header alone
+abbrev pub spell_ping : Header → List Bool
+spell_ping h = parts_in_order (number KIND_WIDTH PING ∷ spell_header h ∷ [])
 
 unfoldable pub header_at : Unread → Result (Header × Unread) BitsFault
 header_at s = do

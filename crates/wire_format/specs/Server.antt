@@ -1,6 +1,6 @@
 -- A packet of the server under a table of kinds: how it is spelled, and how it is read. A ping is a
 -- header alone.
-use Rattle.std.specs.Prelude.{ℕ, ◌+◌, ◌-◌, ◌<◌, ◌^◌, ◌==◌, if◌then◌else◌, is_some, sum_by, List, [], ◌∷◌, ◌++◌, Bool, Result, Ok, IfSome}
+use Rattle.std.specs.Prelude.{ℕ, ◌+◌, ◌-◌, ◌<◌, ◌^◌, ◌==◌, if◌then◌else◌, is_some, sum_by, Option, List, [], ◌∷◌, ◌++◌, Bool, Result, Ok, IfSome}
 use Rattle.std.specs.List.{AllByRecursion}
 use Rattle.bit_stream.specs.Bits.{number}
 use Rattle.bit_stream.specs.Reading.{Unread}
@@ -12,12 +12,12 @@ use Rattle.wire_format.specs.declared.header.Header.{Header}
 use Rattle.wire_format.specs.declared.server.ServerBody.{ServerBody}
 use Rattle.wire_format.specs.declared.server.ServerPacket.{ServerPacket}
 use Rattle.wire_format.specs.declared.server.ServerPacket.TheVariants.{Ping, Body}
-use Rattle.wire_format.specs.Reading.{◌>>=◌, parts_in_order, part_at, within_at, optional, optional_at, listed, listed_at, AreListed, whole_of}
+use Rattle.wire_format.specs.Reading.{◌>>=◌, parts_in_order, part_at, within_at, optional, optional_at, listed_at, AreListed, whole_of}
 use Rattle.wire_format.specs.Header.{spell_header, header_at, IsHeader, IsHeaderInRange}
-use Rattle.wire_format.specs.Blocks.{spell_block, block_at, block_size, IsBlock, IsBlockInRange}
+use Rattle.wire_format.specs.Blocks.{spell_blocks, block_at, block_size, IsBlock, IsBlockInRange}
 use Rattle.quantised_fields.specs.declared.kind.Kind.{Kind}
-use Rattle.wire_format.specs.Ghosts.{spell_ghost, ghost_at, ghost_size, IsGhost, IsGhostInRange}
-use Rattle.wire_format.specs.Events.{spell_event, event_at, event_size, IsEvent, IsEventInRange}
+use Rattle.wire_format.specs.Ghosts.{spell_ghosts, ghost_at, ghost_size, IsGhost, IsGhostInRange}
+use Rattle.wire_format.specs.Events.{spell_events, event_at, event_size, IsEvent, IsEventInRange}
 
 -- ---- what stands behind the header of a data packet
 
@@ -25,10 +25,24 @@ abbrev pub server_rest : List Kind → ServerBody → List Bool
 server_rest kinds p = parts_in_order (
     number NUMBER_WIDTH p.accepted
     ∷ optional SLOT_WIDTH p.control
-    ∷ listed BLOCK_COUNT_WIDTH spell_block p.blocks
-    ∷ listed EVENT_COUNT_WIDTH spell_event p.events
-    ∷ listed GHOST_COUNT_WIDTH (spell_ghost kinds) p.ghosts
+    ∷ spell_blocks p.blocks
+    ∷ spell_events p.events
+    ∷ spell_ghosts kinds p.ghosts
     ∷ [])
+
+-- all that stands before the lists of a data packet
+abbrev pub server_front : Header → ℕ → Option ℕ → List Bool
+server_front head accepted control = parts_in_order (
+    number KIND_WIDTH DATA
+    ∷ spell_header head
+    ∷ number NUMBER_WIDTH accepted
+    ∷ optional SLOT_WIDTH control
+    ∷ [])
+
+-- a data packet as it is written: what stands before the lists, and then each list
+abbrev pub server_in_parts : List Kind → ServerBody → List Bool
+server_in_parts kinds p =
+    ((server_front p.head p.accepted p.control ++ spell_blocks p.blocks) ++ spell_events p.events) ++ spell_ghosts kinds p.ghosts
 
 unfoldable pub server_body_at : List Kind → Header → Unread → Result (ServerBody × Unread) BitsFault
 server_body_at kinds head s = do

@@ -1,12 +1,17 @@
-ghost use Rattle.std.specs.Prelude.{◌≡◌, ◌≤◌, length, []};
+ghost use Rattle.std.specs.Prelude.{◌≡◌, ◌+◌, ◌*◌, ◌^◌, ◌<◌, ◌≤◌, ◌++◌, length, []};
+ghost use Rattle.std.specs.List.{AllByRecursion};
+ghost use Rattle.bit_stream.specs.Bits.{number as spelled};
 ghost use Rattle.bit_stream.specs.Reading.{Gives};
-ghost use Rattle.wire_format.specs.Blocks.{spell_block, block_at, block_size};
+ghost use Rattle.wire_format.specs.Blocks.{spell_block, spell_blocks, block_at, block_size, IsBlock, IsBlockInRange};
+ghost use Rattle.wire_format.specs.Reading.{AreListed};
 
 use crate::fault::{BitsCause, BitsFault};
-use crate::items::Item;
+use crate::items::{Item, put_list};
 use crate::lists::ItemList;
 use crate::parts::{part, put_bytes, read_bytes, within};
-use crate::widths::{BLOCK_LENGTH_WIDTH, BLOCK_NUMBER_WIDTH, BYTE_WIDTH, MAX_BLOCK_BITS};
+use crate::widths::{
+    BLOCK_COUNT_WIDTH, BLOCK_LENGTH_WIDTH, BLOCK_NUMBER_WIDTH, BYTE_WIDTH, MAX_BLOCK_BITS,
+};
 use bit_stream::{BitReader, BitWriter};
 use tn_types::{BlockBytes, MAX_BLOCK_BYTES, MAX_PACKET_BLOCKS};
 
@@ -64,10 +69,50 @@ pub fn block_bits(item: &BlockItem) -> u32
     BLOCK_NUMBER_WIDTH + BLOCK_LENGTH_WIDTH + BYTE_WIDTH * item.bytes.len() as u32
 }
 
+/// Writes how many datablocks follow, at most 15.
+pub fn put_block_count(out: &mut BitWriter, count: u32)
+    requires few { count ≤ MAX_PACKET_BLOCKS }
+    requires room { length out.old.bits + BLOCK_COUNT_WIDTH ≤ 8 * out.old.size }
+    ensures bits { out.new.bits ≡ out.old.bits ++ spelled BLOCK_COUNT_WIDTH count }
+    ensures len { length out.new.bits ≡ length out.old.bits + BLOCK_COUNT_WIDTH }
+    ensures size { out.new.size ≡ out.old.size }
+{
+    out.put(count, BLOCK_COUNT_WIDTH);
+}
+
+/// Writes a datablock in its one spelling. The caller sees to it that its number is below 64 and that its
+/// [`block_bits`] fit the room.
+#[tactic(auto, using(crate::proofs::Lengths::lengths))]
+pub fn put_block(out: &mut BitWriter, number: u8, bytes: &BlockBytes)
+    requires fits { number < 2 ^ BLOCK_NUMBER_WIDTH }
+    requires room { length out.old.bits + length (spell_block (record { number = number; bytes = bytes.now })) ≤ 8 * out.old.size }
+    ensures spelled { IsBlock (record { number = number; bytes = bytes.now }) }
+    ensures bits { out.new.bits ≡ out.old.bits ++ spell_block (record { number = number; bytes = bytes.now }) }
+    ensures len { length out.new.bits ≡ length out.old.bits + length (spell_block (record { number = number; bytes = bytes.now })) }
+    ensures size { out.new.size ≡ out.old.size }
+{
+    out.put(u32::from(number), BLOCK_NUMBER_WIDTH);
+    let bytes = bytes.as_slice();
+    out.put(bytes.len() as u32, BLOCK_LENGTH_WIDTH);
+    put_bytes(out, bytes);
+}
+
+/// Writes the datablocks of a packet, behind their count. The caller sees to it that each number is below 64 and that
+/// all bits fit the room.
+#[tactic(auto, using(crate::proofs::Lengths::lengths))]
+pub fn put_blocks(out: &mut BitWriter, blocks: &BlockList)
+    requires fits { AllByRecursion IsBlockInRange blocks.now }
+    requires room { length out.old.bits + length (spell_blocks blocks.now) ≤ 8 * out.old.size }
+    ensures spelled { AreListed MAX_PACKET_BLOCKS IsBlock blocks.now }
+    ensures bits { out.new.bits ≡ out.old.bits ++ spell_blocks blocks.now }
+    ensures len { length out.new.bits ≡ length out.old.bits + length (spell_blocks blocks.now) }
+    ensures size { out.new.size ≡ out.old.size }
+{
+    put_list(out, &(), blocks, BLOCK_COUNT_WIDTH);
+}
+
 impl Item for BlockItem {
     type Context = ();
-
-    ghost use Rattle.wire_format.specs.Blocks.{spell_block, block_at, IsBlockInRange, IsBlock};
 
     ghost spelling = { λ _. spell_block };
 
@@ -87,9 +132,6 @@ impl Item for BlockItem {
 
     #[tactic(auto, using(crate::proofs::Lengths::lengths))]
     fn put(&self, _context: &(), out: &mut BitWriter) {
-        out.put(u32::from(self.number), BLOCK_NUMBER_WIDTH);
-        let bytes = self.bytes.as_slice();
-        out.put(bytes.len() as u32, BLOCK_LENGTH_WIDTH);
-        put_bytes(out, bytes);
+        put_block(out, self.number, &self.bytes);
     }
 }

@@ -1,14 +1,14 @@
-ghost use Rattle.std.specs.Prelude.{◌≡◌, ◌+◌, ◌*◌, ◌≤◌, ◌++◌, Ok, length, IfOk};
+ghost use Rattle.std.specs.Prelude.{◌≡◌, ◌+◌, ◌*◌, ◌^◌, ◌<◌, ◌≤◌, ◌++◌, Ok, length, IfOk};
 ghost use Rattle.bit_stream.specs.Bits.{datagram};
 ghost use Rattle.bit_stream.specs.Reading.{Gives};
-ghost use Rattle.wire_format.specs.Header.{IsHeader};
-ghost use Rattle.wire_format.specs.Client.{spell_client, client_at, read_client, client_rest, client_body_at, client_size, IsClient, IsClientBody, IsClientInRange, IsClientBodyInRange};
+ghost use Rattle.wire_format.specs.Header.{IsHeader, IsHeaderInRange};
+ghost use Rattle.wire_format.specs.Client.{spell_client, client_at, read_client, client_rest, client_front, client_in_parts, client_body_at, client_size, IsClient, IsClientBody, IsClientInRange, IsClientBodyInRange};
 
-use crate::events::EventList;
+use crate::events::{EventList, put_events};
 use crate::fault::{BitsCause, BitsFault};
-use crate::header::{Header, put_header, read_header};
-use crate::items::{list_bits, put_list, read_list};
-use crate::moves::MoveList;
+use crate::header::{Header, put_header, put_ping, read_header};
+use crate::items::{list_bits, read_list};
+use crate::moves::{MoveList, put_moves};
 use crate::parts::{part, within};
 use crate::widths::{
     DATA, EVENT_COUNT_WIDTH, HEADER_BITS, KIND_WIDTH, MAX_PACKET_BITS, MOVE_COUNT_WIDTH,
@@ -104,24 +104,40 @@ pub fn client_bits(packet: &ClientPacket) -> u32
     }
 }
 
-/// Writes what stands behind the header.
+/// Writes what stands before the lists of a data packet: its kind, its header and the number of its first move. The moves
+/// and the events follow. The caller sees to it that each number fits its part and that all bits fit the room.
 #[tactic(auto, using(crate::proofs::Lengths::lengths))]
-fn put_client_rest(out: &mut BitWriter, body: &ClientBody)
-    requires fits { IsClientBodyInRange body.now }
-    requires head { IsHeader body.now.head }
-    requires room { length out.old.bits + length (client_rest body.now) ≤ 8 * out.old.size }
-    ensures spelled { IsClientBody body.now }
-    ensures bits { out.new.bits ≡ out.old.bits ++ client_rest body.now }
+pub fn put_client_front(out: &mut BitWriter, head: &Header, first: u32)
+    requires head { IsHeaderInRange head.now }
+    requires first { first < 2 ^ NUMBER_WIDTH }
+    requires room { length out.old.bits + length (client_front head.now first) ≤ 8 * out.old.size }
+    ensures head { IsHeader head.now }
+    ensures bits { out.new.bits ≡ out.old.bits ++ client_front head.now first }
+    ensures len { length out.new.bits ≡ length out.old.bits + length (client_front head.now first) }
     ensures size { out.new.size ≡ out.old.size }
 {
-    out.put(body.first, NUMBER_WIDTH);
-    put_list(out, &(), &body.moves, MOVE_COUNT_WIDTH);
-    put_list(out, &(), &body.events, EVENT_COUNT_WIDTH);
+    out.put(DATA, KIND_WIDTH);
+    put_header(out, head);
+    out.put(first, NUMBER_WIDTH);
+}
+
+/// Writes a data packet, part by part.
+#[tactic(auto, using(crate::proofs::Lengths::lengths))]
+fn put_client_body(out: &mut BitWriter, body: &ClientBody)
+    requires fits { IsClientBodyInRange body.now }
+    requires room { length out.old.bits + length (client_in_parts body.now) ≤ 8 * out.old.size }
+    ensures spelled { IsClientBody body.now }
+    ensures bits { out.new.bits ≡ out.old.bits ++ client_in_parts body.now }
+    ensures size { out.new.size ≡ out.old.size }
+{
+    put_client_front(out, &body.head, body.first);
+    put_moves(out, &body.moves);
+    put_events(out, &body.events);
 }
 
 /// Writes a packet in its one spelling. The caller sees to it that each number fits its part and all
 /// of [`client_bits`] fit the room.
-#[tactic(auto, using(crate::proofs::Lengths::lengths))]
+#[tactic(auto, using(crate::proofs::Lengths::lengths, crate::proofs::InParts::client_parts))]
 pub fn encode_client(packet: &ClientPacket, out: &mut BitWriter)
     requires fits { IsClientInRange packet.now }
     requires room { length out.old.bits + length (spell_client packet.now) ≤ 8 * out.old.size }
@@ -130,15 +146,8 @@ pub fn encode_client(packet: &ClientPacket, out: &mut BitWriter)
     ensures size { out.new.size ≡ out.old.size }
 {
     match packet {
-        ClientPacket::Ping(head) => {
-            out.put(PING, KIND_WIDTH);
-            put_header(out, head);
-        }
-        ClientPacket::Body(body) => {
-            out.put(DATA, KIND_WIDTH);
-            put_header(out, &body.head);
-            put_client_rest(out, body);
-        }
+        ClientPacket::Ping(head) => put_ping(out, head),
+        ClientPacket::Body(body) => put_client_body(out, body),
     }
 }
 

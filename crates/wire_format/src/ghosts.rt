@@ -2,15 +2,17 @@
 ghost use Rattle.std.specs.Prelude.{◌≡◌, ◌<◌, ◌≤◌, ◌+◌, ◌*◌, ◌^◌, ◌++◌, All, length, map, sum, take};
 ghost use Rattle.bit_stream.specs.Bits.{number};
 ghost use Rattle.bit_stream.specs.Reading.{Gives};
-ghost use Rattle.wire_format.specs.Ghosts.{spell_ghost, ghost_at, ghost_size, create_rest, update_rest, kind_number_at, field_mask_at, create_at, update_at, levels, levels_at, widths, chosen, AreLevels};
+ghost use Rattle.wire_format.specs.Ghosts.{spell_ghost, ghost_at, ghost_size, create_rest, update_rest, kind_number_at, field_mask_at, create_at, update_at, levels, levels_at, widths, chosen, spell_ghosts, AreLevels, IsGhost, IsGhostInRange};
+ghost use Rattle.std.specs.List.{AllByRecursion};
+ghost use Rattle.wire_format.specs.Reading.{AreListed};
 
 use crate::fault::{BitsCause, BitsFault};
-use crate::items::Item;
+use crate::items::{Item, put_list};
 use crate::lists::ItemList;
 use crate::parts::{part, within};
 use crate::widths::{
-    BLOCK_NUMBER_WIDTH, CREATE, KILL, KIND_NUMBER_WIDTH, MAX_GHOST_BITS, OP_WIDTH, SLOT_WIDTH,
-    UPDATE,
+    BLOCK_NUMBER_WIDTH, CREATE, GHOST_COUNT_WIDTH, KILL, KIND_NUMBER_WIDTH, MAX_GHOST_BITS,
+    OP_WIDTH, SLOT_WIDTH, UPDATE,
 };
 use bit_stream::{BitReader, BitWriter};
 use quantised_fields::{FieldSpec, KindTable};
@@ -335,10 +337,72 @@ fn put_update(out: &mut BitWriter, kinds: &KindTable, kind: u8, mask: u32, value
     put_levels(out, chosen.as_slice(), values);
 }
 
+/// Writes how many ghosts follow, at most 128.
+pub fn put_ghost_count(out: &mut BitWriter, count: u32)
+    requires few { count ≤ MAX_PACKET_GHOSTS }
+    requires room { length out.old.bits + GHOST_COUNT_WIDTH ≤ 8 * out.old.size }
+    ensures bits { out.new.bits ≡ out.old.bits ++ number GHOST_COUNT_WIDTH count }
+    ensures len { length out.new.bits ≡ length out.old.bits + GHOST_COUNT_WIDTH }
+    ensures size { out.new.size ≡ out.old.size }
+{
+    out.put(count, GHOST_COUNT_WIDTH);
+}
+
+/// Writes a ghost in its one spelling. The caller sees to it that its kind is one of the table, that each number fits its
+/// part, that there is a level for each field, and that the ghost's [`ghost_bits`] fit the room.
+#[tactic(auto, using(crate::proofs::Lengths::lengths))]
+pub fn put_ghost(out: &mut BitWriter, kinds: &KindTable, item: &GhostItem)
+    requires fits { IsGhostInRange kinds.now item.now }
+    requires room { length out.old.bits + length (spell_ghost kinds.now item.now) ≤ 8 * out.old.size }
+    ensures spelled { IsGhost kinds.now item.now }
+    ensures bits { out.new.bits ≡ out.old.bits ++ spell_ghost kinds.now item.now }
+    ensures len { length out.new.bits ≡ length out.old.bits + length (spell_ghost kinds.now item.now) }
+    ensures size { out.new.size ≡ out.old.size }
+{
+    match item {
+        GhostItem::Kill { slot } => {
+            out.put(u32::from(*slot), SLOT_WIDTH);
+            out.put(KILL, OP_WIDTH);
+        }
+        GhostItem::Create {
+            slot,
+            kind,
+            block,
+            levels,
+        } => {
+            out.put(u32::from(*slot), SLOT_WIDTH);
+            out.put(CREATE, OP_WIDTH);
+            put_create(out, kinds, *kind, *block, levels.as_slice());
+        }
+        GhostItem::Update {
+            slot,
+            kind,
+            mask,
+            levels,
+        } => {
+            out.put(u32::from(*slot), SLOT_WIDTH);
+            out.put(UPDATE, OP_WIDTH);
+            put_update(out, kinds, *kind, *mask, levels.as_slice());
+        }
+    }
+}
+
+/// Writes the ghosts of a packet, behind their count. The caller sees to it that each fits as [`put_ghost`] says and that
+/// all bits fit the room.
+#[tactic(auto, using(crate::proofs::Lengths::lengths))]
+pub fn put_ghosts(out: &mut BitWriter, kinds: &KindTable, ghosts: &GhostList)
+    requires fits { AllByRecursion (IsGhostInRange kinds.now) ghosts.now }
+    requires room { length out.old.bits + length (spell_ghosts kinds.now ghosts.now) ≤ 8 * out.old.size }
+    ensures spelled { AreListed MAX_PACKET_GHOSTS (IsGhost kinds.now) ghosts.now }
+    ensures bits { out.new.bits ≡ out.old.bits ++ spell_ghosts kinds.now ghosts.now }
+    ensures len { length out.new.bits ≡ length out.old.bits + length (spell_ghosts kinds.now ghosts.now) }
+    ensures size { out.new.size ≡ out.old.size }
+{
+    put_list(out, kinds, ghosts, GHOST_COUNT_WIDTH);
+}
+
 impl Item for GhostItem {
     type Context = KindTable;
-
-    ghost use Rattle.wire_format.specs.Ghosts.{spell_ghost, ghost_at, IsGhostInRange, IsGhost};
 
     ghost spelling = { spell_ghost };
 
@@ -356,33 +420,7 @@ impl Item for GhostItem {
         ghost_bits(self, kinds)
     }
 
-    #[tactic(auto, using(crate::proofs::Lengths::lengths))]
     fn put(&self, kinds: &KindTable, out: &mut BitWriter) {
-        match self {
-            GhostItem::Kill { slot } => {
-                out.put(u32::from(*slot), SLOT_WIDTH);
-                out.put(KILL, OP_WIDTH);
-            }
-            GhostItem::Create {
-                slot,
-                kind,
-                block,
-                levels,
-            } => {
-                out.put(u32::from(*slot), SLOT_WIDTH);
-                out.put(CREATE, OP_WIDTH);
-                put_create(out, kinds, *kind, *block, levels.as_slice());
-            }
-            GhostItem::Update {
-                slot,
-                kind,
-                mask,
-                levels,
-            } => {
-                out.put(u32::from(*slot), SLOT_WIDTH);
-                out.put(UPDATE, OP_WIDTH);
-                put_update(out, kinds, *kind, *mask, levels.as_slice());
-            }
-        }
+        put_ghost(out, kinds, self);
     }
 }

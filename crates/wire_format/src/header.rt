@@ -1,10 +1,12 @@
 ghost use Rattle.std.specs.Prelude.{◌≡◌, ◌+◌, ◌*◌, ◌≤◌, ◌++◌, length};
 ghost use Rattle.bit_stream.specs.Reading.{Gives};
-ghost use Rattle.wire_format.specs.Header.{spell_header, header_at, IsHeader, IsHeaderInRange};
+ghost use Rattle.wire_format.specs.Header.{spell_header, spell_ping, header_at, IsHeader, IsHeaderInRange};
 
 use crate::fault::{BitsCause, BitsFault};
 use crate::parts::{part, within};
-use crate::widths::{CLIENT_WIDTH, HEAD_WIDTH, MASK_WIDTH, MAX_NUMBER, NUMBER_WIDTH};
+use crate::widths::{
+    CLIENT_WIDTH, HEAD_WIDTH, HEADER_BITS, KIND_WIDTH, MASK_WIDTH, MAX_NUMBER, NUMBER_WIDTH, PING,
+};
 use bit_stream::{BitReader, BitWriter};
 
 /// What every datagram begins with, behind its kind.
@@ -35,6 +37,21 @@ pub(crate) fn read_header(reader: &mut BitReader<'_>) -> Result<Header, BitsFaul
         horizon,
         mask,
     })
+}
+
+/// Writes a ping: its kind and a header. The caller sees to it that each number fits its part and that
+/// [`HEADER_BITS`](crate::HEADER_BITS) fit the room.
+#[tactic(auto, using(crate::proofs::Lengths::lengths))]
+pub fn put_ping(out: &mut BitWriter, head: &Header)
+    requires fits { IsHeaderInRange head.now }
+    requires room { length out.old.bits + HEADER_BITS ≤ 8 * out.old.size }
+    ensures spelled { IsHeader head.now }
+    ensures bits { out.new.bits ≡ out.old.bits ++ spell_ping head.now }
+    ensures len { length out.new.bits ≡ length out.old.bits + HEADER_BITS }
+    ensures size { out.new.size ≡ out.old.size }
+{
+    out.put(PING, KIND_WIDTH);
+    put_header(out, head);
 }
 
 /// Writes a header behind the kind.

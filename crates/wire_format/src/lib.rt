@@ -22,17 +22,23 @@ mod server;
 mod tests;
 mod widths;
 
-pub use blocks::{BlockItem, BlockList, block_bits};
-pub use client::{ClientBody, ClientPacket, client_bits, decode_client, encode_client};
-pub use events::{EventItem, EventList, event_bits};
+pub use blocks::{BlockItem, BlockList, block_bits, put_block, put_block_count, put_blocks};
+pub use client::{
+    ClientBody, ClientPacket, client_bits, decode_client, encode_client, put_client_front,
+};
+pub use events::{EventItem, EventList, event_bits, put_event, put_event_count, put_events};
 pub use fault::{BitsCause, BitsFault};
-pub use ghosts::{GhostItem, GhostList, Levels, ghost_bits};
-pub use header::Header;
-pub use laws::sizes_are_bits;
+pub use ghosts::{
+    GhostItem, GhostList, Levels, ghost_bits, put_ghost, put_ghost_count, put_ghosts,
+};
+pub use header::{Header, put_ping};
+pub use laws::{packets_are_parts, sizes_are_bits};
 pub use lists::ItemList;
-pub use moves::MoveList;
-pub use server::{ServerBody, ServerPacket, decode_server, encode_server, server_bits};
+pub use moves::{MoveList, put_move, put_move_count, put_moves};
+pub use server::{
+    ServerBody, ServerPacket, decode_server, encode_server, put_server_front, server_bits,
+};
 pub use widths::{
-    CLIENT_FIXED_BITS, HEADER_BITS, MAX_BLOCK_BITS, MAX_EVENT_BITS, MAX_GHOST_BITS, MOVE_BITS,
-    SERVER_FIXED_BITS,
+    BLOCK_COUNT_WIDTH, CLIENT_FIXED_BITS, EVENT_COUNT_WIDTH, GHOST_COUNT_WIDTH, HEADER_BITS,
+    MAX_BLOCK_BITS, MAX_EVENT_BITS, MAX_GHOST_BITS, MOVE_BITS, MOVE_COUNT_WIDTH, SERVER_FIXED_BITS,
 };

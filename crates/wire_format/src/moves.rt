@@ -1,14 +1,16 @@
-ghost use Rattle.std.specs.Prelude.{◌≡◌, ◌<◌, ◌≤◌, ◌^◌, true};
+ghost use Rattle.std.specs.Prelude.{◌≡◌, ◌+◌, ◌*◌, ◌<◌, ◌≤◌, ◌^◌, ◌++◌, length, true};
+ghost use Rattle.bit_stream.specs.Bits.{number};
 ghost use Rattle.tn_types.specs.Steps.{is_step};
 ghost use Rattle.bit_stream.specs.Reading.{Gives};
-ghost use Rattle.wire_format.specs.Moves.{move_at, move_from};
+ghost use Rattle.wire_format.specs.Moves.{spell_move, spell_moves, move_at, move_from, AnyMove};
+ghost use Rattle.wire_format.specs.Reading.{AreListed};
 ghost use Rattle.wire_format.specs.Steps.{raised, step_of};
 
 use crate::fault::BitsFault;
-use crate::items::Item;
+use crate::items::{Item, put_list};
 use crate::lists::ItemList;
 use crate::parts::part;
-use crate::widths::{FLAG_WIDTH, MOVE_BITS, STEP_WIDTH};
+use crate::widths::{FLAG_WIDTH, MOVE_BITS, MOVE_COUNT_WIDTH, STEP_WIDTH};
 use bit_stream::{BitReader, BitWriter};
 use tn_types::{MAX_PACKET_MOVES, MIN_STEP, Move};
 
@@ -62,10 +64,45 @@ fn read_move(reader: &mut BitReader<'_>) -> Result<Move, BitsFault>
     Ok(moved(dx, dy, fire, act))
 }
 
+/// Writes how many moves follow, at most 32.
+pub fn put_move_count(out: &mut BitWriter, count: u32)
+    requires few { count ≤ MAX_PACKET_MOVES }
+    requires room { length out.old.bits + MOVE_COUNT_WIDTH ≤ 8 * out.old.size }
+    ensures bits { out.new.bits ≡ out.old.bits ++ number MOVE_COUNT_WIDTH count }
+    ensures len { length out.new.bits ≡ length out.old.bits + MOVE_COUNT_WIDTH }
+    ensures size { out.new.size ≡ out.old.size }
+{
+    out.put(count, MOVE_COUNT_WIDTH);
+}
+
+/// Writes a move in its one spelling. The caller sees to it that [`MOVE_BITS`] fit the room.
+#[tactic(auto, using(crate::proofs::Lengths::lengths))]
+pub fn put_move(out: &mut BitWriter, m: &Move)
+    requires room { length out.old.bits + MOVE_BITS ≤ 8 * out.old.size }
+    ensures bits { out.new.bits ≡ out.old.bits ++ spell_move m.now }
+    ensures len { length out.new.bits ≡ length out.old.bits + MOVE_BITS }
+    ensures size { out.new.size ≡ out.old.size }
+{
+    out.put(raise(m.dx), STEP_WIDTH);
+    out.put(raise(m.dy), STEP_WIDTH);
+    out.put(u32::from(m.fire), FLAG_WIDTH);
+    out.put(u32::from(m.act), FLAG_WIDTH);
+}
+
+/// Writes the moves of a packet, behind their count. The caller sees to it that all bits fit the room.
+#[tactic(auto, using(crate::proofs::Lengths::lengths))]
+pub fn put_moves(out: &mut BitWriter, moves: &MoveList)
+    requires room { length out.old.bits + length (spell_moves moves.now) ≤ 8 * out.old.size }
+    ensures spelled { AreListed MAX_PACKET_MOVES AnyMove moves.now }
+    ensures bits { out.new.bits ≡ out.old.bits ++ spell_moves moves.now }
+    ensures len { length out.new.bits ≡ length out.old.bits + length (spell_moves moves.now) }
+    ensures size { out.new.size ≡ out.old.size }
+{
+    put_list(out, &(), moves, MOVE_COUNT_WIDTH);
+}
+
 impl Item for Move {
     type Context = ();
-
-    ghost use Rattle.wire_format.specs.Moves.{spell_move, move_at, AnyMove};
 
     ghost spelling = { λ _. spell_move };
 
@@ -85,9 +122,6 @@ impl Item for Move {
 
     #[tactic(auto, using(crate::proofs::Lengths::lengths))]
     fn put(&self, _context: &(), out: &mut BitWriter) {
-        out.put(raise(self.dx), STEP_WIDTH);
-        out.put(raise(self.dy), STEP_WIDTH);
-        out.put(u32::from(self.fire), FLAG_WIDTH);
-        out.put(u32::from(self.act), FLAG_WIDTH);
+        put_move(out, self);
     }
 }

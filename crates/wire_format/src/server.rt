@@ -1,15 +1,15 @@
-ghost use Rattle.std.specs.Prelude.{◌≡◌, ◌+◌, ◌*◌, ◌≤◌, ◌++◌, Ok, length, IfOk};
+ghost use Rattle.std.specs.Prelude.{◌≡◌, ◌+◌, ◌*◌, ◌^◌, ◌<◌, ◌≤◌, ◌++◌, Ok, length, IfOk, IfSome};
 ghost use Rattle.bit_stream.specs.Bits.{datagram};
 ghost use Rattle.bit_stream.specs.Reading.{Gives};
-ghost use Rattle.wire_format.specs.Header.{IsHeader};
-ghost use Rattle.wire_format.specs.Server.{spell_server, server_at, read_server, server_rest, server_body_at, server_size, IsServer, IsServerBody, IsServerInRange, IsServerBodyInRange};
+ghost use Rattle.wire_format.specs.Header.{IsHeader, IsHeaderInRange};
+ghost use Rattle.wire_format.specs.Server.{spell_server, server_at, read_server, server_rest, server_front, server_in_parts, server_body_at, server_size, IsServer, IsServerBody, IsServerInRange, IsServerBodyInRange};
 
-use crate::blocks::BlockList;
-use crate::events::EventList;
+use crate::blocks::{BlockList, put_blocks};
+use crate::events::{EventList, put_events};
 use crate::fault::{BitsCause, BitsFault};
-use crate::ghosts::GhostList;
-use crate::header::{Header, put_header, read_header};
-use crate::items::{list_bits, put_list, read_list};
+use crate::ghosts::{GhostList, put_ghosts};
+use crate::header::{Header, put_header, put_ping, read_header};
+use crate::items::{list_bits, read_list};
 use crate::parts::{optional_bits, optional_byte, part, put_optional, widened, within};
 use crate::widths::{
     BLOCK_COUNT_WIDTH, DATA, EVENT_COUNT_WIDTH, GHOST_COUNT_WIDTH, HEADER_BITS, KIND_WIDTH,
@@ -119,26 +119,44 @@ pub fn server_bits(packet: &ServerPacket, kinds: &KindTable) -> u32
     }
 }
 
-/// Writes what stands behind the header.
+/// Writes what stands before the lists of a data packet: its kind, its header, how many moves were accepted, and the
+/// control slot. The blocks, the events and the ghosts follow. The caller sees to it that each number fits its part and
+/// that all bits fit the room.
 #[tactic(auto, using(crate::proofs::Lengths::lengths))]
-fn put_server_rest(out: &mut BitWriter, kinds: &KindTable, body: &ServerBody)
-    requires fits { IsServerBodyInRange kinds.now body.now }
-    requires head { IsHeader body.now.head }
-    requires room { length out.old.bits + length (server_rest kinds.now body.now) ≤ 8 * out.old.size }
-    ensures spelled { IsServerBody kinds.now body.now }
-    ensures bits { out.new.bits ≡ out.old.bits ++ server_rest kinds.now body.now }
+pub fn put_server_front(out: &mut BitWriter, head: &Header, accepted: u32, control: Option<u8>)
+    requires head { IsHeaderInRange head.now }
+    requires accepted { accepted < 2 ^ NUMBER_WIDTH }
+    requires room { length out.old.bits + length (server_front head.now accepted control) ≤ 8 * out.old.size }
+    ensures head { IsHeader head.now }
+    ensures control { IfSome control (λ slot. slot < 2 ^ SLOT_WIDTH) }
+    ensures bits { out.new.bits ≡ out.old.bits ++ server_front head.now accepted control }
+    ensures len { length out.new.bits ≡ length out.old.bits + length (server_front head.now accepted control) }
     ensures size { out.new.size ≡ out.old.size }
 {
-    out.put(body.accepted, NUMBER_WIDTH);
-    put_optional(out, widened(body.control), SLOT_WIDTH);
-    put_list(out, &(), &body.blocks, BLOCK_COUNT_WIDTH);
-    put_list(out, &(), &body.events, EVENT_COUNT_WIDTH);
-    put_list(out, kinds, &body.ghosts, GHOST_COUNT_WIDTH);
+    out.put(DATA, KIND_WIDTH);
+    put_header(out, head);
+    out.put(accepted, NUMBER_WIDTH);
+    put_optional(out, widened(control), SLOT_WIDTH);
+}
+
+/// Writes a data packet, part by part.
+#[tactic(auto, using(crate::proofs::Lengths::lengths))]
+fn put_server_body(out: &mut BitWriter, kinds: &KindTable, body: &ServerBody)
+    requires fits { IsServerBodyInRange kinds.now body.now }
+    requires room { length out.old.bits + length (server_in_parts kinds.now body.now) ≤ 8 * out.old.size }
+    ensures spelled { IsServerBody kinds.now body.now }
+    ensures bits { out.new.bits ≡ out.old.bits ++ server_in_parts kinds.now body.now }
+    ensures size { out.new.size ≡ out.old.size }
+{
+    put_server_front(out, &body.head, body.accepted, body.control);
+    put_blocks(out, &body.blocks);
+    put_events(out, &body.events);
+    put_ghosts(out, kinds, &body.ghosts);
 }
 
 /// Writes a packet in its one spelling under a table of kinds. The caller sees to it that each number fits its part and all
 /// of [`server_bits`] fit the room.
-#[tactic(auto, using(crate::proofs::Lengths::lengths))]
+#[tactic(auto, using(crate::proofs::Lengths::lengths, crate::proofs::InParts::server_parts))]
 pub fn encode_server(packet: &ServerPacket, kinds: &KindTable, out: &mut BitWriter)
     requires fits { IsServerInRange kinds.now packet.now }
     requires room { length out.old.bits + length (spell_server kinds.now packet.now) ≤ 8 * out.old.size }
@@ -147,15 +165,8 @@ pub fn encode_server(packet: &ServerPacket, kinds: &KindTable, out: &mut BitWrit
     ensures size { out.new.size ≡ out.old.size }
 {
     match packet {
-        ServerPacket::Ping(head) => {
-            out.put(PING, KIND_WIDTH);
-            put_header(out, head);
-        }
-        ServerPacket::Body(body) => {
-            out.put(DATA, KIND_WIDTH);
-            put_header(out, &body.head);
-            put_server_rest(out, kinds, body);
-        }
+        ServerPacket::Ping(head) => put_ping(out, head),
+        ServerPacket::Body(body) => put_server_body(out, kinds, body),
     }
 }
 

@@ -24,17 +24,20 @@ pub(crate) const SLOT_WIDTH: u32 = 8;
 /// A byte of a block or an event.
 pub(crate) const BYTE_WIDTH: u32 = 8;
 
-pub(crate) const BLOCK_COUNT_WIDTH: u32 = 4;
+/// How many datablocks follow.
+pub const BLOCK_COUNT_WIDTH: u32 = 4;
 
 pub(crate) const BLOCK_NUMBER_WIDTH: u32 = 6;
 
 pub(crate) const BLOCK_LENGTH_WIDTH: u32 = 6;
 
-pub(crate) const EVENT_COUNT_WIDTH: u32 = 5;
+/// How many events follow.
+pub const EVENT_COUNT_WIDTH: u32 = 5;
 
 pub(crate) const EVENT_LENGTH_WIDTH: u32 = 5;
 
-pub(crate) const GHOST_COUNT_WIDTH: u32 = 8;
+/// How many ghosts follow.
+pub const GHOST_COUNT_WIDTH: u32 = 8;
 /// What a ghost item does to its slot.
 pub(crate) const OP_WIDTH: u32 = 2;
 
@@ -46,7 +49,8 @@ pub(crate) const UPDATE: u32 = 2;
 /// The number of a kind in the table of kinds.
 pub(crate) const KIND_NUMBER_WIDTH: u32 = 4;
 
-pub(crate) const MOVE_COUNT_WIDTH: u32 = 6;
+/// How many moves follow.
+pub const MOVE_COUNT_WIDTH: u32 = 6;
 /// A step of a move each way, raised by 8.
 pub(crate) const STEP_WIDTH: u32 = 4;
 

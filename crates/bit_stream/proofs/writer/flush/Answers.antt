@@ -1,13 +1,17 @@
-use Rattle.std.proofs.Common.{◌%◌, ◌∙◌, arith}
-use Rattle.bit_stream.proofs.Datagrams.{AreBytes-push}
-use Rattle.bit_stream.proofs.Writing.{flushed, flushed_below}
+use Rattle.std.proofs.Common.{◌≡◌, ◌+◌, ◌^◌, ◌<◌, ◌∙◌, ap, List, ℕ, ◌++◌, Bool, subst, sym, ◌-◌, ◌/◌, ◌%◌, arith}
+use Rattle.std.specs.Int.{w32, to_le_bytes}
+use Rattle.bit_stream.specs.Bits.{number, bits_of}
+use Rattle.tn_types.specs.Bytes.{AreBytes}
+use Rattle.bit_stream.proofs.Writing.{flushed_word, word_below, word_fits}
 use Rattle.bit_stream.proofs.writer.flush.Goals as goal
 
-pub loop-count-preserved : goal.loop-count-preserved
-loop-count-preserved c = record {
-  bits = rw c.push.ensures.items (flushed c.loop-count.whole.items c.loop-count.pending c.loop-count.count c.loop-count-test.true ∙ c.loop-count.invariant.bits);
-  below = flushed_below c.loop-count.pending c.loop-count.count c.loop-count-test.true c.loop-count.invariant.below;
-  bytes = λ fits. rw c.push.ensures.items (AreBytes-push c.loop-count.whole.items (c.loop-count.pending % 256) (omega arith) (c.loop-count.invariant.bytes fits));
-  few = omega arith;
-  len = omega arith;
-}
+pub returns-clause-bits : goal.returns-clause-bits
+returns-clause-bits c =
+    rw (c.in-Ok.ensures.ok, c.to_le_bytes.ensures) (flushed_word c.args.whole.now.items c.args.pending c.args.count (omega arith))
+
+pub returns-clause-below : goal.returns-clause-below
+returns-clause-below c = word_below c.args.pending c.args.count (omega arith) c.requires.below
+
+pub returns-clause-bytes : goal.returns-clause-bytes
+returns-clause-bytes c =
+    λ fits. rw (c.in-Ok.ensures.ok, c.to_le_bytes.ensures) (word_fits c.args.whole.now.items (c.args.pending % 2 ^ 32) fits)
