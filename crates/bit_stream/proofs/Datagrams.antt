@@ -52,7 +52,7 @@ datagram_is bytes bits k fits e h =
     let count : length bytes ≡ bytes_for bits = omega (arith, length-bits_of bytes, ap length e, length-append bits (replicate k false), length-replicate k false) in
     sym (append-nil bytes) ∙ sym whole ∙ ap (low_bytes (length bytes)) value ∙ ap (λ n. low_bytes n (number_from bits)) count
 
-bits_of-low_bytes : (n m v : ℕ) → m ≡ 8 * n → bits_of (low_bytes n v) ≡ number m v
+pub bits_of-low_bytes : (n m v : ℕ) → m ≡ 8 * n → bits_of (low_bytes n v) ≡ number m v
 unfolding low_bytes bits_of number
 bits_of-low_bytes zero m v e =
     let none : m ≡ 0 = omega arith in

@@ -11,7 +11,7 @@ use Rattle.bit_stream.specs.declared.writer.BitWriter.TheInside.{Inside}
 use Rattle.bit_stream.proofs.Numbers.{number-split, length-number, number_from-number}
 use Rattle.bit_stream.proofs.Datagrams.{bits_of-push, low_bytes-whole, length-bits_of}
 
-pub shifted : (value width count : ℕ) → value < 2 ^ width → count + width ≤ MAX_WORD_BITS + 8 → (value * 2 ^ count) % 2 ^ 64 ≡ 2 ^ count * value
+pub shifted : (value width count : ℕ) → value < 2 ^ width → count + width < 2 * MAX_WORD_BITS → (value * 2 ^ count) % 2 ^ 64 ≡ 2 ^ count * value
 shifted value width count fits few =
     shl_whole value width count 64 fits (omega arith) ∙ grind arith
 

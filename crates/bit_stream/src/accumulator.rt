@@ -1,4 +1,4 @@
-ghost use Rattle.std.specs.Prelude.{◌≡◌, ◌+◌, ◌^◌, ◌<◌, ◌≤◌, ◌++◌};
+ghost use Rattle.std.specs.Prelude.{◌≡◌, ◌+◌, ◌*◌, ◌^◌, ◌<◌, ◌++◌};
 ghost use Rattle.bit_stream.specs.Bits.{number};
 
 use tn_types::MAX_WORD_BITS;
@@ -6,7 +6,7 @@ use tn_types::MAX_WORD_BITS;
 /// `count` bits that are the number `pending`, and behind them the `width` bits of `value`.
 pub(crate) fn joined(pending: u64, count: u32, value: u32, width: u32) -> u64
     requires below { pending < 2 ^ count }
-    requires few { count + width ≤ MAX_WORD_BITS + 8 }
+    requires few { count + width < 2 * MAX_WORD_BITS }
     requires fits { value < 2 ^ width }
     ensures bits { number (count + width) result ≡ number count pending ++ number width value }
     ensures below { result < 2 ^ (count + width) }

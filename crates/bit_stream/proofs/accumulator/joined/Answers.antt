@@ -18,5 +18,6 @@ pub overflow_add-result : goal.overflow_add-result
 overflow_add-result c =
     let s = shifted c.args.value c.args.width c.args.count c.requires.fits c.requires.few in
     let b = join_below c.args.count c.args.width c.args.pending c.args.value c.requires.below c.requires.fits in
-    let p : 2 ^ (c.args.count + c.args.width) ≤ 2 ^ 40 = pow-le-pow_right (lit≤ tt) c.requires.few in
+    let few : c.args.count + c.args.width ≤ 63 = omega arith in
+    let p : 2 ^ (c.args.count + c.args.width) ≤ 2 ^ 63 = pow-le-pow_right (lit≤ tt) few in
     rw (c.from.ensures, s) (omega arith)
