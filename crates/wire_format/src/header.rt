@@ -1,6 +1,6 @@
 ghost use Rattle.std.specs.Prelude.{◌≡◌, ◌+◌, ◌*◌, ◌≤◌, ◌++◌, length};
 ghost use Rattle.bit_stream.specs.Reading.{Gives};
-ghost use Rattle.wire_format.specs.Header.{spell_header, header_at, IsHeader, IsHeaderInRange};
+ghost use Rattle.wire_format.specs.Header.{spell_header, header_at, no_header, IsHeader, IsHeaderInRange};
 
 use crate::fault::{BitsCause, BitsFault};
 use crate::parts::{part, within};
@@ -18,6 +18,20 @@ pub struct Header {
     pub horizon: u32,
     /// Bit i is set where packet `horizon - i` was processed.
     pub mask: u32,
+}
+
+impl Header {
+    /// All numbers 0, as no packet has them.
+    pub fn new() -> Self
+        ensures { result ≡ no_header }
+    {
+        Header {
+            client: 0,
+            seq: 0,
+            horizon: 0,
+            mask: 0,
+        }
+    }
 }
 
 /// Reads a header, or gives its first fault.

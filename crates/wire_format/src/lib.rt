@@ -12,6 +12,7 @@ mod fault;
 mod ghosts;
 mod header;
 mod items;
+mod kind;
 mod laws;
 mod lists;
 mod moves;
@@ -22,15 +23,20 @@ mod tests;
 mod widths;
 
 pub use blocks::{BlockItem, BlockList, block_bits};
-pub use client::{ClientBody, ClientPacket, client_bits, decode_client, encode_client};
+pub use client::{
+    ClientBody, ClientPacket, client_bits, decode_client, decode_client_into, encode_client,
+};
 pub use events::{EventItem, EventList, event_bits};
 pub use fault::{BitsCause, BitsFault};
 pub use ghosts::{GhostItem, GhostList, Levels, ghost_bits};
 pub use header::Header;
+pub use kind::PacketKind;
 pub use laws::sizes_are_bits;
 pub use lists::ItemList;
 pub use moves::MoveList;
-pub use server::{ServerBody, ServerPacket, decode_server, encode_server, server_bits};
+pub use server::{
+    ServerBody, ServerPacket, decode_server, decode_server_into, encode_server, server_bits,
+};
 pub use widths::{
     CLIENT_FIXED_BITS, HEADER_BITS, MAX_BLOCK_BITS, MAX_EVENT_BITS, MAX_GHOST_BITS, MOVE_BITS,
     SERVER_FIXED_BITS,
