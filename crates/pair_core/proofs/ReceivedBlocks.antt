@@ -49,8 +49,7 @@ use Rattle.pair_core.proofs.Carried.{Carried, carried, ping-down, body-down}
 abbrev blocks_of : ℕ → List ServerEvent → List BlockItem
 blocks_of n [] = []
 blocks_of n (server_log.Posted class payload ∷ log) = blocks_of n log
-blocks_of n (server_log.Shown kind block level control ∷ log) = blocks_of n log
-blocks_of n (server_log.Hidden k ∷ log) = blocks_of n log
+blocks_of n (server_log.Scoped change ∷ log) = blocks_of n log
 blocks_of n (server_log.Planned choices ∷ log) = blocks_of n log
 blocks_of n (server_log.Packed p ∷ log) = if p.head.seq == n then p.blocks else blocks_of n log
 blocks_of n (server_log.Pinged head ∷ log) = blocks_of n log

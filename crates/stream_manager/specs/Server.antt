@@ -46,10 +46,16 @@ use Rattle.stream_manager.specs.Settling.{judgements}
 use Rattle.stream_manager.specs.End.{Seen, seen, EndEvent, window_log, sender_log, fates, judged_at, data_head, ping_head, events_for, head_answer, events_answer}
 use Rattle.stream_manager.specs.End as common
 
+-- what the server is told of an object in scope
+pub data ScopeChange : Type 0 where
+  Show : (kind block level : ℕ) (control : Bool) → ScopeChange  -- a period begins
+  Hide : (n : ℕ) → ScopeChange  -- it ends
+  Near : (n level : ℕ) → ScopeChange  -- its object is at another level of distance
+  Absorb : (n bits : ℕ) → ScopeChange  -- fields of its object changed, whose bits were drained
+
 pub data ServerEvent : Type 0 where
   Posted : (class : Class) (payload : List ℕ) → ServerEvent  -- an event was posted
-  Shown : (kind block level : ℕ) (control : Bool) → ServerEvent  -- a period began
-  Hidden : (n : ℕ) → ServerEvent  -- it ended
+  Scoped : ScopeChange → ServerEvent  -- an object was shown, hidden or brought nearer, or its drained bits were absorbed
   Planned : (choices : List Choice) → ServerEvent  -- slots were granted, and these ghosts chosen for the next data packet
   Packed : ServerBody → ServerEvent  -- a data packet was sent
   Pinged : Header → ServerEvent  -- a ping was sent
@@ -73,8 +79,7 @@ seen_up (up.Body p) = seen_client_body p
 abbrev pub server_end : List ServerEvent → List EndEvent
 server_end [] = []
 server_end (Posted class payload ∷ log) = common.Posted class payload ∷ server_end log
-server_end (Shown kind block level control ∷ log) = server_end log
-server_end (Hidden n ∷ log) = server_end log
+server_end (Scoped change ∷ log) = server_end log
 server_end (Planned choices ∷ log) = server_end log
 server_end (Packed p ∷ log) = common.Packed (seen_body p) ∷ server_end log
 server_end (Pinged head ∷ log) = common.Pinged (seen_ping head) ∷ server_end log
@@ -91,8 +96,7 @@ wrote_blocks seq (item ∷ items) log = wrote_blocks seq items (blocks.Wrote seq
 abbrev pub block_log : List ServerEvent → List blocks.SenderEvent
 block_log [] = []
 block_log (Posted class payload ∷ log) = block_log log
-block_log (Shown kind block level control ∷ log) = block_log log
-block_log (Hidden n ∷ log) = block_log log
+block_log (Scoped change ∷ log) = block_log log
 block_log (Planned choices ∷ log) = block_log log
 block_log (Packed p ∷ log) = wrote_blocks p.head.seq p.blocks (block_log log)
 block_log (Pinged head ∷ log) = block_log log
@@ -108,8 +112,7 @@ moves_taken (up.Body p) room log = moves.Took (record { first = p.first; moves =
 abbrev pub move_log : List ServerEvent → List moves.ReceiverEvent
 move_log [] = []
 move_log (Posted class payload ∷ log) = move_log log
-move_log (Shown kind block level control ∷ log) = move_log log
-move_log (Hidden n ∷ log) = move_log log
+move_log (Scoped change ∷ log) = move_log log
 move_log (Planned choices ∷ log) = move_log log
 move_log (Packed p ∷ log) = move_log log
 move_log (Pinged head ∷ log) = move_log log
@@ -130,12 +133,18 @@ planned log = []
 abbrev pub newly_judged : List EndEvent → List EndEvent → List GhostEvent → List GhostEvent
 newly_judged before after log = judgements (fates after) (judged_at before + 1) (judged_at after - judged_at before) log
 
+-- what a change of scope is to the ghosts
+abbrev pub scope_event : ScopeChange → GhostEvent
+scope_event (Show kind block level control) = ghosts.Show kind block level control
+scope_event (Hide n) = ghosts.Hide n
+scope_event (Near n level) = ghosts.Near n level
+scope_event (Absorb n bits) = ghosts.Absorb n bits
+
 -- what happened to ghosts: a plan begins with a grant, and an acknowledgement tells the verdicts of packets one by one
 abbrev pub ghost_log : List ServerEvent → List GhostEvent
 ghost_log [] = []
 ghost_log (Posted class payload ∷ log) = ghost_log log
-ghost_log (Shown kind block level control ∷ log) = ghosts.Show kind block level control ∷ ghost_log log
-ghost_log (Hidden n ∷ log) = ghosts.Hide n ∷ ghost_log log
+ghost_log (Scoped change ∷ log) = scope_event change ∷ ghost_log log
 ghost_log (Planned choices ∷ log) = ghosts.Grant ∷ ghost_log log
 ghost_log (Packed p ∷ log) = ghosts.Sent (planned log) ∷ ghost_log log
 ghost_log (Pinged head ∷ log) = ghost_log log
@@ -222,8 +231,7 @@ packing t log values = packed_onto t log values (server_state t.config log)
 abbrev pub server_datagrams : Terms → List ServerEvent → List (List ℕ)
 server_datagrams t [] = []
 server_datagrams t (Posted class payload ∷ log) = server_datagrams t log
-server_datagrams t (Shown kind block level control ∷ log) = server_datagrams t log
-server_datagrams t (Hidden n ∷ log) = server_datagrams t log
+server_datagrams t (Scoped change ∷ log) = server_datagrams t log
 server_datagrams t (Planned choices ∷ log) = server_datagrams t log
 server_datagrams t (Packed p ∷ log) = server_datagrams t log ++ bytes_down t (down.Body p) ∷ []
 server_datagrams t (Pinged head ∷ log) = server_datagrams t log ++ bytes_down t (down.Ping head) ∷ []
