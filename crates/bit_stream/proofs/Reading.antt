@@ -4,13 +4,16 @@ use Rattle.std.specs.Prelude.{nat_lt, nat_eq, cond, not, ◌⊎◌}
 use Rattle.std.proofs.lemmas.Bool.{ltb-false, le-ltb, lt-ltb}
 use Rattle.std.proofs.lemmas.Nat.{pow_pos, mod_below}
 use Rattle.std.proofs.lemmas.List.{append-nil, nil_from_length, take_at, drop_at, take-append-drop, length-take}
-use Rattle.bit_stream.specs.Bits.{number, number_from, bits_of}
+use Rattle.bit_stream.specs.Bits.{number, number_from, bits_of, low_bytes}
 use Rattle.bit_stream.specs.Reading.{number_at, is_padding, end_at, Unread}
 use Rattle.bit_stream.proofs.Numbers.{number-split, length-number, number_from-number, number-number_from, number_from_below, all_clear-number}
 use Rattle.std.specs.List.{list_all}
 use Rattle.bit_stream.specs.Reader.{unread, IsReader}
 use Rattle.bit_stream.specs.declared.reader.BitReader.TheInside.{Inside}
-use Rattle.bit_stream.proofs.Datagrams.{length-bits_of}
+use Rattle.bit_stream.proofs.Datagrams.{length-bits_of, bits_of-low_bytes}
+use Rattle.std.specs.Int.{w32, to_le_bytes, from_le_bytes}
+use Rattle.std.proofs.lemmas.Nat.{le_bytes_4}
+use Rattle.std.proofs.lemmas.Grind.{flat_map-append}
 
 guard_ok : {A E : Type 0} (b : Bool) (d : E) (x y : A) → cond b (Err d) (Ok x) ≡ Ok y → (b ≡ false) × (x ≡ y)
 guard_ok true d x y e = absurd cc
@@ -57,11 +60,11 @@ number_at-pending w count pending place more h =
 pub length-unread : (r : Inside) → length (unread r).rest ≡ r.count + 8 * length r.rest.now
 length-unread r = omega (arith, length-append (number r.count r.pending) (bits_of r.rest.now), length-bits_of r.rest.now, length-number r.count r.pending)
 
-pub end_at-even : (r : Inside) → IsReader r → length r.rest.now ≡ 0 → r.pending ≡ 0 → end_at (unread r) ≡ Ok tt
+pub end_at-even : (r : Inside) → IsReader r → r.count + 8 * length r.rest.now < 8 → r.pending ≡ 0 → end_at (unread r) ≡ Ok tt
 unfolding end_at is_padding bits_of
-end_at-even r inv none clear =
-    let short : nat_lt (length (number r.count r.pending)) 8 ≡ true = lt-ltb _ _ (omega (arith, inv.few, length-number r.count r.pending)) in
-    let empty : r.rest.now ≡ [] = nil_from_length r.rest.now none in
+end_at-even r inv few clear =
+    let short : nat_lt (length (number r.count r.pending)) 8 ≡ true = lt-ltb _ _ (omega (arith, length-number r.count r.pending)) in
+    let empty : r.rest.now ≡ [] = nil_from_length r.rest.now (omega arith) in
     let all : list_all not (number r.count r.pending) ≡ true = all_clear-number r.count r.pending inv.below ∙ rw clear refl in
     rw (empty, append-nil, short, all) refl
 
@@ -73,21 +76,16 @@ odd_part : (r : Inside) → r.rest.now ≡ [] → nat_lt (length (number r.count
 unfolding end_at is_padding bits_of
 odd_part r empty short set = rw (empty, append-nil, short, set) refl
 
-pub empty_is : (n : ℕ) (b : Bool) → b ≡ nat_eq n 0 → b ≡ true → n ≡ 0
-empty_is n b e t = grind arith
-
-pub some_is : (n : ℕ) (b : Bool) → b ≡ nat_eq n 0 → b ≡ false → 0 < n
-some_is n b e t = grind arith
-
-pub end_at-odd : (r : Inside) → IsReader r → (0 < length r.rest.now) ⊎ ((0 < r.pending) × (length r.rest.now ≡ 0)) → end_at (unread r) ≡ Err (record { place = r.place })
+pub end_at-odd : (r : Inside) → IsReader r → (8 ≤ r.count + 8 * length r.rest.now) ⊎ ((0 < r.pending) × (r.count + 8 * length r.rest.now < 8)) → end_at (unread r) ≡ Err (record { place = r.place })
 unfolding end_at is_padding
-end_at-odd r inv (inl some) =
+end_at-odd r inv (inl many) =
     let long : nat_lt (length (unread r).rest) 8 ≡ false = le-ltb _ _ (omega (arith, length-unread r)) in
     rw long refl
 end_at-odd r inv (inr both) =
-    let empty : r.rest.now ≡ [] = nil_from_length r.rest.now both.1 in
+    let few : r.count + 8 * length r.rest.now < 8 = both.1 in
+    let empty : r.rest.now ≡ [] = nil_from_length r.rest.now (omega arith) in
     let set : list_all not (number r.count r.pending) ≡ false = all_clear-number r.count r.pending inv.below ∙ not_zero r.pending both.0 in
-    let short : nat_lt (length (number r.count r.pending)) 8 ≡ true = lt-ltb _ _ (omega (arith, inv.few, length-number r.count r.pending)) in
+    let short : nat_lt (length (number r.count r.pending)) 8 ≡ true = lt-ltb _ _ (omega (arith, few, length-number r.count r.pending)) in
     odd_part r empty short set
 
 pub filled_from : (pending count b joined : ℕ) (rest front back : List ℕ) → pending < 2 ^ count → 0 < length rest → front ≡ take 1 rest → back ≡ drop 1 rest → b ≡ get_or front 0 0 → number (count + 8) joined ≡ number count pending ++ number 8 b → number (count + 8) joined ++ bits_of back ≡ number count pending ++ bits_of rest
@@ -97,3 +95,26 @@ filled_from pending count b joined (x ∷ rest) front back lt some ef eb e j =
     let first : b ≡ x = e ∙ ap (λ (t : List ℕ). get_or t 0 0) ef in
     ap (λ (t : List Bool). t ++ bits_of back) j ∙ append_assoc (number count pending) (number 8 b) (bits_of back)
     ∙ ap (λ n. number count pending ++ (number 8 n ++ bits_of back)) first ∙ ap (λ (t : List ℕ). number count pending ++ (number 8 x ++ bits_of t)) eb
+
+-- four bytes are the 32 bits of the number that they are
+low_four : (n : ℕ) → to_le_bytes w32 n ≡ low_bytes 4 n
+unfolding low_bytes
+low_four n =
+    let second : n / 256 / 256 ≡ n / 65536 = omega arith in
+    let third : n / 65536 / 256 ≡ n / 16777216 = omega arith in
+    rw (second, third) refl
+
+bits_of-append : (bytes more : List ℕ) → bits_of (bytes ++ more) ≡ bits_of bytes ++ bits_of more
+unfolding bits_of
+bits_of-append bytes more = flat_map-append (number 8) bytes more
+
+pub word_bits : (bytes : List ℕ) (n : ℕ) → length bytes ≡ 4 → ((i : ℕ) → get_or bytes i 0 < 256) → n ≡ from_le_bytes w32 bytes → number 32 n ≡ bits_of bytes
+word_bits bytes n four fits e = sym (bits_of-low_bytes 4 32 n refl) ∙ ap bits_of (sym (low_four n) ∙ le_bytes_4 bytes n four fits e)
+
+-- a word behind the pending bits
+pub filled_word : (pending count joined n : ℕ) (rest front back : List ℕ) → front ≡ take 4 rest → back ≡ drop 4 rest → number 32 n ≡ bits_of front → number (count + 32) joined ≡ number count pending ++ number 32 n
+    → number (count + 32) joined ++ bits_of back ≡ number count pending ++ bits_of rest
+filled_word pending count joined n rest front back ef eb word j =
+    ap (λ (t : List Bool). t ++ bits_of back) j ∙ append_assoc (number count pending) (number 32 n) (bits_of back)
+    ∙ ap (λ (t : List Bool). number count pending ++ (t ++ bits_of back)) word
+    ∙ ap (λ (t : List Bool). number count pending ++ t) (sym (bits_of-append front back) ∙ ap bits_of (rw (ef, eb) (take-append-drop 4 rest)))

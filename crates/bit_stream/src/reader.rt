@@ -6,6 +6,9 @@ use crate::accumulator::joined;
 use std::marker::Model;
 use tn_types::{MAX_READ_BYTES, MAX_WORD_BITS};
 
+/// The bytes that are taken at once.
+const WORD_BYTES: usize = 4;
+
 /// Fewer bits are left than a number has.
 #[derive(Clone, Copy, Debug, PartialEq, Eq)]
 pub struct Short {
@@ -42,10 +45,17 @@ impl<'a> Model for BitReader<'a> {
     ghost invariant = { IsReader };
 }
 
-/// Takes bytes into the pending bits until there are `width` of them.
-fn fill(rest: &[u8], pending: u64, count: u32, width: u32) -> (&[u8], u64, u32)
+/// The number that four bytes are, the first byte lowest.
+fn word_of(bytes: &[u8; WORD_BYTES]) -> u32
+    ensures { number MAX_WORD_BITS result ≡ bits_of bytes.now }
+{
+    u32::from_le_bytes(*bytes)
+}
+
+/// Takes bytes into the pending bits, one by one, until there are `width` of them.
+fn fill_by_bytes(rest: &[u8], pending: u64, count: u32, width: u32) -> (&[u8], u64, u32)
     requires below { pending < 2 ^ count }
-    requires few { count < 8 }
+    requires few { count < width }
     requires narrow { width ≤ MAX_WORD_BITS }
     requires enough { width ≤ count + 8 * length rest.now }
     ensures bits { number result.2 result.1 ++ bits_of result.0.now ≡ number count pending ++ bits_of rest.now }
@@ -64,6 +74,31 @@ fn fill(rest: &[u8], pending: u64, count: u32, width: u32) -> (&[u8], u64, u32)
         rest = others;
     }
     (rest, pending, count)
+}
+
+/// Sees to it that there are `width` pending bits: takes the next four bytes where there are not so many, and the last bytes
+/// one by one.
+fn fill(rest: &[u8], pending: u64, count: u32, width: u32) -> (&[u8], u64, u32)
+    requires below { pending < 2 ^ count }
+    requires few { count < 2 * MAX_WORD_BITS }
+    requires narrow { width ≤ MAX_WORD_BITS }
+    requires enough { width ≤ count + 8 * length rest.now }
+    ensures bits { number result.2 result.1 ++ bits_of result.0.now ≡ number count pending ++ bits_of rest.now }
+    ensures below { result.1 < 2 ^ result.2 }
+    ensures enough { width ≤ result.2 }
+    ensures few { result.2 < 2 * MAX_WORD_BITS }
+    ensures len { result.2 + 8 * length result.0.now ≡ count + 8 * length rest.now }
+{
+    if width <= count {
+        return (rest, pending, count);
+    }
+    match rest.split_first_chunk::<WORD_BYTES>() {
+        Some((word, others)) => {
+            let more = joined(pending, count, word_of(word), MAX_WORD_BITS);
+            (others, more, count + MAX_WORD_BITS)
+        }
+        None => fill_by_bytes(rest, pending, count, width),
+    }
 }
 
 /// The lowest `width` bits, and what is above them.
@@ -126,7 +161,8 @@ impl<'a> BitReader<'a> {
     pub fn end(&self) -> Result<(), PaddingFault>
         ensures { result ≡ end_at self.now }
     {
-        if self.rest.is_empty() && self.pending == 0 {
+        let left = self.count as usize + 8 * self.rest.len();
+        if left < 8 && self.pending == 0 {
             Ok(())
         } else {
             Err(PaddingFault { place: self.place })

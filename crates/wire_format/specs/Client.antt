@@ -8,6 +8,8 @@ use Rattle.wire_format.specs.declared.widths.TheConstants.{KIND_WIDTH, DATA, PIN
 use Rattle.wire_format.specs.declared.fault.BitsFault.{BitsFault}
 use Rattle.wire_format.specs.declared.fault.BitsCause.TheVariants.{KindBits}
 use Rattle.wire_format.specs.declared.header.Header.{Header}
+use Rattle.wire_format.specs.declared.kind.PacketKind.{PacketKind}
+use Rattle.wire_format.specs.declared.kind.PacketKind.TheVariants as packet_kinds
 use Rattle.wire_format.specs.declared.client.ClientBody.{ClientBody}
 use Rattle.wire_format.specs.declared.client.ClientPacket.{ClientPacket}
 use Rattle.wire_format.specs.declared.client.ClientPacket.TheVariants.{Ping, Body}
@@ -71,6 +73,11 @@ client_at s = do
 -- the packet that these bytes are, or the first fault
 abbrev pub read_client : List ℕ → Result ClientPacket BitsFault
 read_client bytes = whole_of client_at bytes
+
+-- the packet of this kind that a body was filled for: a ping has its header alone
+abbrev pub client_meant : PacketKind → ClientBody → ClientPacket
+client_meant packet_kinds.Ping body = Ping body.head
+client_meant packet_kinds.Body body = Body body
 
 -- ---- what has a spelling
 

@@ -8,6 +8,10 @@ use Rattle.wire_format.specs.declared.fault.BitsCause.TheVariants.{ZeroSeq}
 use Rattle.wire_format.specs.declared.header.Header.{Header}
 use Rattle.wire_format.specs.Reading.{◌>>=◌, parts_in_order, part_at, within_at}
 
+-- all numbers 0, as no packet has them
+abbrev pub no_header : Header
+no_header = record { client = 0; seq = 0; horizon = 0; mask = 0 }
+
 abbrev pub spell_header : Header → List Bool
 spell_header h = parts_in_order (
     number CLIENT_WIDTH h.client

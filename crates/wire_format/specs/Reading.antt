@@ -1,6 +1,6 @@
 -- Parts are read from the left, and the first fault that is met is the answer. Beside each reading
 -- stands the spelling of the same part.
-use Rattle.std.specs.Prelude.{ℕ, zero, suc, ◌≤◌, ◌&&◌, nat_le, ◌==◌, Bool, if◌then◌else◌, List, [], ◌∷◌, ◌++◌, length, Option, Some, None, Result, Ok, Err}
+use Rattle.std.specs.Prelude.{ℕ, zero, suc, ◌≡◌, ◌≤◌, ◌&&◌, nat_le, ◌==◌, Bool, if◌then◌else◌, List, [], ◌∷◌, ◌++◌, length, Option, Some, None, Result, Ok, Err}
 use Rattle.std.specs.List.{flat_map, AllByRecursion}
 use Rattle.bit_stream.specs.Bits.{number, bits_of}
 use Rattle.bit_stream.specs.Reading.{Unread, number_at, end_at}
@@ -75,6 +75,23 @@ listed_at most width item_at s = do
 pub record AreListed {A : Type 0} (most : ℕ) (Fits : A → Type 0) (xs : List A) : Type 0 where
   pub few : length xs ≤ most
   pub each : AllByRecursion Fits xs
+
+-- ---- what a call fills
+
+-- what a call answered, filled and left is what reading gives
+abbrev pub Fills : {X E : Type 0} → Result (Unit {0}) E → X → Unread → Result (X × Unread) E → Type 0
+Fills (Ok u) made left read = read ≡ Ok (made, left)
+Fills (Err e) made left read = read ≡ Err e
+
+-- the same where the answer says what of the filled value is meant
+abbrev pub FillsAs : {K B X E : Type 0} → (K → B → X) → Result K E → B → Unread → Result (X × Unread) E → Type 0
+FillsAs meant (Ok kind) made left read = read ≡ Ok (meant kind made, left)
+FillsAs meant (Err e) made left read = read ≡ Err e
+
+-- the same of the whole of some bytes
+abbrev pub IsWhole : {K B X E : Type 0} → (K → B → X) → Result K E → B → Result X E → Type 0
+IsWhole meant (Ok kind) made read = read ≡ Ok (meant kind made)
+IsWhole meant (Err e) made read = read ≡ Err e
 
 -- ---- the end
 

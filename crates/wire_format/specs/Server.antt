@@ -9,6 +9,8 @@ use Rattle.wire_format.specs.declared.widths.TheConstants.{KIND_WIDTH, DATA, PIN
 use Rattle.wire_format.specs.declared.fault.BitsFault.{BitsFault}
 use Rattle.wire_format.specs.declared.fault.BitsCause.TheVariants.{KindBits}
 use Rattle.wire_format.specs.declared.header.Header.{Header}
+use Rattle.wire_format.specs.declared.kind.PacketKind.{PacketKind}
+use Rattle.wire_format.specs.declared.kind.PacketKind.TheVariants as packet_kinds
 use Rattle.wire_format.specs.declared.server.ServerBody.{ServerBody}
 use Rattle.wire_format.specs.declared.server.ServerPacket.{ServerPacket}
 use Rattle.wire_format.specs.declared.server.ServerPacket.TheVariants.{Ping, Body}
@@ -84,6 +86,11 @@ server_at kinds s = do
 -- the packet that these bytes are, or the first fault
 abbrev pub read_server : List Kind → List ℕ → Result ServerPacket BitsFault
 read_server kinds bytes = whole_of (server_at kinds) bytes
+
+-- the packet of this kind that a body was filled for: a ping has its header alone
+abbrev pub server_meant : PacketKind → ServerBody → ServerPacket
+server_meant packet_kinds.Ping body = Ping body.head
+server_meant packet_kinds.Body body = Body body
 
 -- ---- what has a spelling
 

@@ -1,14 +1,16 @@
-ghost use Rattle.std.specs.Prelude.{◌≡◌, ◌+◌, ◌*◌, ◌^◌, ◌<◌, ◌≤◌, ◌++◌, Ok, length, IfOk};
+ghost use Rattle.std.specs.Prelude.{◌≡◌, ◌+◌, ◌*◌, ◌^◌, ◌<◌, ◌≤◌, ◌++◌, Ok, length, IfOk, []};
 ghost use Rattle.bit_stream.specs.Bits.{datagram};
 ghost use Rattle.bit_stream.specs.Reading.{Gives};
-ghost use Rattle.wire_format.specs.Header.{IsHeader, IsHeaderInRange};
-ghost use Rattle.wire_format.specs.Client.{spell_client, client_at, read_client, client_rest, client_front, client_in_parts, client_body_at, client_size, IsClient, IsClientBody, IsClientInRange, IsClientBodyInRange};
+ghost use Rattle.wire_format.specs.Header.{IsHeader, IsHeaderInRange, no_header};
+ghost use Rattle.wire_format.specs.Client.{spell_client, client_at, read_client, client_rest, client_front, client_in_parts, client_body_at, client_size, IsClient, IsClientBody, IsClientInRange, IsClientBodyInRange, client_meant};
+ghost use Rattle.wire_format.specs.Reading.{Fills, FillsAs, IsWhole};
 
 use crate::events::{EventList, put_events};
 use crate::fault::{BitsCause, BitsFault};
 use crate::header::{Header, put_header, put_ping, read_header};
-use crate::items::{list_bits, read_list};
+use crate::items::{list_bits, put_list, read_list};
 use crate::moves::{MoveList, put_moves};
+use crate::kind::PacketKind;
 use crate::parts::{part, within};
 use crate::widths::{
     DATA, EVENT_COUNT_WIDTH, HEADER_BITS, KIND_WIDTH, MAX_PACKET_BITS, MOVE_COUNT_WIDTH,
@@ -36,34 +38,72 @@ pub struct ClientBody {
     pub events: EventList,
 }
 
-/// Reads what stands behind a data packet's header, or gives its first fault.
+impl ClientBody {
+    /// A body of nothing, to be filled by [`decode_client_into`].
+    pub fn new() -> Self
+        ensures lists { (result.moves ≡ []) × (result.events ≡ []) }
+        ensures first { result.first ≡ 0 }
+        ensures head { result.head ≡ no_header }
+    {
+        ClientBody {
+            head: Header::new(),
+            first: 0,
+            moves: MoveList::new(),
+            events: EventList::new(),
+        }
+    }
+}
+
+/// Reads what stands behind a data packet's header into its body, or gives its first fault.
 #[tactic(auto, unfolding(crate::specs::Client::client_body_at))]
-fn read_client_body(reader: &mut BitReader<'_>, head: Header) -> Result<ClientBody, BitsFault>
-    ensures { Gives result reader.new (client_body_at head reader.old) }
+fn read_client_body(reader: &mut BitReader<'_>, body: &mut ClientBody) -> Result<(), BitsFault>
+    ensures { Fills result body.new reader.new (client_body_at body.old.head reader.old) }
 {
-    let first = part(reader, NUMBER_WIDTH)?;
-    let moves = read_list(reader, &(), MAX_PACKET_MOVES as u32, MOVE_COUNT_WIDTH)?;
-    let events = read_list(reader, &(), MAX_PACKET_EVENTS as u32, EVENT_COUNT_WIDTH)?;
-    Ok(ClientBody {
-        head,
-        first,
-        moves,
-        events,
-    })
+    body.first = part(reader, NUMBER_WIDTH)?;
+    read_list(
+        reader,
+        &(),
+        MAX_PACKET_MOVES as u32,
+        MOVE_COUNT_WIDTH,
+        &mut body.moves,
+    )?;
+    read_list(
+        reader,
+        &(),
+        MAX_PACKET_EVENTS as u32,
+        EVENT_COUNT_WIDTH,
+        &mut body.events,
+    )
 }
 
 /// Reads a packet, or gives its first fault.
 #[tactic(auto, unfolding(crate::specs::Client::client_at))]
-fn read_client(reader: &mut BitReader<'_>) -> Result<ClientPacket, BitsFault>
-    ensures { Gives result reader.new (client_at reader.old) }
+fn read_client(reader: &mut BitReader<'_>, body: &mut ClientBody) -> Result<PacketKind, BitsFault>
+    ensures { FillsAs client_meant result body.new reader.new (client_at reader.old) }
 {
     let kind = within(reader, BitsCause::KindBits, DATA, PING, KIND_WIDTH)?;
-    let head = read_header(reader)?;
+    body.head = read_header(reader)?;
     if kind == PING {
-        return Ok(ClientPacket::Ping(head));
+        return Ok(PacketKind::Ping);
     }
-    let body = read_client_body(reader, head)?;
-    Ok(ClientPacket::Body(body))
+    read_client_body(reader, body)?;
+    Ok(PacketKind::Body)
+}
+
+/// The whole of these bytes, into a body.
+fn read_into(bytes: &[u8], body: &mut ClientBody) -> Result<PacketKind, BitsFault>
+    requires { length bytes.now ≤ MAX_READ_BYTES }
+    ensures { IsWhole client_meant result body.new (read_client bytes.now) }
+{
+    let mut reader = BitReader::new(bytes);
+    let kind = read_client(&mut reader, body)?;
+    match reader.end() {
+        Ok(()) => Ok(kind),
+        Err(padding) => Err(BitsFault {
+            place: padding.place,
+            cause: BitsCause::Padding,
+        }),
+    }
 }
 
 /// The whole of these bytes.
@@ -71,14 +111,11 @@ fn read_whole(bytes: &[u8]) -> Result<ClientPacket, BitsFault>
     requires { length bytes.now ≤ MAX_READ_BYTES }
     ensures { result ≡ read_client bytes.now }
 {
-    let mut reader = BitReader::new(bytes);
-    let packet = read_client(&mut reader)?;
-    match reader.end() {
-        Ok(()) => Ok(packet),
-        Err(padding) => Err(BitsFault {
-            place: padding.place,
-            cause: BitsCause::Padding,
-        }),
+    let mut body = ClientBody::new();
+    match read_into(bytes, &mut body) {
+        Ok(PacketKind::Ping) => Ok(ClientPacket::Ping(body.head)),
+        Ok(PacketKind::Body) => Ok(ClientPacket::Body(body)),
+        Err(fault) => Err(fault),
     }
 }
 
@@ -149,6 +186,19 @@ pub fn encode_client(packet: &ClientPacket, out: &mut BitWriter)
         ClientPacket::Ping(head) => put_ping(out, head),
         ClientPacket::Body(body) => put_client_body(out, body),
     }
+}
+
+/// Reads a packet out of these bytes, at most 65,536, into a body, and tells its kind; of a ping only `head` counts. Or gives
+/// the first fault in reading order with the bit at which the faulty part begins (docs/formats.md, "Datagrams"), and the body
+/// then holds nothing that counts. What the body had before plays no part.
+pub fn decode_client_into(bytes: &[u8], body: &mut ClientBody) -> Result<PacketKind, BitsFault>
+    requires { length bytes.now ≤ MAX_READ_BYTES }
+    // What is read has a spelling.
+    ensures found { IfOk result (λ kind. IsClient (client_meant kind body.new)) }
+    // It is the packet that these bytes spell, or their fault.
+    ensures exact { IsWhole client_meant result body.new (read_client bytes.now) }
+{
+    read_into(bytes, body)
 }
 
 /// The packet that these bytes spell, at most 65,536 of them, or the first fault in reading order

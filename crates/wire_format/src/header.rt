@@ -1,6 +1,6 @@
 ghost use Rattle.std.specs.Prelude.{◌≡◌, ◌+◌, ◌*◌, ◌≤◌, ◌++◌, length};
 ghost use Rattle.bit_stream.specs.Reading.{Gives};
-ghost use Rattle.wire_format.specs.Header.{spell_header, spell_ping, header_at, IsHeader, IsHeaderInRange};
+ghost use Rattle.wire_format.specs.Header.{spell_header, spell_ping, header_at, IsHeader, IsHeaderInRange, no_header};
 
 use crate::fault::{BitsCause, BitsFault};
 use crate::parts::{part, within};
@@ -20,6 +20,20 @@ pub struct Header {
     pub horizon: u32,
     /// Bit i is set where packet `horizon - i` was processed.
     pub mask: u32,
+}
+
+impl Header {
+    /// All numbers 0, as no packet has them.
+    pub fn new() -> Self
+        ensures { result ≡ no_header }
+    {
+        Header {
+            client: 0,
+            seq: 0,
+            horizon: 0,
+            mask: 0,
+        }
+    }
 }
 
 /// Reads a header, or gives its first fault.

@@ -3,7 +3,7 @@ ghost use Rattle.std.specs.Prelude.{◌≡◌, ◌+◌, ◌*◌, ◌^◌, ◌<�
 ghost use Rattle.std.specs.List.{flat_map, AllByRecursion};
 ghost use Rattle.bit_stream.specs.Reading.{Gives, Unread};
 ghost use Rattle.wire_format.specs.declared.fault.BitsFault.{BitsFault};
-ghost use Rattle.wire_format.specs.Reading.{counted_at, listed, listed_at};
+ghost use Rattle.wire_format.specs.Reading.{counted_at, listed, listed_at, Fills};
 
 use crate::fault::{BitsCause, BitsFault};
 use crate::lists::ItemList;
@@ -48,37 +48,39 @@ pub(crate) trait Item: Default + Drop {
         ensures size { out.new.size ≡ out.old.size };
 }
 
-/// As many items as were counted.
+/// As many items as were counted, in place of those that the list has.
 fn read_counted<T: Item, const N: usize>(
     reader: &mut BitReader<'_>,
     context: &T::Context,
     count: u32,
-) -> Result<ItemList<T, N>, BitsFault>
+    list: &mut ItemList<T, N>,
+) -> Result<(), BitsFault>
     requires { count ≤ N }
-    ensures { Gives result reader.new (counted_at (T.reading context.now) count reader.old) }
+    ensures { Fills result list.new reader.new (counted_at (T.reading context.now) count reader.old) }
 {
-    let mut list = ItemList::new();
+    list.clear();
     for _ in 0..count {
         let item = T::read(reader, context)?;
         list.push(item);
     }
-    Ok(list)
+    Ok(())
 }
 
-/// A count of `width` bits, at most `most`, and then so many items.
+/// A count of `width` bits, at most `most`, and then so many items, in place of those that the list has.
 #[tactic(auto, unfolding(crate::specs::Reading::listed_at))]
 pub(crate) fn read_list<T: Item, const N: usize>(
     reader: &mut BitReader<'_>,
     context: &T::Context,
     most: u32,
     width: u32,
-) -> Result<ItemList<T, N>, BitsFault>
+    list: &mut ItemList<T, N>,
+) -> Result<(), BitsFault>
     requires width { width ≤ MAX_WORD_BITS }
     requires most { most ≤ N }
-    ensures { Gives result reader.new (listed_at most width (T.reading context.now) reader.old) }
+    ensures { Fills result list.new reader.new (listed_at most width (T.reading context.now) reader.old) }
 {
     let count = within(reader, BitsCause::CountBits, 0, most, width)?;
-    read_counted(reader, context, count)
+    read_counted(reader, context, count, list)
 }
 
 /// Writes items one after the other.

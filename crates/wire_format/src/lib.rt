@@ -12,6 +12,7 @@ mod fault;
 mod ghosts;
 mod header;
 mod items;
+mod kind;
 mod laws;
 mod lists;
 mod moves;
@@ -24,7 +25,8 @@ mod widths;
 
 pub use blocks::{BlockItem, BlockList, block_bits, put_block, put_block_count, put_blocks};
 pub use client::{
-    ClientBody, ClientPacket, client_bits, decode_client, encode_client, put_client_front,
+    ClientBody, ClientPacket, client_bits, decode_client, decode_client_into, encode_client,
+    put_client_front,
 };
 pub use events::{EventItem, EventList, event_bits, put_event, put_event_count, put_events};
 pub use fault::{BitsCause, BitsFault};
@@ -32,11 +34,13 @@ pub use ghosts::{
     GhostItem, GhostList, Levels, ghost_bits, put_ghost, put_ghost_count, put_ghosts,
 };
 pub use header::{Header, put_ping};
+pub use kind::PacketKind;
 pub use laws::{packets_are_parts, sizes_are_bits};
 pub use lists::ItemList;
 pub use moves::{MoveList, put_move, put_move_count, put_moves};
 pub use server::{
-    ServerBody, ServerPacket, decode_server, encode_server, put_server_front, server_bits,
+    ServerBody, ServerPacket, decode_server, decode_server_into, encode_server, put_server_front,
+    server_bits,
 };
 pub use widths::{
     BLOCK_COUNT_WIDTH, CLIENT_FIXED_BITS, EVENT_COUNT_WIDTH, GHOST_COUNT_WIDTH, HEADER_BITS,

@@ -1,25 +1,45 @@
 //! The lists of a packet.
-ghost use Rattle.std.specs.Prelude.{◌≡◌, ◌<◌, ◌≤◌, ◌↔◌, [], ◌∷◌, ◌++◌, length, take, IsTrue, slice_get};
+ghost use Rattle.std.specs.Prelude.{◌≡◌, ◌+◌, ◌<◌, ◌≤◌, ◌↔◌, [], ◌∷◌, ◌++◌, length, take, IsTrue, slice_get};
 ghost use Rattle.std.specs.Option.{option_copied};
 
 use arrayvec::ArrayVec;
 use std::marker::Model;
 
 /// At most `N` items of a packet, which contracts see as their list. They lie in the value itself,
-/// so no call takes memory.
+/// so no call takes memory. An emptied list keeps its places, and is filled again without a cost for those.
 #[derive(Drop)]
 pub struct ItemList<T, const N: usize> {
-    items: ArrayVec<T, N>,
+    places: ArrayVec<T, N>,
+    // how many of them hold an item of the list
+    count: usize,
 }
 
 impl<T, const N: usize> Model for ItemList<T, N> {
-    ghost use Rattle.std.specs.Prelude.{List, ◌≤◌, length};
+    ghost use Rattle.std.specs.Prelude.{List, ◌≤◌, length, take};
 
     ghost Value = { List T };
 
-    ghost view = { λ l. l.items.items };
+    ghost view = { λ l. take l.count l.places.items };
 
-    ghost invariant = { λ l. length l.items.items ≤ N };
+    ghost invariant = { λ l. record {
+      held : l.count ≤ length l.places.items;
+      few : length l.places.items ≤ N;
+    } };
+}
+
+/// Writes an item behind the first `count` ones.
+fn write<T: Drop, const N: usize>(places: &mut ArrayVec<T, N>, count: usize, item: T)
+    requires held { count ≤ length places.old.items }
+    requires few { length places.old.items ≤ N }
+    requires room { count < N }
+    ensures items { take (count + 1) places.new.items ≡ take count places.old.items ++ item ∷ [] }
+    ensures held { count + 1 ≤ length places.new.items }
+    ensures few { length places.new.items ≤ N }
+{
+    match places.get_mut(count) {
+        Some(place) => *place = item,
+        None => places.push(item),
+    }
 }
 
 impl<T: Default + Drop, const N: usize> ItemList<T, N> {
@@ -28,32 +48,41 @@ impl<T: Default + Drop, const N: usize> ItemList<T, N> {
         ensures { result ≡ [] }
     {
         ItemList {
-            items: ArrayVec::new(),
+            places: ArrayVec::new(),
+            count: 0,
         }
+    }
+}
+
+impl<T: Drop, const N: usize> ItemList<T, N> {
+    /// Takes all items away. It costs the same however many there are.
+    pub fn clear(&mut self)
+        ensures { self.new ≡ [] }
+    {
+        self.count = 0;
     }
 
     /// Keeps the first `count` items, or all where there are not so many.
     pub fn truncate(&mut self, count: usize)
         ensures { self.new ≡ take count self.old }
     {
-        self.items.truncate(count);
+        self.count = self.count.min(count);
     }
-}
 
-impl<T: Drop, const N: usize> ItemList<T, N> {
     /// Appends an item; there must be room for it.
     pub fn push(&mut self, item: T)
         requires { length self.old < N }
         ensures { self.new ≡ self.old ++ item ∷ [] }
     {
-        self.items.push(item);
+        write(&mut self.places, self.count, item);
+        self.count += 1;
     }
 
     /// Whether there is no room left.
     pub fn is_full(&self) -> bool
         ensures { IsTrue result ↔ (length self.now ≡ N) }
     {
-        self.items.len() == N
+        self.count == N
     }
 
     /// How many items there are.
@@ -61,21 +90,21 @@ impl<T: Drop, const N: usize> ItemList<T, N> {
         ensures value { result ≡ length self.now }
         ensures fits { result ≤ N }
     {
-        self.items.len()
+        self.count
     }
 
     /// Whether there is no item.
     pub fn is_empty(&self) -> bool
         ensures { IsTrue result ↔ (self.now ≡ []) }
     {
-        self.items.is_empty()
+        self.count == 0
     }
 
     /// The item at `index`, counted from 0; `None` exactly where there is none.
     pub fn get(&self, index: usize) -> Option<&T>
         ensures { option_copied result ≡ slice_get self.now index }
     {
-        self.items.as_slice().get(index)
+        self.as_slice().get(index)
     }
 
     /// The items, lent.
@@ -83,6 +112,6 @@ impl<T: Drop, const N: usize> ItemList<T, N> {
         ensures value { result.now ≡ self.now }
         ensures fits { length result.now ≤ N }
     {
-        self.items.as_slice()
+        &self.places.as_slice()[..self.count]
     }
 }

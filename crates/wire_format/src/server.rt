@@ -1,15 +1,17 @@
-ghost use Rattle.std.specs.Prelude.{◌≡◌, ◌+◌, ◌*◌, ◌^◌, ◌<◌, ◌≤◌, ◌++◌, Ok, length, IfOk, IfSome};
+ghost use Rattle.std.specs.Prelude.{◌≡◌, ◌+◌, ◌*◌, ◌^◌, ◌<◌, ◌≤◌, ◌++◌, Ok, length, IfOk, IfSome, [], None};
 ghost use Rattle.bit_stream.specs.Bits.{datagram};
 ghost use Rattle.bit_stream.specs.Reading.{Gives};
-ghost use Rattle.wire_format.specs.Header.{IsHeader, IsHeaderInRange};
-ghost use Rattle.wire_format.specs.Server.{spell_server, server_at, read_server, server_rest, server_front, server_in_parts, server_body_at, server_size, IsServer, IsServerBody, IsServerInRange, IsServerBodyInRange};
+ghost use Rattle.wire_format.specs.Header.{IsHeader, IsHeaderInRange, no_header};
+ghost use Rattle.wire_format.specs.Server.{spell_server, server_at, read_server, server_rest, server_front, server_in_parts, server_body_at, server_size, IsServer, IsServerBody, IsServerInRange, IsServerBodyInRange, server_meant};
+ghost use Rattle.wire_format.specs.Reading.{Fills, FillsAs, IsWhole};
 
 use crate::blocks::{BlockList, put_blocks};
 use crate::events::{EventList, put_events};
 use crate::fault::{BitsCause, BitsFault};
 use crate::ghosts::{GhostList, put_ghosts};
 use crate::header::{Header, put_header, put_ping, read_header};
-use crate::items::{list_bits, read_list};
+use crate::items::{list_bits, put_list, read_list};
+use crate::kind::PacketKind;
 use crate::parts::{optional_bits, optional_byte, part, put_optional, widened, within};
 use crate::widths::{
     BLOCK_COUNT_WIDTH, DATA, EVENT_COUNT_WIDTH, GHOST_COUNT_WIDTH, HEADER_BITS, KIND_WIDTH,
@@ -40,42 +42,95 @@ pub struct ServerBody {
     pub ghosts: GhostList,
 }
 
-/// Reads what stands behind a data packet's header, or gives its first fault.
+impl ServerBody {
+    /// A body of nothing, to be filled by [`decode_server_into`].
+    pub fn new() -> Self
+        ensures lists { (result.blocks ≡ []) × (result.events ≡ []) × (result.ghosts ≡ []) }
+        ensures control { result.control ≡ None }
+        ensures accepted { result.accepted ≡ 0 }
+        ensures head { result.head ≡ no_header }
+    {
+        ServerBody {
+            head: Header::new(),
+            accepted: 0,
+            control: None,
+            blocks: BlockList::new(),
+            events: EventList::new(),
+            ghosts: GhostList::new(),
+        }
+    }
+}
+
+/// Reads what stands behind a data packet's header into its body, or gives its first fault.
 #[tactic(auto, unfolding(crate::specs::Server::server_body_at))]
 fn read_server_body(
     reader: &mut BitReader<'_>,
     kinds: &KindTable,
-    head: Header,
-) -> Result<ServerBody, BitsFault>
-    ensures { Gives result reader.new (server_body_at kinds.now head reader.old) }
+    body: &mut ServerBody,
+) -> Result<(), BitsFault>
+    ensures { Fills result body.new reader.new (server_body_at kinds.now body.old.head reader.old) }
 {
-    let accepted = part(reader, NUMBER_WIDTH)?;
-    let control = optional_byte(reader)?;
-    let blocks = read_list(reader, &(), MAX_PACKET_BLOCKS as u32, BLOCK_COUNT_WIDTH)?;
-    let events = read_list(reader, &(), MAX_PACKET_EVENTS as u32, EVENT_COUNT_WIDTH)?;
-    let ghosts = read_list(reader, kinds, MAX_PACKET_GHOSTS as u32, GHOST_COUNT_WIDTH)?;
-    Ok(ServerBody {
-        head,
-        accepted,
-        control,
-        blocks,
-        events,
-        ghosts,
-    })
+    body.accepted = part(reader, NUMBER_WIDTH)?;
+    body.control = optional_byte(reader)?;
+    read_list(
+        reader,
+        &(),
+        MAX_PACKET_BLOCKS as u32,
+        BLOCK_COUNT_WIDTH,
+        &mut body.blocks,
+    )?;
+    read_list(
+        reader,
+        &(),
+        MAX_PACKET_EVENTS as u32,
+        EVENT_COUNT_WIDTH,
+        &mut body.events,
+    )?;
+    read_list(
+        reader,
+        kinds,
+        MAX_PACKET_GHOSTS as u32,
+        GHOST_COUNT_WIDTH,
+        &mut body.ghosts,
+    )
 }
 
 /// Reads a packet, or gives its first fault.
 #[tactic(auto, unfolding(crate::specs::Server::server_at))]
-fn read_server(reader: &mut BitReader<'_>, kinds: &KindTable) -> Result<ServerPacket, BitsFault>
-    ensures { Gives result reader.new (server_at kinds.now reader.old) }
+fn read_server(
+    reader: &mut BitReader<'_>,
+    kinds: &KindTable,
+    body: &mut ServerBody,
+) -> Result<PacketKind, BitsFault>
+    ensures { FillsAs server_meant result body.new reader.new (server_at kinds.now reader.old) }
 {
     let kind = within(reader, BitsCause::KindBits, DATA, PING, KIND_WIDTH)?;
-    let head = read_header(reader)?;
+    body.head = read_header(reader)?;
     if kind == PING {
-        return Ok(ServerPacket::Ping(head));
+        return Ok(PacketKind::Ping);
     }
-    let body = read_server_body(reader, kinds, head)?;
-    Ok(ServerPacket::Body(body))
+    read_server_body(reader, kinds, body)?;
+    Ok(PacketKind::Body)
+}
+
+/// The whole of these bytes, into a body.
+fn read_into(
+    bytes: &[u8],
+    kinds: &KindTable,
+    body: &mut ServerBody,
+) -> Result<PacketKind, BitsFault>
+    requires { length bytes.now ≤ MAX_READ_BYTES }
+    ensures { IsWhole server_meant result body.new (read_server kinds.now bytes.now) }
+{
+    let mut reader = BitReader::new(bytes);
+    let kind = read_server(&mut reader, kinds, body)?;
+    match reader.end() {
+        Ok(()) => Ok(kind),
+        Err(padding) => Err(BitsFault {
+            place: padding.place,
+            cause: BitsCause::Padding,
+        }),
+    }
 }
 
 /// The whole of these bytes.
@@ -83,14 +138,11 @@ fn read_whole(bytes: &[u8], kinds: &KindTable) -> Result<ServerPacket, BitsFault
     requires { length bytes.now ≤ MAX_READ_BYTES }
     ensures { result ≡ read_server kinds.now bytes.now }
 {
-    let mut reader = BitReader::new(bytes);
-    let packet = read_server(&mut reader, kinds)?;
-    match reader.end() {
-        Ok(()) => Ok(packet),
-        Err(padding) => Err(BitsFault {
-            place: padding.place,
-            cause: BitsCause::Padding,
-        }),
+    let mut body = ServerBody::new();
+    match read_into(bytes, kinds, &mut body) {
+        Ok(PacketKind::Ping) => Ok(ServerPacket::Ping(body.head)),
+        Ok(PacketKind::Body) => Ok(ServerPacket::Body(body)),
+        Err(fault) => Err(fault),
     }
 }
 
@@ -168,6 +220,23 @@ pub fn encode_server(packet: &ServerPacket, kinds: &KindTable, out: &mut BitWrit
         ServerPacket::Ping(head) => put_ping(out, head),
         ServerPacket::Body(body) => put_server_body(out, kinds, body),
     }
+}
+
+/// Reads a packet under a table of kinds out of these bytes, at most 65,536, into a body, and tells its kind; of a ping only
+/// `head` counts. Or gives the first fault in reading order with the bit at which the faulty part begins (docs/formats.md,
+/// "Datagrams"), and the body then holds nothing that counts. What the body had before plays no part.
+pub fn decode_server_into(
+    bytes: &[u8],
+    kinds: &KindTable,
+    body: &mut ServerBody,
+) -> Result<PacketKind, BitsFault>
+    requires { length bytes.now ≤ MAX_READ_BYTES }
+    // What is read has a spelling.
+    ensures found { IfOk result (λ kind. IsServer kinds.now (server_meant kind body.new)) }
+    // It is the packet that these bytes spell, or their fault.
+    ensures exact { IsWhole server_meant result body.new (read_server kinds.now bytes.now) }
+{
+    read_into(bytes, kinds, body)
 }
 
 /// The packet that these bytes spell under a table of kinds, at most 65,536 of them, or the first fault in reading order

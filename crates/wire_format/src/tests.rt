@@ -1,7 +1,7 @@
 use crate::{
     BitsCause, BitsFault, BlockList, ClientBody, ClientPacket, EventItem, EventList, GhostItem,
-    GhostList, Header, MoveList, ServerBody, ServerPacket, client_bits, decode_client,
-    decode_server, encode_client, encode_server, server_bits,
+    GhostList, Header, MoveList, PacketKind, ServerBody, ServerPacket, client_bits, decode_client,
+    decode_client_into, decode_server, encode_client, encode_server, server_bits,
 };
 use bit_stream::BitWriter;
 use quantised_fields::{FieldSpec, Kind, KindTable};
@@ -145,6 +145,25 @@ fn acknowledgement_is_read(rt: HostRuntime) -> Result<(), Fail> {
     };
     assert_eq!(rt; body.head, head);
     Ok(())
+}
+
+/// A body that had a packet with moves and an event is filled anew.
+#[test]
+fn body_is_filled_again(rt: HostRuntime) {
+    let mut body = ClientBody::new();
+    assert_eq!(rt; decode_client_into(&MOVES, &mut body), Ok(PacketKind::Body));
+    assert_eq!(rt;
+        (body.first, body.moves.len(), body.events.len()),
+        (7, 2, 1)
+    );
+    assert_eq!(rt;
+        decode_client_into(&ACKNOWLEDGES, &mut body),
+        Ok(PacketKind::Body)
+    );
+    assert_eq!(rt;
+        (body.head.seq, body.moves.len(), body.events.len()),
+        (3, 0, 0)
+    );
 }
 
 /// The op, the slot, the kind, the block or mask, and the levels of a ghost.

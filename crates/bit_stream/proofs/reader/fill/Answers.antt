@@ -1,14 +1,7 @@
-use Rattle.std.proofs.Common.{◌∙◌, ◌<◌, length, arith}
-use Rattle.bit_stream.proofs.Reading.{filled_from}
+use Rattle.bit_stream.proofs.Reading.{filled_word}
 use Rattle.bit_stream.proofs.reader.fill.Goals as goal
 
-pub loop-count-preserved : goal.loop-count-preserved
-loop-count-preserved c =
-    let s = c.loop-count in
-    let some : 0 < length s.rest.now = omega arith in
-    record {
-      bits = filled_from s.pending s.count c.from.result c.joined-pending.result s.rest.now c.split_at.result.0.now c.split_at.result.1.now s.invariant.below some c.split_at.ensures.front c.split_at.ensures.back c.from.ensures c.joined-pending.ensures.bits ∙ s.invariant.bits;
-      below = c.joined-pending.ensures.below;
-      few = omega arith;
-      len = omega arith;
-    }
+pub returns-in-Some-clause-bits : goal.returns-in-Some-clause-bits
+returns-in-Some-clause-bits c =
+    let f = c.in-Some in
+    filled_word c.args.pending c.args.count c.joined-more.result c.word_of.result c.args.rest.now f.word.now f.others.now f.ensures.cases.0 f.ensures.cases.1 c.word_of.ensures c.joined-more.ensures.bits

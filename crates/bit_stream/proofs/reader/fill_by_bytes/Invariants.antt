@@ -1,6 +1,6 @@
 use Rattle.std.proofs.Common.{◌+◌, ◌-◌, ◌≡◌, ◌*◌, ◌^◌, ◌<◌, ◌++◌, length}
 use Rattle.bit_stream.specs.Bits.{number, bits_of}
-use Rattle.bit_stream.proofs.reader.fill.Given as goal
+use Rattle.bit_stream.proofs.reader.fill_by_bytes.Given as goal
 
 abbrev pub invariant-loop-count : goal.invariant-loop-count
 invariant-loop-count l = record {
