@@ -1,6 +1,5 @@
 ghost use Rattle.std.specs.Prelude.{◌≡◌, ◌+◌, ◌*◌, ◌^◌, ◌<◌, ◌≤◌, ◌++◌, Ok, length, IfOk, []};
 ghost use Rattle.bit_stream.specs.Bits.{datagram};
-ghost use Rattle.bit_stream.specs.Reading.{Gives};
 ghost use Rattle.wire_format.specs.Header.{IsHeader, IsHeaderInRange, no_header};
 ghost use Rattle.wire_format.specs.Client.{spell_client, client_at, read_client, client_rest, client_front, client_in_parts, client_body_at, client_size, IsClient, IsClientBody, IsClientInRange, IsClientBodyInRange, client_meant};
 ghost use Rattle.wire_format.specs.Reading.{Fills, FillsAs, IsWhole};
@@ -8,7 +7,7 @@ ghost use Rattle.wire_format.specs.Reading.{Fills, FillsAs, IsWhole};
 use crate::events::{EventList, put_events};
 use crate::fault::{BitsCause, BitsFault};
 use crate::header::{Header, put_header, put_ping, read_header};
-use crate::items::{list_bits, put_list, read_list};
+use crate::items::{list_bits, read_list};
 use crate::moves::{MoveList, put_moves};
 use crate::kind::PacketKind;
 use crate::parts::{part, within};

@@ -1,6 +1,5 @@
 ghost use Rattle.std.specs.Prelude.{◌≡◌, ◌+◌, ◌*◌, ◌^◌, ◌<◌, ◌≤◌, ◌++◌, Ok, length, IfOk, IfSome, [], None};
 ghost use Rattle.bit_stream.specs.Bits.{datagram};
-ghost use Rattle.bit_stream.specs.Reading.{Gives};
 ghost use Rattle.wire_format.specs.Header.{IsHeader, IsHeaderInRange, no_header};
 ghost use Rattle.wire_format.specs.Server.{spell_server, server_at, read_server, server_rest, server_front, server_in_parts, server_body_at, server_size, IsServer, IsServerBody, IsServerInRange, IsServerBodyInRange, server_meant};
 ghost use Rattle.wire_format.specs.Reading.{Fills, FillsAs, IsWhole};
@@ -10,7 +9,7 @@ use crate::events::{EventList, put_events};
 use crate::fault::{BitsCause, BitsFault};
 use crate::ghosts::{GhostList, put_ghosts};
 use crate::header::{Header, put_header, put_ping, read_header};
-use crate::items::{list_bits, put_list, read_list};
+use crate::items::{list_bits, read_list};
 use crate::kind::PacketKind;
 use crate::parts::{optional_bits, optional_byte, part, put_optional, widened, within};
 use crate::widths::{
