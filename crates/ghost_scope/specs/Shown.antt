@@ -5,7 +5,7 @@ use Rattle.std.specs.List.{list_any}
 use Rattle.tn_types.specs.declared.choices.Op.{Op}
 use Rattle.ghost_model.specs.declared.phase.Phase.TheVariants.{Live}
 use Rattle.ghost_model.specs.Words.{upto}
-use Rattle.ghost_model.specs.Phases.{is_up, is_gone, IsWriteStep, IsSettleStep}
+use Rattle.ghost_model.specs.Phases.{is_up, is_gone, is_waiting, IsWriteStep, IsSettleStep}
 use Rattle.ghost_scope.specs.declared.period.Period.{Period}
 use Rattle.ghost_scope.specs.Table.{Table, phase_of, slot_of, entry_of}
 
@@ -21,6 +21,10 @@ pub record IsUp (p : Table) (n : ℕ) : Type 0 where
 pub record IsAlive (p : Table) (n : ℕ) : Type 0 where
   pub shown : n < p.shown
   pub alive : is_gone (phase_of p n) ≡ false
+
+-- no period waits for a slot
+abbrev pub NoneWaits : Table → Type 0
+NoneWaits p = (n : ℕ) → n < p.shown → is_waiting (phase_of p n) ≡ false
 
 -- the period that holds the slot has the step that this was written, or judged, there (docs/connection.md, "Periods and slots")
 abbrev pub MayWrite : Table → ℕ → Op → Type 0
