@@ -35,7 +35,7 @@ module _ (es : List Period) (hs : List (Option ℕ)) (first shown : ℕ) (work :
 
 -- a grant changes nothing
 module _ (p : Table) (log : List ScopeEvent) (stands : StandsFor p log) (none : NoneWaits p) where
-  unfound : (n : ℕ) → is_found log n ≡ false
+  pub unfound : (n : ℕ) → is_found log n ≡ false
   unfound n = elim (cases_lt n p.shown) [
     | inl lt ↦ ap (λ b. b && ltb n (shows log)) (ap is_waiting (sym (stands.phases n)) ∙ none n lt)
     | inr le ↦ and_right (is_waiting (phase log n)) (ltb n (shows log)) (not_below n (shows log) (omega (arith, stands.shown, le)))

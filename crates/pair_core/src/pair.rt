@@ -1,6 +1,8 @@
 //! Both ends and the network.
 ghost use Rattle.std.specs.Prelude.{◌≡◌, ℕ, ◌<◌, ◌≤◌, List, [], ◌∷◌, ◌++◌, IfOk, IfSome, OnOk, OnErr, length, slice_get, drop};
 ghost use Rattle.std.specs.Option.{option_copied};
+ghost use Rattle.notify_window.specs.State.{send_state};
+ghost use Rattle.stream_manager.specs.ConnCalls.{Planning};
 ghost use Rattle.tn_types.specs.declared.choices.Class.TheVariants.{Guaranteed, Loose};
 
 use crate::datagrams::Datagrams;
@@ -10,10 +12,12 @@ use move_manager::MoveFault;
 use notify_window::SendState;
 use quantised_fields::KindTable;
 use std::alloc::Global;
-use std::marker::Model;
+use std::marker::{Brand, Model};
+use std::sync::ledger::{Blank, Ledger};
 use stream_manager::{Client, ClientOut, Config, Conn, Taken};
 use tn_types::{
     BlockBytes, Class, MAX_BLOCKS, MAX_DATAGRAM_BYTES, MAX_DATAGRAMS, Move, NoMemory, Payload,
+    Steps,
 };
 
 /// The server's end, the client's end, and the datagrams that each sent.
@@ -149,7 +153,7 @@ impl Pair {
             SendState::Worn => Ok(Made::Worn { life }),
             SendState::Room => {
                 // no step shows an object, so that the plan is empty and asks for no value
-                let _ = self.conn.plan();
+                plan_uncounted::<Brand>(&mut self.conn, Blank::new(1));
                 let bytes = self.conn.seal(&[]);
                 self.down.push(alloc, bytes)?;
                 Ok(Made::Data { place })
@@ -284,4 +288,16 @@ impl Pair {
     {
         self.client.delivered()
     }
+}
+
+// Plans with a counter that nobody reads.
+fn plan_uncounted<L: Ledger>(conn: &mut Conn, blank: Blank)
+    requires name { blank.name ≡ L.name }
+    requires parts { blank.parts ≡ L.parts }
+    requires some { 0 < blank.parts }
+    requires room { send_state conn.old.common.window ≡ SendState.Room }
+    ensures { Planning conn.old conn.new }
+{
+    let mut steps: Steps<L> = Steps::new(blank);
+    let _ = conn.plan(&mut steps);
 }

@@ -14,31 +14,40 @@ use arrayvec::ArrayVec;
 use bit_stream::BitWriter;
 use notify_window::SendState;
 use quantised_fields::KindTable;
-use tn_types::{Choice, MAX_DATAGRAM_BYTES};
+use std::sync::ledger::Ledger;
+use tn_types::{Choice, MAX_DATAGRAM_BYTES, Steps};
 use wire_format::{SERVER_FIXED_BITS, ServerBody, ServerPacket, encode_server, server_bits};
 
 impl Conn {
-    ghost use Rattle.stream_manager.specs.Server.{choices_at, data_body, server_bytes, server_ping_bytes};
-    ghost use Rattle.stream_manager.specs.Stands.{terms_of};
+    ghost use Rattle.stream_manager.specs.Server.{ServerEvent, ghost_log, choices_at, data_body, server_bytes, server_ping_bytes};
+    ghost use Rattle.stream_manager.specs.Stands.{terms_of, ConnStandsFor};
+    ghost use Rattle.ghost_model.specs.Ghosts.{Grant};
+    ghost use Rattle.ghost_masks.specs.Work.{work_count};
     ghost use Rattle.stream_manager.specs.ConnCalls.{Answers, Planning, Sealed, Pinging};
     ghost use Rattle.stream_manager.specs.contracts.server.Conn.{the_row};
 
     /// Gives the lowest free slots to waiting periods, and chooses the ghosts of the next data packet, in order
-    /// (docs/connection.md, "Candidates"). The plan holds until the next call that changes something.
-    pub fn plan(&mut self) -> &[Choice]
+    /// (docs/connection.md, "Candidates"). The plan holds until the next call that changes something. Each ghost with work
+    /// takes a step, and nothing else is looked at: one whose create or kill is still to be sent, or a Live one of which a
+    /// field is due.
+    pub fn plan<L: Ledger>(&mut self, steps: &mut Steps<L>) -> &[Choice]
         requires { send_state self.old.common.window ≡ SendState.Room }
         ensures choices { Answers self.old (choices_at (terms_of self.old)) result.now }
+        ensures steps { (log : List ServerEvent) → ConnStandsFor self.old log
+            → steps.new ≤ steps.old + work_count (Grant ∷ ghost_log log) }
         ensures* after { sem 𝓛 (Rests the_row self.entry (Planning self.old)) }
     {
-        self.choose();
+        self.choose(steps);
         self.masks.chosen()
     }
 
     /// Plans the next data packet.
-    fn choose(&mut self)
+    fn choose<L: Ledger>(&mut self, steps: &mut Steps<L>)
         requires { send_state self.old.common.window ≡ SendState.Room }
         ensures choices { Answers self.old (λ log. Some (choices_at (terms_of self.old) log)) self.new.masks.plan }
         ensures after { Planning self.old self.new }
+        ensures steps { (log : List ServerEvent) → ConnStandsFor self.old log
+            → steps.new ≤ steps.old + work_count (Grant ∷ ghost_log log) }
     {
         let size = self.common.config().size;
         let (_, blocks) = due_blocks(&self.blocks, 4 * size - SERVER_FIXED_BITS);
@@ -47,7 +56,7 @@ impl Conn {
             .events_bits(6 * size - SERVER_FIXED_BITS - blocks);
         let received = self.blocks.received();
         let room = 8 * size - SERVER_FIXED_BITS - blocks - events;
-        self.masks.choose(received, room);
+        self.masks.choose(received, room, steps);
     }
 
     /// Counts the data packet that was planned, and gives it.

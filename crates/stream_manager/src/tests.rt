@@ -1,13 +1,19 @@
 //! Both ends on datagrams that were worked out beforehand: those that are refused, and those of shown objects byte for byte.
-ghost use Rattle.std.specs.Prelude.{◌≤◌, length};
+ghost use Rattle.std.specs.Prelude.{◌≡◌, ◌<◌, ◌≤◌, length};
+ghost use Rattle.notify_window.specs.State.{send_state};
 
+mod updates;
+
+use self::updates::{RAISED, SHARED, SUPERSEDED};
 use crate::{ArriveFault, Client, ClientFault, ClientOut, Config, Conn};
 use ghost_client::GhostFault;
 use notify_window::SendState;
 use quantised_fields::{FieldSpec, Kind, KindTable};
 use std::alloc::Global;
+use std::marker::Brand;
+use std::sync::ledger::{Blank, Ledger};
 use std::test::Fail;
-use tn_types::{BlockBytes, MAX_READ_BYTES, MAX_SHOWS, Move};
+use tn_types::{BlockBytes, MAX_FIELDS, MAX_READ_BYTES, MAX_SHOWS, Move, Steps};
 use wire_format::{BitsCause, BitsFault};
 
 const CONFIG: Config = Config {
@@ -16,9 +22,12 @@ const CONFIG: Config = Config {
     size: 128,
 };
 
-/// A kind of fields from 0 to these levels, in so many bits.
-fn kind_of(levels: &[(i64, u32)]) -> Kind {
-    let mut kind = Kind::default();
+/// A kind of this weight with fields from 0 to these levels, in so many bits.
+fn kind_of(weight: u8, levels: &[(i64, u32)]) -> Kind {
+    let mut kind = Kind {
+        weight,
+        ..Kind::default()
+    };
     for (hi, bits) in levels {
         if !kind.fields.is_full() {
             kind.fields.push(FieldSpec {
@@ -34,12 +43,12 @@ fn kind_of(levels: &[(i64, u32)]) -> Kind {
 /// The six kinds of a match: player, disc, mine, drone, flag and clock.
 fn six_kinds() -> Option<KindTable> {
     let kinds = [
-        kind_of(&[(65535, 16), (65535, 16), (100, 7), (20, 5), (255, 8)]),
-        kind_of(&[(65535, 16), (65535, 16)]),
-        kind_of(&[(65535, 16), (65535, 16), (1, 1)]),
-        kind_of(&[(65535, 12), (65535, 12), (100, 5)]),
-        kind_of(&[(65535, 16), (65535, 16), (16, 5)]),
-        kind_of(&[(16_777_215, 24), (255, 8), (255, 8)]),
+        kind_of(8, &[(65535, 16), (65535, 16), (100, 7), (20, 5), (255, 8)]),
+        kind_of(6, &[(65535, 16), (65535, 16)]),
+        kind_of(3, &[(65535, 16), (65535, 16), (1, 1)]),
+        kind_of(4, &[(65535, 12), (65535, 12), (100, 5)]),
+        kind_of(5, &[(65535, 16), (65535, 16), (16, 5)]),
+        kind_of(1, &[(16_777_215, 24), (255, 8), (255, 8)]),
     ];
     KindTable::new(&kinds).ok()
 }
@@ -64,6 +73,12 @@ enum Step {
     Show(u8, bool),
     /// The server hides this period.
     Hide(u32),
+    /// These fields of the period changed.
+    Absorb(u32, u32),
+    /// These fields of the period are due.
+    Due(u32, u32),
+    /// Whether this field of the period is settled.
+    Settled(u32, u8, bool),
     /// This period holds this slot.
     Slot(u32, Option<u8>),
     /// The server sends this data packet, whose ghosts have these values.
@@ -103,9 +118,38 @@ fn hides(conn: &mut Conn, n: u32) -> bool {
     true
 }
 
+/// Absorbs fields of a period; whether it was shown and has them.
+fn absorbs(conn: &mut Conn, n: u32, bits: u32) -> bool {
+    if !conn.is_alive(n) || !conn.is_up(n) || !conn.has_fields(n, bits) {
+        return false;
+    }
+    conn.absorb(n, bits);
+    true
+}
+
+/// Whether the field is settled; `None` where there is none.
+fn is_settled(conn: &Conn, n: u32, field: u8) -> Option<bool> {
+    if n < conn.shows() && usize::from(field) < MAX_FIELDS {
+        Some(conn.settled(n, field))
+    } else {
+        None
+    }
+}
+
 /// Whether the period was shown and holds this slot.
 fn holds(conn: &Conn, n: u32, slot: Option<u8>) -> bool {
     n < conn.shows() && conn.slot(n) == slot
+}
+
+/// Plans with a counter that nobody reads.
+fn plan<L: Ledger>(conn: &mut Conn, blank: Blank)
+    requires name { blank.name ≡ L.name }
+    requires parts { blank.parts ≡ L.parts }
+    requires some { 0 < blank.parts }
+    requires room { send_state conn.old.common.window ≡ SendState.Room }
+{
+    let mut steps: Steps<L> = Steps::new(blank);
+    let _ = conn.plan(&mut steps);
 }
 
 /// Whether the server's next datagram is a data packet with these bytes, where its ghosts have these values.
@@ -113,7 +157,7 @@ fn sends(conn: &mut Conn, values: &[i64], bytes: &[u8]) -> bool {
     if conn.pack_state() != SendState::Room {
         return false;
     }
-    let _ = conn.plan();
+    plan::<Brand>(conn, Blank::new(1));
     conn.fits(values) && conn.seal(values) == bytes
 }
 
@@ -154,6 +198,9 @@ fn does(conn: &mut Conn, client: &mut Client, step: &Step) -> bool {
     match step {
         Step::Show(kind, control) => shows(conn, *kind, *control),
         Step::Hide(n) => hides(conn, *n),
+        Step::Absorb(n, bits) => absorbs(conn, *n, *bits),
+        Step::Due(n, bits) => conn.is_alive(*n) && conn.due_bits(*n) == *bits,
+        Step::Settled(n, field, settled) => is_settled(conn, *n, *field) == Some(*settled),
         Step::Slot(n, slot) => holds(conn, *n, *slot),
         Step::Down(values, bytes) => sends(conn, values, bytes),
         Step::Came(bytes, answer) => at_client(client, bytes) == Some(*answer),
@@ -426,11 +473,14 @@ const MALFORMED: [Step; 18] = [
     ),
 ];
 
-const ROWS: [(&str, &[Step]); 4] = [
+const ROWS: [(&str, &[Step]); 7] = [
     ("object_is_created_once_its_block_came", &CREATED),
     ("hidden_before_create_received", &HIDDEN),
     ("control_slot_is_sent_once_it_is_live", &CONTROLLED),
     ("malformed_datagrams", &MALFORMED),
+    ("lost_update_superseded", &SUPERSEDED),
+    ("lost_update_raised_again", &RAISED),
+    ("priority_and_share", &SHARED),
 ];
 
 #[test]

@@ -1,0 +1,43 @@
+-- A walk over a list without repetition, as far as it came.
+use Rattle.std.proofs.Common.{◌≡◌, ℕ, zero, suc, ◌+◌, ◌<◌, ◌≤◌, List, [], ◌∷◌, ◌++◌, ◌∙◌, length, take, drop, Some, None, refl, sym, ap, subst, arith}
+use Rattle.std.proofs.lemmas.List.{take-append-drop}
+use Rattle.work_list.specs.Work.{IsUnique, next_of, first_of}
+use Rattle.work_list.proofs.Walk.{next-append}
+
+-- nothing is left
+pub none_left : (xs : List ℕ) (i : ℕ) → first_of (drop i xs) ≡ None → length xs ≤ i
+none_left [] i h = omega arith
+none_left (x ∷ xs) zero h = absurd (cc)
+none_left (x ∷ xs) (suc i) h = omega (arith, none_left xs i h)
+
+-- the next that is left
+record IsNext (xs : List ℕ) (i x : ℕ) : Type 0 where
+  pub below : i < length xs
+  pub taken : take (suc i) xs ≡ take i xs ++ x ∷ []
+  pub left : drop i xs ≡ x ∷ drop (suc i) xs
+
+next_left : (xs : List ℕ) (i x : ℕ) → first_of (drop i xs) ≡ Some x → IsNext xs i x
+next_left [] zero x h = absurd (cc)
+next_left [] (suc i) x h = absurd (cc)
+next_left (y ∷ xs) zero x h =
+    let same : y ≡ x = cc in
+    record { below = omega arith; taken = ap (λ (z : ℕ). z ∷ []) same; left = ap (λ (z : ℕ). z ∷ xs) same }
+next_left (y ∷ xs) (suc i) x h =
+    let w = next_left xs i x h in
+    record { below = omega (arith, w.below); taken = ap (λ (l : List ℕ). y ∷ l) w.taken; left = w.left }
+
+pub record HasGone (xs : List ℕ) (i x : ℕ) : Type 0 where
+  pub below : i < length xs
+  pub taken : take (i + 1) xs ≡ take i xs ++ x ∷ []
+  pub next : next_of xs (Some x) ≡ first_of (drop (i + 1) xs)
+
+pub goes_on : (xs : List ℕ) (i x : ℕ) → IsUnique xs → first_of (drop i xs) ≡ Some x → HasGone xs i x
+goes_on xs i x u h =
+    let w = next_left xs i x h in
+    let split : xs ≡ take i xs ++ x ∷ drop (suc i) xs = sym (take-append-drop i xs) ∙ ap (λ (l : List ℕ). take i xs ++ l) w.left in
+    let one : i + 1 ≡ suc i = omega arith in
+    record {
+      below = w.below;
+      taken = ap (λ (k : ℕ). take k xs) one ∙ w.taken;
+      next = ap (λ (l : List ℕ). next_of l (Some x)) split ∙ next-append (take i xs) (drop (suc i) xs) x (subst IsUnique split u) ∙ ap (λ (k : ℕ). first_of (drop k xs)) (sym one);
+    }

@@ -1,0 +1,1 @@
+use Rattle.ghost_masks.proofs.packets.begin_rows.Goals as goal
