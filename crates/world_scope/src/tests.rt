@@ -1,13 +1,15 @@
 //! What clients see of small worlds.
-ghost use Rattle.std.specs.Prelude.{◌∷◌, [], IfOk};
+ghost use Rattle.std.specs.Prelude.{◌≡◌, ◌<◌, ◌∷◌, [], IfOk};
 ghost use Rattle.world_rules.specs.Identity.{OwnersRise};
 ghost use Rattle.world_rules.specs.Spawning.{SetupFits, SpawnFits};
 
-use crate::{Seen, visible};
-use std::alloc::Global;
+use crate::{Seen, visible, visible_counted};
+use std::alloc::{AllocError, Global};
+use std::marker::Brand;
+use std::sync::ledger::{Blank, Ledger};
 use std::test::Fail;
-use tn_types::NoMemory;
-use world_rules::{Setup, Spawn, Spawns};
+use tn_types::{Move, NoMemory, Steps};
+use world_rules::{Object, Setup, Spawn, Spawns, State};
 use world_sim::World;
 
 // A match of two clients with these four objects, whose players see so far.
@@ -184,5 +186,115 @@ fn client_without_player(rt: HostRuntime) -> Result<(), Fail> {
         told.as_slice(),
         [seen(0, 0), seen(1, 0), seen(2, 0), seen(3, 0)].as_slice()
     );
+    Ok(())
+}
+
+// An object as a client sees it whose player is this one, by a plain reading of docs/world.md.
+fn plainly(o: &Object, player: &Object, radius: u32) -> Option<u64> {
+    let way = o.place.x.abs_diff(player.place.x);
+    let away = way.max(o.place.y.abs_diff(player.place.y));
+    let armed = match &o.state {
+        State::Mine(mine) => mine.armed,
+        _ => false,
+    };
+    if !o.alive || away > radius || (armed && o.team != player.team) {
+        return None;
+    }
+    Some(4 * u64::from(away) / (u64::from(radius) + 1))
+}
+
+// A flag or a clock, which every client sees at level 0.
+fn is_fixed(o: &Object) -> bool {
+    matches!(o.state, State::Flag(_) | State::Clock(_))
+}
+
+// The same list by a walk over all objects, for a client whose player has this number.
+fn walked(alloc: Global, world: &World, client: usize) -> Result<Vec<(u32, u64)>, AllocError> {
+    let objects = world.all_objects();
+    let mut list = Vec::new(alloc);
+    if let Some(player) = objects.get(client) {
+        for (i, o) in objects.iter().enumerate() {
+            if is_fixed(o) {
+                list.push((i as u32, 0))?;
+            } else if let Some(level) = plainly(o, player, world.radius()) {
+                list.push((i as u32, level))?;
+            }
+        }
+    }
+    Ok(list)
+}
+
+// Both lists of a client are one.
+fn agrees(alloc: Global, world: &World, client: u8) -> Result<bool, NoMemory> {
+    let Ok(list) = walked(alloc, world, client as usize) else {
+        return Err(NoMemory);
+    };
+    let mut out = Vec::new(alloc);
+    visible(alloc, world, client, &mut out)?;
+    let same = out.len() == list.len()
+        && out
+            .iter()
+            .zip(list.iter())
+            .all(|(s, l)| s.object == l.0 && u64::from(s.level) == l.1);
+    Ok(same)
+}
+
+// A few ticks of two enemies, who both shoot, a mine and a drone between them.
+fn skirmish(alloc: Global, setup: &Setup) -> Result<bool, NoMemory>
+    requires { SetupFits setup.now }
+{
+    let mut world = World::new(alloc, 1, setup)?;
+    let mut same = true;
+    for _ in 0..30u32 {
+        if world.ticks() < 1000 {
+            world.tick(alloc, &[Some(SHOT), Some(SHOT)])?;
+        }
+        same = same && agrees(alloc, &world, 0)? && agrees(alloc, &world, 1)?;
+    }
+    Ok(same)
+}
+
+const SHOT: Move = Move {
+    dx: 3,
+    dy: 5,
+    fire: true,
+    act: false,
+};
+
+#[test]
+fn list_is_that_of_a_walk(rt: HostRuntime) -> Result<(), Fail> {
+    for (radius, x) in [(700, 4000), (4096, 8191), (20_000, 12_288)] {
+        let player = Spawn { x, ..PLAYER };
+        let setup = field(rt.alloc(), radius, player, ENEMY, ENEMY_MINE, DRONE)
+            .ok()
+            .ok_or("no memory")?;
+        let same = skirmish(rt.alloc(), &setup).ok().ok_or("no memory")?;
+        assert_eq!(rt; same, true, "{radius} {x}");
+    }
+    Ok(())
+}
+
+// How many objects a client sees, with a counter that nobody reads.
+fn counted<L: Ledger>(alloc: Global, world: &World, blank: Blank) -> Result<usize, NoMemory>
+    requires name { blank.name ≡ L.name }
+    requires parts { blank.parts ≡ L.parts }
+    requires some { 0 < blank.parts }
+{
+    let mut steps: Steps<L> = Steps::new(blank);
+    let mut out = Vec::new(alloc);
+    visible_counted(alloc, world, 0, &mut out, &mut steps)?;
+    Ok(out.len())
+}
+
+#[test]
+fn counted_sees_the_same(rt: HostRuntime) -> Result<(), Fail> {
+    let setup = field(rt.alloc(), 1000, PLAYER, ENEMY, MINE, FLAG)
+        .ok()
+        .ok_or("no memory")?;
+    let world = after(rt.alloc(), &setup, 0).ok().ok_or("no memory")?;
+    let many = counted::<Brand>(rt.alloc(), &world, Blank::new(1))
+        .ok()
+        .ok_or("no memory")?;
+    assert_eq!(rt; many, 4);
     Ok(())
 }
