@@ -190,7 +190,7 @@ fn client_without_player(rt: HostRuntime) -> Result<(), Fail> {
 }
 
 // An object as a client sees it whose player is this one, by a plain reading of docs/world.md.
-fn plainly(o: &Object, player: &Object, radius: u32) -> Option<u64> {
+fn plainly(object: u32, o: &Object, player: &Object, radius: u32) -> Option<Seen> {
     let way = o.place.x.abs_diff(player.place.x);
     let away = way.max(o.place.y.abs_diff(player.place.y));
     let armed = match &o.state {
@@ -200,58 +200,40 @@ fn plainly(o: &Object, player: &Object, radius: u32) -> Option<u64> {
     if !o.alive || away > radius || (armed && o.team != player.team) {
         return None;
     }
-    Some(4 * u64::from(away) / (u64::from(radius) + 1))
+    let level = 4 * u64::from(away) / (u64::from(radius) + 1);
+    Some(Seen {
+        object,
+        level: (level & 255) as u8,
+    })
 }
 
-// A flag or a clock, which every client sees at level 0.
-fn is_fixed(o: &Object) -> bool {
-    matches!(o.state, State::Flag(_) | State::Clock(_))
-}
-
-// The same list by a walk over all objects, for a client whose player has this number.
-fn walked(alloc: Global, world: &World, client: usize) -> Result<Vec<(u32, u64)>, AllocError> {
+// What the client sees whose player has number 0, by a walk over all objects, without flags and clocks.
+fn walked(alloc: Global, world: &World) -> Result<Vec<Seen>, AllocError> {
     let objects = world.all_objects();
     let mut list = Vec::new(alloc);
-    if let Some(player) = objects.get(client) {
-        for (i, o) in objects.iter().enumerate() {
-            if is_fixed(o) {
-                list.push((i as u32, 0))?;
-            } else if let Some(level) = plainly(o, player, world.radius()) {
-                list.push((i as u32, level))?;
-            }
+    let Some(player) = objects.first() else {
+        return Ok(list);
+    };
+    for (i, o) in objects.iter().enumerate() {
+        if let Some(seen) = plainly(i as u32, o, player, world.radius()) {
+            list.push(seen)?;
         }
     }
     Ok(list)
 }
 
-// Both lists of a client are one.
-fn agrees(alloc: Global, world: &World, client: u8) -> Result<bool, NoMemory> {
-    let Ok(list) = walked(alloc, world, client as usize) else {
-        return Err(NoMemory);
-    };
-    let mut out = Vec::new(alloc);
-    visible(alloc, world, client, &mut out)?;
-    let same = out.len() == list.len()
-        && out
-            .iter()
-            .zip(list.iter())
-            .all(|(s, l)| s.object == l.0 && u64::from(s.level) == l.1);
-    Ok(same)
-}
-
-// A few ticks of two enemies, who both shoot, a mine and a drone between them.
-fn skirmish(alloc: Global, setup: &Setup) -> Result<bool, NoMemory>
-    requires { SetupFits setup.now }
-{
-    let mut world = World::new(alloc, 1, setup)?;
-    let mut same = true;
-    for _ in 0..30u32 {
+// Two enemies who shoot at one another on the edge of a cell, a mine and a drone.
+fn skirmish(alloc: Global, radius: u16, ticks: u32) -> Result<World, NoMemory> {
+    let player = Spawn { x: 4000, ..PLAYER };
+    let enemy = Spawn { x: 4100, ..ENEMY };
+    let setup = field(alloc, radius, player, enemy, ENEMY_MINE, DRONE)?;
+    let mut world = World::new(alloc, 1, &setup)?;
+    for _ in 0..ticks {
         if world.ticks() < 1000 {
             world.tick(alloc, &[Some(SHOT), Some(SHOT)])?;
         }
-        same = same && agrees(alloc, &world, 0)? && agrees(alloc, &world, 1)?;
     }
-    Ok(same)
+    Ok(world)
 }
 
 const SHOT: Move = Move {
@@ -263,13 +245,14 @@ const SHOT: Move = Move {
 
 #[test]
 fn list_is_that_of_a_walk(rt: HostRuntime) -> Result<(), Fail> {
-    for (radius, x) in [(700, 4000), (4096, 8191), (20_000, 12_288)] {
-        let player = Spawn { x, ..PLAYER };
-        let setup = field(rt.alloc(), radius, player, ENEMY, ENEMY_MINE, DRONE)
+    for (radius, ticks) in [(700, 1), (1500, 4), (4096, 9), (20_000, 12), (900, 30)] {
+        let world = skirmish(rt.alloc(), radius, ticks).ok().ok_or("no memory")?;
+        let list = walked(rt.alloc(), &world)?;
+        let mut out = Vec::new(rt.alloc());
+        visible(rt.alloc(), &world, 0, &mut out)
             .ok()
             .ok_or("no memory")?;
-        let same = skirmish(rt.alloc(), &setup).ok().ok_or("no memory")?;
-        assert_eq!(rt; same, true, "{radius} {x}");
+        assert_eq!(rt; out.as_slice(), list.as_slice(), "{radius} {ticks}");
     }
     Ok(())
 }
