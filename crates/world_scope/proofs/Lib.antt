@@ -1,2 +1,6 @@
 pub mod Gathering
+pub mod Numbers
+pub mod Marking
+pub mod Parts
+pub mod Sights
 pub mod SeenList

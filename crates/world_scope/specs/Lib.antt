@@ -1,4 +1,6 @@
 pub mod Sight
 pub mod Scope
 pub mod Views
+pub mod Square
+pub mod Marks
 pub mod Examples

@@ -1,10 +1,11 @@
 //! Which objects of a world a client sees, and how near they are. The rules stand in docs/world.md, "Scope".
 #![tactic(auto)]
 
+mod marks;
 mod scope;
 #[cfg(test)]
 mod tests;
 mod viewer;
 
-pub use scope::visible;
+pub use scope::{visible, visible_counted};
 pub use viewer::Seen;

@@ -1,38 +1,53 @@
 //! The visible objects of a client.
-ghost use Rattle.std.specs.Prelude.{◌≡◌, ◌≤◌, ◌<◌, ◌↔◌, [], OnOk, OnErr, length, map, vec_capacity, Some, true};
+ghost use Rattle.std.specs.Prelude.{◌≡◌, ◌≤◌, ◌<◌, ◌+◌, ◌↔◌, [], OnOk, OnErr, length, map, vec_capacity, Some, true};
 ghost use Rattle.std.specs.List.{All, Contains, filter_map, enumerate_from};
 ghost use Rattle.std.specs.List.Sorted.{IsStrictlyIncreasing};
 ghost use Rattle.world_sim.specs.Worlds.{alive_at};
-ghost use Rattle.world_scope.specs.Scope.{seen, seen_at, visible_list};
-ghost use Rattle.world_scope.specs.Views.{look};
+ghost use Rattle.world_scope.specs.Scope.{seen_at, visible_list};
+ghost use Rattle.world_scope.specs.Marks.{told};
+ghost use Rattle.world_scope.specs.Square.{most_looks};
 
+use crate::marks::mark_seen;
 use crate::viewer::{Seen, Viewer};
 use std::alloc::{AllocError, Global};
-use tn_types::{MAX_OBJECTS, NoMemory};
-use world_rules::Object;
+use std::marker::Brand;
+use std::sync::ledger::{Blank, Ledger};
+use tn_types::{MAX_OBJECTS, NoMemory, Steps};
 use world_sim::World;
 
-// The objects that are seen, in place of what was in `out`.
-fn gather(viewer: &Viewer, objects: &[Object], out: &mut Vec<Seen>) -> Result<(), AllocError>
-    requires { length objects.now ≤ MAX_OBJECTS }
-    ensures ok { OnOk result (out.new.items ≡ filter_map (seen (look viewer.now)) (enumerate_from 0 objects.now)) }
-    ensures room { OnErr result (vec_capacity out.old < length (filter_map (seen (look viewer.now)) (enumerate_from 0 objects.now))) }
+// The objects that are marked, in place of what was in `out`.
+fn gather(marks: &[u8], out: &mut Vec<Seen>) -> Result<(), AllocError>
+    requires { length marks.now ≤ MAX_OBJECTS }
+    ensures ok { OnOk result (out.new.items ≡ filter_map told (enumerate_from 0 marks.now)) }
+    ensures room { OnErr result (vec_capacity out.old < length (filter_map told (enumerate_from 0 marks.now))) }
     ensures kept { vec_capacity out.old ≤ vec_capacity out.new }
 {
     out.clear();
-    for (i, o) in objects.iter().enumerate() {
-        if let Some(seen) = viewer.seen(i as u32, o) {
+    for (i, mark) in marks.iter().enumerate() {
+        if let Some(seen) = told(i as u32, *mark) {
             out.push(seen)?;
         }
     }
     Ok(())
 }
 
+// What a mark tells of the object of this number.
+fn told(object: u32, mark: u8) -> Option<Seen>
+    ensures { result ≡ told (object, mark) }
+{
+    if mark == 0 {
+        return None;
+    }
+    Some(Seen {
+        object,
+        level: mark - 1,
+    })
+}
+
 /// The objects that a client sees, by rising number, in place of what was in `out` (docs/world.md, "Scope"). It takes
 /// memory only where `out` has no room for them, and for want of memory `out` is empty.
-#[tactic(auto, unfolding(crate::specs::Scope::visible_list))]
 pub fn visible(
-    _alloc: Global,
+    alloc: Global,
     world: &World,
     client: u8,
     out: &mut Vec<Seen>,
@@ -51,8 +66,67 @@ pub fn visible(
     ensures there { All (λ s. s.object < length world.now.objects) out.new.items }
     ensures alive { All (λ s. alive_at world.now s.object ≡ Some true) out.new.items }
 {
+    visible_blank::<Brand>(alloc, world, client, out, Blank::new(1))
+}
+
+// `visible_counted` with a counter that nobody reads.
+fn visible_blank<L: Ledger>(
+    alloc: Global,
+    world: &World,
+    client: u8,
+    out: &mut Vec<Seen>,
+    blank: Blank,
+) -> Result<(), NoMemory>
+    requires name { blank.name ≡ L.name }
+    requires parts { blank.parts ≡ L.parts }
+    requires some { 0 < blank.parts }
+    ensures ok { OnOk result (out.new.items ≡ visible_list world.now client) }
+    ensures err { OnErr result (out.new.items ≡ []) }
+
+    // Memory is wanted only where the list has to grow, and the room of `out` never shrinks.
+    ensures room { OnErr result (vec_capacity out.old < length (visible_list world.now client)) }
+    ensures kept { vec_capacity out.old ≤ vec_capacity out.new }
+
+    // What holds of each list of visible objects.
+    ensures exactly { OnOk result ((s : Seen) → Contains out.new.items s ↔ (seen_at world.now client s.object ≡ Some s)) }
+    ensures levels { All (λ s. s.level ≤ 3) out.new.items }
+    ensures rising { IsStrictlyIncreasing (map (λ s. s.object) out.new.items) }
+    ensures there { All (λ s. s.object < length world.now.objects) out.new.items }
+    ensures alive { All (λ s. alive_at world.now s.object ≡ Some true) out.new.items }
+{
+    let mut steps: Steps<L> = Steps::new(blank);
+    visible_counted(alloc, world, client, out, &mut steps)
+}
+
+/// The same, with a step for each look at an object: at most as many as there are living objects in the cells that the
+/// square round the client's player touches, whose sides are twice the radius, and as there are flags and clocks, and 1.
+pub fn visible_counted<L: Ledger>(
+    _alloc: Global,
+    world: &World,
+    client: u8,
+    out: &mut Vec<Seen>,
+    steps: &mut Steps<L>,
+) -> Result<(), NoMemory>
+    ensures ok { OnOk result (out.new.items ≡ visible_list world.now client) }
+    ensures err { OnErr result (out.new.items ≡ []) }
+
+    // Memory is wanted only where the list has to grow, and the room of `out` never shrinks.
+    ensures room { OnErr result (vec_capacity out.old < length (visible_list world.now client)) }
+    ensures kept { vec_capacity out.old ≤ vec_capacity out.new }
+    ensures steps { steps.new ≤ steps.old + most_looks world.now client }
+
+    // What holds of each list of visible objects.
+    ensures exactly { OnOk result ((s : Seen) → Contains out.new.items s ↔ (seen_at world.now client s.object ≡ Some s)) }
+    ensures levels { All (λ s. s.level ≤ 3) out.new.items }
+    ensures rising { IsStrictlyIncreasing (map (λ s. s.object) out.new.items) }
+    ensures there { All (λ s. s.object < length world.now.objects) out.new.items }
+    ensures alive { All (λ s. alive_at world.now s.object ≡ Some true) out.new.items }
+{
     let viewer = Viewer::of(world, client);
-    match gather(&viewer, world.all_objects(), out) {
+    let objects = world.all_objects();
+    let mut marks = [0; MAX_OBJECTS];
+    mark_seen(&viewer, world, &mut marks, steps);
+    match gather(&marks[..objects.len()], out) {
         Ok(()) => Ok(()),
         Err(_) => {
             out.clear();

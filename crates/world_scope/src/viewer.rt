@@ -1,8 +1,9 @@
 //! A client's look at one object.
-ghost use Rattle.std.specs.Prelude.{◌≡◌, ◌≤◌, ◌+◌, ◌*◌, ◌/◌, ◌||◌, Some, None, find, if◌then◌else◌};
+ghost use Rattle.std.specs.Prelude.{◌≡◌, ℕ, ◌≤◌, ◌+◌, ◌*◌, ◌/◌, ◌||◌, Some, None, find, if◌then◌else◌};
 ghost use Rattle.std.specs.Option.{option_copied};
 ghost use Rattle.world_rules.specs.Flags.{is_player};
-ghost use Rattle.world_scope.specs.Sight.{distance, is_hidden, is_always};
+ghost use Rattle.world_sim.specs.Grid.{is_always};
+ghost use Rattle.world_scope.specs.Sight.{distance, is_hidden};
 
 use world_rules::flags::is_player;
 use world_rules::{Object, Place, State};
@@ -51,10 +52,11 @@ fn is_always(o: &Object) -> bool
 }
 
 // The quarter of the radius that lies so far away.
-#[tactic(auto, using(crate::proofs::SeenList::quarter_is))]
+#[tactic(auto, using(crate::proofs::SeenList::quarter_is, crate::proofs::SeenList::quarter_few))]
 fn quarter(radius: u32, away: u32) -> u8
     requires { away ≤ radius }
     ensures value { result ≡ 4 * away / (radius + 1) }
+    ensures few { result ≤ 3 }
 {
     let whole = u64::from(radius) + 1;
     let four = 4 * u64::from(away);
@@ -79,6 +81,7 @@ fn player_of(client: u8, objects: &[Object]) -> Option<&Object>
 impl Viewer {
     ghost use Rattle.world_scope.specs.Scope.{player_sees, quarter, seen, look_of};
     ghost use Rattle.world_scope.specs.Views.{look};
+    ghost use Rattle.world_scope.specs.Marks.{told};
 
     /// The look of a client at a world.
     pub fn of(world: &World, client: u8) -> Viewer
@@ -98,32 +101,35 @@ impl Viewer {
         is_player(self.client, o) || is_always(o)
     }
 
-    // What the client's player sees of an object with this number.
-    fn seen_by_player(&self, object: u32, o: &Object) -> Option<Seen>
-        ensures { result ≡ (if player_sees self.now.radius self.now.player o.now
+    // The mark of an object by what the client's player sees.
+    #[tactic(auto, using(crate::proofs::Marking::told_of))]
+    fn mark_by_player(&self, o: &Object) -> u8
+        ensures { (object : ℕ) → told (object, result) ≡ (if player_sees self.now.radius self.now.player o.now
             then Some (record { object = object; level = quarter self.now.radius self.now.player o.now }) else None) }
     {
-        let player = self.player?;
-        let away = distance(&player.place, &o.place);
-        if is_hidden(player.team, o) || away > self.radius {
-            return None;
+        match &self.player {
+            None => 0,
+            Some(player) => {
+                let away = distance(&player.place, &o.place);
+                if is_hidden(player.team, o) || away > self.radius {
+                    return 0;
+                }
+                quarter(self.radius, away) + 1
+            }
         }
-        Some(Seen {
-            object,
-            level: quarter(self.radius, away),
-        })
     }
 
-    /// An object with this number as the client sees it, if it does.
-    pub fn seen(&self, object: u32, o: &Object) -> Option<Seen>
-        ensures { result ≡ seen (look self.now) (object, o.now) }
+    /// The mark of an object as the client sees it: 0 where it doesn't, and else one more than the level.
+    #[tactic(auto, using(crate::proofs::Marking::told_of))]
+    pub fn mark(&self, o: &Object) -> u8
+        ensures { (object : ℕ) → told (object, result) ≡ seen (look self.now) (object, o.now) }
     {
         if !o.alive {
-            return None;
+            return 0;
         }
         if self.sees_anywhere(o) {
-            return Some(Seen { object, level: 0 });
+            return 1;
         }
-        self.seen_by_player(object, o)
+        self.mark_by_player(o)
     }
 }

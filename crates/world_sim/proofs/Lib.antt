@@ -1,3 +1,6 @@
+pub mod Places
+pub mod Changes
+pub mod Lasting
 pub mod RowFields
 pub mod RowLoops
 pub mod Made

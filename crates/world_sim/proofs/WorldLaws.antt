@@ -1,5 +1,5 @@
 -- What holds of every world.
-use Rattle.std.proofs.Common.{ap, ◌∙◌, ◌≡◌, ℕ, zero, suc, ◌<◌, ◌≤◌, ◌+◌, ◌-◌, ◌^◌, Bool, true, false, cond, List, [], ◌∷◌, length, map, replicate, refl, arith, length-append, Option}
+use Rattle.std.proofs.Common.{sym, ap, ◌∙◌, ◌≡◌, ℕ, zero, suc, ◌<◌, ◌≤◌, ◌+◌, ◌-◌, ◌^◌, Bool, true, false, cond, List, [], ◌∷◌, length, map, replicate, refl, arith, length-append, Option}
 use Rattle.std.specs.Prelude.{ℤ}
 use Rattle.std.specs.List.{AllByRecursion, filter_map}
 use Rattle.std.proofs.lemmas.List.{length-map, length-take}
@@ -11,6 +11,9 @@ use Rattle.world_rules.specs.Players.{fired}
 use Rattle.world_rules.specs.Next.{object_next, Moment}
 use Rattle.world_sim.specs.Rows.{values_of, fresh_versions, row_versions, versions_next, world_writes, differs}
 use Rattle.world_sim.proofs.Kept.{first_values, first_counts}
+use Rattle.world_sim.specs.Grid.{numbers, lasts}
+use Rattle.world_sim.specs.Cells.{IsGrid}
+use Rattle.world_sim.proofs.Lasting.{lasting_next}
 use Rattle.world_sim.proofs.Histories.{of_fields_fresh, of_fields_next, same_fields_next}
 use Rattle.world_rules.specs.Ranges.{ObjectFits}
 use Rattle.world_rules.proofs.Ranging.{objects_fit}
@@ -86,19 +89,23 @@ world_by : (w : Worlds) (moves : List (Option Move)) (os : List Object) (vs : Li
 unfolding next
 world_by w moves os vs ws f g h is = rw (f, g, h) (world_next w moves is)
 
-pub kept_from : (w : Worlds) (moves : List (Option Move)) (was : List Object) (had : List (List ℕ)) (os : List Object) (rows : List Row) (ws : List Write) → was ≡ w.objects → had ≡ w.versions → os ≡ objects_next was moves (coming w) → map row_values rows ≡ map values_of os → map row_counts rows ≡ versions_next was os had → ws ≡ world_writes 0 was os had → IsWorld w → IsKept (record { seed = w.seed; clients = w.clients; radius = w.radius; ticks = w.ticks + 1; objects = os; versions = map row_counts rows; writes = ws }) rows
-kept_from w moves was had os rows ws a b f k g h is =
+pub kept_from : (w : Worlds) (moves : List (Option Move)) (was : List Object) (had : List (List ℕ)) (os : List Object) (rows : List Row) (ws : List Write) (cells : List (List ℕ)) (always : List ℕ) → was ≡ w.objects → had ≡ w.versions → os ≡ objects_next was moves (coming w) → map row_values rows ≡ map values_of os → map row_counts rows ≡ versions_next was os had → ws ≡ world_writes 0 was os had → IsGrid cells os → always ≡ numbers lasts 0 was → IsWorld w → IsKept (record { seed = w.seed; clients = w.clients; radius = w.radius; ticks = w.ticks + 1; objects = os; versions = map row_counts rows; writes = ws }) rows cells always
+kept_from w moves was had os rows ws cells always a b f k g h grid lasting is =
     let now : os ≡ after w moves = rw a at f in
     record {
       world = world_by w moves os (map row_counts rows) ws now (rw (a, b, now) at g) (rw (a, b, now) at h) is;
       values = k;
+      grid = grid;
+      lasting = lasting ∙ rw (a, now) (sym (lasting_next w.clients w.objects moves (coming w) is.peopled));
     }
 
-pub fresh_world : (seed clients radius : ℕ) (os all : List Object) (rows : List Row) (ws : List Write) → length os ≤ 1024 → AllByRecursion ObjectFits os → IsPeopled clients os → all ≡ os → rows ≡ map fresh_row os → IsKept (record { seed = seed; clients = clients; radius = radius; ticks = 0; objects = all; versions = map row_counts rows; writes = ws }) rows
-fresh_world seed clients radius os all rows ws few fits peopled e f =
+pub fresh_world : (seed clients radius : ℕ) (os all : List Object) (rows : List Row) (ws : List Write) (cells : List (List ℕ)) (always : List ℕ) → length os ≤ 1024 → AllByRecursion ObjectFits os → IsPeopled clients os → all ≡ os → rows ≡ map fresh_row os → IsGrid cells all → always ≡ numbers lasts 0 all → IsKept (record { seed = seed; clients = clients; radius = radius; ticks = 0; objects = all; versions = map row_counts rows; writes = ws }) rows cells always
+fresh_world seed clients radius os all rows ws cells always few fits peopled e f grid lasting =
     record {
       world = rw (e, first_counts os rows f) (record { few = few; versions = of_fields_fresh os; counted = fresh_counted 0 os; fits = fits; peopled = peopled });
       values = first_values os all rows e f;
+      grid = grid;
+      lasting = lasting;
     }
 
 pub first_is : (seed : ℕ) (setup : Setup) (os : List Object) (rows : List Row) (ws : List Write) → os ≡ first_objects 0 setup.spawns → rows ≡ map fresh_row os → ws ≡ [] → (let w : Worlds = record { seed = seed; clients = setup.clients; radius = setup.radius; ticks = 0; objects = os; versions = map row_counts rows; writes = ws } in w ≡ first_world seed setup)

@@ -1,5 +1,8 @@
 pub mod Rows
 pub mod RowsNext
+pub mod Rising
+pub mod Grid
+pub mod Cells
 pub mod Worlds
 pub mod Found
 pub mod Facts

@@ -16,6 +16,8 @@ use Rattle.world_sim.specs.declared.rows.Write.{Write}
 use Rattle.world_sim.specs.declared.rows.Row.{Row}
 use Rattle.world_sim.specs.Rows.{values_of, fresh_versions, versions_next, world_writes}
 use Rattle.world_sim.specs.RowsNext.{row_values}
+use Rattle.world_sim.specs.Grid.{numbers, lasts, place_told}
+use Rattle.world_sim.specs.Cells.{IsGrid}
 
 pub record Worlds : Type 0 where
   pub seed : ℕ
@@ -67,10 +69,12 @@ pub record IsWorld (w : Worlds) : Type 0 where
   pub fits : AllByRecursion ObjectFits w.objects
   pub peopled : IsPeopled w.clients w.objects
 
--- a world as the code keeps it: each row has its object's values
-pub record IsKept (w : Worlds) (rows : List Row) : Type 0 where
+-- a world as the code keeps it: each row has its object's values, each cell the numbers of those that lie in it
+pub record IsKept (w : Worlds) (rows : List Row) (cells : List (List ℕ)) (always : List ℕ) : Type 0 where
   pub world : IsWorld w
   pub values : map row_values rows ≡ map values_of w.objects
+  pub grid : IsGrid cells w.objects
+  pub lasting : always ≡ numbers lasts 0 w.objects
 
 -- the world before its first tick
 abbrev pub first_world : ℕ → Setup → Worlds
@@ -100,6 +104,10 @@ kind_at w object = option_map (λ o. kind_of o.state) (slice_get w.objects objec
 
 abbrev pub block_at : Worlds → ℕ → Option ℕ
 block_at w object = option_map (λ o. o.block) (slice_get w.objects object)
+
+-- the place of an object; none inside for a clock, and none at all where there is no such object
+abbrev pub place_at : Worlds → ℕ → Option (Option (ℤ × ℤ))
+place_at w object = option_map place_told (slice_get w.objects object)
 
 abbrev pub values_at : Worlds → ℕ → Option (List ℤ)
 values_at w object = option_map values_of (slice_get w.objects object)

@@ -1,6 +1,8 @@
 //! The world of a match, tick by tick. Its rules stand in docs/world.md.
 #![tactic(auto)]
 
+mod cell;
+mod cells;
 mod found;
 pub mod laws;
 mod rows;
@@ -9,5 +11,6 @@ mod step;
 mod tests;
 mod world;
 
+pub use cells::{CELL_SIDE, CELLS_ACROSS};
 pub use rows::{Row, Write};
 pub use world::World;

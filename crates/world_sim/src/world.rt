@@ -7,21 +7,24 @@ ghost use Rattle.world_rules.specs.Next.{objects_next};
 ghost use Rattle.world_rules.specs.Spawning.{first_objects, SetupFits};
 ghost use Rattle.world_rules.specs.Ranges.{ObjectFits};
 ghost use Rattle.world_rules.specs.Identity.{IsPeopled};
-ghost use Rattle.world_sim.specs.Worlds.{next, added, first_world, alive_at, kind_at, block_at, values_at, version_at, identity_at, player_of};
+ghost use Rattle.world_sim.specs.Worlds.{next, added, first_world, alive_at, kind_at, block_at, values_at, version_at, identity_at, player_of, place_at};
+ghost use Rattle.world_sim.specs.Grid.{numbers, lasts, lies_at, is_always};
 ghost use Rattle.world_sim.specs.Facts.{IsWriteOf, ValuesFit};
 ghost use Rattle.world_sim.specs.Rows.{values_of, versions_next, world_writes};
 ghost use Rattle.world_sim.specs.RowsNext.{fresh_row, row_values, row_counts, rows_next, IsSoundRow};
 
+use crate::cells::{CELLS_ACROSS, Cells, has_place};
 use crate::found::{Found, captures_of, find_all, nothing};
 use crate::rows::{Row, Write, fresh_row, note_rows, step_rows};
 use crate::step::{Old, step_each};
 use std::alloc::{AllocError, Global};
 use std::marker::Model;
 use std::mem;
-use tn_types::{MAX_OBJECTS, Move, NoMemory};
+use std::sync::ledger::Ledger;
+use tn_types::{MAX_OBJECTS, Move, NoMemory, Steps};
 use world_rules::fire::fired;
 use world_rules::flags::is_player;
-use world_rules::{Object, Setup, Spawn};
+use world_rules::{Object, Setup, Spawn, State};
 
 // Writes of a tick at the most: five fields of each object.
 const MAX_WRITES: usize = 5 * MAX_OBJECTS;
@@ -54,6 +57,10 @@ pub struct World {
     objects: Vec<Object>,
     rows: Vec<Row>,
     writes: Vec<Write>,
+    // The living by the cell that they lie in.
+    cells: Cells,
+    // The numbers of what every client sees. No tick makes or ends one.
+    always: Vec<u32>,
     work: Work,
 }
 
@@ -82,7 +89,7 @@ impl Model for World {
       objects = w.objects.items;
       versions = map row_counts w.rows.items;
       writes = w.writes.items;
-    }) w.rows.items };
+    }) w.rows.items w.cells w.always.items };
 }
 
 // Adds a disc that is made, if there is a place.
@@ -161,6 +168,7 @@ fn advance(
     requires sound { AllByRecursion IsSoundRow rows.now }
     ensures objects { OnOk result (work.new.after.items ≡ objects_next objects.now moves.now (record { seed = seed; tick = tick })) }
     ensures more { OnOk result (length rows.now ≤ length work.new.after.items) }
+    ensures few { OnOk result (length work.new.after.items ≤ MAX_OBJECTS) }
     ensures writes { OnOk result (work.new.after_writes.items
         ≡ world_writes 0 objects.now work.new.after.items (map row_counts rows.now)) }
 {
@@ -194,6 +202,28 @@ fn first_rows(alloc: Global, objects: &[Object]) -> Result<Vec<Row>, AllocError>
     Ok(rows)
 }
 
+// Whether an object's kind is always seen.
+fn is_always(o: &Object) -> bool
+    ensures { result ≡ is_always o.now }
+{
+    matches!(o.state, State::Flag(_) | State::Clock(_))
+}
+
+// The numbers of those that every client sees.
+#[tactic(auto, using(crate::proofs::Lasting::numbers_more, crate::proofs::Lasting::numbers_end))]
+fn lasting(alloc: Global, objects: &[Object]) -> Result<Vec<u32>, AllocError>
+    requires { length objects.now ≤ MAX_OBJECTS }
+    ensures { IfOk result (λ v. v.items ≡ numbers lasts 0 objects.now) }
+{
+    let mut always = Vec::new(alloc);
+    for (i, o) in objects.iter().enumerate() {
+        if o.alive && is_always(o) {
+            always.push(i as u32)?;
+        }
+    }
+    Ok(always)
+}
+
 // The place of the client's player.
 fn place_of_player(client: u8, objects: &[Object]) -> Option<usize>
     ensures place { result ≡ position (is_player client) objects.now }
@@ -224,7 +254,10 @@ impl World {
         let objects = start_objects(alloc, setup.spawns.as_slice())?;
         let rows = first_rows(alloc, &objects)?;
         let writes = Vec::with_capacity(alloc, MAX_WRITES)?;
+        let always = lasting(alloc, &objects)?;
+        let mut cells = Cells::new(alloc)?;
         let work = workroom(alloc)?;
+        cells.settle_from(0, &objects);
         Ok(World {
             seed,
             clients: setup.clients,
@@ -233,6 +266,8 @@ impl World {
             objects,
             rows,
             writes,
+            cells,
+            always,
             work,
         })
     }
@@ -273,6 +308,8 @@ impl World {
             &mut self.work,
         )?;
         step_rows(&mut self.rows, &self.work.after)?;
+        self.cells.resettle_all(&self.objects, &self.work.after);
+        self.cells.settle_from(self.objects.len(), &self.work.after);
         mem::swap(&mut self.objects, &mut self.work.after);
         mem::swap(&mut self.writes, &mut self.work.after_writes);
         self.ticks += 1;
@@ -334,6 +371,39 @@ impl World {
         ensures fits { AllByRecursion ObjectFits result.now }
     {
         self.objects.as_slice()
+    }
+
+    /// The numbers of the living objects in a cell of the field, rising: those with `x / 4096` equal to `cx` and
+    /// `y / 4096` equal to `cy` (docs/world.md, "Cells"). Clocks lie in no cell.
+    #[tactic(auto, using(crate::proofs::Lasting::cell_tells))]
+    pub fn cell(&self, cx: u8, cy: u8) -> &[u32]
+        requires column { cx < CELLS_ACROSS }
+        requires row { cy < CELLS_ACROSS }
+        ensures { result.now ≡ numbers (lies_at cx cy) 0 self.now.objects }
+    {
+        self.cells.cell(cy * CELLS_ACROSS as u8 + cx)
+    }
+
+    /// The numbers of the living objects that every client sees, rising: flags and clocks.
+    pub fn always(&self) -> &[u32]
+        ensures { result.now ≡ numbers lasts 0 self.now.objects }
+    {
+        self.always.as_slice()
+    }
+
+    /// A look at an object, which takes one step: its place in centimetres, `None` exactly for a clock.
+    pub fn look<L: Ledger>(&self, object: u32, steps: &mut Steps<L>) -> Option<(i64, i64)>
+        requires { object < length self.now.objects }
+        ensures place { Some result ≡ place_at self.now object }
+        ensures steps { steps.new ≡ steps.old + 1 }
+    {
+        steps.tick();
+        let o = &self.objects[object as usize];
+        if has_place(o) {
+            Some((i64::from(o.place.x), i64::from(o.place.y)))
+        } else {
+            None
+        }
     }
 
     /// Whether an object is alive.

@@ -3,6 +3,7 @@ use Rattle.std.specs.List.{AllByRecursion}
 use Rattle.world_sim.specs.Rows.{world_writes}
 use Rattle.world_sim.specs.RowsNext.{row_counts, rows_next}
 use Rattle.world_sim.specs.Worlds.{Worlds, after}
+use Rattle.world_sim.specs.Cells.{IsGrid}
 use Rattle.world_sim.proofs.Kept.{values_kept, counts_kept}
 use Rattle.world_sim.specs.Facts.{IsWriteOf}
 use Rattle.world_sim.proofs.InRange.{writes_fit}
@@ -16,10 +17,11 @@ invariant_of-self-2 c =
     let writes : c.swap-2.new.x.items ≡ world_writes 0 before.objects c.swap.new.x.items before.versions = rw (c.swap.ensures.x_after, c.swap-2.ensures.x_after) (rw (c.deref.ensures.value, c.deref-2.ensures.value) at c.in_ok-advance.ensures.writes) in
     let rows : c.step_rows.new.rows.items ≡ rows_next c.self.inside.rows.items c.swap.new.x.items = rw c.swap.ensures.x_after (rw c.deref-3.ensures.value at c.in_ok-step_rows.ensures.ok) in
     let more : length c.self.inside.rows.items ≤ length c.swap.new.x.items = rw c.swap.ensures.x_after (rw c.deref-2.ensures.value at c.in_ok-advance.ensures.more) in
-    kept_from before c.args.moves.now before.objects before.versions c.swap.new.x.items c.step_rows.new.rows.items c.swap-2.new.x.items refl refl objects
+    let grid : IsGrid c.settle_from.new.self c.swap.new.x.items = rw c.swap.ensures.x_after (rw c.deref-6.ensures.value at c.settle_from.ensures) in
+    kept_from before c.args.moves.now before.objects before.versions c.swap.new.x.items c.step_rows.new.rows.items c.swap-2.new.x.items c.settle_from.new.self c.self.inside.always.items refl refl objects
     (values_kept c.self.inside.rows.items c.step_rows.new.rows.items c.swap.new.x.items rows more)
     (counts_kept c.self.inside.rows.items c.step_rows.new.rows.items before.objects c.swap.new.x.items c.self.invariant.values rows)
-    writes c.self.invariant.world
+    writes grid c.self.invariant.lasting c.self.invariant.world
 
 pub returns-clause-writes : goal.returns-clause-writes
 returns-clause-writes c =

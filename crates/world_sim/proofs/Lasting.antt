@@ -1,0 +1,128 @@
+-- What every client sees stays the same, and the numbers of those that pass a test, object by object.
+use Rattle.std.proofs.Common.{◌≡◌, ℕ, zero, suc, ◌-◌, ◌+◌, ◌*◌, ◌/◌, ◌%◌, ◌<◌, ◌≤◌, Bool, true, false, cond, ◌&&◌, List, [], ◌∷◌, ◌++◌, length, map, get_or, drop, take, refl, sym, ap, ◌∙◌, arith, add-one, append_assoc, Option, Some, None, nat_eq}
+use Rattle.std.specs.Prelude.{slice_get}
+use Rattle.std.specs.List.{AllByRecursion, filter_map, cons_option}
+use Rattle.std.specs.Option.{option_map_or}
+use Rattle.std.proofs.lemmas.List.{drop_more, drop_all, append-nil}
+use Rattle.std.proofs.Math.Bool.{and-false}
+use Rattle.std.proofs.lemmas.Bool.Decides.{nat_tests}
+use Rattle.tn_types.specs.declared.moves.Move.{Move}
+use Rattle.world_rules.specs.declared.object.Object.{Object}
+use Rattle.world_rules.specs.declared.object.State.{State}
+use Rattle.world_rules.specs.declared.object.State.TheVariants.{Player, Disc, Mine, Drone, Flag, Clock}
+use Rattle.world_rules.specs.Kinds.{match_kinds}
+use Rattle.world_rules.specs.Identity.{Identity, LivesOn, IsPeopled}
+use Rattle.world_rules.specs.Players.{fired, fired_by, fired_part}
+use Rattle.world_rules.specs.Next.{object_next, objects_next, discs_made, Moment}
+use Rattle.world_rules.specs.Ranges.{ObjectFits}
+use Rattle.world_rules.proofs.Identities.{stays_itself}
+use Rattle.world_rules.proofs.Peopled.{peopled_next}
+use Rattle.world_sim.specs.Grid.{numbers, lasts, is_always, lies_at, has_place}
+use Rattle.world_sim.specs.Cells.{IsGrid, lies_in, is_cell}
+
+-- ---- numbers
+
+same_numbers_by : (p q : Object → Bool) (k : ℕ) (os : List Object) → AllByRecursion (λ o. p o ≡ q o) os → numbers p k os ≡ numbers q k os
+same_numbers_by p q k [] a = refl
+same_numbers_by p q k (o ∷ os) a = rw (a.0, same_numbers_by p q (suc k) os a.1) refl
+
+abbrev pub numbers_from : (Object → Bool) → List ℕ → ℕ → List Object → List ℕ
+numbers_from p front i os = front ++ numbers p i (drop i os)
+
+pub numbers_more : (p : Object → Bool) (front : List ℕ) (i : ℕ) (os : List Object) (o : Object) (b : Bool) → i < length os → o ≡ get_or os i o → p o ≡ b → numbers_from p front i os ≡ numbers_from p (cond b (front ++ i ∷ []) front) (i + 1) os
+numbers_more p front i os o true l e h = rw (drop_more os i o l, ← e, h, add-one, append_assoc) refl
+numbers_more p front i os o false l e h = rw (drop_more os i o l, ← e, h, add-one) refl
+
+pub numbers_end : (p : Object → Bool) (front : List ℕ) (i : ℕ) (os : List Object) → length os ≤ i → numbers_from p front i os ≡ front
+numbers_end p front i os l = rw (drop_all i os l, append-nil) refl
+
+-- ---- what every client sees
+
+abbrev always_kind : ℕ → Bool
+always_kind k = option_map_or (λ kind. kind.always) (slice_get match_kinds k) false
+
+always_stays : (os : List Object) (moves : List (Option Move)) (t : Moment) (o : Object) → is_always (object_next os moves t o) ≡ is_always o
+always_stays os moves t o = ap (λ (i : Identity). always_kind i.kind) (stays_itself os moves t o)
+
+lives : (o : Object) (s : State) → o.state ≡ s → LivesOn o → (o.alive && is_always o) ≡ is_always o
+lives o (Player p) e h = rw e (and-false o.alive)
+lives o (Disc d) e h = rw e (and-false o.alive)
+lives o (Mine m) e h = rw e (and-false o.alive)
+lives o (Drone d) e h = rw e (and-false o.alive)
+lives o (Flag f) e h = let a : o.alive ≡ true = (rw e at h) refl in rw (a, e) refl
+lives o (Clock c) e h = let a : o.alive ≡ true = (rw e at h) refl in rw (a, e) refl
+
+all_lasting : (k : ℕ) (os : List Object) → AllByRecursion LivesOn os → numbers lasts k os ≡ numbers is_always k os
+all_lasting k [] a = refl
+all_lasting k (o ∷ os) a = rw (lives o o.state refl a.0, all_lasting (suc k) os a.1) refl
+
+-- a disc that is made isn't always seen
+abbrev IsNot : Object → Type 0
+IsNot d = is_always d ≡ false
+
+abbrev IfMadeNot : Option Object → Type 0
+IfMadeNot None = Unit {0}
+IfMadeNot (Some d) = IsNot d
+
+no_more : (made : Option Object) (ds : List Object) → IfMadeNot made → AllByRecursion IsNot ds → AllByRecursion IsNot (cons_option made ds)
+no_more None ds h a = a
+no_more (Some d) ds h a = (h, a)
+
+chosen : (b : Bool) (d : Object) → IsNot d → IfMadeNot (cond b (Some d) None)
+chosen true d h = h
+chosen false d h = tt
+
+fired_not : (moves : List (Option Move)) (o : Object) (s : State) → IfMadeNot (fired_part moves o s)
+unfolding fired_by
+fired_not moves o (Player p) = chosen _ _ refl
+fired_not moves o (Disc d) = tt
+fired_not moves o (Mine m) = tt
+fired_not moves o (Drone d) = tt
+fired_not moves o (Flag f) = tt
+fired_not moves o (Clock c) = tt
+
+all_not : (moves : List (Option Move)) (os : List Object) → AllByRecursion IsNot (filter_map (fired moves) os)
+all_not moves [] = tt
+all_not moves (o ∷ os) = no_more (fired moves o) (filter_map (fired moves) os) (fired_not moves o o.state) (all_not moves os)
+
+take_not : (n : ℕ) (ds : List Object) → AllByRecursion IsNot ds → AllByRecursion IsNot (take n ds)
+take_not zero ds a = tt
+take_not (suc n) [] a = tt
+take_not (suc n) (d ∷ ds) a = (a.0, take_not n ds a.1)
+
+none_of : (k : ℕ) (ds : List Object) → AllByRecursion IsNot ds → numbers is_always k ds ≡ []
+none_of k [] a = refl
+none_of k (d ∷ ds) a = rw a.0 (none_of (suc k) ds a.1)
+
+always_next : (os : List Object) (moves : List (Option Move)) (t : Moment) (k : ℕ) (xs ds : List Object) → AllByRecursion IsNot ds → numbers is_always k (map (object_next os moves t) xs ++ ds) ≡ numbers is_always k xs
+always_next os moves t k [] ds a = none_of k ds a
+always_next os moves t k (o ∷ xs) ds a = rw (always_stays os moves t o, always_next os moves t (suc k) xs ds a) refl
+
+pub lasting_next : (clients : ℕ) (os : List Object) (moves : List (Option Move)) (t : Moment) → IsPeopled clients os → numbers lasts 0 (objects_next os moves t) ≡ numbers lasts 0 os
+unfolding discs_made
+lasting_next clients os moves t h =
+    all_lasting 0 (objects_next os moves t) (peopled_next clients os moves t h).alive
+    ∙ always_next os moves t 0 os (discs_made os moves) (take_not (1024 - length os) _ (all_not moves os))
+    ∙ sym (all_lasting 0 os h.alive)
+
+-- ---- a cell by its column and row
+
+pair_cell : (x y cx cy : ℕ) → x < 16 → y < 16 → cx < 16 → cy < 16 → nat_eq (y % 16 * 16 + x % 16) (cy * 16 + cx) ≡ (nat_eq x cx && nat_eq y cy)
+pair_cell x y cx cy a b c d = grind (arith, nat_tests)
+
+lies_by : (cx cy : ℕ) (o : Object) → cx < 16 → cy < 16 → ObjectFits o → lies_in (cy * 16 + cx) o ≡ lies_at cx cy o
+lies_by cx cy o a b fits = by_life o.alive (has_place o.state) (cy * 16 + cx) _ _ (pair_cell (o.place.x / 4096) (o.place.y / 4096) cx cy (omega (arith, fits.place.0)) (omega (arith, fits.place.1)) a b)
+  where
+    by_life : (alive placed : Bool) (c d : ℕ) (e : Bool) → nat_eq d c ≡ e → is_cell c (cond (alive && placed) (Some d) None) ≡ (alive && (placed && e))
+    by_life false placed c d e h = refl
+    by_life true false c d e h = refl
+    by_life true true c d e h = h
+
+all_lie : (cx cy : ℕ) (os : List Object) → cx < 16 → cy < 16 → AllByRecursion ObjectFits os → AllByRecursion (λ o. lies_in (cy * 16 + cx) o ≡ lies_at cx cy o) os
+all_lie cx cy [] a b fits = tt
+all_lie cx cy (o ∷ os) a b fits = (lies_by cx cy o a b fits.0, all_lie cx cy os a b fits.1)
+
+pub cell_tells : (cells : List (List ℕ)) (os : List Object) (cx cy : ℕ) → IsGrid cells os → AllByRecursion ObjectFits os → cx < 16 → cy < 16 → get_or cells (cy * 16 + cx) [] ≡ numbers (lies_at cx cy) 0 os
+cell_tells cells os cx cy g fits a b =
+    g.exact (cy * 16 + cx) (omega arith)
+    ∙ same_numbers_by (lies_in (cy * 16 + cx)) (lies_at cx cy) 0 os (all_lie cx cy os a b fits)
