@@ -1,0 +1,7 @@
+pub mod Walk
+pub mod There
+pub mod Client
+pub mod Joined
+pub mod Levels
+pub mod Slots
+pub mod Recovered
