@@ -1,7 +1,8 @@
 -- What a client holds agrees with what the server's ghosts tell, after every legal list of events whose verdicts are what
 -- the client processed. By induction over the list, where packets that were processed are so from when they are sent: each
 -- step but a packet leaves the periods that are there.
-use Rattle.std.proofs.Common.{◌≡◌, ◌≢◌, ℕ, zero, suc, ◌+◌, ◌<◌, ◌≤◌, Bool, true, false, ◌&&◌, cond, List, [], ◌∷◌, ◌++◌, ◌∙◌, map, drop, length, length-drop, Some, None, Option, refl, sym, ap, subst, inl, inr, arith, eqb, ltb, count_by}
+use Rattle.std.proofs.Common.{◌≡◌, ◌≢◌, ℕ, zero, suc, ◌+◌, ◌<◌, ◌≤◌, Bool, true, false, ◌&&◌, cond, List, [], ◌∷◌, ◌++◌, ◌∙◌, map, drop, take, length, length-drop, Some, None, Option, refl, sym, ap, subst, inl, inr, arith, eqb, ltb, count_by}
+use Rattle.std.specs.Prelude.{slice_get}
 use Rattle.std.specs.List.{AllByRecursion}
 use Rattle.std.proofs.Math.Numerals.{add-one}
 use Rattle.std.proofs.lemmas.Bool.{cases_eq, and_left}
@@ -37,10 +38,10 @@ AreSaid done (_ ∷ log) = AreSaid done log
 abbrev pub is_there : List GhostEvent → (ℕ → Bool) → ℕ → Bool
 is_there g done n = after_done (packet_there n) done (suc (verdicts g)) (was_there (phase g n)) (unjudged g)
 
--- each packet finds what it speaks of, right behind those before it that were processed
+-- each packet finds what it speaks of, right behind those before it that were processed, and names no slot twice
 abbrev pub AreFound : (ℕ → Bool) → ℕ → (ℕ → Option Copy) → List (List Item) → Type 0
 AreFound done k copies [] = Unit {0}
-AreFound done k copies (p ∷ ps) = FindsEach p copies × AreFound done (suc k) (cond (done k) (taken p copies) copies) ps
+AreFound done k copies (p ∷ ps) = FindsEach p copies × NameOnce (choices p) × AreFound done (suc k) (cond (done k) (taken p copies) copies) ps
 
 pub record Joined (g : List GhostEvent) (sent : List (List Item)) (done : ℕ → Bool) : Type 0 where
   pub agree : Agree (given (scope_log g)) (is_there g done) (copies_of done sent)
@@ -48,9 +49,9 @@ pub record Joined (g : List GhostEvent) (sent : List (List Item)) (done : ℕ �
 
 -- ---- lists
 
-found_push : (done : ℕ → Bool) (k : ℕ) (copies : ℕ → Option Copy) (ps : List (List Item)) (p : List Item) → AreFound done k copies ps → FindsEach p (after_done taken done k copies ps) → AreFound done k copies (ps ++ p ∷ [])
-found_push done k copies [] p all f = (f, tt)
-found_push done k copies (q ∷ ps) p all f = (all.0, found_push done (suc k) (cond (done k) (taken q copies) copies) ps p all.1 f)
+found_push : (done : ℕ → Bool) (k : ℕ) (copies : ℕ → Option Copy) (ps : List (List Item)) (p : List Item) → AreFound done k copies ps → FindsEach p (after_done taken done k copies ps) → NameOnce (choices p) → AreFound done k copies (ps ++ p ∷ [])
+found_push done k copies [] p all f once = (f, once, tt)
+found_push done k copies (q ∷ ps) p all f once = (all.0, all.1, found_push done (suc k) (cond (done k) (taken q copies) copies) ps p all.2 f once)
 
 -- the packet that was sent last
 pub record LastOf (sent : List (List Item)) (xs : List (List Choice)) (c : List Choice) : Type 0 where
@@ -75,6 +76,14 @@ last_of (p ∷ ps) (x ∷ xs) c h = further p x xs c (first h) (last_of ps xs c 
 
     further : (p : List Item) (x : List Choice) (xs : List (List Choice)) (c : List Choice) → x ≡ choices p → LastOf ps xs c → LastOf (p ∷ ps) (x ∷ xs) c
     further p x xs c e r = record { front = p ∷ r.front; last = r.last; is = ap (λ l. p ∷ l) r.is; fronts = ap (λ y. y ∷ xs) e ∙ ap (λ l. choices p ∷ l) r.fronts; lasts = r.lasts }
+
+-- a slot that is named once is named by no other item
+pub other_slots : (s : ℕ) (items : List Item) → count_by (λ (c : Choice). eqb c.slot s) (choices items) ≡ 0 → AllByRecursion (λ (x : Item). s ≢ x.choice.slot) items
+other_slots s [] none = tt
+other_slots s (i ∷ items) none = (
+  λ same. omega (arith, none, count_here s i.choice (choices items) (sym same)),
+  other_slots s items (omega (arith, none, count_rest s i.choice (choices items))),
+)
 
 -- ---- what is known of a log
 
@@ -118,13 +127,6 @@ module _ (kinds : KindSizes) (g : List GhostEvent) (legal : IsLegal kinds g) (do
       (λ n. ap (λ b. after_done (packet_there n) done (suc (verdicts g)) b (unjudged g)) (hidden_same m up n)) (λ n t. refl) a
 
   -- ---- a packet is sent
-
-  other_slots : (s : ℕ) (items : List Item) → count_by (λ (c : Choice). eqb c.slot s) (choices items) ≡ 0 → AllByRecursion (λ (x : Item). s ≢ x.choice.slot) items
-  other_slots s [] none = tt
-  other_slots s (i ∷ items) none = (
-    λ same. omega (arith, none, count_here s i.choice (choices items) (sym same)),
-    other_slots s items (omega (arith, none, count_rest s i.choice (choices items))),
-  )
 
   other_periods : (i : Item) (items : List Item) → given (scope_log g) i.choice.n ≡ Some i.choice.slot → AllByRecursion (IsWriting (scope_log g)) (choices items) → AllByRecursion (λ (x : Item). i.choice.slot ≢ x.choice.slot) items
       → AllByRecursion (λ (x : Item). i.choice.n ≢ x.choice.n) items
@@ -177,7 +179,7 @@ module _ (kinds : KindSizes) (g : List GhostEvent) (legal : IsLegal kinds g) (do
           agree_by (given (scope_log g)) (given (scope_log (Sent Cs ∷ g))) (λ n. cond (done Number) (packet_there n Cs (is_there g done n)) (is_there g done n)) (is_there (Sent Cs ∷ g) done) (copies_of done (front ++ items ∷ []))
           sent_there (λ n t. wrote_given Cs (scope_log g) n)
           (subst (Agree (given (scope_log g)) (λ n. cond (done Number) (packet_there n Cs (is_there g done n)) (is_there g done n))) (sym (done_push taken done 1 (λ slot. None) front items)) (either (done Number)));
-      found = found_push done 1 (λ slot. None) front items old.found took.finds;
+      found = found_push done 1 (λ slot. None) front items old.found took.finds once;
     }
 
   -- ---- the oldest packet is judged
@@ -224,3 +226,13 @@ joined kinds done (Sent cs ∷ g) sent same legal said =
     let all = subst (λ l. AllByRecursion (IsWriting (scope_log g)) l) (sym s.lasts) (writing kinds g cs legal.0.0) in
     let j = sent_joined kinds g legal.1 done s.last s.front s.fronts all (subst NameOnce (sym s.lasts) legal.0.1) (joined kinds done g s.front s.fronts legal.1 said) in
     subst (λ l. Joined (Sent cs ∷ g) l done) (sym s.is) (subst (λ l. Joined (Sent l ∷ g) (s.front ++ s.last ∷ []) done) s.lasts j)
+
+-- what the packet at a place found
+pub found_at : (done : ℕ → Bool) (k : ℕ) (copies : ℕ → Option Copy) (ps : List (List Item)) (i : ℕ) (p : List Item) → AreFound done k copies ps → slice_get ps i ≡ Some p → FindsEach p (after_done taken done k copies (take i ps)) × NameOnce (choices p)
+found_at done k copies [] zero p all at = absurd (cc)
+found_at done k copies [] (suc i) p all at = absurd (cc)
+found_at done k copies (q ∷ ps) zero p all at = subst (λ r. FindsEach r copies × NameOnce (choices r)) (same at) (all.0, all.1)
+  where
+    same : Some q ≡ Some p → q ≡ p
+    same h = cc
+found_at done k copies (q ∷ ps) (suc i) p all at = found_at done (suc k) (cond (done k) (taken q copies) copies) ps i p all.2 at

@@ -76,7 +76,7 @@ module _ (given : ℕ → Option ℕ) where
       → AreLevelled (λ n f. after_done (put n f) done k (last n f) ps) (after_done taken done k copies ps)
   levelled done k [] own last copies found l = l
   levelled done k (p ∷ ps) own last copies found l =
-      levelled done (suc k) ps own.1 (λ n f. cond (done k) (put n f p (last n f)) (last n f)) (cond (done k) (taken p copies) copies) found.1 (either (done k))
+      levelled done (suc k) ps own.1 (λ n f. cond (done k) (put n f p (last n f)) (last n f)) (cond (done k) (taken p copies) copies) found.2 (either (done k))
     where
       either : (b : Bool) → AreLevelled (λ n f. cond b (put n f p (last n f)) (last n f)) (cond b (taken p copies) copies)
       either true = levelled_packet p own.0 last copies found.0 l

@@ -1,0 +1,4 @@
+pub mod Sent
+pub mod Ends
+pub mod Copies
+pub mod Recovery
