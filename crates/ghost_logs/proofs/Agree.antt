@@ -1,15 +1,14 @@
 -- The laws, said of the client's own copies.
-use Rattle.std.proofs.Common.{◌≡◌, inl, inr, ℕ, ◌<◌, Bool, true, false, cond, List, ◌∷◌, ◌∙◌, length, Some, None, Option, refl, sym, ap, subst}
+use Rattle.std.proofs.Common.{◌≡◌, inl, inr, ℕ, cond, List, ◌∙◌, length, Some, None, Option, refl, sym, ap, subst}
 use Rattle.std.specs.List.{list_any}
 use Rattle.std.proofs.lemmas.Bool.{cases_Bool}
 use Rattle.ghost_model.specs.Scope.{given, traits}
-use Rattle.ghost_model.specs.Ghosts.{scope_log, phase, carries, unjudged, is_due}
-use Rattle.ghost_model.specs.Legal.{IsLegal, IsUp}
+use Rattle.ghost_model.specs.Ghosts.{scope_log, carries, unjudged, is_due}
+use Rattle.ghost_model.specs.Legal.{IsLegal}
 use Rattle.ghost_masks.specs.Plan.{sizes, fields_of}
 use Rattle.ghost_client.specs.declared.copy.GhostCopy.{GhostCopy}
 use Rattle.ghost_client.specs.Copies.{copy_of}
 use Rattle.ghost_pair.specs.Copies.{Copy, copies_of}
-use Rattle.ghost_pair.specs.Levels.{processed_level}
 use Rattle.ghost_pair.proofs.Joined.{alive_there}
 use Rattle.ghost_pair.proofs.Recovered.{copy_levels, at_client}
 use Rattle.ghost_pair.proofs.Recovered as pair
@@ -19,7 +18,7 @@ use Rattle.stream_manager.specs.Client.{ClientEvent, ghosts_came}
 use Rattle.ghost_logs.specs.Sent.{sent_items, processed_at}
 use Rattle.ghost_logs.specs.Ends.{AreJoined}
 use Rattle.ghost_logs.specs.Copies.{IsOfHolder, CopiesAgree}
-use Rattle.ghost_logs.specs.Recovery.{IsRight, IsRecovered, LosesNothing}
+use Rattle.ghost_logs.specs.Recovery.{IsRight, LosesNothing}
 use Rattle.ghost_logs.proofs.Said.{packets-are}
 use Rattle.ghost_logs.proofs.Alike.{Alike}
 use Rattle.ghost_logs.proofs.Came.{said, all-joined, copies-real}

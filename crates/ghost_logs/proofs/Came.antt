@@ -1,5 +1,5 @@
 -- The client's copies are those of the packets that it processed.
-use Rattle.std.proofs.Common.{◌≡◌, ◌≢◌, ℕ, suc, ◌+◌, ◌<◌, ◌≤◌, max, Some, None, Bool, true, false, ◌==◌, List, [], ◌∷◌, ◌∙◌, take, length, Option, refl, sym, ap, subst, inl, inr, arith}
+use Rattle.std.proofs.Common.{◌≡◌, ◌≢◌, ℕ, suc, ◌+◌, ◌<◌, ◌≤◌, max, None, Bool, true, false, ◌==◌, List, [], ◌∷◌, ◌∙◌, take, length, Option, refl, sym, ap, subst, inr, arith}
 use Rattle.std.proofs.lemmas.Bool.Decides.{nat_tests}
 use Rattle.std.proofs.lemmas.List.{take_all}
 use Rattle.notify_window.specs.Log.{WindowEvent, Came, is_processed, arrival_of}
@@ -15,7 +15,7 @@ use Rattle.ghost_masks.specs.Plan.{sizes, fields_of}
 use Rattle.ghost_pair.specs.Copies.{Item, Copy, taken, after_done, copies_of}
 use Rattle.ghost_pair.proofs.Walk.{done_take, done_next}
 use Rattle.ghost_pair.proofs.Client.{FindsEach}
-use Rattle.ghost_pair.proofs.Joined.{AreSaid, AreFound, Joined, joined, found_at}
+use Rattle.ghost_pair.proofs.Joined.{AreSaid, Joined, joined, found_at}
 use Rattle.stream_manager.specs.Limits.{Terms}
 use Rattle.stream_manager.specs.End.{window_log}
 use Rattle.stream_manager.specs.Server.{ServerEvent, ghost_log}

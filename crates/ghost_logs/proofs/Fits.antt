@@ -1,5 +1,5 @@
 -- A packet that is newer than what came finds what it speaks of.
-use Rattle.std.proofs.Common.{◌≡◌, ℕ, suc, ◌+◌, ◌<◌, ◌≤◌, Bool, true, cond, List, [], ◌∷◌, ◌∙◌, length, Some, None, Option, refl, sym, ap, subst, arith, eqb, count_by}
+use Rattle.std.proofs.Common.{◌≡◌, ℕ, ◌<◌, cond, List, [], ◌∷◌, ◌∙◌, length, Some, None, Option, refl, sym, ap, subst, arith, eqb, count_by}
 use Rattle.std.specs.Prelude.{IsSome}
 use Rattle.std.specs.List.{AllByRecursion}
 use Rattle.std.proofs.lemmas.List.Sums.{sum_by-cons}
@@ -13,7 +13,6 @@ use Rattle.wire_format.specs.Ghosts.{slot_named}
 use Rattle.ghost_model.specs.Scope.{Traits, traits}
 use Rattle.ghost_model.specs.Ghosts.{scope_log}
 use Rattle.ghost_model.specs.Legal.{IsLegal}
-use Rattle.ghost_model.specs.Legal as model
 use Rattle.ghost_masks.specs.Plan.{sizes, fields_of}
 use Rattle.ghost_client.specs.declared.copy.GhostCopy.{GhostCopy}
 use Rattle.ghost_client.specs.Copies.{copy_of}
@@ -27,7 +26,7 @@ use Rattle.stream_manager.specs.Server.{ServerEvent, ghost_log}
 use Rattle.stream_manager.specs.Client.{ClientEvent, ghosts_came}
 use Rattle.ghost_logs.specs.Sent.{sent_items, horizon_at, processed_at}
 use Rattle.ghost_logs.specs.Ends.{AreJoined}
-use Rattle.ghost_logs.specs.Copies.{Finds, NameOnce, FitsCopies, PacketsFit}
+use Rattle.ghost_logs.specs.Copies.{Finds, FitsCopies, PacketsFit}
 use Rattle.ghost_logs.proofs.Alike.{Spells, AreSpelled, Alike, AreAlike, slot-is}
 use Rattle.ghost_logs.proofs.Kept.{WasSent, was-sent}
 use Rattle.ghost_logs.proofs.Came.{all-joined, all-up, copies-real}

@@ -1,19 +1,18 @@
 -- A period keeps its kind and its block, and a packet that was sent keeps its items, whatever happens later.
-use Rattle.std.proofs.Common.{◌≡◌, ◌≢◌, ℕ, zero, suc, ◌+◌, ◌-◌, ◌<◌, Bool, true, false, cond, List, [], ◌∷◌, ◌++◌, ◌∙◌, length, Some, None, Option, refl, sym, ap, subst, inl, inr, arith, eqb}
-use Rattle.std.specs.Prelude.{All, slice_get}
+use Rattle.std.proofs.Common.{◌≡◌, ℕ, zero, suc, ◌+◌, ◌-◌, ◌<◌, Bool, true, false, cond, List, [], ◌∷◌, ◌++◌, ◌∙◌, length, Some, None, refl, sym, ap, subst, inl, inr, arith, eqb}
+use Rattle.std.specs.Prelude.{slice_get}
 use Rattle.std.specs.List.{AllByRecursion}
 use Rattle.std.proofs.lemmas.Bool.{cases_lt}
 use Rattle.std.proofs.lemmas.List.Elements.{All-weaker, recursion_from_All}
 use Rattle.tn_types.specs.declared.choices.Op.{Op}
 use Rattle.tn_types.specs.declared.choices.Op.TheVariants as op
 use Rattle.tn_types.specs.declared.choices.Choice.{Choice}
-use Rattle.notify_window.specs.Log.{Fate, sent_of}
+use Rattle.notify_window.specs.Log.{Fate}
 use Rattle.wire_format.specs.declared.ghosts.GhostItem.{GhostItem}
 use Rattle.wire_format.specs.declared.ghosts.GhostItem.TheVariants.{Kill, Create, Update}
 use Rattle.wire_format.specs.declared.client.ClientPacket.{ClientPacket}
 use Rattle.wire_format.specs.declared.server.ServerBody.{ServerBody}
 use Rattle.quantised_fields.specs.declared.kind.Kind.{Kind}
-use Rattle.ghost_model.specs.Scope as scope
 use Rattle.ghost_model.specs.Scope.{Traits, shows, traits, given}
 use Rattle.ghost_model.specs.Ghosts as ghosts
 use Rattle.ghost_model.specs.Ghosts.{GhostEvent, scope_log, oldest, unjudged}
@@ -22,12 +21,12 @@ use Rattle.ghost_model.proofs.Steps.{other_test}
 use Rattle.ghost_model.proofs.Written.{wrote_shows, wrote_traits, settled_shows, settled_traits}
 use Rattle.ghost_model.proofs.Granted.{given_none}
 use Rattle.ghost_model.proofs.Legal.{held_given}
-use Rattle.ghost_masks.specs.Plan.{sizes, fields_of, kind_of}
+use Rattle.ghost_masks.specs.Plan.{sizes, fields_of}
 use Rattle.ghost_masks.specs.Carried.{ghosts_for}
 use Rattle.ghost_pair.specs.Copies.{Item}
 use Rattle.stream_manager.specs.Limits.{Terms}
 use Rattle.stream_manager.specs.Settling.{judgements, verdict_of}
-use Rattle.stream_manager.specs.End.{window_log, fates, judged_at}
+use Rattle.stream_manager.specs.End.{fates, judged_at}
 use Rattle.stream_manager.specs.Server as server
 use Rattle.stream_manager.specs.Server.{ServerEvent, ScopeChange, Show, Hide, Near, Absorb, scope_event, server_end, ghost_log, planned}
 use Rattle.ghost_logs.specs.Sent.{items_of, sent_items, WasPacked}

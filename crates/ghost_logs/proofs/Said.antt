@@ -1,5 +1,5 @@
 -- The server's ghosts, its packets and its verdicts tell the same.
-use Rattle.std.proofs.Common.{◌≡◌, ℕ, zero, suc, ◌+◌, ◌-◌, ◌<◌, ◌≤◌, Bool, true, false, List, [], ◌∷◌, ◌++◌, ◌∙◌, map, length, refl, sym, ap, subst, arith}
+use Rattle.std.proofs.Common.{◌≡◌, ℕ, zero, suc, ◌+◌, ◌-◌, ◌<◌, ◌≤◌, Bool, true, false, List, [], ◌∷◌, ◌++◌, ◌∙◌, map, length, refl, sym, ap, arith}
 use Rattle.std.proofs.lemmas.List.{map-append, length-map}
 use Rattle.tn_types.specs.BitWords.{bit_of}
 use Rattle.tn_types.specs.declared.choices.Choice.{Choice}
@@ -8,7 +8,7 @@ use Rattle.notify_window.proofs.Verdicts.{fate-told_judged}
 use Rattle.wire_format.specs.declared.client.ClientPacket.{ClientPacket}
 use Rattle.wire_format.specs.declared.ghosts.GhostItem.{GhostItem}
 use Rattle.ghost_model.specs.Ghosts.{GhostEvent, packets, verdicts}
-use Rattle.ghost_pair.specs.Copies.{Item, choices}
+use Rattle.ghost_pair.specs.Copies.{choices}
 use Rattle.ghost_pair.proofs.There.{verdict_by}
 use Rattle.ghost_pair.proofs.Joined.{AreSaid}
 use Rattle.stream_manager.specs.Settling.{judgements, verdict_of}

@@ -1,5 +1,5 @@
 -- A data packet with the values of what it carries stands for what was chosen.
-use Rattle.std.proofs.Common.{◌≡◌, ℕ, ℤ, zero, suc, ◌+◌, ◌/◌, ◌^◌, ◌<◌, ◌≤◌, Bool, true, false, cond, List, [], ◌∷◌, ◌++◌, ◌∙◌, length, length-append, length-drop, drop, refl, sym, ap, subst, inl, inr, arith, add-one}
+use Rattle.std.proofs.Common.{◌≡◌, ℕ, ℤ, suc, ◌+◌, ◌/◌, ◌^◌, ◌<◌, ◌≤◌, true, false, cond, List, [], ◌∷◌, ◌++◌, ◌∙◌, length, length-append, drop, refl, sym, ap, inl, inr, arith, add-one}
 use Rattle.std.specs.List.{AllByRecursion}
 use Rattle.std.proofs.Math.Nat.{div-div-eq-div-mul, pow-suc}
 use Rattle.std.proofs.lemmas.Bool.{cases_Bool, cases_eq, cases_lt}
@@ -17,7 +17,6 @@ use Rattle.ghost_masks.specs.Plan.{sizes, fields_of, kind_of, masked, carried_by
 use Rattle.ghost_masks.specs.Carried.{fields_carried, all_carried, levels_for, ghost_for, ghost_by, ghosts_for, AreValues}
 use Rattle.ghost_masks.proofs.Carried.{length-AreValues, values_split}
 use Rattle.ghost_client.specs.Fields.{place_in, carried_level}
-use Rattle.ghost_pair.specs.Copies.{Item}
 use Rattle.ghost_logs.specs.Sent.{items_of}
 use Rattle.ghost_logs.proofs.Alike.{Spells, AreSpelled}
 

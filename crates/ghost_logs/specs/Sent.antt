@@ -1,10 +1,9 @@
 -- What the server's end sent of ghosts: the items of its data packets with the periods that they were chosen for, the
 -- oldest packet first, by what happened at its end. A packet itself names slots alone.
-use Rattle.std.specs.Prelude.{◌≡◌, ◌⊎◌, ℕ, ℤ, Bool, List, [], ◌∷◌, ◌++◌}
+use Rattle.std.specs.Prelude.{◌≡◌, ◌⊎◌, ℕ, Bool, List, [], ◌∷◌, ◌++◌}
 use Rattle.tn_types.specs.declared.choices.Choice.{Choice}
 use Rattle.wire_format.specs.declared.ghosts.GhostItem.{GhostItem}
 use Rattle.wire_format.specs.declared.server.ServerBody.{ServerBody}
-use Rattle.wire_format.specs.declared.server.ServerPacket.TheVariants as down
 use Rattle.notify_window.specs.Log.{horizon_of, is_processed}
 use Rattle.ghost_client.specs.Fields.{carried_level}
 use Rattle.ghost_pair.specs.Copies.{Item}

@@ -1,5 +1,5 @@
 -- The items of a packet find what they speak of in the copies before the packet, since each names a slot of its own.
-use Rattle.std.proofs.Common.{◌≡◌, ◌≢◌, ℕ, ◌+◌, List, [], ◌∷◌, Option, refl, subst, arith, eqb, count_by}
+use Rattle.std.proofs.Common.{◌≡◌, ◌≢◌, ℕ, List, [], ◌∷◌, Option, refl, subst, arith, eqb, count_by}
 use Rattle.std.specs.List.{AllByRecursion}
 use Rattle.tn_types.specs.declared.choices.Choice.{Choice}
 use Rattle.ghost_model.specs.Legal.{NameOnce}

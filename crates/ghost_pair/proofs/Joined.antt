@@ -1,7 +1,7 @@
 -- What a client holds agrees with what the server's ghosts tell, after every legal list of events whose verdicts are what
 -- the client processed. By induction over the list, where packets that were processed are so from when they are sent: each
 -- step but a packet leaves the periods that are there.
-use Rattle.std.proofs.Common.{◌≡◌, ◌≢◌, ℕ, zero, suc, ◌+◌, ◌<◌, ◌≤◌, Bool, true, false, ◌&&◌, cond, List, [], ◌∷◌, ◌++◌, ◌∙◌, map, drop, take, length, length-drop, Some, None, Option, refl, sym, ap, subst, inl, inr, arith, eqb, ltb, count_by}
+use Rattle.std.proofs.Common.{◌≡◌, ◌≢◌, ℕ, zero, suc, ◌+◌, ◌<◌, Bool, true, false, cond, List, [], ◌∷◌, ◌++◌, ◌∙◌, map, take, length, length-drop, Some, None, Option, refl, sym, ap, subst, inl, inr, arith, eqb, ltb, count_by}
 use Rattle.std.specs.Prelude.{slice_get}
 use Rattle.std.specs.List.{AllByRecursion}
 use Rattle.std.proofs.Math.Numerals.{add-one}
@@ -9,7 +9,6 @@ use Rattle.std.proofs.lemmas.Bool.{cases_eq, and_left}
 use Rattle.std.proofs.lemmas.List.{length-map}
 use Rattle.tn_types.specs.declared.choices.Choice.{Choice}
 use Rattle.tn_types.specs.declared.choices.Verdict.{Verdict}
-use Rattle.ghost_model.specs.declared.phase.Phase.{Phase}
 use Rattle.ghost_model.specs.Phases.{is_gone, is_up, is_waiting}
 use Rattle.ghost_model.specs.Scope as scope
 use Rattle.ghost_model.specs.Scope.{given}
@@ -20,7 +19,7 @@ use Rattle.ghost_model.proofs.Steps.{other_test, hide_phase, hide_other}
 use Rattle.ghost_model.proofs.Granted.{unfound_given, keeps_given}
 use Rattle.ghost_model.proofs.Covered.{in_turn, drop_next}
 use Rattle.ghost_model.proofs.Written.{can_be_written, wrote_given, settled_given, write_alive}
-use Rattle.ghost_model.proofs.Legal.{IsSound, sound, writing, sent_unjudged, judge_packet}
+use Rattle.ghost_model.proofs.Legal.{sound, writing, sent_unjudged, judge_packet}
 use Rattle.ghost_model.proofs.Holders.{apart}
 use Rattle.ghost_model.proofs.Sorted.{count_here, count_rest, once_rest}
 use Rattle.ghost_pair.specs.Copies.{Item, Copy, choices, taken, after_done, copies_of}

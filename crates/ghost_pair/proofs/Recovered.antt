@@ -1,8 +1,8 @@
 -- No change is lost: a field that isn't due, and that no unjudged packet carries, has at the client the level of the last
 -- packet that carries it.
-use Rattle.std.proofs.Common.{◌≡◌, ◌⊎◌, ℕ, suc, ◌+◌, ◌<◌, Bool, true, false, not, ◌||◌, ◌&&◌, cond, List, [], ◌∷◌, ◌++◌, ◌∙◌, map, take, drop, length, length-drop, length-take, Some, None, Option, refl, sym, ap, subst, inl, inr, arith, eqb}
+use Rattle.std.proofs.Common.{◌≡◌, ℕ, suc, ◌+◌, ◌<◌, Bool, true, false, not, ◌||◌, cond, List, [], ◌∷◌, ◌∙◌, map, take, drop, length, length-take, Some, None, Option, refl, sym, ap, subst, inl, inr, arith, eqb}
 use Rattle.std.specs.List.{list_any, AllByRecursion}
-use Rattle.std.proofs.lemmas.Bool.{cases_Bool, or_cases, or_parts, and_parts, or_left, or_right, and_from, false_from_ne_true}
+use Rattle.std.proofs.lemmas.Bool.{or_cases, or_parts, and_parts, or_left, or_right, and_from, false_from_ne_true}
 use Rattle.std.proofs.lemmas.List.{drop-map, take-append-drop, length-map}
 use Rattle.std.proofs.lemmas.List.Folds.{list_any-append}
 use Rattle.tn_types.specs.declared.choices.Op.{Op}
@@ -17,7 +17,7 @@ use Rattle.ghost_model.specs.Scope.{given, shows}
 use Rattle.ghost_model.specs.Ghosts.{GhostEvent, Show, Hide, Near, Absorb, Grant, Sent, Judged, scope_log, packets, verdicts, unjudged, phase, slot, carries, item_carries, op_carries, lost_alone, is_due}
 use Rattle.ghost_model.specs.Due.{is_received_last}
 use Rattle.ghost_model.specs.Legal.{KindSizes, IsLegal}
-use Rattle.ghost_model.proofs.Covered.{covered, in_turn}
+use Rattle.ghost_model.proofs.Covered.{covered}
 use Rattle.ghost_model.proofs.Shape.{is_shape}
 use Rattle.ghost_model.proofs.Kept.{ops_in, ops_of}
 use Rattle.ghost_model.proofs.Judged.{is_new}
@@ -27,8 +27,8 @@ use Rattle.ghost_pair.specs.Copies.{Item, Copy, choices, after_done, copies_of}
 use Rattle.ghost_pair.specs.Levels.{put, processed_level, last_level}
 use Rattle.ghost_pair.proofs.Walk.{done_push, done_append}
 use Rattle.ghost_pair.proofs.There.{was_there, packet_there, verdict_by, updates_there}
-use Rattle.ghost_pair.proofs.Joined.{AreSaid, LastOf, last_of, Joined, joined, is_there}
-use Rattle.ghost_pair.proofs.Levels.{IsLevelled, levelled}
+use Rattle.ghost_pair.proofs.Joined.{AreSaid, last_of, joined, is_there}
+use Rattle.ghost_pair.proofs.Levels.{levelled}
 use Rattle.ghost_pair.proofs.Slots.{all_given, sent_given, HasSlot, carried_slot}
 
 -- ---- the last packet that carries a field

@@ -1,9 +1,9 @@
 -- The period of each item that was sent has been given the item's slot, and keeps it for good.
-use Rattle.std.proofs.Common.{◌≡◌, ℕ, true, List, [], ◌∷◌, ◌++◌, ◌∙◌, map, Some, Option, sym, subst, inl, inr}
+use Rattle.std.proofs.Common.{◌≡◌, ℕ, true, List, [], ◌∷◌, ◌++◌, ◌∙◌, map, Some, subst, inl, inr}
 use Rattle.std.specs.List.{AllByRecursion, list_any}
 use Rattle.std.proofs.lemmas.Bool.{or_cases, and_parts}
 use Rattle.std.proofs.lemmas.Bool.Decides.{nat_tests}
-use Rattle.std.proofs.Common.{arith, eqb, ap, Bool}
+use Rattle.std.proofs.Common.{arith, eqb}
 use Rattle.tn_types.specs.declared.choices.Choice.{Choice}
 use Rattle.ghost_model.specs.Scope.{given}
 use Rattle.ghost_model.specs.Ghosts.{GhostEvent, Show, Hide, Near, Absorb, Grant, Sent, Judged, scope_log, packets, unjudged, oldest, carries, item_carries, op_carries}

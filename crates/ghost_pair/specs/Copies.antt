@@ -1,7 +1,7 @@
 -- What a client holds, by the packets that it processed: the items of each packet as the server chose them, which name the
 -- period and not its slot alone, and a copy with the period that it is of. The packets are those that were sent, the oldest
 -- first and numbered from 1 on, and `done` tells which of them were processed.
-use Rattle.std.specs.Prelude.{◌≡◌, refl, ℕ, suc, Bool, true, false, ◌==◌, List, [], ◌∷◌, map, if◌then◌else◌, Option, Some, None}
+use Rattle.std.specs.Prelude.{◌≡◌, refl, ℕ, suc, Bool, ◌==◌, List, [], ◌∷◌, map, if◌then◌else◌, Option, Some, None}
 use Rattle.tn_types.specs.declared.choices.Op.{Op}
 use Rattle.tn_types.specs.declared.choices.Op.TheVariants.{Kill, Create, Update}
 use Rattle.tn_types.specs.declared.choices.Choice.{Choice}

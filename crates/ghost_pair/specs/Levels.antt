@@ -1,5 +1,5 @@
 -- The level of a field in the last packet that carries it, of all that were sent and of those that were processed.
-use Rattle.std.specs.Prelude.{◌≡◌, ℕ, Bool, true, List, [], ◌∷◌, Option, Some, None, if◌then◌else◌}
+use Rattle.std.specs.Prelude.{ℕ, Bool, true, List, [], ◌∷◌, Option, Some, None, if◌then◌else◌}
 use Rattle.ghost_model.specs.Ghosts.{item_carries}
 use Rattle.ghost_pair.specs.Copies.{Item, after_done}
 
