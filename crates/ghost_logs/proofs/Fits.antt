@@ -40,7 +40,7 @@ module _ (of : ℕ → Traits) (width : ℕ → ℕ) where
   some-there None (Some x) n a m = absurd a
   some-there None None n a m = absurd (none-some m.0 m.1)
 
-  kind-there : (o : Option GhostCopy) (p : Option Copy) (n kind : ℕ) → kind ≡ (of n).kind → Alike of width o p → IsOf n p → (d : GhostCopy) × (o ≡ Some d) × (d.kind ≡ kind)
+  pub kind-there : (o : Option GhostCopy) (p : Option Copy) (n kind : ℕ) → kind ≡ (of n).kind → Alike of width o p → IsOf n p → (d : GhostCopy) × (o ≡ Some d) × (d.kind ≡ kind)
   kind-there (Some d) (Some x) n kind e a m =
       let same : x.period ≡ n = ap (λ (c : Copy). c.period) (unsome x m.0 m.1) ∙ m.2 in
       (d, refl, a.kind ∙ ap (λ k. (of k).kind) same ∙ sym e)
@@ -51,7 +51,7 @@ module _ (of : ℕ → Traits) (width : ℕ → ℕ) where
   kind-there None (Some x) n kind e a m = absurd a
   kind-there None None n kind e a m = absurd (none-some m.0 m.1)
 
-  none-there : (o : Option GhostCopy) (p : Option Copy) → Alike of width o p → p ≡ None → o ≡ None
+  pub none-there : (o : Option GhostCopy) (p : Option Copy) → Alike of width o p → p ≡ None → o ≡ None
   none-there None p a e = refl
   none-there (Some d) None a e = absurd a
   none-there (Some d) (Some x) a e = absurd (none-some x (sym e))

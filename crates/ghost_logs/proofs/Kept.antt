@@ -1,6 +1,6 @@
 -- A period keeps its kind and its block, and a packet that was sent keeps its items, whatever happens later.
 use Rattle.std.proofs.Common.{◌≡◌, ℕ, zero, suc, ◌+◌, ◌-◌, ◌<◌, Bool, true, false, cond, List, [], ◌∷◌, ◌++◌, ◌∙◌, length, Some, None, refl, sym, ap, subst, inl, inr, arith, eqb}
-use Rattle.std.specs.Prelude.{slice_get}
+use Rattle.std.specs.Prelude.{All, slice_get}
 use Rattle.std.specs.List.{AllByRecursion}
 use Rattle.std.proofs.lemmas.Bool.{cases_lt}
 use Rattle.std.proofs.lemmas.List.Elements.{All-weaker, recursion_from_All}
@@ -46,7 +46,7 @@ pub record IsKept (old new : List GhostEvent) (n : ℕ) : Type 0 where
 abbrev pub AreKept : List GhostEvent → List GhostEvent → Type 0
 AreKept old new = (n : ℕ) → n < shows (scope_log old) → IsKept old new n
 
-same-kept : (g : List GhostEvent) → AreKept g g
+pub same-kept : (g : List GhostEvent) → AreKept g g
 same-kept g n lt = record { shown = lt; kind = refl; block = refl }
 
 kept-then : (a b c : List GhostEvent) → AreKept a b → AreKept b c → AreKept a c
@@ -55,7 +55,7 @@ kept-then a b c x y n lt =
     let q = y n p.shown in
     record { shown = q.shown; kind = q.kind ∙ p.kind; block = q.block ∙ p.block }
 
-scope-kept : (change : ScopeChange) (g : List GhostEvent) → AreKept g (scope_event change ∷ g)
+pub scope-kept : (change : ScopeChange) (g : List GhostEvent) → AreKept g (scope_event change ∷ g)
 scope-kept (Show kind block level control) g n lt =
     let other : eqb n (shows (scope_log g)) ≡ false = other_test n (shows (scope_log g)) (λ same. omega (arith, same)) in
     let new : Traits = record { kind = kind; block = block; level = level; control = control } in
@@ -89,7 +89,7 @@ judged-kept fate first (suc count) g = kept-then g (judgements fate first count 
           block = ap (λ (t : Traits). t.block) (settled_traits v (oldest (unjudged g')) (scope_log g') n);
         }
 
-sent-kept : (cs : List Choice) (g : List GhostEvent) → AreKept g (ghosts.Sent cs ∷ g)
+pub sent-kept : (cs : List Choice) (g : List GhostEvent) → AreKept g (ghosts.Sent cs ∷ g)
 sent-kept cs g n lt = record {
   shown = omega (arith, wrote_shows cs (scope_log g));
   kind = ap (λ (t : Traits). t.kind) (wrote_traits cs (scope_log g) n);
@@ -155,6 +155,9 @@ choice-shown g kinds c can = elim (cases_lt c.n (shows (scope_log g))) [
   | inr ge ↦ (let never : None ≡ Some c.slot = sym (given_none (scope_log g) c.n ge) ∙ held_given (ghosts.phase g c.n) (given (scope_log g) c.n) c.slot can.holds in absurd (cc))
 ]
 
+pub choices-shown : (g : List GhostEvent) (kinds : List Kind) (cs : List Choice) → All (IsSendable (sizes kinds) g) cs → AllByRecursion (λ (c : Choice). c.n < shows (scope_log g)) cs
+choices-shown g kinds cs all = recursion_from_All (λ (c : Choice). c.n < shows (scope_log g)) cs (All-weaker (IsSendable (sizes kinds) g) (λ (c : Choice). c.n < shows (scope_log g)) (λ c can. choice-shown g kinds c can) cs all)
+
 items-shown : (P : ℕ → Type 0) (cs : List Choice) (xs : List GhostItem) → AllByRecursion (λ (c : Choice). P c.n) cs → AllByRecursion (λ (i : Item). P i.choice.n) (items_of cs xs)
 items-shown P [] xs all = tt
 items-shown P (c ∷ cs) [] all = (all.0, items-shown P cs [] all.1)
@@ -169,9 +172,7 @@ packed-sent t log p legal made =
     let masks : AllByRecursion (λ (c : Choice). IsItsMask (sizes t.kinds) (ghost_log log) c.n c.mask c.op) (planned log) =
     recursion_from_All (λ (c : Choice). IsItsMask (sizes t.kinds) (ghost_log log) c.n c.mask c.op) (planned log)
     (All-weaker (IsSendable (sizes t.kinds) (ghost_log log)) (λ (c : Choice). IsItsMask (sizes t.kinds) (ghost_log log) c.n c.mask c.op) (λ c can. can.carried) (planned log) legal.0.0) in
-    let shown : AllByRecursion (λ (c : Choice). c.n < shows (scope_log (ghost_log log))) (planned log) =
-    recursion_from_All (λ (c : Choice). c.n < shows (scope_log (ghost_log log))) (planned log)
-    (All-weaker (IsSendable (sizes t.kinds) (ghost_log log)) (λ (c : Choice). c.n < shows (scope_log (ghost_log log))) (λ c can. choice-shown (ghost_log log) t.kinds c can) (planned log) legal.0.0) in
+    let shown = choices-shown (ghost_log log) t.kinds (planned log) legal.0.0 in
     let here : AllByRecursion (λ (i : Item). i.choice.n < shows (scope_log (ghost_log log))) (items_of (planned log) p.ghosts) = items-shown (λ n. n < shows (scope_log (ghost_log log))) (planned log) p.ghosts shown in
     let spells : AreSpelled (traits (scope_log (ghost_log log))) (λ k. length (fields_of t.kinds k)) (items_of (planned log) p.ghosts) p.ghosts =
     subst (λ (xs : List GhostItem). AreSpelled (traits (scope_log (ghost_log log))) (λ k. length (fields_of t.kinds k)) (items_of (planned log) xs) xs) (sym ghosts-are) (spelled t.kinds (ghost_log log) (planned log) made.values masks made.fit) in

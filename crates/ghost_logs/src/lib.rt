@@ -11,6 +11,7 @@ ghost use Rattle.stream_manager.specs.Stands.{ConnState, ConnStandsFor, terms_of
 ghost use Rattle.stream_manager.specs.Server.{ServerEvent};
 ghost use Rattle.stream_manager.specs.Client.{ClientEvent};
 ghost use Rattle.ghost_logs.specs.Ends.{AreJoined};
+ghost use Rattle.ghost_logs.specs.Blocks.{IsHeld, HoldsReceived, RefusesNoGhosts};
 ghost use Rattle.ghost_logs.specs.Copies.{IsOfHolder, PacketsFit};
 ghost use Rattle.ghost_logs.specs.Recovery.{LosesNothing};
 
@@ -26,6 +27,16 @@ pub fn copies_agree_with_slots()
         → copy_in client.copies.slots slot ≡ Some copy → IsOfHolder (terms_of conn) s c slot copy }
     ensures packets { (conn : ConnState) (s : List ServerEvent) (client : ClientState) (c : List ClientEvent) → ConnStandsFor conn s
         → ClientStandsFor client c → AreJoined (terms_of conn) s c → PacketsFit s c }
+{}
+
+/// Where the client holds the datablocks that the server counts as received, it refuses no packet that is newer than all that
+/// came for its ghosts or its control slot, and it holds the datablock of each copy.
+pub fn newer_packets_fit_the_copies()
+    ensures refusals { (conn : ConnState) (s : List ServerEvent) (client : ClientState) (c : List ClientEvent) → ConnStandsFor conn s
+        → ClientStandsFor client c → AreJoined (terms_of conn) s c → HoldsReceived s c → RefusesNoGhosts s c }
+    ensures blocks { (conn : ConnState) (s : List ServerEvent) (client : ClientState) (c : List ClientEvent) → ConnStandsFor conn s
+        → ClientStandsFor client c → AreJoined (terms_of conn) s c → HoldsReceived s c → (slot : ℕ) (copy : GhostCopy) → slot < MAX_SLOTS
+        → copy_in client.copies.slots slot ≡ Some copy → IsHeld c copy.block }
 {}
 
 /// No change is lost: each field of each period that is shown and not hidden is due at the server's end, or an unjudged packet

@@ -3,6 +3,7 @@ pub mod There
 pub mod Client
 pub mod Joined
 pub mod Found
+pub mod Created
 pub mod Levels
 pub mod Slots
 pub mod Recovered
