@@ -24,7 +24,8 @@ pub record IsOfHolder (t : Terms) (s : List ServerEvent) (c : List ClientEvent) 
   pub kind : copy.kind ≡ kind_of (ghost_log s) period
   pub block : copy.block ≡ block_of (ghost_log s) period
   pub fields : length copy.levels ≡ length (fields_of t.kinds copy.kind)
-  pub levels : (f : ℕ) → f < length copy.levels → processed_level period f (processed_at c) (sent_items s) ≡ Some (slice_index_or copy.levels f 0)
+  pub levels : (f : ℕ) → f < length copy.levels
+      → processed_level period f (processed_at c) (sent_items s) ≡ Some (slice_index_or copy.levels f 0)
 
 abbrev pub CopiesAgree : Terms → List ServerEvent → List ClientEvent → Type 0
 CopiesAgree t s c = (at : ℕ) (copy : GhostCopy) → copy_of (ghosts_came c) at ≡ Some copy → IsOfHolder t s c at copy

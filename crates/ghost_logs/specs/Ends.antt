@@ -43,7 +43,8 @@ CameFrom s (client.Pinged head ∷ log) = CameFrom s log
 
 -- a packet that has a verdict is Received exactly where the client processed it
 abbrev pub AreJudgedRight : List ServerEvent → List ClientEvent → Type 0
-AreJudgedRight s c = (n : ℕ) → 0 < n → n ≤ judged_at (server_end s) → fates (server_end s) n ≡ fate_of_bit (bit_of (processed_at c n))
+AreJudgedRight s c = (n : ℕ) → 0 < n → n ≤ judged_at (server_end s)
+    → fates (server_end s) n ≡ fate_of_bit (bit_of (processed_at c n))
 
 pub record AreJoined (t : Terms) (s : List ServerEvent) (c : List ClientEvent) : Type 0 where
   pub made : IsMade t s

@@ -23,7 +23,8 @@ pub record IsRight (s : List ServerEvent) (c : List ClientEvent) (n f : ℕ) : T
   pub level : f < length copy.levels → last_level n f (sent_items s) ≡ Some (slice_index_or copy.levels f 0)
 
 abbrev pub IsRecovered : List ServerEvent → List ClientEvent → ℕ → ℕ → Type 0
-IsRecovered s c n f = (is_due (ghost_log s) n f ≡ true) ⊎ ((list_any (carries n f) (unjudged (ghost_log s)) ≡ true) ⊎ IsRight s c n f)
+IsRecovered s c n f =
+    (is_due (ghost_log s) n f ≡ true) ⊎ ((list_any (carries n f) (unjudged (ghost_log s)) ≡ true) ⊎ IsRight s c n f)
 
 abbrev pub LosesNothing : List ServerEvent → List ClientEvent → Type 0
 LosesNothing s c = (n f : ℕ) → IsUp (ghost_log s) n → IsRecovered s c n f

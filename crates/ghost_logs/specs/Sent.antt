@@ -1,8 +1,10 @@
 -- What the server's end sent of ghosts: the items of its data packets with the periods that they were chosen for, the
 -- oldest packet first, by what happened at its end. A packet itself names slots alone.
-use Rattle.std.specs.Prelude.{◌≡◌, ◌⊎◌, ℕ, Bool, List, [], ◌∷◌, ◌++◌}
+use Rattle.std.specs.Prelude.{◌≡◌, ◌⊎◌, ℕ, Bool, List, [], ◌∷◌, ◌++◌, refl, map}
+use Rattle.tn_types.specs.declared.choices.Op.TheVariants as op
 use Rattle.tn_types.specs.declared.choices.Choice.{Choice}
 use Rattle.wire_format.specs.declared.ghosts.GhostItem.{GhostItem}
+use Rattle.wire_format.specs.declared.ghosts.GhostItem.TheVariants as ghosts
 use Rattle.wire_format.specs.declared.server.ServerBody.{ServerBody}
 use Rattle.notify_window.specs.Log.{horizon_of, is_processed}
 use Rattle.ghost_client.specs.Fields.{carried_level}
@@ -45,3 +47,13 @@ horizon_at log = horizon_of (window_log (client_end log))
 
 abbrev pub processed_at : List ClientEvent → ℕ → Bool
 processed_at log s = is_processed s (window_log (client_end log))
+
+-- ---- an example
+
+-- a create of period 7 in slot 2, at levels 10 and 20
+created : List Item
+created = items_of (record { n = 7; slot = 2; op = op.Create; mask = 3 } ∷ []) (ghosts.Create 2 0 0 (10 ∷ 20 ∷ []) ∷ [])
+
+second_level : map (λ (i : Item). i.levels 1) created ≡ 20 ∷ []
+unfolding created
+second_level = refl

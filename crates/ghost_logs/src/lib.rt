@@ -35,8 +35,8 @@ pub fn newer_packets_fit_the_copies()
     ensures refusals { (conn : ConnState) (s : List ServerEvent) (client : ClientState) (c : List ClientEvent) → ConnStandsFor conn s
         → ClientStandsFor client c → AreJoined (terms_of conn) s c → HoldsReceived s c → RefusesNoGhosts s c }
     ensures blocks { (conn : ConnState) (s : List ServerEvent) (client : ClientState) (c : List ClientEvent) → ConnStandsFor conn s
-        → ClientStandsFor client c → AreJoined (terms_of conn) s c → HoldsReceived s c → (slot : ℕ) (copy : GhostCopy) → slot < MAX_SLOTS
-        → copy_in client.copies.slots slot ≡ Some copy → IsHeld c copy.block }
+        → ClientStandsFor client c → AreJoined (terms_of conn) s c → HoldsReceived s c → (slot : ℕ) (copy : GhostCopy)
+        → slot < MAX_SLOTS → copy_in client.copies.slots slot ≡ Some copy → IsHeld c copy.block }
 {}
 
 /// No change is lost: each field of each period that is shown and not hidden is due at the server's end, or an unjudged packet

@@ -64,12 +64,11 @@ Finds copies i = Meets i.choice.op i.choice.n (copies i.choice.slot)
 -- ---- an example
 
 -- a create of period 7 in slot 2, and an update of its field 0
-two_packets : List (List Item)
+abbrev pub two_packets : List (List Item)
 two_packets =
     (record { choice = record { n = 7; slot = 2; op = Create; mask = 3 }; levels = λ f. 10 } ∷ [])
     ∷ (record { choice = record { n = 7; slot = 2; op = Update; mask = 1 }; levels = λ f. 11 } ∷ []) ∷ []
 
 -- the update alone is lost
 created_alone : copies_of (λ k. k == 1) two_packets 2 ≡ Some (record { period = 7; levels = λ f. 10 })
-unfolding two_packets
 created_alone = refl
