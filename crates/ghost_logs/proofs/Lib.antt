@@ -1,0 +1,10 @@
+pub mod Said
+pub mod Alike
+pub mod Spelled
+pub mod Kept
+pub mod Blocks
+pub mod Control
+pub mod Came
+pub mod Agree
+pub mod Fits
+pub mod Refused

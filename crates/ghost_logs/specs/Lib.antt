@@ -1,0 +1,5 @@
+pub mod Sent
+pub mod Ends
+pub mod Copies
+pub mod Blocks
+pub mod Recovery

@@ -1,0 +1,9 @@
+pub mod Walk
+pub mod There
+pub mod Client
+pub mod Joined
+pub mod Found
+pub mod Created
+pub mod Levels
+pub mod Slots
+pub mod Recovered
