@@ -1,15 +1,13 @@
 //! What clients see of small worlds.
-ghost use Rattle.std.specs.Prelude.{◌≡◌, ◌<◌, ◌∷◌, [], IfOk};
+ghost use Rattle.std.specs.Prelude.{◌∷◌, [], IfOk};
 ghost use Rattle.world_rules.specs.Identity.{OwnersRise};
 ghost use Rattle.world_rules.specs.Spawning.{SetupFits, SpawnFits};
 
-use crate::{Seen, visible, visible_counted};
-use std::alloc::{AllocError, Global};
-use std::marker::Brand;
-use std::sync::ledger::{Blank, Ledger};
+use crate::{Seen, visible};
+use std::alloc::Global;
 use std::test::Fail;
-use tn_types::{Move, NoMemory, Steps};
-use world_rules::{Object, Setup, Spawn, Spawns, State};
+use tn_types::NoMemory;
+use world_rules::{Setup, Spawn, Spawns};
 use world_sim::World;
 
 // A match of two clients with these four objects, whose players see so far.
@@ -186,98 +184,5 @@ fn client_without_player(rt: HostRuntime) -> Result<(), Fail> {
         told.as_slice(),
         [seen(0, 0), seen(1, 0), seen(2, 0), seen(3, 0)].as_slice()
     );
-    Ok(())
-}
-
-// An object as a client sees it whose player is this one, by a plain reading of docs/world.md.
-fn plainly(object: u32, o: &Object, player: &Object, radius: u32) -> Option<Seen> {
-    let way = o.place.x.abs_diff(player.place.x);
-    let away = way.max(o.place.y.abs_diff(player.place.y));
-    let armed = match &o.state {
-        State::Mine(mine) => mine.armed,
-        _ => false,
-    };
-    if !o.alive || away > radius || (armed && o.team != player.team) {
-        return None;
-    }
-    let level = 4 * u64::from(away) / (u64::from(radius) + 1);
-    Some(Seen {
-        object,
-        level: (level & 255) as u8,
-    })
-}
-
-// What the client sees whose player has number 0, by a walk over all objects, without flags and clocks.
-fn walked(alloc: Global, world: &World) -> Result<Vec<Seen>, AllocError> {
-    let objects = world.all_objects();
-    let mut list = Vec::new(alloc);
-    let Some(player) = objects.first() else {
-        return Ok(list);
-    };
-    for (i, o) in objects.iter().enumerate() {
-        if let Some(seen) = plainly(i as u32, o, player, world.radius()) {
-            list.push(seen)?;
-        }
-    }
-    Ok(list)
-}
-
-// Two enemies who shoot at one another on the edge of a cell, a mine and a drone.
-fn skirmish(alloc: Global, radius: u16, ticks: u32) -> Result<World, NoMemory> {
-    let player = Spawn { x: 4000, ..PLAYER };
-    let enemy = Spawn { x: 4100, ..ENEMY };
-    let setup = field(alloc, radius, player, enemy, ENEMY_MINE, DRONE)?;
-    let mut world = World::new(alloc, 1, &setup)?;
-    for _ in 0..ticks {
-        if world.ticks() < 1000 {
-            world.tick(alloc, &[Some(SHOT), Some(SHOT)])?;
-        }
-    }
-    Ok(world)
-}
-
-const SHOT: Move = Move {
-    dx: 3,
-    dy: 5,
-    fire: true,
-    act: false,
-};
-
-#[test]
-fn list_is_that_of_a_walk(rt: HostRuntime) -> Result<(), Fail> {
-    for (radius, ticks) in [(700, 1), (1500, 4), (4096, 9), (20_000, 12), (900, 30)] {
-        let world = skirmish(rt.alloc(), radius, ticks).ok().ok_or("no memory")?;
-        let list = walked(rt.alloc(), &world)?;
-        let mut out = Vec::new(rt.alloc());
-        visible(rt.alloc(), &world, 0, &mut out)
-            .ok()
-            .ok_or("no memory")?;
-        assert_eq!(rt; out.as_slice(), list.as_slice(), "{radius} {ticks}");
-    }
-    Ok(())
-}
-
-// How many objects a client sees, with a counter that nobody reads.
-fn counted<L: Ledger>(alloc: Global, world: &World, blank: Blank) -> Result<usize, NoMemory>
-    requires name { blank.name ≡ L.name }
-    requires parts { blank.parts ≡ L.parts }
-    requires some { 0 < blank.parts }
-{
-    let mut steps: Steps<L> = Steps::new(blank);
-    let mut out = Vec::new(alloc);
-    visible_counted(alloc, world, 0, &mut out, &mut steps)?;
-    Ok(out.len())
-}
-
-#[test]
-fn counted_sees_the_same(rt: HostRuntime) -> Result<(), Fail> {
-    let setup = field(rt.alloc(), 1000, PLAYER, ENEMY, MINE, FLAG)
-        .ok()
-        .ok_or("no memory")?;
-    let world = after(rt.alloc(), &setup, 0).ok().ok_or("no memory")?;
-    let many = counted::<Brand>(rt.alloc(), &world, Blank::new(1))
-        .ok()
-        .ok_or("no memory")?;
-    assert_eq!(rt; many, 4);
     Ok(())
 }

@@ -86,7 +86,8 @@ pub fn step_each(
 ) -> Result<(), std::alloc::AllocError>
     requires { IsOld old.now }
     ensures { OnOk result (after.new.items
-        ≡ map (object_next old.now.objects.now old.now.moves.now (record { seed = old.now.seed; tick = old.now.tick })) old.now.objects.now) }
+        ≡ map (object_next old.now.objects.now old.now.moves.now (record { seed = old.now.seed; tick = old.now.tick }))
+        old.now.objects.now) }
 {
     after.clear();
     for (i, o) in old.objects.iter().enumerate() {

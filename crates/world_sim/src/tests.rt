@@ -1,14 +1,12 @@
 //! Small worlds, tick by tick.
-ghost use Rattle.std.specs.Prelude.{◌≡◌, ◌<◌, ◌∷◌, [], Some, ◌≤ℤ◌, pos, negsuc};
+ghost use Rattle.std.specs.Prelude.{◌∷◌, [], Some, ◌≤ℤ◌, pos, negsuc};
 ghost use Rattle.world_rules.specs.Identity.{OwnersRise};
 ghost use Rattle.world_rules.specs.Spawning.{SpawnFits};
 
 use crate::World;
 use std::alloc::Global;
-use std::marker::Brand;
-use std::sync::ledger::{Blank, Ledger};
 use std::test::Fail;
-use tn_types::{Move, NoMemory, Steps};
+use tn_types::{Move, NoMemory};
 use world_rules::{Setup, Spawn, Spawns};
 
 const PLAYER: Spawn = Spawn {
@@ -230,47 +228,6 @@ fn flag_comes_home(rt: HostRuntime) -> Result<(), Fail> {
         );
         assert_eq!(rt; told, (x, holder, red), "{out} {back}");
     }
-    Ok(())
-}
-
-// A friend goes along x from 4,050, and a flag lies 2,750 from it.
-fn crosses(alloc: Global, ticks: u32) -> Result<World, NoMemory> {
-    let friend = Spawn { x: 4050, ..FRIEND };
-    let mut world = world(alloc, friend, FLAG)?;
-    play(&mut world, alloc, &[None, Some(using(4))], ticks)?;
-    Ok(world)
-}
-
-#[test]
-fn object_goes_from_cell_to_cell(rt: HostRuntime) -> Result<(), Fail> {
-    let before = crosses(rt.alloc(), 0).ok().ok_or("no memory")?;
-    assert_eq!(rt; before.cell(0, 0), [0, 1, 2].as_slice());
-    assert_eq!(rt; before.cell(1, 0), [].as_slice());
-    let after = crosses(rt.alloc(), 1).ok().ok_or("no memory")?;
-    assert_eq!(rt; after.cell(0, 0), [0, 2].as_slice());
-    assert_eq!(rt; after.cell(1, 0), [1].as_slice());
-    assert_eq!(rt; after.always(), [2].as_slice());
-    Ok(())
-}
-
-// Where an object is, none for a clock.
-fn looked<L: Ledger>(world: &World, object: u32, blank: Blank) -> Option<(i64, i64)>
-    requires name { blank.name ≡ L.name }
-    requires parts { blank.parts ≡ L.parts }
-    requires some { 0 < blank.parts }
-{
-    let mut steps: Steps<L> = Steps::new(blank);
-    if object < world.objects() {
-        return world.look(object, &mut steps);
-    }
-    None
-}
-
-#[test]
-fn looks(rt: HostRuntime) -> Result<(), Fail> {
-    let world = world(rt.alloc(), DRONE, CLOCK).ok().ok_or("no memory")?;
-    assert_eq!(rt; looked::<Brand>(&world, 0, Blank::new(1)), Some((1000, 1000)));
-    assert_eq!(rt; looked::<Brand>(&world, 2, Blank::new(1)), None);
     Ok(())
 }
 
