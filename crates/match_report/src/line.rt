@@ -2,17 +2,16 @@
 ghost use Rattle.std.specs.Prelude.{◌≡◌, ◌++◌, ◌∷◌, [], IfOk, OnOk, OnErr, string_bytes};
 ghost use Rattle.std.specs.List.{flat_map};
 ghost use Rattle.std.specs.Fmt.{decimal};
-ghost use Rattle.match_report.specs.Text.{arrival_words, bits_text, came_text, cause_word, class_word, client_refusal, control_word, dropped_text, end_word, event_word, ghost_slot, ghost_text, ghost_word, hex_text, moved_text, ping_word, posted_text, report_line, server_refusal, told_text, two_numbers};
+ghost use Rattle.match_report.specs.Text.{arrival_words, came_text, class_word, control_word, dropped_text, end_word, event_word, hex_text, moved_text, ping_word, posted_text, report_line, told_text, two_numbers};
+ghost use Rattle.stream_manager.specs.Said.{server_refusal, client_refusal};
 
 use crate::told::{EventTold, Told, Way};
 use event_manager::PostFault;
-use ghost_client::GhostFault;
 use move_manager::MoveFault;
 use std::alloc::{AllocError, Global};
 use std::fmt::Write;
 use stream_manager::{ArriveFault, ClientFault};
 use tn_types::{Class, NoMemory, Payload};
-use wire_format::{BitsCause, BitsFault};
 
 fn hex_text(alloc: Global, bytes: &[u8]) -> Result<String, AllocError>
     ensures { IfOk result (λ text. string_bytes text ≡ hex_text bytes.now) }
@@ -42,46 +41,6 @@ fn class_word(class: Class) -> &'static str
     match class {
         Class::Guaranteed => "g",
         Class::Loose => "u",
-    }
-}
-
-fn cause_word(cause: BitsCause) -> &'static str
-    ensures { result.now ≡ cause_word cause }
-{
-    match cause {
-        BitsCause::Short => "Short",
-        BitsCause::Padding => "Padding",
-        BitsCause::KindBits => "KindBits",
-        BitsCause::OpBits => "OpBits",
-        BitsCause::CountBits => "CountBits",
-        BitsCause::LengthBits => "LengthBits",
-        BitsCause::UnknownKind => "UnknownKind",
-        BitsCause::EmptyMask => "EmptyMask",
-        BitsCause::ZeroSeq => "ZeroSeq",
-    }
-}
-
-fn ghost_slot(fault: GhostFault) -> u8
-    ensures { result ≡ ghost_slot fault }
-{
-    match fault {
-        GhostFault::Twice { slot } => slot,
-        GhostFault::Unknown { slot } => slot,
-        GhostFault::Taken { slot } => slot,
-        GhostFault::KindDiffers { slot, held: _ } => slot,
-        GhostFault::BlockMissing { slot, block: _ } => slot,
-    }
-}
-
-fn ghost_word(fault: GhostFault) -> &'static str
-    ensures { result.now ≡ ghost_word fault }
-{
-    match fault {
-        GhostFault::Twice { slot: _ } => "Twice",
-        GhostFault::Unknown { slot: _ } => "Unknown",
-        GhostFault::Taken { slot: _ } => "Taken",
-        GhostFault::KindDiffers { slot: _, held: _ } => "KindDiffers",
-        GhostFault::BlockMissing { slot: _, block: _ } => "BlockMissing",
     }
 }
 
@@ -132,11 +91,7 @@ fn put_posted(text: &mut String, number: &Result<u32, PostFault>) -> Result<(), 
 {
     match number {
         Ok(number) => put(text, "g ", *number),
-        Err(PostFault::Worn { life }) => put(text, "worn ", *life),
-        Err(PostFault::Full { first, last }) => {
-            put(text, "full ", *first)?;
-            put(text, " ", *last)
-        }
+        Err(fault) => write!(text, "{}", *fault),
     }
 }
 
@@ -145,8 +100,7 @@ fn put_moved(text: &mut String, number: &Result<u32, MoveFault>) -> Result<(), A
 {
     match number {
         Ok(number) => put(text, "", *number),
-        Err(MoveFault::Worn { life }) => put(text, "worn ", *life),
-        Err(MoveFault::Full { first, last }) => put_two(text, "full ", *first, *last),
+        Err(fault) => write!(text, "{}", *fault),
     }
 }
 
@@ -166,14 +120,6 @@ fn put_dropped(
     }
 }
 
-fn put_bits(text: &mut String, fault: &BitsFault) -> Result<(), AllocError>
-    ensures { OnOk result (string_bytes text.new ≡ string_bytes text.old ++ bits_text fault.now) }
-{
-    put(text, "bits ", fault.place)?;
-    text.push_str(" ")?;
-    text.push_str(cause_word(fault.cause))
-}
-
 fn put_two(text: &mut String, word: &str, first: u32, second: u32) -> Result<(), AllocError>
     ensures { OnOk result (string_bytes text.new ≡ string_bytes text.old ++ two_numbers word.now first second) }
 {
@@ -181,50 +127,16 @@ fn put_two(text: &mut String, word: &str, first: u32, second: u32) -> Result<(),
     put(text, " ", second)
 }
 
-fn put_ghost(text: &mut String, fault: &GhostFault) -> Result<(), AllocError>
-    ensures { OnOk result (string_bytes text.new ≡ string_bytes text.old ++ ghost_text fault.now) }
+fn put_server_refusal(text: &mut String, fault: ArriveFault) -> Result<(), AllocError>
+    ensures { OnOk result (string_bytes text.new ≡ string_bytes text.old ++ server_refusal fault) }
 {
-    put(text, "ghost ", u32::from(ghost_slot(*fault)))?;
-    text.push_str(" ")?;
-    text.push_str(ghost_word(*fault))
+    write!(text, "{fault}")
 }
 
-fn put_server_refusal(text: &mut String, fault: &ArriveFault) -> Result<(), AllocError>
-    ensures { OnOk result (string_bytes text.new ≡ string_bytes text.old ++ server_refusal fault.now) }
+fn put_client_refusal(text: &mut String, fault: ClientFault) -> Result<(), AllocError>
+    ensures { OnOk result (string_bytes text.new ≡ string_bytes text.old ++ client_refusal fault) }
 {
-    match fault {
-        ArriveFault::Bits(fault) => put_bits(text, fault),
-        ArriveFault::WrongClient { client } => put(text, "client ", u32::from(*client)),
-        ArriveFault::Old { seq, horizon } => put_two(text, "old ", *seq, *horizon),
-        ArriveFault::AckAhead { horizon, last } => put_two(text, "ackahead ", *horizon, *last),
-        ArriveFault::MoveGap { first, accepted } => put_two(text, "movegap ", *first, *accepted),
-        ArriveFault::EventAhead { number, delivered } => put_two(
-            text,
-            "eventahead ",
-            *number,
-            *delivered,
-        ),
-    }
-}
-
-fn put_client_refusal(text: &mut String, fault: &ClientFault) -> Result<(), AllocError>
-    ensures { OnOk result (string_bytes text.new ≡ string_bytes text.old ++ client_refusal fault.now) }
-{
-    match fault {
-        ClientFault::Bits(fault) => put_bits(text, fault),
-        ClientFault::WrongClient { client } => put(text, "client ", u32::from(*client)),
-        ClientFault::Old { seq, horizon } => put_two(text, "old ", *seq, *horizon),
-        ClientFault::AckAhead { horizon, last } => put_two(text, "ackahead ", *horizon, *last),
-        ClientFault::MoveAhead { count, sampled } => put_two(text, "moveahead ", *count, *sampled),
-        ClientFault::BlockDiffers { number } => put(text, "block ", u32::from(*number)),
-        ClientFault::EventAhead { number, delivered } => put_two(
-            text,
-            "eventahead ",
-            *number,
-            *delivered,
-        ),
-        ClientFault::Ghost(fault) => put_ghost(text, fault),
-    }
+    write!(text, "{fault}")
 }
 
 fn put_arrival(text: &mut String, way: Way, client: u8, k: u32) -> Result<(), AllocError>
@@ -324,11 +236,11 @@ fn put_told(text: &mut String, alloc: Global, told: &Told) -> Result<(), AllocEr
             fault,
         } => {
             put_arrival(text, *way, *client, *k)?;
-            put_server_refusal(text, fault)
+            put_server_refusal(text, *fault)
         }
         Told::ClientRefused { client, k, fault } => {
             put_arrival(text, Way::Down, *client, *k)?;
-            put_client_refusal(text, fault)
+            put_client_refusal(text, *fault)
         }
         Told::Show {
             client,
