@@ -8,8 +8,8 @@ use crate::events::{EventList, put_events};
 use crate::fault::{BitsCause, BitsFault};
 use crate::header::{Header, put_header, put_ping, read_header};
 use crate::items::{list_bits, read_list};
-use crate::moves::{MoveList, put_moves};
 use crate::kind::PacketKind;
+use crate::moves::{MoveList, put_moves};
 use crate::parts::{part, within};
 use crate::widths::{
     DATA, EVENT_COUNT_WIDTH, HEADER_BITS, KIND_WIDTH, MAX_PACKET_BITS, MOVE_COUNT_WIDTH,
