@@ -158,7 +158,7 @@ fn sends(conn: &mut Conn, values: &[i64], bytes: &[u8]) -> bool {
         return false;
     }
     plan::<Brand>(conn, Blank::new(1));
-    conn.fits(values) && conn.seal(values) == bytes
+    conn.is_planned() && conn.fits(values) && conn.seal(values) == bytes
 }
 
 /// Whether the client's next datagram is a data packet with these bytes.
