@@ -151,7 +151,8 @@ impl Cells {
     // An object more, behind all others.
     fn settle(&mut self, number: u32, made: &Object)
         requires { number < MAX_OBJECTS }
-        ensures { (before : List Object) → length before ≡ number → IsGrid self.old before → IsGrid self.new (before ++ made.now ∷ []) }
+        ensures { (before : List Object) → length before ≡ number → IsGrid self.old before
+            → IsGrid self.new (before ++ made.now ∷ []) }
     {
         self.move_to(number, None, spot(made));
     }
