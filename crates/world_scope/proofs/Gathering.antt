@@ -1,15 +1,26 @@
 -- The visible objects, gathered mark by mark: what is gathered, and behind it what is still to come.
-use Rattle.std.proofs.Common.{◌≡◌, ℕ, ◌<◌, ◌≤◌, ◌+◌, List, [], ◌∷◌, ◌++◌, length, get_or, drop, refl, ap, ◌∙◌, arith, append_assoc, length-append, Some, None}
-use Rattle.std.specs.List.{filter_map, enumerate_from, cons_option}
-use Rattle.std.proofs.lemmas.List.{drop_more, drop_all, append-nil}
+use Rattle.std.proofs.Common.{◌≡◌, ℕ, ◌<◌, ◌≤◌, ◌+◌, List, [], ◌∷◌, ◌++◌, length, get_or, drop, refl, ap, ◌∙◌, arith, append_assoc, length-append, Some, None, inl, inr}
+use Rattle.std.specs.List.{cons_option}
+use Rattle.std.proofs.lemmas.List.{drop_more, drop_all, append-nil, get_or_past}
+use Rattle.std.proofs.lemmas.Bool.{cases_lt}
 use Rattle.world_scope.specs.declared.viewer.Seen.{Seen}
 use Rattle.world_scope.specs.Marks.{told}
-
-abbrev pub to_come : ℕ → List ℕ → List Seen
-to_come i xs = filter_map told (enumerate_from i (drop i xs))
+use Rattle.world_scope.specs.MarkWords.{to_come}
 
 next_seen : (xs : List ℕ) (i d : ℕ) → i < length xs → to_come i xs ≡ cons_option (told (i, get_or xs i d)) (to_come (i + 1) xs)
 next_seen xs i d l = rw (drop_more xs i d l) refl
+
+-- what the mark of this number tells, and behind it what is still to come; past the end nothing comes
+pub one_at : (xs : List ℕ) (i : ℕ) → to_come i xs ≡ cons_option (told (i, get_or xs i 0)) (to_come (i + 1) xs)
+one_at xs i =
+    elim (cases_lt i (length xs)) [
+      | inl l ↦ next_seen xs i 0 l
+      | inr m ↦
+          let past : get_or xs i 0 ≡ 0 = get_or_past xs i 0 m in
+          let here : drop i xs ≡ [] = drop_all i xs m in
+          let later : drop (i + 1) xs ≡ [] = drop_all (i + 1) xs (omega arith) in
+          rw (past, here, later) refl
+    ]
 
 pub seen_none : (front : List Seen) (xs : List ℕ) (i d : ℕ) → i < length xs → told (i, get_or xs i d) ≡ None → front ++ to_come i xs ≡ front ++ to_come (i + 1) xs
 seen_none front xs i d l none = rw (next_seen xs i d l, none) refl

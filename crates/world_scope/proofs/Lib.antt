@@ -1,4 +1,5 @@
 pub mod Gathering
+pub mod MarkBits
 pub mod Numbers
 pub mod Marking
 pub mod Parts

@@ -1,6 +1,7 @@
 //! Which objects of a world a client sees, and how near they are. The rules stand in docs/world.md, "Scope".
 #![tactic(auto)]
 
+mod mark_table;
 mod marks;
 mod scope;
 #[cfg(test)]

@@ -7,6 +7,7 @@ ghost use Rattle.world_scope.specs.Views.{look};
 ghost use Rattle.world_scope.specs.Square.{is_round, many_round};
 ghost use Rattle.world_scope.specs.Marks.{IsExact, AreExact, AreKept, is_in_row, is_in_part, is_near};
 
+use crate::mark_table::MarkTable;
 use crate::viewer::Viewer;
 use std::sync::ledger::Ledger;
 use tn_types::{MAX_OBJECTS, Steps};
@@ -18,7 +19,7 @@ fn mark_one<L: Ledger>(
     viewer: &Viewer,
     world: &World,
     object: u32,
-    marks: &mut [u8],
+    marks: &mut MarkTable,
     steps: &mut Steps<L>,
 )
     requires there { object < length world.now.objects }
@@ -29,7 +30,7 @@ fn mark_one<L: Ledger>(
     ensures steps { steps.new ≡ steps.old + 1 }
 {
     let _ = world.look(object, steps);
-    marks[object as usize] = viewer.mark(&world.all_objects()[object as usize]);
+    marks.put(object, viewer.mark(&world.all_objects()[object as usize]));
 }
 
 // Looks at each of these objects.
@@ -37,7 +38,7 @@ fn mark_all<L: Ledger>(
     viewer: &Viewer,
     world: &World,
     objects: &[u32],
-    marks: &mut [u8],
+    marks: &mut MarkTable,
     steps: &mut Steps<L>,
 )
     requires there { (k : ℕ) → k < length objects.now → slice_index_or objects.now k 0 < length world.now.objects }
@@ -54,7 +55,12 @@ fn mark_all<L: Ledger>(
 }
 
 // Looks at what every client sees.
-fn mark_always<L: Ledger>(viewer: &Viewer, world: &World, marks: &mut [u8], steps: &mut Steps<L>)
+fn mark_always<L: Ledger>(
+    viewer: &Viewer,
+    world: &World,
+    marks: &mut MarkTable,
+    steps: &mut Steps<L>,
+)
     requires room { length marks.old ≡ MAX_OBJECTS }
     ensures room { length marks.new ≡ MAX_OBJECTS }
     ensures exact { AreExact (look viewer.now) world.now.objects lasts marks.new }
@@ -70,7 +76,7 @@ fn mark_row<L: Ledger>(
     world: &World,
     row: u8,
     columns: (u8, u8),
-    marks: &mut [u8],
+    marks: &mut MarkTable,
     steps: &mut Steps<L>,
 )
     requires row { row < CELLS_ACROSS }
@@ -93,7 +99,7 @@ fn mark_part<L: Ledger>(
     world: &World,
     columns: (u8, u8),
     rows: (u8, u8),
-    marks: &mut [u8],
+    marks: &mut MarkTable,
     steps: &mut Steps<L>,
 )
     requires columns { columns.1 ≤ CELLS_ACROSS }
@@ -130,7 +136,7 @@ fn mark_round<L: Ledger>(
     viewer: &Viewer,
     world: &World,
     place: &Place,
-    marks: &mut [u8],
+    marks: &mut MarkTable,
     steps: &mut Steps<L>,
 )
     requires fits { AllByRecursion ObjectFits world.now.objects }
@@ -152,7 +158,7 @@ fn mark_round<L: Ledger>(
 }
 
 // Looks round the client's player, if there is one.
-fn mark_near<L: Ledger>(viewer: &Viewer, world: &World, marks: &mut [u8], steps: &mut Steps<L>)
+fn mark_near<L: Ledger>(viewer: &Viewer, world: &World, marks: &mut MarkTable, steps: &mut Steps<L>)
     requires fits { AllByRecursion ObjectFits world.now.objects }
     requires room { length marks.old ≡ MAX_OBJECTS }
     ensures room { length marks.new ≡ MAX_OBJECTS }
@@ -166,7 +172,12 @@ fn mark_near<L: Ledger>(viewer: &Viewer, world: &World, marks: &mut [u8], steps:
 }
 
 /// Looks at all that the client may see.
-pub fn mark_seen<L: Ledger>(viewer: &Viewer, world: &World, marks: &mut [u8], steps: &mut Steps<L>)
+pub fn mark_seen<L: Ledger>(
+    viewer: &Viewer,
+    world: &World,
+    marks: &mut MarkTable,
+    steps: &mut Steps<L>,
+)
     requires fits { AllByRecursion ObjectFits world.now.objects }
     requires room { length marks.old ≡ MAX_OBJECTS }
     ensures room { length marks.new ≡ MAX_OBJECTS }

@@ -1,48 +1,19 @@
 //! The visible objects of a client.
 ghost use Rattle.std.specs.Prelude.{◌≡◌, ◌≤◌, ◌<◌, ◌+◌, ◌↔◌, [], OnOk, OnErr, length, map, vec_capacity, Some, true};
-ghost use Rattle.std.specs.List.{All, Contains, filter_map, enumerate_from};
+ghost use Rattle.std.specs.List.{All, Contains};
 ghost use Rattle.std.specs.List.Sorted.{IsStrictlyIncreasing};
 ghost use Rattle.world_sim.specs.Worlds.{alive_at};
 ghost use Rattle.world_scope.specs.Scope.{seen_at, visible_list};
-ghost use Rattle.world_scope.specs.Marks.{told};
 ghost use Rattle.world_scope.specs.Square.{most_looks};
 
+use crate::mark_table::MarkTable;
 use crate::marks::mark_seen;
 use crate::viewer::{Seen, Viewer};
-use std::alloc::{AllocError, Global};
+use std::alloc::Global;
 use std::marker::Brand;
 use std::sync::ledger::{Blank, Ledger};
-use tn_types::{MAX_OBJECTS, NoMemory, Steps};
+use tn_types::{NoMemory, Steps};
 use world_sim::World;
-
-// The objects that are marked, in place of what was in `out`.
-fn gather(marks: &[u8], out: &mut Vec<Seen>) -> Result<(), AllocError>
-    requires { length marks.now ≤ MAX_OBJECTS }
-    ensures ok { OnOk result (out.new.items ≡ filter_map told (enumerate_from 0 marks.now)) }
-    ensures room { OnErr result (vec_capacity out.old < length (filter_map told (enumerate_from 0 marks.now))) }
-    ensures kept { vec_capacity out.old ≤ vec_capacity out.new }
-{
-    out.clear();
-    for (i, mark) in marks.iter().enumerate() {
-        if let Some(seen) = told(i as u32, *mark) {
-            out.push(seen)?;
-        }
-    }
-    Ok(())
-}
-
-// What a mark tells of the object of this number.
-fn told(object: u32, mark: u8) -> Option<Seen>
-    ensures { result ≡ told (object, mark) }
-{
-    if mark == 0 {
-        return None;
-    }
-    Some(Seen {
-        object,
-        level: mark - 1,
-    })
-}
 
 /// The objects that a client sees, by rising number, in place of what was in `out` (docs/world.md, "Scope"). It takes
 /// memory only where `out` has no room for them, and for want of memory `out` is empty.
@@ -124,9 +95,9 @@ pub fn visible_counted<L: Ledger>(
 {
     let viewer = Viewer::of(world, client);
     let objects = world.all_objects();
-    let mut marks = [0; MAX_OBJECTS];
+    let mut marks = MarkTable::new();
     mark_seen(&viewer, world, &mut marks, steps);
-    match gather(&marks[..objects.len()], out) {
+    match marks.gather(objects.len(), out) {
         Ok(()) => Ok(()),
         Err(_) => {
             out.clear();

@@ -16,7 +16,7 @@ returns-in-Ok g c =
     let ms = take (length c.all_objects-objects.result.now) marks in
     let people : IsPeopled w.clients w.objects = rw c.all_objects-objects.ensures.value at c.all_objects-objects.ensures.peopled in
     let few : length w.objects ≤ length marks = omega (arith, c.all_objects-objects.ensures.few, ap (λ (os : List Object). length os) c.all_objects-objects.ensures.value, c.mark_seen.ensures.room) in
-    let list : filter_map told (enumerate_from 0 ms) ≡ visible_list w c.args.client = scan_told w.clients w c.args.client (look c.of-viewer.result) ms marks c.of-viewer.ensures people few c.mark_seen.ensures.kept c.mark_seen.ensures.always c.mark_seen.ensures.near (ap (λ (os : List Object). take (length os) marks) c.all_objects-objects.ensures.value) in
+    let list : filter_map told (enumerate_from 0 ms) ≡ visible_list w c.args.client = scan_told w.clients w c.args.client (look c.of-viewer.result) ms marks c.of-viewer.ensures people few (rw c.new-marks.ensures at c.mark_seen.ensures.kept) c.mark_seen.ensures.always c.mark_seen.ensures.near (ap (λ (os : List Object). take (length os) marks) c.all_objects-objects.ensures.value) in
     let e : c.gather.new.out.items ≡ visible_list w c.args.client = c.in-Ok.ensures.ok ∙ list in
     record {
       ok = e;
@@ -38,5 +38,5 @@ returns-in-Err-clause-room g c =
     let ms = take (length c.all_objects-objects.result.now) marks in
     let people : IsPeopled w.clients w.objects = rw c.all_objects-objects.ensures.value at c.all_objects-objects.ensures.peopled in
     let few : length w.objects ≤ length marks = omega (arith, c.all_objects-objects.ensures.few, ap (λ (os : List Object). length os) c.all_objects-objects.ensures.value, c.mark_seen.ensures.room) in
-    let list : filter_map told (enumerate_from 0 ms) ≡ visible_list w c.args.client = scan_told w.clients w c.args.client (look c.of-viewer.result) ms marks c.of-viewer.ensures people few c.mark_seen.ensures.kept c.mark_seen.ensures.always c.mark_seen.ensures.near (ap (λ (os : List Object). take (length os) marks) c.all_objects-objects.ensures.value) in
+    let list : filter_map told (enumerate_from 0 ms) ≡ visible_list w c.args.client = scan_told w.clients w c.args.client (look c.of-viewer.result) ms marks c.of-viewer.ensures people few (rw c.new-marks.ensures at c.mark_seen.ensures.kept) c.mark_seen.ensures.always c.mark_seen.ensures.near (ap (λ (os : List Object). take (length os) marks) c.all_objects-objects.ensures.value) in
     rw list at c.in-Err.ensures.room
