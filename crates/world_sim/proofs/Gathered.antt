@@ -18,13 +18,13 @@ use Rattle.world_rules.specs.declared.object.Disc.{Disc as DiscPart}
 use Rattle.world_rules.specs.declared.object.Mine.{Mine as MinePart}
 use Rattle.world_rules.specs.declared.object.Drone.{Drone as DronePart}
 use Rattle.world_sim.specs.declared.found.Found.{Found}
-use Rattle.world_sim.specs.Found.{hits_any, is_triggered_by, is_ending, is_flag, is_flag_part, AreFound}
+use Rattle.world_sim.specs.Found.{hits_any, is_triggered_by, is_ending, is_flag, is_flag_part, is_players, AreFound}
 use Rattle.world_rules.specs.Places.{apart, is_within}
 use Rattle.world_rules.specs.Near.{is_target, is_standing, is_standing_part, is_other_near, is_target_near, is_enemy_near}
 use Rattle.world_rules.specs.Discs.{is_flying, is_harming, is_hitting, is_of, harm, hits, disc_next}
 use Rattle.world_rules.specs.Mines.{is_armed, is_triggered, mine_next}
 use Rattle.world_rules.specs.Players.{damage, fired, fired_part, fired_by, player_next}
-use Rattle.world_rules.specs.Next.{Moment, object_next, objects_next, discs_made}
+use Rattle.world_rules.specs.Next.{discs_made}
 use Rattle.world_rules.specs.Drones.{drone_next}
 use Rattle.world_rules.specs.Flags.{captures, is_captured, captured_part}
 
@@ -40,7 +40,7 @@ filter_step : (v : Bool) (q : Object → Bool) (x : Object) (ys zs : List Object
 filter_step true q x ys zs e = ap (λ ws. cond (q x) (x ∷ ws) ws) e
 filter_step false q x ys zs e = e
 
-filter_filter : (p q : Object → Bool) (xs : List Object) → filter q (filter p xs) ≡ filter (λ x. p x && q x) xs
+pub filter_filter : (p q : Object → Bool) (xs : List Object) → filter q (filter p xs) ≡ filter (λ x. p x && q x) xs
 filter_filter p q [] = refl
 filter_filter p q (x ∷ xs) = filter_step (p x) q x (filter p xs) (filter (λ x. p x && q x) xs) (filter_filter p q xs)
 
@@ -61,7 +61,7 @@ pub triggered_is : (os standing : List Object) (o : Object) → standing ≡ fil
 unfolding is_triggered
 triggered_is os standing o e = ap (λ b. is_armed o && b) (any_enemy o os standing e)
 
-filter_same : (p q : Object → Bool) (xs : List Object) → ((x : Object) → p x ≡ q x) → filter p xs ≡ filter q xs
+pub filter_same : (p q : Object → Bool) (xs : List Object) → ((x : Object) → p x ≡ q x) → filter p xs ≡ filter q xs
 filter_same p q [] h = refl
 filter_same p q (x ∷ xs) h = rw (h x, filter_same p q xs h) refl
 
@@ -80,11 +80,12 @@ map_same : (p q : Object → Bool) (xs : List Object) → ((x : Object) → p x 
 map_same p q [] h = refl
 map_same p q (x ∷ xs) h = rw (h x, map_same p q xs h) refl
 
-pub are_found : (os : List Object) (found : Found) (targets standing : List Object) → targets ≡ filter is_target os → standing ≡ filter is_standing os → found.standing.items ≡ standing → found.flags.items ≡ filter is_flag os → found.hitting.items ≡ filter (hits_any targets) os → found.triggered.items ≡ filter (is_triggered_by standing) os → found.marks.items ≡ map (λ o. hits_any targets o || is_triggered_by standing o) os → AreFound os found
-are_found os found targets standing t s kept flags h m marks =
+pub are_found : (os : List Object) (found : Found) (targets standing : List Object) → targets ≡ filter is_target os → found.players.items ≡ filter is_players os → standing ≡ filter is_standing os → found.standing.items ≡ standing → found.flags.items ≡ filter is_flag os → found.hitting.items ≡ filter (hits_any targets) os → found.triggered.items ≡ filter (is_triggered_by standing) os → found.marks.items ≡ map (λ o. hits_any targets o || is_triggered_by standing o) os → AreFound os found
+are_found os found targets standing t players s kept flags h m marks =
     let hit : (o : Object) → hits_any targets o ≡ is_hitting os o = λ o. hitting_is os targets o t in
     let triggered : (o : Object) → is_triggered_by standing o ≡ is_triggered os o = λ o. triggered_is os standing o s in
     record {
+      players_are = players;
       standing_are = kept ∙ s;
       flags_are = flags;
       hitting_are = h ∙ filter_same (hits_any targets) (is_hitting os) os hit;
@@ -150,11 +151,10 @@ made_by_standing moves (o ∷ os) = made_step (is_standing o) moves o os refl (m
 pub made_are : (os : List Object) (found : Found) (moves : List (Option Move)) → AreFound os found → filter_map (fired moves) found.standing.items ≡ filter_map (fired moves) os
 made_are os found moves a = ap (filter_map (fired moves)) a.standing_are ∙ made_by_standing moves os
 
-pub objects_are : (os : List Object) (found : Found) (moves : List (Option Move)) (t : Moment) (standing stepped after : List Object) → AreFound os found → standing ≡ found.standing.items → stepped ≡ map (object_next os moves t) os → after ≡ stepped ++ take (1024 - length stepped) (filter_map (fired moves) standing) → after ≡ objects_next os moves t
+pub prepared : (os : List Object) (found : Found) (moves : List (Option Move)) (room : ℕ) (standing made : List Object) → AreFound os found → standing ≡ found.standing.items → room ≡ 1024 - length os → made ≡ take room (filter_map (fired moves) standing) → made ≡ discs_made os moves
 unfolding discs_made
-objects_are os found moves t standing stepped after a s e h =
-    let many : length (map (object_next os moves t) os) ≡ length os = simp length-map in
-    h ∙ rw (e, s, made_are os found moves a) (ap (λ n. map (object_next os moves t) os ++ take (1024 - n) (filter_map (fired moves) os)) many)
+prepared os found moves room standing made a s k e =
+    e ∙ ap (λ (xs : List Object). take room (filter_map (fired moves) xs)) s ∙ ap (take room) (made_are os found moves a) ∙ ap (λ (n : ℕ). take n (filter_map (fired moves) os)) k
 
 -- ---- harm
 

@@ -7,6 +7,7 @@ pub mod Made
 pub mod WorldLaws
 pub mod Started
 pub mod Gathered
+pub mod Turns
 pub mod ForGood
 pub mod InRange
 pub mod Kept

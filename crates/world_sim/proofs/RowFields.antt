@@ -1,5 +1,5 @@
 -- The versions and writes of one object, field by field.
-use Rattle.std.proofs.Common.{Bool, false, cond, ◌||◌, nat_lt, ◌≡◌, ℕ, suc, ◌<◌, ◌≤◌, ◌+◌, List, [], ◌∷◌, ◌++◌, length, get_or, drop, refl, ap, ◌∙◌, arith, append_assoc, ◌⊎◌, inl, inr}
+use Rattle.std.proofs.Common.{sym, Bool, true, false, length-append, cond, ◌||◌, nat_lt, ◌≡◌, ℕ, suc, ◌<◌, ◌≤◌, ◌+◌, List, [], ◌∷◌, ◌++◌, length, get_or, drop, refl, ap, ◌∙◌, arith, append_assoc, ◌⊎◌, inl, inr}
 use Rattle.std.specs.Prelude.{ℤ, pos, negsuc}
 use Rattle.std.proofs.lemmas.List.{drop_more, drop_all, append-nil}
 use Rattle.world_sim.specs.declared.rows.Write.{Write}
@@ -95,3 +95,23 @@ stay (x ∷ xs) (v ∷ vs) e =
 
 pub row_stays : (r : Row) (o : Object) → values_of o ≡ r.values.items → length r.values.items ≡ length r.versions.items → r ≡ row_next r o
 row_stays r o e h = rw (e, stay r.values.items r.versions.items h) refl
+
+few_by : (b : Bool) (ws : List Write) (w : Write) → length (ws ++ cond b (w ∷ []) []) ≤ length ws + 1
+few_by true ws w = let l = length-append ws (w ∷ []) in omega (arith, l)
+few_by false ws w = rw (append-nil ws) (omega arith)
+
+pub few_more : (ws : List Write) (object field : ℕ) (before now : ℤ) (version : ℕ) → length (ws ++ field_writes object field before now version) ≤ length ws + 1
+few_more ws object field before now version = few_by (differs before now) ws (record { object = object; field = field; version = version + 1; value = now })
+
+no_write : (object field : ℕ) (v : ℕ) (x : ℤ) → field_writes object field x x v ≡ []
+no_write object field v x = ap (λ (b : Bool). cond b ((record { object = object; field = field; version = v + 1; value = x }) ∷ []) []) (same_differs x)
+
+no_row_writes : (object field : ℕ) (xs : List ℤ) (vs : List ℕ) → row_writes object field xs xs vs ≡ []
+unfolding row_writes
+no_row_writes object field [] vs = refl
+no_row_writes object field (x ∷ xs) [] = refl
+no_row_writes object field (x ∷ xs) (v ∷ vs) = rw (no_write object field v x, no_row_writes object (suc field) xs vs) refl
+
+-- an object that stays writes nothing
+pub writes_nothing : (ws : List Write) (object : ℕ) (xs ys : List ℤ) (vs : List ℕ) → xs ≡ ys → ws ≡ ws ++ row_writes object 0 xs ys vs
+writes_nothing ws object xs ys vs e = rw (sym e, no_row_writes object 0 xs vs, append-nil) refl

@@ -1,7 +1,7 @@
 -- The rows and the writes, object by object.
-use Rattle.std.proofs.Common.{◌≡◌, ℕ, zero, suc, ◌<◌, ◌≤◌, ◌+◌, List, [], ◌∷◌, ◌++◌, length, get_or, take, drop, set, map, replicate, subst, add-one, ◌^◌, ◌-◌, refl, sym, ap, ◌∙◌, arith, append_assoc}
+use Rattle.std.proofs.Common.{◌≡◌, ℕ, zero, suc, ◌<◌, ◌≤◌, ◌+◌, List, [], ◌∷◌, ◌++◌, length, get_or, drop, set, map, subst, add-one, refl, sym, ap, ◌∙◌, arith, append_assoc}
 use Rattle.std.specs.List.{AllByRecursion}
-use Rattle.std.proofs.lemmas.List.{length-replicate, get_or_default, drop_more, drop_all, append-nil}
+use Rattle.std.proofs.lemmas.List.{get_or_default, drop_more, drop_all, append-nil}
 use Rattle.world_rules.specs.declared.object.Object.{Object}
 use Rattle.world_sim.specs.declared.rows.Write.{Write}
 use Rattle.world_sim.specs.declared.rows.Row.{Row}
@@ -39,7 +39,7 @@ sound_at (x ∷ rows) (suc i) r h lt = sound_at rows i r h.1 (omega arith)
 
 -- ---- rows in place
 
-updated_at : (i : ℕ) (rows : List Row) (after : List Object) (r : Row) → i < length rows → get_or (rows_updated i rows after) i r ≡ get_or rows i r
+pub updated_at : (i : ℕ) (rows : List Row) (after : List Object) (r : Row) → i < length rows → get_or (rows_updated i rows after) i r ≡ get_or rows i r
 updated_at i [] after r l = absurd (omega arith)
 updated_at zero (x ∷ rows) after r l = refl
 updated_at (suc i) (x ∷ rows) [] r l = refl
@@ -65,24 +65,17 @@ update_more i rows now after r next o e l m f =
 pub sound_now : (i : ℕ) (rows now : List Row) (after : List Object) (r : Row) → now ≡ rows_updated i rows after → i < length rows → AllByRecursion IsSoundRow rows → IsSoundRow (get_or now i r)
 sound_now i rows now after r e l h = subst IsSoundRow (sym (ap (λ (xs : List Row). get_or xs i r) e ∙ updated_at i rows after r l)) (sound_at rows i r h l)
 
-small_zeros : (n : ℕ) → AllByRecursion (λ v. v < 2 ^ 32 - 1) (replicate n 0)
-small_zeros zero = tt
-small_zeros (suc n) = (omega arith, small_zeros n)
-
-fresh_sound : (os : List Object) → AllByRecursion IsSoundRow (map fresh_row os)
-fresh_sound [] = tt
-fresh_sound (o ∷ os) = ((small_zeros (length (values_of o)), sym (length-replicate (length (values_of o)) 0)), fresh_sound os)
-
-pub all_sound : (rows : List Row) (made : List Object) → AllByRecursion IsSoundRow rows → AllByRecursion IsSoundRow (rows ++ map fresh_row made)
-all_sound [] made h = fresh_sound made
-all_sound (r ∷ rows) made h = (h.0, all_sound rows made h.1)
-
-pub rows_are : (rows : List Row) (after : List Object) → length rows ≤ length after → rows_updated (length rows) (rows ++ map fresh_row (drop (length rows) after)) after ≡ rows_next rows after
+-- the rows of the objects that were there, and those of the new ones
+pub rows_whole : (rows : List Row) (after made : List Object) → length rows ≡ length after → rows_updated (length rows) rows after ++ map fresh_row made ≡ rows_next rows (after ++ made)
 unfolding rows_next
-rows_are [] after h = refl
-rows_are (r ∷ rows) [] h = absurd (omega arith)
-rows_are (r ∷ rows) (o ∷ after) h = ap (λ (xs : List Row). row_next r o ∷ xs) (rows_are rows after (omega arith))
+rows_whole [] [] made e = refl
+rows_whole [] (o ∷ after) made e = absurd (omega (arith, e))
+rows_whole (r ∷ rows) [] made e = absurd (omega (arith, e))
+rows_whole (r ∷ rows) (o ∷ after) made e = ap (λ (xs : List Row). row_next r o ∷ xs) (rows_whole rows after made (omega (arith, e)))
 
-pub take_front : (rows more : List Row) → take (length rows) (rows ++ more) ≡ rows
-take_front [] more = refl
-take_front (r ∷ rows) more = ap (λ (xs : List Row). r ∷ xs) (take_front rows more)
+-- new objects write nothing
+pub writes_whole : (i : ℕ) (rows : List Row) (after made : List Object) → length rows ≡ length after → rows_writes i rows after ≡ rows_writes i rows (after ++ made)
+unfolding rows_writes
+writes_whole i [] after made e = refl
+writes_whole i (r ∷ rows) [] made e = absurd (omega (arith, e))
+writes_whole i (r ∷ rows) (o ∷ after) made e = ap (λ (ws : List Write). row_writes i 0 r.values.items (values_of o) r.versions.items ++ ws) (writes_whole (suc i) rows after made (omega (arith, e)))

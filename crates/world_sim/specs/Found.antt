@@ -1,18 +1,15 @@
 -- What a tick finds of the objects before anything moves: those that matter to others, in the order of their numbers, and
 -- a mark for each object that ends in the tick.
-use Rattle.std.specs.Prelude.{◌≡◌, ◌≤◌, ◌&&◌, ◌||◌, Bool, true, false, List, filter, map, length}
+use Rattle.std.specs.Prelude.{◌≡◌, ◌&&◌, ◌||◌, Bool, true, false, List, filter, map}
 use Rattle.std.specs.List.{list_any}
-use Rattle.tn_types.specs.declared.limits.TheConstants.{MAX_OBJECTS}
 use Rattle.world_rules.specs.declared.measures.TheConstants.{DISC_REACH, MINE_REACH}
 use Rattle.world_rules.specs.declared.object.Object.{Object}
 use Rattle.world_rules.specs.declared.object.State.{State}
-use Rattle.world_rules.specs.declared.object.State.TheVariants.{Flag}
+use Rattle.world_rules.specs.declared.object.State.TheVariants.{Player, Flag}
 use Rattle.world_sim.specs.declared.found.Found.{Found}
-use Rattle.world_sim.specs.declared.step.Old.{Old}
 use Rattle.world_rules.specs.Near.{is_standing, is_other_near}
 use Rattle.world_rules.specs.Discs.{is_flying, is_hitting}
 use Rattle.world_rules.specs.Mines.{is_armed, is_triggered}
-use Rattle.world_rules.specs.Flags.{captures}
 
 -- a living disc that is near one of these
 abbrev pub hits_any : List Object → Object → Bool
@@ -33,16 +30,18 @@ is_flag_part _ = false
 abbrev pub is_flag : Object → Bool
 is_flag o = is_flag_part o.state
 
+-- anybody's player
+abbrev pub is_players_part : State → Bool
+is_players_part (Player p) = true
+is_players_part _ = false
+
+abbrev pub is_players : Object → Bool
+is_players o = is_players_part o.state
+
 pub record AreFound (os : List Object) (found : Found) : Type 0 where
+  pub players_are : found.players.items ≡ filter is_players os
   pub standing_are : found.standing.items ≡ filter is_standing os
   pub flags_are : found.flags.items ≡ filter is_flag os
   pub hitting_are : found.hitting.items ≡ filter (is_hitting os) os
   pub triggered_are : found.triggered.items ≡ filter (is_triggered os) os
   pub marks_are : found.marks.items ≡ map (is_ending os) os
-
--- the world before a tick as the rules read it, and what is found of it
-pub record IsOld (old : Old) : Type 0 where
-  pub found_is : AreFound old.objects.now old.found.now
-  pub few : length old.objects.now ≤ MAX_OBJECTS
-  pub red_is : old.red ≡ captures old.objects.now 0
-  pub blue_is : old.blue ≡ captures old.objects.now 1

@@ -5,5 +5,6 @@ pub mod Grid
 pub mod Cells
 pub mod Worlds
 pub mod Found
+pub mod Turns
 pub mod Facts
 pub mod History

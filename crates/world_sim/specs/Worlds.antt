@@ -28,10 +28,10 @@ pub record Worlds : Type 0 where
   pub versions : List (List ℕ)
   pub writes : List Write
 
--- the objects with one more, if it was made and there is a place
-abbrev pub added : List Object → Option Object → List Object
-added now None = now
-added now (Some disc) = if nat_lt (length now) MAX_OBJECTS then now ++ disc ∷ [] else now
+-- the discs with one more, if it was made and there is a place
+abbrev pub added : ℕ → List Object → Option Object → List Object
+added room discs None = discs
+added room discs (Some disc) = if nat_lt (length discs) room then discs ++ disc ∷ [] else discs
 
 -- the moment of the next tick
 abbrev pub coming : Worlds → Moment

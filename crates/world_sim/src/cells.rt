@@ -134,8 +134,8 @@ impl Cells {
         self.arrive(number, to);
     }
 
-    // An object of this number became another. Most stay in their cells.
-    fn resettle(&mut self, number: u32, old: &Object, now: &Object)
+    /// An object of this number became another. Most stay in their cells.
+    pub(crate) fn resettle(&mut self, number: u32, old: &Object, now: &Object)
         requires { number < MAX_OBJECTS }
         ensures { (before behind : List Object) → length before ≡ number → IsGrid self.old (before ++ old.now ∷ behind)
             → IsGrid self.new (before ++ now.now ∷ behind) }
@@ -148,25 +148,13 @@ impl Cells {
         self.move_to(number, from, to);
     }
 
-    // An object more, behind all others.
-    fn settle(&mut self, number: u32, made: &Object)
+    /// An object more, behind all others.
+    pub(crate) fn settle(&mut self, number: u32, made: &Object)
         requires { number < MAX_OBJECTS }
         ensures { (before : List Object) → length before ≡ number → IsGrid self.old before
             → IsGrid self.new (before ++ made.now ∷ []) }
     {
         self.move_to(number, None, spot(made));
-    }
-
-    /// These objects became others.
-    pub(crate) fn resettle_all(&mut self, old: &[Object], now: &[Object])
-        requires few { length old.now ≤ length now.now }
-        requires most { length old.now ≤ MAX_OBJECTS }
-        requires grid { IsGrid self.old old.now }
-        ensures { IsGrid self.new (take (length old.now) now.now) }
-    {
-        for (i, o) in old.iter().enumerate() {
-            self.resettle(i as u32, o, &now[i]);
-        }
     }
 
     /// The objects from this number on are new.

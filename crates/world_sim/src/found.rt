@@ -4,7 +4,7 @@ ghost use Rattle.std.specs.List.{list_any};
 ghost use Rattle.world_rules.specs.Near.{is_target, is_standing, is_other_near};
 ghost use Rattle.world_rules.specs.Discs.{is_of};
 ghost use Rattle.world_rules.specs.Flags.{captures};
-ghost use Rattle.world_sim.specs.Found.{hits_any, is_triggered_by, is_flag, AreFound};
+ghost use Rattle.world_sim.specs.Found.{hits_any, is_triggered_by, is_flag, is_players, AreFound};
 
 use std::alloc::{AllocError, Global};
 use tn_types::MAX_OBJECTS;
@@ -16,6 +16,7 @@ use world_rules::{Object, State};
 #[derive(Drop)]
 pub struct Found {
     pub targets: Vec<Object>,
+    pub players: Vec<Object>,
     pub standing: Vec<Object>,
     pub flags: Vec<Object>,
     /// The discs that hit.
@@ -30,6 +31,7 @@ pub struct Found {
 pub fn nothing(alloc: Global) -> Result<Found, AllocError> {
     Ok(Found {
         targets: Vec::with_capacity(alloc, MAX_OBJECTS)?,
+        players: Vec::with_capacity(alloc, MAX_OBJECTS)?,
         standing: Vec::with_capacity(alloc, MAX_OBJECTS)?,
         flags: Vec::with_capacity(alloc, MAX_OBJECTS)?,
         hitting: Vec::with_capacity(alloc, MAX_OBJECTS)?,
@@ -75,6 +77,13 @@ fn is_triggered_by(standing: &[Object], o: &Object) -> bool
     o.is_armed() && any_near(MINE_REACH, o, standing)
 }
 
+// Whether an object is anybody's player.
+fn is_players(o: &Object) -> bool
+    ensures { result ≡ is_players o.now }
+{
+    matches!(o.state, State::Player(_))
+}
+
 fn is_flag(o: &Object) -> bool
     ensures { result ≡ is_flag o.now }
 {
@@ -91,23 +100,27 @@ fn keep(passes: bool, o: &Object, list: &mut Vec<Object>) -> Result<(), AllocErr
     Ok(())
 }
 
-// The targets, the standing players and the flags.
+// The targets, the players, those that stand, and the flags.
 #[tactic(auto, using(crate::proofs::Gathered::filter_more))]
 fn gather(
     objects: &[Object],
     targets: &mut Vec<Object>,
+    players: &mut Vec<Object>,
     standing: &mut Vec<Object>,
     flags: &mut Vec<Object>,
 ) -> Result<(), AllocError>
     ensures targets { OnOk result (targets.new.items ≡ filter is_target objects.now) }
+    ensures players { OnOk result (players.new.items ≡ filter is_players objects.now) }
     ensures standing { OnOk result (standing.new.items ≡ filter is_standing objects.now) }
     ensures flags { OnOk result (flags.new.items ≡ filter is_flag objects.now) }
 {
     targets.clear();
+    players.clear();
     standing.clear();
     flags.clear();
     for o in objects {
         keep(o.is_target(), o, targets)?;
+        keep(is_players(o), o, players)?;
         keep(o.is_standing(), o, standing)?;
         keep(is_flag(o), o, flags)?;
     }
@@ -150,6 +163,7 @@ pub fn find_all(objects: &[Object], found: &mut Found) -> Result<(), AllocError>
     gather(
         objects,
         &mut found.targets,
+        &mut found.players,
         &mut found.standing,
         &mut found.flags,
     )?;

@@ -1,23 +1,31 @@
-//! Each object after the tick, by what the tick found of all of them.
-ghost use Rattle.std.specs.Prelude.{◌≡◌, ◌≤◌, ◌-◌, ◌++◌, OnOk, map, take, length, filter, slice_get, Some, true};
-ghost use Rattle.world_rules.specs.Near.{is_target};
+//! Each object's tick, in place, by what the tick found of all of them before anything changed.
+ghost use Rattle.std.specs.Prelude.{◌≡◌, ℕ, ◌<◌, ◌≤◌, ◌-◌, ◌+◌, ◌*◌, ◌++◌, ◌∷◌, [], List, map, length, filter, slice_get, Some, true, vec_capacity};
+ghost use Rattle.std.specs.List.{AllByRecursion};
+ghost use Rattle.world_rules.specs.declared.object.Object.{Object};
+ghost use Rattle.world_rules.specs.Near.{is_target, is_standing};
 ghost use Rattle.world_rules.specs.Discs.{harm, hits};
 ghost use Rattle.world_rules.specs.Players.{damage};
 ghost use Rattle.world_rules.specs.Next.{object_next};
-ghost use Rattle.world_sim.specs.Found.{IsOld, is_ending};
+ghost use Rattle.world_sim.specs.Rows.{values_of, row_writes};
+ghost use Rattle.world_sim.specs.RowsNext.{row_values, row_next, rows_updated, rows_writes, IsSoundRow};
+ghost use Rattle.world_sim.specs.Cells.{IsGrid};
+ghost use Rattle.world_sim.specs.Found.{AreFound, is_ending};
+ghost use Rattle.world_sim.specs.Turns.{IsOld, is_quiet, moment};
 
+use crate::cells::Cells;
 use crate::found::{Found, count_near, count_of};
-use tn_types::Move;
+use crate::rows::{Row, Write, change_row};
+use tn_types::{MAX_OBJECTS, Move};
 use world_rules::fire::move_of;
 use world_rules::flags::{clock_next, flag_next};
 use world_rules::measures::{DISC_HARM, DISC_REACH, MINE_HARM, MINE_REACH};
 use world_rules::movers::{disc_next, drawn, drone_next, mine_next, player_next};
+use world_rules::object::MAX_AGE;
 use world_rules::{Object, State};
 
-/// The world before the tick as the rules read it, and what the tick found of it.
+/// What the rules read of the world before the tick.
 #[derive(Clone, Copy)]
-pub struct Old<'a, 'b, 'c> {
-    pub objects: &'a [Object],
+pub struct Old<'b, 'c> {
     pub found: &'b Found,
     /// Captures of both teams in this tick.
     pub red: u32,
@@ -28,71 +36,130 @@ pub struct Old<'a, 'b, 'c> {
 }
 
 // What discs take from an object: of a target, only discs that hit are near.
-#[tactic(auto, using(crate::proofs::Gathered::harm_is, crate::proofs::Gathered::hitting_few))]
-fn harm(old: &Old<'_, '_, '_>, i: usize, o: &Object) -> u32
-    requires old { IsOld old.now }
-    requires there { slice_get old.now.objects.now i ≡ Some o.now }
-    ensures { is_target o.now ≡ true → result ≡ harm old.now.objects.now o.now }
+fn harm(old: &Old<'_, '_>, o: &Object) -> u32
+    requires { length old.now.found.now.hitting.items ≤ MAX_OBJECTS }
+    ensures { (os : List Object) (i : ℕ) → AreFound os old.now.found.now → slice_get os i ≡ Some o.now
+        → is_target o.now ≡ true → result ≡ harm os o.now }
 {
     DISC_HARM * count_near(DISC_REACH, o, &old.found.hitting) as u32
 }
 
 // What discs and mines take from a player.
-#[tactic(auto, using(crate::proofs::Gathered::damage_is, crate::proofs::Gathered::hitting_few, crate::proofs::Gathered::triggered_few))]
-fn damage(old: &Old<'_, '_, '_>, i: usize, o: &Object) -> u32
-    requires old { IsOld old.now }
-    requires there { slice_get old.now.objects.now i ≡ Some o.now }
-    ensures { is_target o.now ≡ true → result ≡ damage old.now.objects.now o.now }
+fn damage(old: &Old<'_, '_>, o: &Object) -> u32
+    requires discs { length old.now.found.now.hitting.items ≤ MAX_OBJECTS }
+    requires mines { length old.now.found.now.triggered.items ≤ MAX_OBJECTS }
+    ensures { (os : List Object) (i : ℕ) → AreFound os old.now.found.now → slice_get os i ≡ Some o.now
+        → is_target o.now ≡ true → result ≡ damage os o.now }
 {
     DISC_HARM * count_near(DISC_REACH, o, &old.found.hitting) as u32
         + MINE_HARM * count_near(MINE_REACH, o, &old.found.triggered) as u32
 }
 
 // How many discs of a client hit.
-#[tactic(auto, using(crate::proofs::Gathered::hits_is, crate::proofs::Gathered::hitting_few))]
-fn hits(old: &Old<'_, '_, '_>, client: u8) -> u32
-    requires { IsOld old.now }
-    ensures { result ≡ hits old.now.objects.now client }
+fn hits(old: &Old<'_, '_>, client: u8) -> u32
+    requires { length old.now.found.now.hitting.items ≤ MAX_OBJECTS }
+    ensures { (os : List Object) → AreFound os old.now.found.now → result ≡ hits os client }
 {
     count_of(client, &old.found.hitting) as u32
 }
 
-/// An object after the tick: its number, and whether it ends as a disc that hits or a mine that is triggered.
-#[tactic(auto, using(crate::proofs::Gathered::player_same, crate::proofs::Gathered::disc_same, crate::proofs::Gathered::mine_same, crate::proofs::Gathered::drone_same))]
-fn object_next(old: &Old<'_, '_, '_>, i: usize, ending: bool, o: &Object) -> Object
-    requires old { IsOld old.now }
-    requires there { slice_get old.now.objects.now i ≡ Some o.now }
-    requires ending { ending ≡ is_ending old.now.objects.now o.now }
-    ensures { result ≡ object_next old.now.objects.now old.now.moves.now (record { seed = old.now.seed; tick = old.now.tick }) o.now }
+// An object after the tick, which ends or not as a disc that hits or a mine that is triggered.
+fn object_next(old: &Old<'_, '_>, ending: bool, o: &Object) -> Object
+    requires discs { length old.now.found.now.hitting.items ≤ MAX_OBJECTS }
+    requires mines { length old.now.found.now.triggered.items ≤ MAX_OBJECTS }
+    requires standing { old.now.found.now.standing.items ≡ filter is_standing old.now.found.now.players.items }
+    ensures { (os : List Object) (i : ℕ) → IsOld os old.now → slice_get os i ≡ Some o.now → ending ≡ is_ending os o.now
+        → result ≡ object_next os old.now.moves.now (moment old.now) o.now }
 {
     match &o.state {
         State::Player(p) => {
             let m = move_of(old.moves, p.client);
-            player_next(damage(old, i, o), hits(old, p.client), o, p, &m)
+            player_next(damage(old, o), hits(old, p.client), o, p, &m)
         }
         State::Disc(d) => disc_next(ending, o, d),
         State::Mine(m) => mine_next(ending, o, m),
-        State::Drone(d) => drone_next(drawn(old.seed, d.number, old.tick), harm(old, i, o), o, d),
-        State::Flag(f) => flag_next(old.objects, &old.found.standing, old.moves, o, f.holder),
+        State::Drone(d) => drone_next(drawn(old.seed, d.number, old.tick), harm(old, o), o, d),
+        State::Flag(f) => {
+            let found = old.found;
+            flag_next(&found.players, &found.standing, old.moves, o, f.holder)
+        }
         State::Clock(c) => clock_next(old.red, old.blue, o, c),
     }
 }
 
-/// Each object after the tick.
-#[tactic(auto, using(crate::proofs::Gathered::as_many_marks, crate::proofs::Gathered::mark_at, crate::proofs::ForGood::got))]
-pub fn step_each(
-    old: &Old<'_, '_, '_>,
-    after: &mut Vec<Object>,
-) -> Result<(), std::alloc::AllocError>
-    requires { IsOld old.now }
-    ensures { OnOk result (after.new.items
-        ≡ map (object_next old.now.objects.now old.now.moves.now (record { seed = old.now.seed; tick = old.now.tick }))
-        old.now.objects.now) }
+// Whether no tick changes an object as long as nothing triggers it: what is dead, and a mine that is old and armed.
+fn is_quiet(ending: bool, o: &Object) -> bool
+    ensures { result ≡ is_quiet ending o.now }
 {
-    after.clear();
-    for (i, o) in old.objects.iter().enumerate() {
-        let ending = old.found.marks[i];
-        after.push(object_next(old, i, ending, o))?;
+    match &o.state {
+        State::Disc(_) => !o.alive,
+        State::Drone(_) => !o.alive,
+        State::Mine(m) => !o.alive || !ending && m.armed && m.age == MAX_AGE,
+        _ => false,
     }
-    Ok(())
+}
+
+// One object's tick, in its row and in the cells.
+fn turn(
+    old: &Old<'_, '_>,
+    number: u32,
+    ending: bool,
+    object: &mut Object,
+    row: &mut Row,
+    cells: &mut Cells,
+    writes: &mut Vec<Write>,
+)
+    requires discs { length old.now.found.now.hitting.items ≤ MAX_OBJECTS }
+    requires mines { length old.now.found.now.triggered.items ≤ MAX_OBJECTS }
+    requires standing { old.now.found.now.standing.items ≡ filter is_standing old.now.found.now.players.items }
+    requires number { number < MAX_OBJECTS }
+    requires sound { IsSoundRow row.old }
+    requires values { row.old.values.items ≡ values_of object.old }
+    requires room { length writes.old.items + 5 ≤ vec_capacity writes.old }
+    ensures object { (os : List Object) (i : ℕ) → IsOld os old.now → slice_get os i ≡ Some object.old
+        → ending ≡ is_ending os object.old → object.new ≡ object_next os old.now.moves.now (moment old.now) object.old }
+    ensures row { row.new ≡ row_next row.old object.new }
+    ensures writes { writes.new.items ≡ writes.old.items
+        ++ row_writes number 0 row.old.values.items (values_of object.new) row.old.versions.items }
+    ensures grid { (before behind : List Object) → length before ≡ number → IsGrid cells.old (before ++ object.old ∷ behind)
+        → IsGrid cells.new (before ++ object.new ∷ behind) }
+    ensures few { length writes.new.items ≤ length writes.old.items + 5 }
+    ensures kept { vec_capacity writes.old ≤ vec_capacity writes.new }
+{
+    if is_quiet(ending, object) {
+        return;
+    }
+    let now = object_next(old, ending, object);
+    change_row(number, row, &now, writes);
+    cells.resettle(number, object, &now);
+    *object = now;
+}
+
+/// Each object after the tick, with its row, its cell and the writes.
+pub fn turn_all(
+    old: &Old<'_, '_>,
+    objects: &mut Vec<Object>,
+    rows: &mut Vec<Row>,
+    cells: &mut Cells,
+    writes: &mut Vec<Write>,
+)
+    requires old { IsOld objects.old.items old.now }
+    requires values { map row_values rows.old.items ≡ map values_of objects.old.items }
+    requires sound { AllByRecursion IsSoundRow rows.old.items }
+    requires grid { IsGrid cells.old objects.old.items }
+    requires none { writes.old.items ≡ [] }
+    requires room { 5 * MAX_OBJECTS ≤ vec_capacity writes.old }
+    ensures objects { objects.new.items ≡ map (object_next objects.old.items old.now.moves.now (moment old.now)) objects.old.items }
+    ensures rows { rows.new.items ≡ rows_updated (length rows.old.items) rows.old.items objects.new.items }
+    ensures writes { writes.new.items ≡ rows_writes 0 rows.old.items objects.new.items }
+    ensures grid { IsGrid cells.new objects.new.items }
+    ensures kept { vec_capacity objects.old ≤ vec_capacity objects.new }
+    ensures rows_kept { vec_capacity rows.old ≤ vec_capacity rows.new }
+{
+    for i in 0..objects.len() {
+        let ending = old.found.marks[i];
+        let object = &mut objects[i];
+        let row = &mut rows[i];
+        turn(old, i as u32, ending, object, row, cells, writes);
+    }
 }

@@ -1,27 +1,29 @@
 //! The world and its ticks.
-ghost use Rattle.std.specs.Prelude.{◌≡◌, ℕ, ◌<◌, ◌≤◌, ◌+◌, ◌-◌, ◌^◌, ◌++◌, List, length, map, take, position, OnOk, OnErr, [], IfOk, IfSome, slice_get, Some};
+ghost use Rattle.std.specs.Prelude.{◌≡◌, ℕ, vec_capacity, ◌<◌, ◌≤◌, ◌+◌, ◌-◌, ◌*◌, ◌^◌, ◌++◌, List, length, map, take, position, OnOk, OnErr, [], IfOk, IfSome, slice_get, Some};
 ghost use Rattle.world_rules.specs.Flags.{is_player};
 ghost use Rattle.std.specs.List.{filter_map, AllByRecursion};
 ghost use Rattle.world_rules.specs.Players.{fired};
-ghost use Rattle.world_rules.specs.Next.{objects_next};
+ghost use Rattle.world_rules.specs.Next.{objects_next, discs_made};
 ghost use Rattle.world_rules.specs.Spawning.{first_objects, SetupFits};
 ghost use Rattle.world_rules.specs.Ranges.{ObjectFits};
 ghost use Rattle.world_rules.specs.Identity.{IsPeopled};
 ghost use Rattle.world_sim.specs.Worlds.{next, added, first_world, alive_at, kind_at, block_at, values_at, version_at, identity_at, player_of, place_at};
 ghost use Rattle.world_sim.specs.Grid.{numbers, lasts, lies_at, is_always};
 ghost use Rattle.world_sim.specs.Facts.{IsWriteOf, ValuesFit};
-ghost use Rattle.world_sim.specs.Rows.{values_of, versions_next, world_writes};
+ghost use Rattle.world_sim.specs.Rows.{values_of, world_writes};
+ghost use Rattle.world_sim.specs.Cells.{IsGrid};
+ghost use Rattle.world_sim.specs.Found.{AreFound};
 ghost use Rattle.world_sim.specs.RowsNext.{fresh_row, row_values, row_counts, rows_next, IsSoundRow};
 
 use crate::cells::{CELLS_ACROSS, Cells, has_place};
 use crate::found::{Found, captures_of, find_all, nothing};
-use crate::rows::{Row, Write, fresh_row, note_rows, step_rows};
-use crate::step::{Old, step_each};
+use crate::rows::{Row, Write, fresh_row};
+use crate::step::{Old, turn_all};
 use std::alloc::{AllocError, Global};
 use std::marker::Model;
 use std::mem;
 use std::sync::ledger::Ledger;
-use tn_types::{MAX_OBJECTS, Move, NoMemory, Steps};
+use tn_types::{MAX_CLIENTS, MAX_OBJECTS, Move, NoMemory, Steps};
 use world_rules::fire::fired;
 use world_rules::flags::is_player;
 use world_rules::{Object, Setup, Spawn, State};
@@ -32,21 +34,21 @@ const MAX_WRITES: usize = 5 * MAX_OBJECTS;
 // What a tick works in. All room is made at the start.
 #[derive(Drop)]
 pub struct Work {
-    pub after: Vec<Object>,
+    pub made: Vec<Object>,
     pub after_writes: Vec<Write>,
     pub found: Found,
 }
 
 fn workroom(alloc: Global) -> Result<Work, AllocError> {
     Ok(Work {
-        after: Vec::with_capacity(alloc, MAX_OBJECTS)?,
+        made: Vec::with_capacity(alloc, MAX_CLIENTS as usize)?,
         after_writes: Vec::with_capacity(alloc, MAX_WRITES)?,
         found: nothing(alloc)?,
     })
 }
 
-/// The objects of a match, tick by tick. A tick makes the next world beside the present one and then swaps both, so
-/// every rule reads the world before it, and want of memory leaves it unchanged.
+/// The objects of a match, tick by tick. A tick first finds what its rules read and makes all room that it needs, and then
+/// changes each object in place, so every rule reads the world before it, and want of memory leaves it unchanged.
 #[derive(Drop)]
 pub struct World {
     seed: u32,
@@ -93,53 +95,108 @@ impl Model for World {
 }
 
 // Adds a disc that is made, if there is a place.
-fn add_disc(made: Option<Object>, after: &mut Vec<Object>) -> Result<(), AllocError>
-    ensures { OnOk result (after.new.items ≡ added after.old.items made) }
+fn add_disc(made: Option<Object>, room: usize, discs: &mut Vec<Object>) -> Result<(), AllocError>
+    ensures { OnOk result (discs.new.items ≡ added room discs.old.items made) }
 {
     if let Some(disc) = made {
-        if after.len() < MAX_OBJECTS {
-            after.push(disc)?;
+        if discs.len() < room {
+            discs.push(disc)?;
         }
     }
     Ok(())
 }
 
-// The discs that are made, behind the others, as long as there are places.
-#[tactic(auto, using(crate::proofs::Made::added_more, crate::proofs::Made::added_few))]
+// The discs that are made, as long as there are places.
+#[tactic(auto, using(crate::proofs::Made::made_few))]
 fn make_discs(
     objects: &[Object],
     moves: &[Option<Move>],
-    after: &mut Vec<Object>,
+    room: usize,
+    discs: &mut Vec<Object>,
 ) -> Result<(), AllocError>
-    requires { length after.old.items ≤ MAX_OBJECTS }
-    ensures made { OnOk result (after.new.items
-        ≡ after.old.items ++ take (MAX_OBJECTS - length after.old.items) (filter_map (fired moves.now) objects.now)) }
-    ensures few { OnOk result (length after.new.items ≤ MAX_OBJECTS) }
+    ensures made { OnOk result (discs.new.items ≡ take room (filter_map (fired moves.now) objects.now)) }
+    ensures few { OnOk result (length discs.new.items ≤ room) }
 {
+    discs.clear();
     for o in objects {
-        add_disc(fired(moves, o), after)?;
+        add_disc(fired(moves, o), room, discs)?;
     }
     Ok(())
 }
 
-// The objects after a tick.
-#[tactic(auto, using(crate::proofs::Gathered::flags_few))]
-fn next_objects(
-    objects: &[Object],
+// What a tick goes by: what is found, the discs that are made, and the room that it needs.
+fn prepare(
+    objects: &mut Vec<Object>,
+    rows: &mut Vec<Row>,
+    moves: &[Option<Move>],
+    work: &mut Work,
+) -> Result<(), AllocError>
+    requires { length objects.old.items ≤ MAX_OBJECTS }
+    ensures objects { objects.new.items ≡ objects.old.items }
+    ensures rows { rows.new.items ≡ rows.old.items }
+    ensures found { OnOk result (AreFound objects.old.items work.new.found) }
+    ensures made { OnOk result (work.new.made.items ≡ discs_made objects.old.items moves.now) }
+    ensures few { OnOk result (length objects.old.items + length work.new.made.items ≤ MAX_OBJECTS) }
+    ensures none { OnOk result (work.new.after_writes.items ≡ []) }
+    ensures room { OnOk result (length objects.old.items + length work.new.made.items ≤ vec_capacity objects.new) }
+    ensures rows_room { OnOk result (length rows.old.items + length work.new.made.items ≤ vec_capacity rows.new) }
+    ensures writes_room { OnOk result (5 * MAX_OBJECTS ≤ vec_capacity work.new.after_writes) }
+{
+    find_all(objects, &mut work.found)?;
+    let room = MAX_OBJECTS - objects.len();
+    make_discs(&work.found.standing, moves, room, &mut work.made)?;
+    objects.reserve(work.made.len())?;
+    rows.reserve(work.made.len())?;
+    work.after_writes.clear();
+    work.after_writes.reserve(MAX_WRITES)?;
+    Ok(())
+}
+
+// The discs that were made, behind the other objects.
+fn add_made(made: &[Object], objects: &mut Vec<Object>, rows: &mut Vec<Row>, cells: &mut Cells)
+    requires few { length objects.old.items + length made.now ≤ MAX_OBJECTS }
+    requires room { length objects.old.items + length made.now ≤ vec_capacity objects.old }
+    requires rows_room { length rows.old.items + length made.now ≤ vec_capacity rows.old }
+    requires grid { IsGrid cells.old objects.old.items }
+    ensures objects { objects.new.items ≡ objects.old.items ++ made.now }
+    ensures rows { rows.new.items ≡ rows.old.items ++ map fresh_row made.now }
+    ensures grid { IsGrid cells.new objects.new.items }
+{
+    for o in made {
+        cells.settle(objects.len() as u32, o);
+        rows.push_reserved(fresh_row(o));
+        objects.push_reserved(*o);
+    }
+}
+
+// The objects, rows and cells after a tick, and what the tick writes. For want of memory they stay.
+fn advance(
+    objects: &mut Vec<Object>,
+    rows: &mut Vec<Row>,
+    cells: &mut Cells,
     moves: &[Option<Move>],
     seed: u32,
     tick: u32,
     work: &mut Work,
 ) -> Result<(), AllocError>
-    requires { length objects.now ≤ MAX_OBJECTS }
-    ensures objects { OnOk result (work.new.after.items ≡ objects_next objects.now moves.now (record { seed = seed; tick = tick })) }
-    ensures few { OnOk result (length work.new.after.items ≤ MAX_OBJECTS) }
+    requires few { length objects.old.items ≤ MAX_OBJECTS }
+    requires kept { map row_values rows.old.items ≡ map values_of objects.old.items }
+    requires sound { AllByRecursion IsSoundRow rows.old.items }
+    requires grid { IsGrid cells.old objects.old.items }
+    ensures objects { OnOk result (objects.new.items
+        ≡ objects_next objects.old.items moves.now (record { seed = seed; tick = tick })) }
+    ensures rows { OnOk result (rows.new.items ≡ rows_next rows.old.items objects.new.items) }
+    ensures writes { OnOk result (work.new.after_writes.items
+        ≡ world_writes 0 objects.old.items objects.new.items (map row_counts rows.old.items)) }
+    ensures grid { OnOk result (IsGrid cells.new objects.new.items) }
+    ensures same { OnErr result (objects.new.items ≡ objects.old.items) }
+    ensures rows_same { OnErr result (rows.new.items ≡ rows.old.items) }
+    ensures cells_same { OnErr result (cells.new ≡ cells.old) }
 {
-    find_all(objects, &mut work.found)?;
+    prepare(objects, rows, moves, work)?;
     let red = captures_of(objects, &work.found.flags, 0) as u32;
     let blue = captures_of(objects, &work.found.flags, 1) as u32;
     let old = Old {
-        objects,
         found: &work.found,
         red,
         blue,
@@ -147,33 +204,8 @@ fn next_objects(
         seed,
         tick,
     };
-    step_each(&old, &mut work.after)?;
-    make_discs(&work.found.standing, moves, &mut work.after)?;
-    Ok(())
-}
-
-// The objects after a tick, and what the tick writes.
-#[tactic(auto, using(crate::proofs::WorldLaws::more_objects, crate::proofs::Kept::writes_kept))]
-fn advance(
-    objects: &[Object],
-    rows: &[Row],
-    moves: &[Option<Move>],
-    seed: u32,
-    tick: u32,
-    work: &mut Work,
-) -> Result<(), AllocError>
-    requires few { length objects.now ≤ MAX_OBJECTS }
-    requires rows { length rows.now ≡ length objects.now }
-    requires kept { map row_values rows.now ≡ map values_of objects.now }
-    requires sound { AllByRecursion IsSoundRow rows.now }
-    ensures objects { OnOk result (work.new.after.items ≡ objects_next objects.now moves.now (record { seed = seed; tick = tick })) }
-    ensures more { OnOk result (length rows.now ≤ length work.new.after.items) }
-    ensures few { OnOk result (length work.new.after.items ≤ MAX_OBJECTS) }
-    ensures writes { OnOk result (work.new.after_writes.items
-        ≡ world_writes 0 objects.now work.new.after.items (map row_counts rows.now)) }
-{
-    next_objects(objects, moves, seed, tick, work)?;
-    note_rows(rows, &work.after, &mut work.after_writes)?;
+    turn_all(&old, objects, rows, cells, &mut work.after_writes);
+    add_made(&work.made, objects, rows, cells);
     Ok(())
 }
 
@@ -300,17 +332,14 @@ impl World {
         ensures writes { OnOk result (AllByRecursion (IsWriteOf self.old) self.new.writes) }
     {
         advance(
-            &self.objects,
-            &self.rows,
+            &mut self.objects,
+            &mut self.rows,
+            &mut self.cells,
             moves,
             self.seed,
             self.ticks + 1,
             &mut self.work,
         )?;
-        step_rows(&mut self.rows, &self.work.after)?;
-        self.cells.resettle_all(&self.objects, &self.work.after);
-        self.cells.settle_from(self.objects.len(), &self.work.after);
-        mem::swap(&mut self.objects, &mut self.work.after);
         mem::swap(&mut self.writes, &mut self.work.after_writes);
         self.ticks += 1;
         Ok(())

@@ -1,0 +1,15 @@
+use Rattle.std.proofs.Common.{◌∙◌, sym}
+use Rattle.world_sim.specs.Turns.{moment}
+use Rattle.world_sim.proofs.RowFields.{row_stays, writes_nothing}
+use Rattle.world_sim.proofs.Turns.{quiet_stays}
+use Rattle.world_sim.proofs.step.turn.Goals as goal
+
+pub returns-then-is_quiet-clause-object : goal.returns-then-is_quiet-clause-object
+returns-then-is_quiet-clause-object c = λ os i is at ending.
+    quiet_stays os c.args.old.now.moves.now (moment c.args.old.now) c.args.object.now c.args.ending (sym c.is_quiet.ensures ∙ c.if-is_quiet.true) ending
+
+pub returns-then-is_quiet-clause-row : goal.returns-then-is_quiet-clause-row
+returns-then-is_quiet-clause-row c = row_stays c.args.row.now c.args.object.now (sym c.requires.values) c.requires.sound.1
+
+pub returns-then-is_quiet-clause-writes : goal.returns-then-is_quiet-clause-writes
+returns-then-is_quiet-clause-writes c = writes_nothing c.args.writes.now.items c.args.number c.args.row.now.values.items _ c.args.row.now.versions.items c.requires.values

@@ -1,0 +1,140 @@
+use Rattle.std.proofs.Common.{◌≡◌, ◌∙◌, ◌<◌, ◌++◌, ℕ, length, ap, arith, sym, subst, List, get_or, map, Some}
+use Rattle.std.specs.Prelude.{slice_get}
+use Rattle.std.proofs.lemmas.List.{get_or-map, length-map}
+use Rattle.world_rules.specs.declared.object.Object.{Object}
+use Rattle.world_rules.specs.Next.{object_next}
+use Rattle.world_sim.specs.declared.rows.Row.{Row}
+use Rattle.world_sim.specs.Rows.{values_of, row_writes}
+use Rattle.world_sim.specs.RowsNext.{IsSoundRow, row_next, row_values, rows_updated, rows_writes}
+use Rattle.world_sim.specs.Found.{is_ending}
+use Rattle.world_sim.specs.Turns.{moment}
+use Rattle.world_sim.proofs.ForGood.{got}
+use Rattle.world_sim.proofs.Kept.{as_many}
+use Rattle.world_sim.proofs.RowLoops.{sound_now, update_more, updated_at, length_updated, row_writes_at, row_writes_end}
+use Rattle.world_sim.proofs.Gathered.{hitting_few, triggered_few, mark_at}
+use Rattle.world_sim.proofs.Turns.{standing_found, row_of_old, stepped_more, stepped_at, stepped_length, stepped_all, grid_turn}
+use Rattle.world_sim.proofs.step.turn_all.Goals as goal
+
+pub turn-requires-clause-discs : goal.turn-requires-clause-discs
+turn-requires-clause-discs c = hitting_few c.args.objects.now.items c.args.old.now.found.now c.requires.old.found_is c.requires.old.few
+
+pub turn-requires-clause-mines : goal.turn-requires-clause-mines
+turn-requires-clause-mines c = triggered_few c.args.objects.now.items c.args.old.now.found.now c.requires.old.found_is c.requires.old.few
+
+pub turn-requires-clause-standing : goal.turn-requires-clause-standing
+turn-requires-clause-standing c = standing_found c.args.objects.now.items c.args.old.now.found.now c.requires.old.found_is
+
+pub turn-requires-clause-sound : goal.turn-requires-clause-sound
+turn-requires-clause-sound c =
+    let os = c.args.objects.now.items in
+    let rows = c.args.rows.now.items in
+    let next = object_next os c.args.old.now.moves.now (moment c.args.old.now) in
+    let i = c.loop-i.i in
+    let many : length rows ≡ length os = as_many rows os c.requires.values in
+    let l : i < length os = omega (arith, c.loop-i-test.true, c.len-i-end.ensures, c.args.objects.now.ok) in
+    let m : i < length rows = omega (arith, l, many) in
+    subst IsSoundRow (sym c.index_mut-row.ensures.value) (sound_now i rows c.loop-i.rows.items (map next os) c.index_mut-row.result.now c.loop-i.invariant.rows m c.requires.sound)
+
+pub turn-requires-clause-values : goal.turn-requires-clause-values
+turn-requires-clause-values c =
+    let os = c.args.objects.now.items in
+    let rows = c.args.rows.now.items in
+    let next = object_next os c.args.old.now.moves.now (moment c.args.old.now) in
+    let i = c.loop-i.i in
+    let many : length rows ≡ length os = as_many rows os c.requires.values in
+    let l : i < length os = omega (arith, c.loop-i-test.true, c.len-i-end.ensures, c.args.objects.now.ok) in
+    let m : i < length rows = omega (arith, l, many) in
+    ap row_values c.index_mut-row.ensures.value
+    ∙ row_of_old i next os c.loop-i.objects.items rows c.loop-i.rows.items c.index_mut-row.result.now c.index_mut-object.result.now c.requires.values l m c.loop-i.invariant.objects c.loop-i.invariant.rows
+    ∙ ap values_of (sym c.index_mut-object.ensures.value)
+
+pub index_mut-object-requires : goal.index_mut-object-requires
+index_mut-object-requires c =
+    let os = c.args.objects.now.items in
+    let rows = c.args.rows.now.items in
+    let next = object_next os c.args.old.now.moves.now (moment c.args.old.now) in
+    let i = c.loop-i.i in
+    let many : length rows ≡ length os = as_many rows os c.requires.values in
+    let l : i < length os = omega (arith, c.loop-i-test.true, c.len-i-end.ensures, c.args.objects.now.ok) in
+    let m : i < length rows = omega (arith, l, many) in
+    omega (arith, l, c.loop-i.objects.ok, ap (λ (xs : List Object). length xs) c.loop-i.invariant.objects, stepped_length i next os)
+
+pub index_mut-row-requires : goal.index_mut-row-requires
+index_mut-row-requires c =
+    let os = c.args.objects.now.items in
+    let rows = c.args.rows.now.items in
+    let next = object_next os c.args.old.now.moves.now (moment c.args.old.now) in
+    let i = c.loop-i.i in
+    let many : length rows ≡ length os = as_many rows os c.requires.values in
+    let l : i < length os = omega (arith, c.loop-i-test.true, c.len-i-end.ensures, c.args.objects.now.ok) in
+    let m : i < length rows = omega (arith, l, many) in
+    omega (arith, m, c.loop-i.rows.ok, ap (λ (xs : List Row). length xs) c.loop-i.invariant.rows, length_updated i rows (map next os))
+
+pub loop-i-preserved : goal.loop-i-preserved
+loop-i-preserved c =
+    let os = c.args.objects.now.items in
+    let rows = c.args.rows.now.items in
+    let next = object_next os c.args.old.now.moves.now (moment c.args.old.now) in
+    let i = c.loop-i.i in
+    let many : length rows ≡ length os = as_many rows os c.requires.values in
+    let l : i < length os = omega (arith, c.loop-i-test.true, c.len-i-end.ensures, c.args.objects.now.ok) in
+    let m : i < length rows = omega (arith, l, many) in
+    let objects = c.loop-i.objects.items in
+    let was = c.index_mut-object.result.now in
+    let row = c.index_mut-row.result.now in
+    let made = c.turn.new.object in
+    let long : i < length objects = omega (arith, l, ap (λ (xs : List Object). length xs) c.loop-i.invariant.objects, stepped_length i next os) in
+    let mapped : i < length (map next os) = (let k : length (map next os) ≡ length os = simp length-map in omega (arith, l, k)) in
+    let same : was ≡ get_or os i was = c.index_mut-object.ensures.value ∙ ap (λ (xs : List Object). get_or xs i was) c.loop-i.invariant.objects ∙ stepped_at i next os was l in
+    let at : slice_get os i ≡ Some was = got os i was l same in
+    let ending : c.index-ending.result.now ≡ is_ending os was = c.index-ending.ensures ∙ mark_at os c.args.old.now.found.now i c.index-ending.result.now was c.requires.old.found_is l ∙ ap (is_ending os) (sym same) in
+    let new : made ≡ next was = c.turn.ensures.object os i c.requires.old at ending in
+    let there : made ≡ get_or (map next os) i made = new ∙ ap next same ∙ sym (get_or-map next os i was made l) in
+    let row_same : row ≡ get_or rows i row = c.index_mut-row.ensures.value ∙ ap (λ (xs : List Row). get_or xs i row) c.loop-i.invariant.rows ∙ updated_at i rows (map next os) row m in
+    let row_new : c.turn.new.row ≡ row_next (get_or c.loop-i.rows.items i row) (get_or (map next os) i made) = c.turn.ensures.row ∙ ap (λ (r : Row). row_next r made) c.index_mut-row.ensures.value ∙ ap (row_next (get_or c.loop-i.rows.items i row)) there in
+    let written = c.turn.ensures.writes ∙ ap (λ (o : Object). c.loop-i.writes.items ++ row_writes i 0 row.values.items (values_of o) row.versions.items) there in
+    record {
+      objects = stepped_more i next os objects was made c.loop-i.invariant.objects l (new ∙ ap next same);
+      rows = update_more i rows c.loop-i.rows.items (map next os) row c.turn.new.row made c.loop-i.invariant.rows m mapped row_new;
+      writes = c.loop-i.invariant.writes ∙ row_writes_at c.loop-i.writes.items c.turn.new.writes.items i rows (map next os) row made written row_same m mapped;
+      grid = grid_turn c.loop-i.cells c.turn.new.cells objects i was made long c.index_mut-object.ensures.value c.loop-i.invariant.grid c.turn.ensures.grid;
+      few = omega (arith, c.turn.ensures.few, c.loop-i.invariant.few);
+      room = omega (arith, c.turn.ensures.kept, c.loop-i.invariant.room);
+      kept = c.loop-i.invariant.kept;
+      rows_kept = c.loop-i.invariant.rows_kept;
+    }
+
+pub returns-clause-objects : goal.returns-clause-objects
+returns-clause-objects c =
+    let os = c.args.objects.now.items in
+    let rows = c.args.rows.now.items in
+    let next = object_next os c.args.old.now.moves.now (moment c.args.old.now) in
+    let i = c.loop-i.i in
+    let many : length rows ≡ length os = as_many rows os c.requires.values in
+    let end : i ≡ length os = omega (arith, c.loop-i-test.false, c.len-i-end.ensures, c.args.objects.now.ok, c.loop-i.auto.i-end) in
+    c.loop-i.invariant.objects ∙ rw end (stepped_all next os)
+
+pub returns-clause-rows : goal.returns-clause-rows
+returns-clause-rows c =
+    let os = c.args.objects.now.items in
+    let rows = c.args.rows.now.items in
+    let next = object_next os c.args.old.now.moves.now (moment c.args.old.now) in
+    let i = c.loop-i.i in
+    let many : length rows ≡ length os = as_many rows os c.requires.values in
+    let end : i ≡ length os = omega (arith, c.loop-i-test.false, c.len-i-end.ensures, c.args.objects.now.ok, c.loop-i.auto.i-end) in
+    let whole : c.loop-i.objects.items ≡ map next os = c.loop-i.invariant.objects ∙ rw end (stepped_all next os) in
+    c.loop-i.invariant.rows
+    ∙ ap (λ (n : ℕ). rows_updated n rows (map next os)) (end ∙ sym many)
+    ∙ ap (rows_updated (length rows) rows) (sym whole)
+
+pub returns-clause-writes : goal.returns-clause-writes
+returns-clause-writes c =
+    let os = c.args.objects.now.items in
+    let rows = c.args.rows.now.items in
+    let next = object_next os c.args.old.now.moves.now (moment c.args.old.now) in
+    let i = c.loop-i.i in
+    let many : length rows ≡ length os = as_many rows os c.requires.values in
+    let end : i ≡ length os = omega (arith, c.loop-i-test.false, c.len-i-end.ensures, c.args.objects.now.ok, c.loop-i.auto.i-end) in
+    let whole : c.loop-i.objects.items ≡ map next os = c.loop-i.invariant.objects ∙ rw end (stepped_all next os) in
+    sym (c.loop-i.invariant.writes ∙ row_writes_end c.loop-i.writes.items i rows (map next os) (omega (arith, end, many)))
+    ∙ ap (rows_writes 0 rows) (sym whole)

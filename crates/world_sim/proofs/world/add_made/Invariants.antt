@@ -1,0 +1,13 @@
+use Rattle.std.proofs.Common.{◌≡◌, ◌≤◌, ◌++◌, take, map, vec_capacity}
+use Rattle.world_sim.specs.RowsNext.{fresh_row}
+use Rattle.world_sim.specs.Cells.{IsGrid}
+use Rattle.world_sim.proofs.world.add_made.Given as goal
+
+abbrev pub invariant-loop-o : goal.invariant-loop-o
+invariant-loop-o l = record {
+  objects : l.objects.items ≡ l.initial.objects.items ++ take l.o-index l.made;
+  rows : l.rows.items ≡ l.initial.rows.items ++ map fresh_row (take l.o-index l.made);
+  grid : IsGrid l.cells l.objects.items;
+  room : vec_capacity l.initial.objects ≤ vec_capacity l.objects;
+  rows_room : vec_capacity l.initial.rows ≤ vec_capacity l.rows;
+}

@@ -1,0 +1,38 @@
+-- What the rules read of the world before a tick, and which objects a tick leaves as they are.
+use Rattle.std.specs.Prelude.{◌≡◌, ◌≤◌, ℕ, ◌&&◌, ◌||◌, ◌==◌, not, Bool, false, List, [], ◌∷◌, length, zero, suc}
+use Rattle.tn_types.specs.declared.limits.TheConstants.{MAX_OBJECTS}
+use Rattle.world_rules.specs.declared.object.TheConstants.{MAX_AGE}
+use Rattle.world_rules.specs.declared.object.Object.{Object}
+use Rattle.world_rules.specs.declared.object.State.{State}
+use Rattle.world_rules.specs.declared.object.State.TheVariants.{Disc, Mine, Drone}
+use Rattle.world_rules.specs.Flags.{captures}
+use Rattle.world_rules.specs.Next.{Moment}
+use Rattle.world_sim.specs.declared.step.Old.{Old}
+use Rattle.world_sim.specs.Found.{AreFound}
+
+-- the moment of the tick
+abbrev pub moment : Old → Moment
+moment old = record { seed = old.seed; tick = old.tick }
+
+-- these are the objects before the tick
+pub record IsOld (os : List Object) (old : Old) : Type 0 where
+  pub found_is : AreFound os old.found.now
+  pub few : length os ≤ MAX_OBJECTS
+  pub red_is : old.red ≡ captures os 0
+  pub blue_is : old.blue ≡ captures os 1
+
+-- dead, or a mine that is armed and as old as it gets, and that nothing triggers
+abbrev pub is_quiet_part : Bool → Bool → State → Bool
+is_quiet_part ending alive (Disc d) = not alive
+is_quiet_part ending alive (Drone d) = not alive
+is_quiet_part ending alive (Mine m) = not alive || (not ending && (m.armed && m.age == MAX_AGE))
+is_quiet_part ending alive _ = false
+
+abbrev pub is_quiet : Bool → Object → Bool
+is_quiet ending o = is_quiet_part ending o.alive o.state
+
+-- the first objects after a step each, the others as they were
+abbrev pub stepped_to : ℕ → (Object → Object) → List Object → List Object
+stepped_to zero f os = os
+stepped_to (suc n) f [] = []
+stepped_to (suc n) f (o ∷ os) = f o ∷ stepped_to n f os
