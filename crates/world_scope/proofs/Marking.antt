@@ -6,7 +6,7 @@ use Rattle.std.proofs.lemmas.Bool.Decides.{nat_tests, eqb_tells}
 use Rattle.world_rules.specs.declared.object.Object.{Object}
 use Rattle.world_scope.specs.Scope.{Look, seen}
 use Rattle.world_sim.specs.Grid.{numbers}
-use Rattle.world_scope.proofs.Numbers.{found_in}
+use Rattle.world_sim.proofs.Numbers.{found_in}
 use Rattle.world_scope.specs.Marks.{told, IsExact, AreExact, AreKept}
 
 pub told_of : (n q : ℕ) → told (n, q + 1) ≡ Some (record { object = n; level = q })

@@ -1,5 +1,5 @@
 -- What is counted or sought among all objects is counted or sought among those that pass a first test.
-use Rattle.std.proofs.Common.{◌≡◌, ℕ, zero, suc, ◌≤◌, ◌<◌, arith, ◌+◌, ◌-◌, ◌*◌, Bool, true, false, not, cond, ◌&&◌, ◌||◌, nat_lt, nat_eq, List, [], ◌∷◌, ◌++◌, length, take, get_or, filter, map, count_by, Option, Some, None, refl, sym, ap, ◌∙◌}
+use Rattle.std.proofs.Common.{◌≡◌, ℕ, suc, ◌≤◌, ◌<◌, arith, ◌+◌, ◌-◌, ◌*◌, Bool, true, false, not, cond, ◌&&◌, ◌||◌, nat_lt, nat_eq, List, [], ◌∷◌, ◌++◌, length, take, get_or, filter, map, count_by, Option, Some, None, refl, sym, ap, ◌∙◌}
 use Rattle.std.specs.Prelude.{slice_get}
 use Rattle.std.specs.List.{list_any, filter_map, cons_option}
 use Rattle.std.proofs.Math.Bool.{and-false, or-false}
@@ -18,7 +18,7 @@ use Rattle.world_rules.specs.declared.object.Disc.{Disc as DiscPart}
 use Rattle.world_rules.specs.declared.object.Mine.{Mine as MinePart}
 use Rattle.world_rules.specs.declared.object.Drone.{Drone as DronePart}
 use Rattle.world_sim.specs.declared.found.Found.{Found}
-use Rattle.world_sim.specs.Found.{hits_any, is_triggered_by, is_ending, is_flag, is_flag_part, is_players, AreFound}
+use Rattle.world_sim.specs.Found.{is_triggered_by, is_ending, is_flag, is_flag_part, is_players, AreFound}
 use Rattle.world_rules.specs.Places.{apart, is_within}
 use Rattle.world_rules.specs.Near.{is_target, is_standing, is_standing_part, is_other_near, is_target_near, is_enemy_near}
 use Rattle.world_rules.specs.Discs.{is_flying, is_harming, is_hitting, is_of, harm, hits, disc_next}
@@ -26,6 +26,7 @@ use Rattle.world_rules.specs.Mines.{is_armed, is_triggered, mine_next}
 use Rattle.world_rules.specs.Players.{damage, fired, fired_part, fired_by, player_next}
 use Rattle.world_rules.specs.Next.{discs_made}
 use Rattle.world_rules.specs.Drones.{drone_next}
+use Rattle.world_sim.proofs.Searches.{any_at}
 use Rattle.world_rules.specs.Flags.{captures, is_captured, captured_part}
 
 any_step : (v b c : Bool) (q : Object → Bool) (x : Object) (ys : List Object) → list_any q ys ≡ c → list_any q (cond v (x ∷ ys) ys) ≡ ((v && q x) || c)
@@ -47,15 +48,8 @@ filter_filter p q (x ∷ xs) = filter_step (p x) q x (filter p xs) (filter (λ x
 count_filter : (p q : Object → Bool) (xs : List Object) → count_by q (filter p xs) ≡ count_by (λ x. p x && q x) xs
 count_filter p q xs = sym (length-filter q (filter p xs)) ∙ ap (λ (ys : List Object). length ys) (filter_filter p q xs) ∙ length-filter (λ x. p x && q x) xs
 
-pub any_target : (o : Object) (os targets : List Object) → targets ≡ filter is_target os → list_any (is_other_near DISC_REACH o) targets ≡ list_any (is_target_near DISC_REACH o) os
-any_target o os targets e = rw e (any_filter is_target (is_other_near DISC_REACH o) os)
-
 pub any_enemy : (o : Object) (os standing : List Object) → standing ≡ filter is_standing os → list_any (is_other_near MINE_REACH o) standing ≡ list_any (is_enemy_near MINE_REACH o) os
 any_enemy o os standing e = rw e (any_filter is_standing (is_other_near MINE_REACH o) os)
-
-pub hitting_is : (os targets : List Object) (o : Object) → targets ≡ filter is_target os → (is_flying o && list_any (is_other_near DISC_REACH o) targets) ≡ is_hitting os o
-unfolding is_hitting
-hitting_is os targets o e = ap (λ b. is_flying o && b) (any_target o os targets e)
 
 pub triggered_is : (os standing : List Object) (o : Object) → standing ≡ filter is_standing os → (is_armed o && list_any (is_other_near MINE_REACH o) standing) ≡ is_triggered os o
 unfolding is_triggered
@@ -80,17 +74,16 @@ map_same : (p q : Object → Bool) (xs : List Object) → ((x : Object) → p x 
 map_same p q [] h = refl
 map_same p q (x ∷ xs) h = rw (h x, map_same p q xs h) refl
 
-pub are_found : (os : List Object) (found : Found) (targets standing : List Object) → targets ≡ filter is_target os → found.players.items ≡ filter is_players os → standing ≡ filter is_standing os → found.standing.items ≡ standing → found.flags.items ≡ filter is_flag os → found.hitting.items ≡ filter (hits_any targets) os → found.triggered.items ≡ filter (is_triggered_by standing) os → found.marks.items ≡ map (λ o. hits_any targets o || is_triggered_by standing o) os → AreFound os found
-are_found os found targets standing t players s kept flags h m marks =
-    let hit : (o : Object) → hits_any targets o ≡ is_hitting os o = λ o. hitting_is os targets o t in
+pub are_found : (os : List Object) (found : Found) (standing : List Object) → found.players.items ≡ filter is_players os → standing ≡ filter is_standing os → found.standing.items ≡ standing → found.flags.items ≡ filter is_flag os → found.hitting.items ≡ filter (is_hitting os) os → found.triggered.items ≡ filter (is_triggered_by standing) os → found.marks.items ≡ map (λ o. is_hitting os o || is_triggered_by standing o) os → AreFound os found
+are_found os found standing players s kept flags h m marks =
     let triggered : (o : Object) → is_triggered_by standing o ≡ is_triggered os o = λ o. triggered_is os standing o s in
     record {
       players_are = players;
       standing_are = kept ∙ s;
       flags_are = flags;
-      hitting_are = h ∙ filter_same (hits_any targets) (is_hitting os) os hit;
+      hitting_are = h;
       triggered_are = m ∙ filter_same (is_triggered_by standing) (is_triggered os) os triggered;
-      marks_are = marks ∙ map_same (λ o. hits_any targets o || is_triggered_by standing o) (is_ending os) os (λ o. rw (hit o, triggered o) refl);
+      marks_are = marks ∙ map_same (λ o. is_hitting os o || is_triggered_by standing o) (is_ending os) os (λ o. rw (triggered o) refl);
     }
 
 -- ---- few
@@ -170,15 +163,6 @@ same_team a b = grind (arith, nat_tests)
 
 same_near : (reach : ℕ) (o t : Object) → is_other_near reach o t ≡ is_other_near reach t o
 same_near reach o t = rw (same_team t.team o.team, same_within reach t.place o.place) refl
-
-any_at : (p : Object → Bool) (os : List Object) (i : ℕ) (o : Object) → slice_get os i ≡ Some o → p o ≡ true → list_any p os ≡ true
-any_at p [] i o e h = absurd (cc)
-any_at p (x ∷ os) zero o e h = let same : x ≡ o = cc in let t : p x ≡ true = rw same h in rw t refl
-any_at p (x ∷ os) (suc i) o e h = later (p x) (any_at p os i o e h)
-  where
-    later : (b : Bool) → list_any p os ≡ true → (b || list_any p os) ≡ true
-    later true k = refl
-    later false k = k
 
 found_near : (flies any near : Bool) → (near ≡ true → any ≡ true) → ((flies && any) && near) ≡ (flies && near)
 found_near false any near h = refl

@@ -6,6 +6,8 @@ pub mod RowLoops
 pub mod Made
 pub mod WorldLaws
 pub mod Started
+pub mod Numbers
+pub mod Searches
 pub mod Gathered
 pub mod Turns
 pub mod ForGood

@@ -2,18 +2,14 @@
 -- a mark for each object that ends in the tick.
 use Rattle.std.specs.Prelude.{◌≡◌, ◌&&◌, ◌||◌, Bool, true, false, List, filter, map}
 use Rattle.std.specs.List.{list_any}
-use Rattle.world_rules.specs.declared.measures.TheConstants.{DISC_REACH, MINE_REACH}
+use Rattle.world_rules.specs.declared.measures.TheConstants.{MINE_REACH}
 use Rattle.world_rules.specs.declared.object.Object.{Object}
 use Rattle.world_rules.specs.declared.object.State.{State}
 use Rattle.world_rules.specs.declared.object.State.TheVariants.{Player, Flag}
 use Rattle.world_sim.specs.declared.found.Found.{Found}
 use Rattle.world_rules.specs.Near.{is_standing, is_other_near}
-use Rattle.world_rules.specs.Discs.{is_flying, is_hitting}
+use Rattle.world_rules.specs.Discs.{is_hitting}
 use Rattle.world_rules.specs.Mines.{is_armed, is_triggered}
-
--- a living disc that is near one of these
-abbrev pub hits_any : List Object → Object → Bool
-hits_any targets o = is_flying o && list_any (is_other_near DISC_REACH o) targets
 
 -- an armed mine that is near one of these
 abbrev pub is_triggered_by : List Object → Object → Bool

@@ -6,5 +6,6 @@ pub mod Cells
 pub mod Worlds
 pub mod Found
 pub mod Turns
+pub mod Searches
 pub mod Facts
 pub mod History

@@ -1,21 +1,25 @@
 //! What a tick finds of the objects before anything moves, so that each rule looks through a short list only.
 ghost use Rattle.std.specs.Prelude.{◌≡◌, ◌≤◌, ◌+◌, ◌*◌, ◌&&◌, ◌||◌, ◌++◌, ◌∷◌, [], OnOk, filter, map, length, count_by, List, if◌then◌else◌};
-ghost use Rattle.std.specs.List.{list_any};
-ghost use Rattle.world_rules.specs.Near.{is_target, is_standing, is_other_near};
-ghost use Rattle.world_rules.specs.Discs.{is_of};
+ghost use Rattle.std.specs.List.{list_any, AllByRecursion};
+ghost use Rattle.world_rules.specs.Near.{is_standing, is_other_near};
+ghost use Rattle.world_rules.specs.Discs.{is_of, is_hitting};
 ghost use Rattle.world_rules.specs.Flags.{captures};
-ghost use Rattle.world_sim.specs.Found.{hits_any, is_triggered_by, is_flag, is_players, AreFound};
+ghost use Rattle.world_rules.specs.Identity.{LivesOn};
+ghost use Rattle.world_rules.specs.Ranges.{ObjectFits};
+ghost use Rattle.world_sim.specs.Cells.{IsGrid};
+ghost use Rattle.world_sim.specs.Found.{is_triggered_by, is_flag, is_players, AreFound};
 
+use crate::cells::Cells;
+use crate::near::any_target_round;
 use std::alloc::{AllocError, Global};
 use tn_types::MAX_OBJECTS;
 use world_rules::flags::is_captured;
-use world_rules::measures::{DISC_REACH, MINE_REACH};
+use world_rules::measures::MINE_REACH;
 use world_rules::{Object, State};
 
 /// What a tick found. All room is made at the start.
 #[derive(Drop)]
 pub struct Found {
-    pub targets: Vec<Object>,
     pub players: Vec<Object>,
     pub standing: Vec<Object>,
     pub flags: Vec<Object>,
@@ -30,7 +34,6 @@ pub struct Found {
 /// Nothing found yet.
 pub fn nothing(alloc: Global) -> Result<Found, AllocError> {
     Ok(Found {
-        targets: Vec::with_capacity(alloc, MAX_OBJECTS)?,
         players: Vec::with_capacity(alloc, MAX_OBJECTS)?,
         standing: Vec::with_capacity(alloc, MAX_OBJECTS)?,
         flags: Vec::with_capacity(alloc, MAX_OBJECTS)?,
@@ -63,11 +66,15 @@ pub fn count_of(client: u8, discs: &[Object]) -> usize
     discs.iter().filter(|d| d.is_of(client)).count()
 }
 
-// Whether an object is a living disc that hits one of these targets.
-fn hits_any(targets: &[Object], o: &Object) -> bool
-    ensures { result ≡ hits_any targets.now o.now }
+// Whether an object is a living disc that hits, by the cells of all objects.
+#[tactic(auto, unfolding(world_rules::specs::Discs::is_hitting))]
+fn is_hitting(cells: &Cells, objects: &[Object], o: &Object) -> bool
+    requires grid { IsGrid cells.now objects.now }
+    requires alive { AllByRecursion LivesOn objects.now }
+    requires fits { AllByRecursion ObjectFits objects.now }
+    ensures { result ≡ is_hitting objects.now o.now }
 {
-    o.is_flying() && any_near(DISC_REACH, o, targets)
+    o.is_flying() && any_target_round(cells, objects, o)
 }
 
 // Whether an object is an armed mine that one of these players triggers.
@@ -100,26 +107,22 @@ fn keep(passes: bool, o: &Object, list: &mut Vec<Object>) -> Result<(), AllocErr
     Ok(())
 }
 
-// The targets, the players, those that stand, and the flags.
+// The players, those that stand, and the flags.
 #[tactic(auto, using(crate::proofs::Gathered::filter_more))]
 fn gather(
     objects: &[Object],
-    targets: &mut Vec<Object>,
     players: &mut Vec<Object>,
     standing: &mut Vec<Object>,
     flags: &mut Vec<Object>,
 ) -> Result<(), AllocError>
-    ensures targets { OnOk result (targets.new.items ≡ filter is_target objects.now) }
     ensures players { OnOk result (players.new.items ≡ filter is_players objects.now) }
     ensures standing { OnOk result (standing.new.items ≡ filter is_standing objects.now) }
     ensures flags { OnOk result (flags.new.items ≡ filter is_flag objects.now) }
 {
-    targets.clear();
     players.clear();
     standing.clear();
     flags.clear();
     for o in objects {
-        keep(o.is_target(), o, targets)?;
         keep(is_players(o), o, players)?;
         keep(o.is_standing(), o, standing)?;
         keep(is_flag(o), o, flags)?;
@@ -130,23 +133,26 @@ fn gather(
 // The discs that hit and the mines that are triggered, with a mark for each object.
 #[tactic(auto, using(crate::proofs::Gathered::filter_more))]
 fn gather_ending(
+    cells: &Cells,
     objects: &[Object],
-    targets: &[Object],
     standing: &[Object],
     hitting: &mut Vec<Object>,
     triggered: &mut Vec<Object>,
     marks: &mut Vec<bool>,
 ) -> Result<(), AllocError>
-    ensures hitting { OnOk result (hitting.new.items ≡ filter (hits_any targets.now) objects.now) }
+    requires grid { IsGrid cells.now objects.now }
+    requires alive { AllByRecursion LivesOn objects.now }
+    requires fits { AllByRecursion ObjectFits objects.now }
+    ensures hitting { OnOk result (hitting.new.items ≡ filter (is_hitting objects.now) objects.now) }
     ensures triggered { OnOk result (triggered.new.items ≡ filter (is_triggered_by standing.now) objects.now) }
     ensures marks { OnOk result (marks.new.items
-        ≡ map (λ o. hits_any targets.now o || is_triggered_by standing.now o) objects.now) }
+        ≡ map (λ o. is_hitting objects.now o || is_triggered_by standing.now o) objects.now) }
 {
     hitting.clear();
     triggered.clear();
     marks.clear();
     for o in objects {
-        let hits = hits_any(targets, o);
+        let hits = is_hitting(cells, objects, o);
         let triggers = is_triggered_by(standing, o);
         keep(hits, o, hitting)?;
         keep(triggers, o, triggered)?;
@@ -157,19 +163,21 @@ fn gather_ending(
 
 /// What a tick looks through, written anew.
 #[tactic(auto, using(crate::proofs::Gathered::are_found))]
-pub fn find_all(objects: &[Object], found: &mut Found) -> Result<(), AllocError>
+pub fn find_all(cells: &Cells, objects: &[Object], found: &mut Found) -> Result<(), AllocError>
+    requires grid { IsGrid cells.now objects.now }
+    requires alive { AllByRecursion LivesOn objects.now }
+    requires fits { AllByRecursion ObjectFits objects.now }
     ensures { OnOk result (AreFound objects.now found.new) }
 {
     gather(
         objects,
-        &mut found.targets,
         &mut found.players,
         &mut found.standing,
         &mut found.flags,
     )?;
     gather_ending(
+        cells,
         objects,
-        &found.targets,
         &found.standing,
         &mut found.hitting,
         &mut found.triggered,

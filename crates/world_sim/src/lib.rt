@@ -5,6 +5,7 @@ mod cell;
 mod cells;
 mod found;
 pub mod laws;
+mod near;
 mod rows;
 mod step;
 #[cfg(test)]

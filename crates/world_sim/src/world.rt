@@ -6,7 +6,7 @@ ghost use Rattle.world_rules.specs.Players.{fired};
 ghost use Rattle.world_rules.specs.Next.{objects_next, discs_made};
 ghost use Rattle.world_rules.specs.Spawning.{first_objects, SetupFits};
 ghost use Rattle.world_rules.specs.Ranges.{ObjectFits};
-ghost use Rattle.world_rules.specs.Identity.{IsPeopled};
+ghost use Rattle.world_rules.specs.Identity.{IsPeopled, LivesOn};
 ghost use Rattle.world_sim.specs.Worlds.{next, added, first_world, alive_at, kind_at, block_at, values_at, version_at, identity_at, player_of, place_at};
 ghost use Rattle.world_sim.specs.Grid.{numbers, lasts, lies_at, is_always};
 ghost use Rattle.world_sim.specs.Facts.{IsWriteOf, ValuesFit};
@@ -128,10 +128,14 @@ fn make_discs(
 fn prepare(
     objects: &mut Vec<Object>,
     rows: &mut Vec<Row>,
+    cells: &Cells,
     moves: &[Option<Move>],
     work: &mut Work,
 ) -> Result<(), AllocError>
-    requires { length objects.old.items ≤ MAX_OBJECTS }
+    requires few { length objects.old.items ≤ MAX_OBJECTS }
+    requires grid { IsGrid cells.now objects.old.items }
+    requires alive { AllByRecursion LivesOn objects.old.items }
+    requires fits { AllByRecursion ObjectFits objects.old.items }
     ensures objects { objects.new.items ≡ objects.old.items }
     ensures rows { rows.new.items ≡ rows.old.items }
     ensures found { OnOk result (AreFound objects.old.items work.new.found) }
@@ -142,7 +146,7 @@ fn prepare(
     ensures rows_room { OnOk result (length rows.old.items + length work.new.made.items ≤ vec_capacity rows.new) }
     ensures writes_room { OnOk result (5 * MAX_OBJECTS ≤ vec_capacity work.new.after_writes) }
 {
-    find_all(objects, &mut work.found)?;
+    find_all(cells, objects, &mut work.found)?;
     let room = MAX_OBJECTS - objects.len();
     make_discs(&work.found.standing, moves, room, &mut work.made)?;
     objects.reserve(work.made.len())?;
@@ -183,6 +187,8 @@ fn advance(
     requires kept { map row_values rows.old.items ≡ map values_of objects.old.items }
     requires sound { AllByRecursion IsSoundRow rows.old.items }
     requires grid { IsGrid cells.old objects.old.items }
+    requires alive { AllByRecursion LivesOn objects.old.items }
+    requires fits { AllByRecursion ObjectFits objects.old.items }
     ensures objects { OnOk result (objects.new.items
         ≡ objects_next objects.old.items moves.now (record { seed = seed; tick = tick })) }
     ensures rows { OnOk result (rows.new.items ≡ rows_next rows.old.items objects.new.items) }
@@ -193,7 +199,7 @@ fn advance(
     ensures rows_same { OnErr result (rows.new.items ≡ rows.old.items) }
     ensures cells_same { OnErr result (cells.new ≡ cells.old) }
 {
-    prepare(objects, rows, moves, work)?;
+    prepare(objects, rows, cells, moves, work)?;
     let red = captures_of(objects, &work.found.flags, 0) as u32;
     let blue = captures_of(objects, &work.found.flags, 1) as u32;
     let old = Old {

@@ -5,9 +5,8 @@ use Rattle.world_sim.proofs.found.find_all.Goals as goal
 
 pub returns : goal.returns
 returns c =
-    let found : Found = record { targets = c.gather.new.targets; players = c.gather.new.players; standing = c.gather.new.standing; flags = c.gather.new.flags; hitting = c.gather_ending.new.hitting; triggered = c.gather_ending.new.triggered; marks = c.gather_ending.new.marks } in
-    are_found c.args.objects.now found c.gather.new.targets.items c.gather.new.standing.items
-    c.in_ok-gather.ensures.targets c.in_ok-gather.ensures.players c.in_ok-gather.ensures.standing refl c.in_ok-gather.ensures.flags
-    (rw c.deref.ensures.value at c.in_ok-gather_ending.ensures.hitting)
-    (rw c.deref-2.ensures.value at c.in_ok-gather_ending.ensures.triggered)
-    (rw (c.deref.ensures.value, c.deref-2.ensures.value) at c.in_ok-gather_ending.ensures.marks)
+    let found : Found = record { players = c.gather.new.players; standing = c.gather.new.standing; flags = c.gather.new.flags; hitting = c.gather_ending.new.hitting; triggered = c.gather_ending.new.triggered; marks = c.gather_ending.new.marks } in
+    are_found c.args.objects.now found c.gather.new.standing.items c.in_ok-gather.ensures.players c.in_ok-gather.ensures.standing refl c.in_ok-gather.ensures.flags
+    c.in_ok-gather_ending.ensures.hitting
+    (rw c.deref.ensures.value at c.in_ok-gather_ending.ensures.triggered)
+    (rw c.deref.ensures.value at c.in_ok-gather_ending.ensures.marks)
