@@ -1,7 +1,8 @@
 -- The versions and writes of one object, field by field.
-use Rattle.std.proofs.Common.{sym, Bool, true, false, length-append, cond, ◌||◌, nat_lt, ◌≡◌, ℕ, suc, ◌<◌, ◌≤◌, ◌+◌, List, [], ◌∷◌, ◌++◌, length, get_or, drop, refl, ap, ◌∙◌, arith, append_assoc, ◌⊎◌, inl, inr}
+use Rattle.std.proofs.Common.{sym, take, set, length-set, zero, ◌-◌, ◌^◌, Bool, true, false, length-append, cond, ◌||◌, nat_lt, ◌≡◌, ℕ, suc, ◌<◌, ◌≤◌, ◌+◌, List, [], ◌∷◌, ◌++◌, length, get_or, drop, refl, ap, ◌∙◌, arith, append_assoc, ◌⊎◌, inl, inr}
 use Rattle.std.specs.Prelude.{ℤ, pos, negsuc}
-use Rattle.std.proofs.lemmas.List.{drop_more, drop_all, append-nil}
+use Rattle.std.specs.List.{AllByRecursion, refill}
+use Rattle.std.proofs.lemmas.List.{drop_more, drop_all, append-nil, take_all}
 use Rattle.world_sim.specs.declared.rows.Write.{Write}
 use Rattle.world_sim.specs.Rows.{values_of, differs, row_versions, row_writes, version_next, field_writes}
 use Rattle.world_sim.specs.declared.rows.Row.{Row}
@@ -115,3 +116,63 @@ no_row_writes object field (x ∷ xs) (v ∷ vs) = rw (no_write object field v x
 -- an object that stays writes nothing
 pub writes_nothing : (ws : List Write) (object : ℕ) (xs ys : List ℤ) (vs : List ℕ) → xs ≡ ys → ws ≡ ws ++ row_writes object 0 xs ys vs
 writes_nothing ws object xs ys vs e = rw (sym e, no_row_writes object 0 xs vs, append-nil) refl
+
+pub counts_end : (front : List ℕ) (i : ℕ) (before now : List ℤ) (versions whole : List ℕ) → whole ≡ front ++ row_versions (drop i before) (drop i now) (drop i versions) → IsEnd i before now versions → front ≡ whole
+counts_end front i before now versions whole e h = sym (e ∙ versions_end front i before now versions h)
+
+-- ---- versions in place
+
+small_at : (vs : List ℕ) (i : ℕ) → AllByRecursion (λ v. v < 2 ^ 32 - 1) vs → i < length vs → get_or vs i 0 < 2 ^ 32 - 1
+small_at [] i a l = absurd (omega arith)
+small_at (v ∷ vs) zero a l = a.0
+small_at (v ∷ vs) (suc i) a l = small_at vs i a.1 (omega arith)
+
+drop_get : (xs ys : List ℕ) (i : ℕ) → drop i xs ≡ drop i ys → i < length xs → i < length ys → (get_or xs i 0 ≡ get_or ys i 0) × (drop (i + 1) xs ≡ drop (i + 1) ys)
+drop_get xs ys i e l m =
+    let f : get_or xs i 0 ∷ drop (i + 1) xs ≡ get_or ys i 0 ∷ drop (i + 1) ys = sym (drop_more xs i 0 l) ∙ e ∙ drop_more ys i 0 m in
+    (cc, cc)
+
+set_take : (xs : List ℕ) (i x : ℕ) → i < length xs → take (i + 1) (set xs i x) ≡ take i xs ++ x ∷ []
+set_take [] i x l = absurd (omega arith)
+set_take (y ∷ xs) zero x l = refl
+set_take (y ∷ xs) (suc i) x l = let e : suc i + 1 ≡ suc (i + 1) = omega arith in rw e (ap (λ (zs : List ℕ). y ∷ zs) (set_take xs i x (omega arith)))
+
+set_drop : (xs : List ℕ) (i x : ℕ) → i < length xs → drop (i + 1) (set xs i x) ≡ drop (i + 1) xs
+set_drop [] i x l = absurd (omega arith)
+set_drop (y ∷ xs) zero x l = refl
+set_drop (y ∷ xs) (suc i) x l = let e : suc i + 1 ≡ suc (i + 1) = omega arith in rw e (set_drop xs i x (omega arith))
+
+-- what is counted in place, and what is left
+pub record AreCounted (i : ℕ) (before now : List ℤ) (versions counts : List ℕ) : Type 0 where
+  pub many : length counts ≡ length versions
+  pub left : drop i counts ≡ drop i versions
+  pub so_far : row_versions before now versions ≡ take i counts ++ row_versions (drop i before) (drop i now) (drop i versions)
+
+pub none_counted : (before now : List ℤ) (versions : List ℕ) → AreCounted 0 before now versions versions
+none_counted before now versions = record { many = refl; left = refl; so_far = refl }
+
+pub counted_small : (i : ℕ) (before now : List ℤ) (versions counts : List ℕ) → AreCounted i before now versions counts → i < length versions → AllByRecursion (λ v. v < 2 ^ 32 - 1) versions → get_or counts i 0 < 2 ^ 32 - 1
+counted_small i before now versions counts a l small =
+    let g = (drop_get counts versions i a.left (omega (arith, a.many, l)) l).0 in
+    omega (arith, g, small_at versions i small l)
+
+pub counted_more : (i : ℕ) (before now : List ℤ) (versions counts : List ℕ) (x : ℕ) → AreCounted i before now versions counts → i < length before → i < length now → i < length versions → x ≡ version_next (get_or before i (pos 0)) (get_or now i (pos 0)) (get_or counts i 0) → AreCounted (i + 1) before now versions (set counts i x)
+counted_more i before now versions counts x a l m n e =
+    let here : i < length counts = omega (arith, a.many, n) in
+    let g = drop_get counts versions i a.left here n in
+    let f : x ≡ version_next (get_or before i (pos 0)) (get_or now i (pos 0)) (get_or versions i 0) = e ∙ ap (λ (v : ℕ). version_next (get_or before i (pos 0)) (get_or now i (pos 0)) v) g.0 in
+    record {
+      many = length-set counts i x ∙ a.many;
+      left = set_drop counts i x here ∙ g.1;
+      so_far =
+          a.so_far
+          ∙ versions_more (take i counts) i before now versions (pos 0) (pos 0) 0 l m n
+          ∙ ap (λ (k : ℕ). (take i counts ++ k ∷ []) ++ row_versions (drop (i + 1) before) (drop (i + 1) now) (drop (i + 1) versions)) (sym f)
+          ∙ ap (λ (front : List ℕ). front ++ row_versions (drop (i + 1) before) (drop (i + 1) now) (drop (i + 1) versions)) (sym (set_take counts i x here));
+    }
+
+-- a list that was written through a borrow of the same length
+pub refilled : (xs ws : List ℕ) → length ws ≡ length xs → refill (length xs) xs ws ≡ ws
+refilled xs ws e =
+    let none : drop (length ws) xs ≡ [] = drop_all (length ws) xs (omega (arith, e)) in
+    rw (none, append-nil) (take_all (length xs) ws (omega (arith, e)))

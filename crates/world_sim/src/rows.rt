@@ -1,5 +1,5 @@
 //! The values of all objects, their versions, and what a tick writes.
-ghost use Rattle.std.specs.Prelude.{vec_capacity, ◌≡◌, ◌<◌, ◌≤◌, ◌+◌, ◌-◌, ◌^◌, ◌++◌, ℤ, ℕ, List, length, [], ◌∷◌, slice_index, slice_index_or, pos, ◌⊎◌, replicate};
+ghost use Rattle.std.specs.Prelude.{vec_capacity, take, drop, ◌≡◌, ◌<◌, ◌≤◌, ◌+◌, ◌-◌, ◌^◌, ◌++◌, ℤ, ℕ, List, length, [], ◌∷◌, slice_index, slice_index_or, pos, ◌⊎◌, replicate};
 ghost use Rattle.std.specs.List.{AllByRecursion};
 ghost use Rattle.world_sim.specs.RowsNext.{row_next, fresh_row, IsSoundRow};
 ghost use Rattle.world_sim.specs.Rows.{values_of, differs, version_next, field_writes, row_versions, row_writes, as_number, holder_number};
@@ -133,19 +133,40 @@ fn common_len(before: &[i64], now: &[i64], versions: &[u32]) -> usize
     before.len().min(now.len()).min(versions.len())
 }
 
-// The versions after the writes of one object.
-#[tactic(auto, using(crate::proofs::RowFields::versions_more, crate::proofs::RowFields::versions_end))]
-fn row_versions(before: &[i64], now: &[i64], versions: &[u32]) -> ArrayVec<u32, 5>
-    requires few { length now.now ≤ 5 }
-    requires small { AllByRecursion (λ v. v < 2 ^ 32 - 1) versions.now }
-    ensures { result.items ≡ row_versions before.now now.now versions.now }
+// The version of a field after the tick.
+fn next_at(f: usize, before: &[i64], now: &[i64], version: u32) -> u32
+    requires before { f < length before.now }
+    requires now { f < length now.now }
+    requires small { version < 2 ^ 32 - 1 }
+    ensures { result ≡ version_next (slice_index_or before.now f (pos 0)) (slice_index_or now.now f (pos 0)) version }
 {
-    let n = common_len(before, now, versions);
-    let mut next = ArrayVec::new();
+    version_next(before[f], now[f], version)
+}
+
+// The versions of the first fields after the writes of one object, in place.
+fn count_changes(n: usize, before: &[i64], now: &[i64], versions: &mut [u32])
+    requires before { n ≤ length before.now }
+    requires now { n ≤ length now.now }
+    requires versions { n ≤ length versions.old }
+    requires small { AllByRecursion (λ v. v < 2 ^ 32 - 1) versions.old }
+    ensures counts { row_versions before.now now.now versions.old
+        ≡ take n versions.new ++ row_versions (drop n before.now) (drop n now.now) (drop n versions.old) }
+    ensures many { length versions.new ≡ length versions.old }
+{
     for f in 0..n {
-        next.push(version_next(before[f], now[f], versions[f]));
+        versions[f] = next_at(f, before, now, versions[f]);
     }
-    next
+}
+
+// The versions after the writes of one object.
+#[tactic(auto, using(crate::proofs::RowFields::counts_end))]
+fn count_row(before: &[i64], now: &[i64], versions: &mut ArrayVec<u32, 5>)
+    requires { AllByRecursion (λ v. v < 2 ^ 32 - 1) versions.old.items }
+    ensures { versions.new.items ≡ row_versions before.now now.now versions.old.items }
+{
+    let n = common_len(before, now, versions.as_slice());
+    count_changes(n, before, now, versions.as_mut_slice());
+    versions.truncate(n);
 }
 
 // Notes the writes of one object.
@@ -176,11 +197,15 @@ pub fn change_row(object: u32, row: &mut Row, now: &Object, writes: &mut Vec<Wri
 {
     let values = values_of(now);
     let before = row.values.as_slice();
-    let counts = row.versions.as_slice();
-    note_row(object, before, values.as_slice(), counts, writes);
-    let versions = row_versions(before, values.as_slice(), counts);
+    note_row(
+        object,
+        before,
+        values.as_slice(),
+        row.versions.as_slice(),
+        writes,
+    );
+    count_row(before, values.as_slice(), &mut row.versions);
     row.values = values;
-    row.versions = versions;
 }
 
 fn zeros(n: usize) -> ArrayVec<u32, 5>
