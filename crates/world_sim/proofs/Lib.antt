@@ -8,6 +8,7 @@ pub mod WorldLaws
 pub mod Started
 pub mod Numbers
 pub mod Searches
+pub mod Watching
 pub mod Gathered
 pub mod Turns
 pub mod ForGood

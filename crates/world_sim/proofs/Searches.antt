@@ -30,7 +30,7 @@ pub none_any : (p : Object → Bool) (os : List Object) → ((n : ℕ) (t : Obje
 none_any p [] h = refl
 none_any p (x ∷ os) h = rw (h 0 x refl, none_any p os (λ n t at. h (suc n) t at)) refl
 
-all_at : (P : Object → Type 0) (os : List Object) (n : ℕ) (t : Object) → AllByRecursion P os → slice_get os n ≡ Some t → P t
+pub all_at : (P : Object → Type 0) (os : List Object) (n : ℕ) (t : Object) → AllByRecursion P os → slice_get os n ≡ Some t → P t
 all_at P [] n t a e = absurd (cc)
 all_at P (x ∷ os) zero t a e = let same : x ≡ t = cc in subst P same a.0
 all_at P (x ∷ os) (suc n) t a e = all_at P os n t a.1 e

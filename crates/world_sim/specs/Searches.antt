@@ -1,9 +1,19 @@
 -- What a search through cells tells of the objects in them.
-use Rattle.std.specs.Prelude.{◌≡◌, ℕ, false, List, slice_get, Some}
-use Rattle.world_rules.specs.declared.measures.TheConstants.{DISC_REACH}
+use Rattle.std.specs.Prelude.{◌≡◌, ℕ, Bool, true, false, List, slice_get, slice_index_or, Some}
+use Rattle.world_rules.specs.declared.measures.TheConstants.{DISC_REACH, MINE_REACH}
 use Rattle.world_rules.specs.declared.object.Object.{Object}
+use Rattle.world_rules.specs.declared.object.Place.{Place}
+use Rattle.world_rules.specs.Places.{is_within}
 use Rattle.world_rules.specs.Near.{is_target_near}
+use Rattle.world_rules.specs.Ranges.{PlaceFits}
+use Rattle.world_sim.specs.Cells.{cell_of}
 
 -- the object of this number is none that a disc hits
 abbrev pub IsNoTarget : List Object → Object → ℕ → Type 0
 IsNoTarget os o n = (t : Object) → slice_get os n ≡ Some t → is_target_near DISC_REACH o t ≡ false
+
+-- each place near one of these lies in a cell that is watched
+abbrev pub AreWatched : List Object → List Bool → Type 0
+AreWatched standing watched =
+    (k : ℕ) (p : Object) (q : Place) → slice_get standing k ≡ Some p → PlaceFits q → is_within MINE_REACH p.place q ≡ true
+    → slice_index_or watched (cell_of q) false ≡ true

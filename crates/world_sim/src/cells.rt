@@ -16,7 +16,7 @@ pub const CELL_SIDE: u32 = 4096;
 pub const CELLS_ACROSS: u32 = 16;
 
 // All cells.
-const CELLS: usize = 256;
+pub(crate) const CELLS: usize = 256;
 
 /// The numbers of the objects in each cell, row by row. Nothing after `new` takes memory.
 #[derive(Drop)]
@@ -45,7 +45,7 @@ pub(crate) fn has_place(o: &Object) -> bool
 }
 
 // The cell that a place lies in.
-fn cell_of(place: &Place) -> u8
+pub(crate) fn cell_of(place: &Place) -> u8
     ensures { result ≡ cell_of place.now }
 {
     let row = place.y / CELL_SIDE % CELLS_ACROSS;

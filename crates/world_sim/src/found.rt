@@ -5,12 +5,14 @@ ghost use Rattle.world_rules.specs.Near.{is_standing, is_other_near};
 ghost use Rattle.world_rules.specs.Discs.{is_of, is_hitting};
 ghost use Rattle.world_rules.specs.Flags.{captures};
 ghost use Rattle.world_rules.specs.Identity.{LivesOn};
-ghost use Rattle.world_rules.specs.Ranges.{ObjectFits};
+ghost use Rattle.world_rules.specs.Ranges.{PlaceFits, ObjectFits};
+ghost use Rattle.world_sim.specs.Searches.{AreWatched};
 ghost use Rattle.world_sim.specs.Cells.{IsGrid};
 ghost use Rattle.world_sim.specs.Found.{is_triggered_by, is_flag, is_players, AreFound};
 
-use crate::cells::Cells;
+use crate::cells::{CELLS, Cells};
 use crate::near::any_target_round;
+use crate::watch::{is_watched, watch_all};
 use std::alloc::{AllocError, Global};
 use tn_types::MAX_OBJECTS;
 use world_rules::flags::is_captured;
@@ -77,11 +79,14 @@ fn is_hitting(cells: &Cells, objects: &[Object], o: &Object) -> bool
     o.is_flying() && any_target_round(cells, objects, o)
 }
 
-// Whether an object is an armed mine that one of these players triggers.
-fn is_triggered_by(standing: &[Object], o: &Object) -> bool
+// Whether an object is an armed mine that one of these players triggers. Most lie in cells that nobody is near.
+fn is_triggered_by(watched: &[bool], standing: &[Object], o: &Object) -> bool
+    requires room { length watched.now ≡ 256 }
+    requires watched { AreWatched standing.now watched.now }
+    requires fits { PlaceFits o.now.place }
     ensures { result ≡ is_triggered_by standing.now o.now }
 {
-    o.is_armed() && any_near(MINE_REACH, o, standing)
+    o.is_armed() && (is_watched(watched, &o.place) && any_near(MINE_REACH, o, standing))
 }
 
 // Whether an object is anybody's player.
@@ -131,10 +136,11 @@ fn gather(
 }
 
 // The discs that hit and the mines that are triggered, with a mark for each object.
-#[tactic(auto, using(crate::proofs::Gathered::filter_more))]
+#[tactic(auto, using(crate::proofs::Gathered::filter_more, crate::proofs::Watching::place_fits))]
 fn gather_ending(
     cells: &Cells,
     objects: &[Object],
+    watched: &[bool],
     standing: &[Object],
     hitting: &mut Vec<Object>,
     triggered: &mut Vec<Object>,
@@ -143,6 +149,8 @@ fn gather_ending(
     requires grid { IsGrid cells.now objects.now }
     requires alive { AllByRecursion LivesOn objects.now }
     requires fits { AllByRecursion ObjectFits objects.now }
+    requires room { length watched.now ≡ 256 }
+    requires watched { AreWatched standing.now watched.now }
     ensures hitting { OnOk result (hitting.new.items ≡ filter (is_hitting objects.now) objects.now) }
     ensures triggered { OnOk result (triggered.new.items ≡ filter (is_triggered_by standing.now) objects.now) }
     ensures marks { OnOk result (marks.new.items
@@ -153,7 +161,7 @@ fn gather_ending(
     marks.clear();
     for o in objects {
         let hits = is_hitting(cells, objects, o);
-        let triggers = is_triggered_by(standing, o);
+        let triggers = is_triggered_by(watched, standing, o);
         keep(hits, o, hitting)?;
         keep(triggers, o, triggered)?;
         marks.push(hits || triggers)?;
@@ -175,9 +183,12 @@ pub fn find_all(cells: &Cells, objects: &[Object], found: &mut Found) -> Result<
         &mut found.standing,
         &mut found.flags,
     )?;
+    let mut watched = [false; CELLS];
+    watch_all(&found.standing, &mut watched);
     gather_ending(
         cells,
         objects,
+        &watched,
         &found.standing,
         &mut found.hitting,
         &mut found.triggered,

@@ -10,6 +10,7 @@ mod rows;
 mod step;
 #[cfg(test)]
 mod tests;
+mod watch;
 mod world;
 
 pub use cells::{CELL_SIDE, CELLS_ACROSS};
