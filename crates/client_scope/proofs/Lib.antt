@@ -1,0 +1,5 @@
+mod Lists
+mod Apart
+mod Marking
+mod Periods
+mod Standing
