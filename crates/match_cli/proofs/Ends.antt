@@ -1,6 +1,7 @@
 -- Each end of a command has its outcome.
 use Rattle.std.proofs.Common.{◌≡◌, ℕ, ◌+◌, ◌≤◌, inl, inr, List, ◌++◌, length, take, Option, Ok, refl, arith, length-append, length-take, sym, subst}
 use Rattle.std.proofs.lemmas.List.{take_all}
+use Rattle.tn_outside.specs.Causes.{Rose}
 use Rattle.tn_outside.specs.Streams.{ReadTakes}
 use Rattle.tn_outside.specs.Totals.{GaveFront, Adds, AddsFront}
 use Rattle.tn_outside.proofs.Totals.{gave_more}
@@ -14,6 +15,10 @@ use Rattle.match_cli.specs.Outcome.{Seen, seen, ReadAs, GaveAtMost, NotRead, Cau
 -- there is one command so far
 pub only_run : (c : Command) → c ≡ Run
 only_run Run = refl
+
+-- a fault that comes later in a call is one of the call
+pub rose_later : (a b n : ℕ) → a ≤ b → Rose b n → Rose a n
+rose_later a b n le rose = omega arith
 
 -- a piece more was taken
 pub took_more : (old mid new : Option (List ℕ)) (k n : ℕ) (bytes buf : List ℕ) → GaveFront old mid bytes → ReadTakes mid new (Ok k) buf → length bytes + k ≤ n → GaveAtMost n old new
@@ -39,7 +44,7 @@ module _ (c : Command) (held held' : Option (List ℕ)) (faults faults' : ℕ) (
       cause WriteFault why = absurd why
       cause NoMemory why = tt
 
-  whole : (bytes : List ℕ) → Adds written written' bytes → AddsFront written written' bytes
+  pub whole : (bytes : List ℕ) → Adds written written' bytes → AddsFront written written' bytes
   whole bytes a = (length bytes, omega arith, subst (λ (b : List ℕ). Adds written written' b) (sym (take_all (length bytes) bytes (omega arith))) a)
 
   pub done : (script : OneScript) → ReadAs held held' (Ok script) → GaveAtMost 1048577 held held' → faults ≤ faults' → Adds written written' (text_of c script) → sink_faults ≤ sink_faults' → Outcome (Ok c) source sink Done

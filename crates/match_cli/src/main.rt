@@ -11,10 +11,14 @@ mod tests;
 mod top;
 
 use status::{Status, exit_of};
+use std::io::BufWriter;
 use std::process::ExitCode;
 use std::{env, io};
 use tn_outside::{StdSink, StdSource};
 use top::top;
+
+/// How many bytes are gathered before standard output is called.
+const GATHERED_BYTES: usize = 65_536;
 
 /// The words of the command line, without the program's name; `None` where memory was not to be had.
 fn arguments(rt: &HostRuntime) -> Option<Vec<String>> {
@@ -31,8 +35,10 @@ fn main(rt: HostRuntime) -> ExitCode {
     let status = match arguments(&rt) {
         Some(words) => {
             let mut source = StdSource::new(rt.reader());
-            let mut sink = StdSink::new(io::writer(&rt));
-            top(rt.alloc(), &words, &mut source, &mut sink)
+            match BufWriter::with_capacity(rt.alloc(), GATHERED_BYTES, io::writer(&rt)) {
+                Ok(out) => top(rt.alloc(), &words, &mut source, &mut StdSink::new(out)),
+                Err(_) => Status::NoMemory,
+            }
         }
         None => Status::NoMemory,
     };

@@ -1,5 +1,5 @@
 //! The commands: a script is read, and what the command makes of it is written.
-ghost use Rattle.std.specs.Prelude.{◌≡◌, ◌⊎◌, ◌≤◌, List, ℕ, map, length, string_bytes, Some, Ok};
+ghost use Rattle.std.specs.Prelude.{◌≡◌, ◌⊎◌, ◌≤◌, List, [], ℕ, map, length, string_bytes, Some, Ok};
 ghost use Rattle.match_script.specs.declared.types.Script.{Script as OneScript};
 ghost use Rattle.match_script.specs.Script.{script_of};
 ghost use Rattle.match_engine.specs.Laws.{Isolation, EventsInOrder, MovesInOrder, LooseInOrder, LittleIsRefused};
@@ -27,6 +27,7 @@ fn serve<S: Source, K: Sink>(
     ensures outcome { Outcome (Ok command)
         (seen (S.held source.old) (S.held source.new) (S.faults source.old) (S.faults source.new))
         (seen (K.written sink.old) (K.written sink.new) (K.faults sink.old) (K.faults sink.new)) result }
+    ensures handed { result ≡ Status.Done → K.gathered sink.new ≡ [] }
 {
     let script = match read_script(alloc, source) {
         Ok(script) => script,
@@ -34,7 +35,10 @@ fn serve<S: Source, K: Sink>(
     };
     match command {
         Command::Run => match run(alloc, &script, sink) {
-            Ok(()) => Status::Done,
+            Ok(()) => match sink.flush() {
+                Ok(()) => Status::Done,
+                Err(_) => Status::WriteFault,
+            },
             Err(RunFault::WriteFault) => Status::WriteFault,
             Err(RunFault::NoMemory) => Status::NoMemory,
         },
@@ -42,7 +46,7 @@ fn serve<S: Source, K: Sink>(
 }
 
 /// Serves the commands that need neither threads nor a network: reads a script from the source and writes to the sink
-/// what the command makes of it, one line a write.
+/// what the command makes of it, one line a write. What the sink gathers is handed on behind the last one.
 pub fn top<S: Source, K: Sink>(
     alloc: Global,
     words: &Vec<String>,
@@ -53,6 +57,8 @@ pub fn top<S: Source, K: Sink>(
     ensures outcome { Outcome (command_of (map string_bytes words.now.items))
         (seen (S.held source.old) (S.held source.new) (S.faults source.old) (S.faults source.new))
         (seen (K.written sink.old) (K.written sink.new) (K.faults sink.old) (K.faults sink.new)) result }
+    // Where the whole text was written, the sink keeps none of it back.
+    ensures handed { result ≡ Status.Done → K.gathered sink.new ≡ [] }
     // The answer is the one that the words and the text ask for, where nothing fails and memory is there.
     ensures exact { (text : List ℕ) → S.held source.old ≡ Some text → IsWanted (command_of (map string_bytes words.now.items)) text
         (seen (S.held source.old) (S.held source.new) (S.faults source.old) (S.faults source.new))

@@ -18,33 +18,33 @@ use std::alloc::Global;
 use tn_types::{Class, MAX_DATAGRAM_BYTES, MAX_DATAGRAMS, Move, NoMemory, Payload, RawBytes};
 
 /// The events that wait at the client, which are handed out.
-fn client_events(pair: &mut Pair) -> Events
-    ensures events { result ≡ map event_told pair.old.client.common.receiver.ready }
-    ensures none { pair.new.client.common.receiver.ready ≡ [] }
+fn client_events(alloc: Global, pair: &mut Pair) -> Result<Events, NoMemory>
+    ensures events { IfOk result (λ events. events ≡ map event_told pair.old.client.common.receiver.ready) }
+    ensures none { OnOk result (pair.new.client.common.receiver.ready ≡ []) }
     ensures stands { Stays pair.old pair.new }
     ensures server { pair.new.conn ≡ pair.old.conn }
 {
-    let mut events = Events::new();
+    let mut events = Events::new(alloc);
     let _waiting = pair.client_waiting();
     'out: while let Some((class, payload)) = pair.pop_client_event() {
-        events.push(EventTold { class, payload });
+        events.push(EventTold { class, payload })?;
     }
-    events
+    Ok(events)
 }
 
 /// The events that wait at the server, which are handed out.
-fn server_events(pair: &mut Pair) -> Events
-    ensures events { result ≡ map event_told pair.old.conn.common.receiver.ready }
-    ensures none { pair.new.conn.common.receiver.ready ≡ [] }
+fn server_events(alloc: Global, pair: &mut Pair) -> Result<Events, NoMemory>
+    ensures events { IfOk result (λ events. events ≡ map event_told pair.old.conn.common.receiver.ready) }
+    ensures none { OnOk result (pair.new.conn.common.receiver.ready ≡ []) }
     ensures stands { Stays pair.old pair.new }
     ensures client { pair.new.client ≡ pair.old.client }
 {
-    let mut events = Events::new();
+    let mut events = Events::new(alloc);
     let _waiting = pair.server_waiting();
     'out: while let Some((class, payload)) = pair.pop_server_event() {
-        events.push(EventTold { class, payload });
+        events.push(EventTold { class, payload })?;
     }
-    events
+    Ok(events)
 }
 
 fn post(pair: &mut Pair, client: u8, class: Class, payload: Payload) -> Told
@@ -196,56 +196,56 @@ fn client_pack(alloc: Global, pair: &mut Pair, client: u8) -> Result<Told, NoMem
     }
 }
 
-fn down(pair: &mut Pair, client: u8, k: u32) -> Told
+fn down(alloc: Global, pair: &mut Pair, client: u8, k: u32) -> Result<Told, NoMemory>
     requires { IsQuiet pair.old }
-    ensures told { Answers pair.old (brought_down_told client k) result }
-    ensures stands { Does pair.old (Down k) pair.new }
-    ensures quiet { IsQuiet pair.new }
+    ensures told { IfOk result (Answers pair.old (brought_down_told client k)) }
+    ensures stands { OnOk result (Does pair.old (Down k) pair.new) }
+    ensures quiet { OnOk result (IsQuiet pair.new) }
 {
     match pair.down(k) {
-        Ok(()) => Told::Came {
+        Ok(()) => Ok(Told::Came {
             way: Way::Down,
             client,
             k,
             moves: 0,
-            events: client_events(pair),
-        },
-        Err(DownFault::NotSent { sent }) => Told::NotSent {
+            events: client_events(alloc, pair)?,
+        }),
+        Err(DownFault::NotSent { sent }) => Ok(Told::NotSent {
             way: Way::Down,
             client,
             k,
             sent,
-        },
-        Err(DownFault::Refused(fault)) => Told::ClientRefused { client, k, fault },
+        }),
+        Err(DownFault::Refused(fault)) => Ok(Told::ClientRefused { client, k, fault }),
     }
 }
 
-fn up(seat: &mut Seat, client: u8, k: u32) -> Told
+fn up(alloc: Global, seat: &mut Seat, client: u8, k: u32) -> Result<Told, NoMemory>
     requires { IsQuiet seat.old.pair }
-    ensures told { SeatAnswers seat.old (brought_up_told client k) result }
-    ensures stands { SeatBecomes seat.old (λ t steps. Up k (room_in t steps) ∷ steps) seat.new }
-    ensures quiet { IsQuiet seat.new.pair }
+    ensures told { IfOk result (SeatAnswers seat.old (brought_up_told client k)) }
+    ensures stands { OnOk result (SeatBecomes seat.old (λ t steps. Up k (room_in t steps) ∷ steps) seat.new) }
+    ensures quiet { OnOk result (IsQuiet seat.new.pair) }
 {
     match seat.up(k) {
-        Ok(taken) => Told::Came {
+        Ok(taken) => Ok(Told::Came {
             way: Way::Up,
             client,
             k,
             moves: taken.moves,
-            events: server_events(&mut seat.pair),
-        },
-        Err(UpFault::NotSent { sent }) => Told::NotSent {
+            events: server_events(alloc, &mut seat.pair)?,
+        }),
+        Err(UpFault::NotSent { sent }) => Ok(Told::NotSent {
             way: Way::Up,
             client,
             k,
             sent,
-        },
-        Err(UpFault::Refused(fault)) => Told::ServerRefused {
+        }),
+        Err(UpFault::Refused(fault)) => Ok(Told::ServerRefused {
             way: Way::Up,
             client,
             k,
             fault,
-        },
+        }),
     }
 }
 
@@ -285,8 +285,8 @@ pub(crate) fn line_on(alloc: Global, seat: &mut Seat, line: &BodyLine) -> Result
         } => Ok(client_post(&mut seat.pair, *client, *class, payload.copy())),
         BodyLine::Pack { client } => pack(alloc, &mut seat.pair, *client),
         BodyLine::ClientPack { client } => client_pack(alloc, &mut seat.pair, *client),
-        BodyLine::Down { client, k } => Ok(down(&mut seat.pair, *client, *k)),
-        BodyLine::Up { client, k } => Ok(up(seat, *client, *k)),
+        BodyLine::Down { client, k } => down(alloc, &mut seat.pair, *client, *k),
+        BodyLine::Up { client, k } => up(alloc, seat, *client, *k),
         BodyLine::Move { client, m } => Ok(sample(&mut seat.pair, *client, *m)),
         BodyLine::Show { client } => Ok(show(&seat.pair, *client)),
     }

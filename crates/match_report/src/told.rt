@@ -1,12 +1,12 @@
 //! What a line of a script did.
-ghost use Rattle.std.specs.Prelude.{◌≡◌, ◌<◌, ◌≤◌, [], ◌∷◌, ◌++◌, length};
+ghost use Rattle.std.specs.Prelude.{◌≡◌, ◌<◌, ◌≤◌, [], ◌∷◌, ◌++◌, length, OnOk};
 
-use arrayvec::ArrayVec;
 use event_manager::{MAX_READY_EVENTS, PostFault};
 use move_manager::MoveFault;
+use std::alloc::Global;
 use std::marker::Model;
 use stream_manager::{ArriveFault, ClientFault};
-use tn_types::{Class, Payload, RawBytes};
+use tn_types::{Class, NoMemory, Payload, RawBytes};
 
 /// How a datagram came.
 #[derive(Clone, Copy, Debug, PartialEq, Eq)]
@@ -26,22 +26,11 @@ pub struct EventTold {
     pub payload: Payload,
 }
 
-impl Default for EventTold {
-    /// An unguaranteed event of no byte.
-    fn default() -> Self
-        ensures { (result.class ≡ Class.Loose) × (result.payload ≡ []) }
-    {
-        EventTold {
-            class: Class::Loose,
-            payload: Payload::new(),
-        }
-    }
-}
-
-/// The events that one delivery handed out, in order: at most 95.
+/// The events that one delivery handed out, in order: at most 95. They lie on the heap, so that what a line tells is small
+/// where it is handed on.
 #[derive(Drop)]
 pub struct Events {
-    items: ArrayVec<EventTold, MAX_READY_EVENTS>,
+    items: Vec<EventTold>,
 }
 
 impl Model for Events {
@@ -57,23 +46,27 @@ impl Model for Events {
 }
 
 impl Events {
-    ghost use Rattle.std.specs.Prelude.{◌≡◌, ◌<◌, ◌≤◌, [], ◌∷◌, ◌++◌, length};
+    ghost use Rattle.std.specs.Prelude.{◌≡◌, ◌<◌, ◌≤◌, [], ◌∷◌, ◌++◌, length, OnOk, OnErr};
 
-    /// No event.
-    pub fn new() -> Self
+    /// No event, which takes no memory.
+    pub fn new(alloc: Global) -> Self
         ensures { result ≡ [] }
     {
         Events {
-            items: ArrayVec::new(),
+            items: Vec::new(alloc),
         }
     }
 
-    /// Appends an event.
-    pub fn push(&mut self, event: EventTold)
+    /// Appends an event. Nothing changes where memory is not to be had.
+    pub fn push(&mut self, event: EventTold) -> Result<(), NoMemory>
         requires { length self.old < MAX_READY_EVENTS }
-        ensures { self.new ≡ self.old ++ event ∷ [] }
+        ensures appended { OnOk result (self.new ≡ self.old ++ event ∷ []) }
+        ensures unchanged { OnErr result (self.new ≡ self.old) }
     {
-        self.items.push(event);
+        match self.items.push(event) {
+            Ok(()) => Ok(()),
+            Err(_) => Err(NoMemory),
+        }
     }
 
     /// The events, lent.

@@ -285,7 +285,3 @@ arrive_answer c room bytes log = taken_of c log room (server_answer c log bytes)
 
 abbrev pub arriving : Config → ℕ → List ℕ → List ServerEvent → List ServerEvent
 arriving c room bytes log = took_at_server log room (server_answer c log bytes)
-
--- the same of a packet that was read
-abbrev pub read_answer : Config → ℕ → ClientPacket → List ServerEvent → Result Taken ArriveFault
-read_answer c room p log = taken_of c log room (checked_packet p (packet_check c log p))

@@ -10,6 +10,7 @@ ghost use Rattle.wire_format.specs.declared.client.ClientPacket.TheVariants as u
 ghost use Rattle.wire_format.specs.declared.server.ServerPacket.TheVariants as down;
 ghost use Rattle.wire_format.specs.Header.{IsHeader};
 ghost use Rattle.wire_format.specs.Server.{IsServerBody};
+ghost use Rattle.stream_manager.specs.ClientCalls.{AdmitsDown, TakesDown, client_of};
 ghost use Rattle.wire_format.specs.Client.{spell_client, client_size, IsClientInRange};
 
 use crate::arriving::{check_control, check_same, take_blocks};
@@ -28,8 +29,8 @@ use std::alloc::Global;
 use std::marker::Model;
 use tn_types::{Class, MAX_DATAGRAM_BYTES, MAX_READ_BYTES, Move, NoMemory, Payload};
 use wire_format::{
-    CLIENT_FIXED_BITS, ClientBody, ClientPacket, EventList, Header, MOVE_BITS, ServerBody,
-    ServerPacket, client_bits, decode_server, encode_client,
+    CLIENT_FIXED_BITS, ClientBody, ClientPacket, EventList, Header, MOVE_BITS, PacketKind,
+    ServerBody, client_bits, decode_server_into, encode_client,
 };
 
 /// What a client's pack makes: the bytes of a datagram, or nothing.
@@ -55,6 +56,8 @@ pub struct Client {
     control: Option<u8>,
     // the bytes of the datagram that was made last
     datagram: ArrayVec<u8, MAX_DATAGRAM_BYTES>,
+    // where the next packet that comes is read
+    body: Box<ServerBody>,
 }
 
 impl Model for Client {
@@ -73,12 +76,11 @@ impl Client {
     ghost use Rattle.stream_manager.specs.End.{seen, dropped_of, came_of, events_answer};
     ghost use Rattle.stream_manager.specs.EndCalls.{popped};
     ghost use Rattle.event_manager.specs.Receiving.{run_of, take_answer};
-    ghost use Rattle.stream_manager.specs.Client.{ClientEvent, Posted, Sampled, Packed, Took, client_end, sampled_at, control_at, posted_at_client, sampled_answer, client_body, client_bytes, client_ping_bytes, arrive_answer, arriving, read_answer, head_check, packet_check, moves_check, ghosts_check};
+    ghost use Rattle.stream_manager.specs.Client.{ClientEvent, Posted, Sampled, Packed, Took, client_end, sampled_at, control_at, posted_at_client, sampled_answer, client_body, client_bytes, client_ping_bytes, arrive_answer, arriving, head_check, packet_check, moves_check, ghosts_check};
     ghost use Rattle.stream_manager.specs.Stands.{ClientStandsFor};
-    ghost use Rattle.stream_manager.specs.ClientCalls.{Does, Answers, Becomes, Hands, KeepsTerms, Keeps, ClientSealed, ClientPinging, ClientPacked, IsOut, IsShort, AdmitsDown, FitGhosts};
+    ghost use Rattle.stream_manager.specs.ClientCalls.{Does, Answers, Becomes, Hands, KeepsTerms, Keeps, ClientSealed, ClientPinging, ClientPacked, IsOut, IsShort, FitGhosts};
     ghost use Rattle.stream_manager.specs.Faults.{events_at_client};
     ghost use Rattle.stream_manager.specs.contracts.client.Client.{the_row};
-    ghost use Rattle.wire_format.specs.Server.{IsServer};
 
     /// A client's end of a new connection, in a match of these kinds. It alone takes memory.
     pub fn new(alloc: Global, config: Config, kinds: &KindTable) -> Result<Client, NoMemory>
@@ -91,6 +93,9 @@ impl Client {
         let common = End::new(alloc, config)?;
         let blocks = BlockReceiver::new(alloc)?;
         let copies = Copies::new(alloc, kinds)?;
+        let Ok(body) = Box::new(alloc, ServerBody::new()) else {
+            return Err(NoMemory);
+        };
         Ok(Client {
             common,
             moves: MoveSender::new(config.life),
@@ -98,6 +103,7 @@ impl Client {
             copies,
             control: None,
             datagram: ArrayVec::new(),
+            body,
         })
     }
 
@@ -232,34 +238,26 @@ impl Client {
         ensures unchanged { OnErr result (self.new ≡ self.old) }
         ensures terms { KeepsTerms self.old self.new }
     {
-        let packet = match decode_server(bytes, self.copies.kinds()) {
-            Ok(packet) => packet,
-            Err(fault) => return Err(ClientFault::Bits(fault)),
-        };
-        self.take(&packet)
-    }
-
-    /// Takes a packet that was read, or refuses it.
-    fn take(&mut self, packet: &ServerPacket) -> Result<(), ClientFault>
-        requires fits { IsServer self.old.copies.kinds packet.now }
-        requires none_waits { self.old.common.receiver.ready ≡ [] }
-        ensures answer { Answers self.old (read_answer self.old.common.config packet.now) result }
-        ensures stands { OnOk result (Does self.old (Took packet.now) self.new) }
-        ensures handed { OnOk result (Hands self.old (λ log. Took packet.now ∷ log) self.new) }
-        ensures unchanged { OnErr result (self.new ≡ self.old) }
-        ensures terms { KeepsTerms self.old self.new }
-    {
-        match packet {
-            ServerPacket::Ping(head) => {
-                self.check_ping(head)?;
-                self.take_ping(head);
+        match decode_server_into(bytes, self.copies.kinds(), &mut *self.body) {
+            Ok(PacketKind::Ping) => {
+                let head = self.body.head;
+                self.check_ping(&head)?;
+                self.take_ping(&head);
                 Ok(())
             }
-            ServerPacket::Body(body) => {
-                self.check(body)?;
-                self.take_body(body);
+            Ok(PacketKind::Body) => {
+                self.check(&*self.body)?;
+                take_body(
+                    &mut self.common,
+                    &mut self.moves,
+                    &mut self.blocks,
+                    &mut self.copies,
+                    &mut self.control,
+                    &*self.body,
+                );
                 Ok(())
             }
+            Err(fault) => Err(ClientFault::Bits(fault)),
         }
     }
 
@@ -349,22 +347,6 @@ impl Client {
         let _ = self.common.take(true, head, &EventList::new());
     }
 
-    /// Takes a data packet that nothing refuses.
-    fn take_body(&mut self, body: &ServerBody)
-        requires fits { IsServerBody self.old.copies.kinds body.now }
-        requires admits { AdmitsDown self.old body.now }
-        requires none_waits { self.old.common.receiver.ready ≡ [] }
-        ensures stands { Does self.old (Took (down.Body body.now)) self.new }
-        ensures handed { Hands self.old (λ log. Took (down.Body body.now) ∷ log) self.new }
-        ensures terms { KeepsTerms self.old self.new }
-    {
-        let _ = self.common.take(false, &body.head, &body.events);
-        let _ = self.moves.acked(body.accepted);
-        take_blocks(&mut self.blocks, &body.blocks);
-        let _ = self.copies.take(&body.ghosts, self.blocks.held());
-        self.control = body.control;
-    }
-
     /// How many guaranteed events were delivered, those that wait included.
     pub fn delivered(&self) -> u32
         ensures { Answers self.now (λ log. run_of (came_of (client_end log))) result }
@@ -388,6 +370,29 @@ impl Client {
     {
         self.common.pop_event()
     }
+}
+
+/// Takes a data packet that nothing refuses into these parts of a client's end.
+fn take_body(
+    common: &mut End,
+    moves: &mut MoveSender,
+    blocks: &mut BlockReceiver,
+    copies: &mut Copies,
+    control: &mut Option<u8>,
+    body: &ServerBody,
+)
+    requires fits { IsServerBody copies.old.kinds body.now }
+    requires admits { AdmitsDown (client_of common.old moves.old blocks.old copies.old control.old) body.now }
+    requires none_waits { common.old.receiver.ready ≡ [] }
+    ensures took { TakesDown (client_of common.old moves.old blocks.old copies.old control.old) body.now
+        (client_of common.new moves.new blocks.new copies.new control.new) }
+    ensures life { moves.new.life ≡ moves.old.life }
+{
+    let _ = common.take(false, &body.head, &body.events);
+    let _ = moves.acked(body.accepted);
+    take_blocks(blocks, &body.blocks);
+    let _ = copies.take(&body.ghosts, blocks.held());
+    *control = body.control;
 }
 
 /// The datagram of a packet, in as many bytes as it takes, at most `size`.

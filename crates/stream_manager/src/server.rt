@@ -7,6 +7,9 @@ ghost use Rattle.tn_types.specs.declared.choices.Class.TheVariants.{Guaranteed, 
 ghost use Rattle.wire_format.specs.declared.client.ClientPacket.TheVariants as up;
 ghost use Rattle.wire_format.specs.Header.{IsHeader};
 ghost use Rattle.wire_format.specs.Client.{IsClientBody};
+ghost use Rattle.stream_manager.specs.Server.{Took, moves_new};
+ghost use Rattle.stream_manager.specs.Stands.{ConnStandsForSome, terms_of};
+ghost use Rattle.stream_manager.specs.ConnCalls.{Does, Answers, Hands, Accepts, Admits, conn_of};
 
 use crate::config::Config;
 use crate::end::End;
@@ -25,7 +28,7 @@ use tn_types::{
     BlockBytes, Class, MAX_BLOCKS, MAX_DATAGRAM_BYTES, MAX_LIFE, MAX_READ_BYTES, Move, NoMemory,
     Payload,
 };
-use wire_format::{ClientBody, ClientPacket, EventList, Header, MoveList, decode_client};
+use wire_format::{ClientBody, EventList, Header, MoveList, PacketKind, decode_client_into};
 
 /// What a packet of the client brought.
 #[derive(Clone, Copy, Debug, PartialEq, Eq)]
@@ -46,6 +49,8 @@ pub struct Conn {
     pub(crate) taken: MoveList,
     // the bytes of the datagram that was made last
     pub(crate) datagram: ArrayVec<u8, MAX_DATAGRAM_BYTES>,
+    // where the next packet that comes is read
+    body: Box<ClientBody>,
 }
 
 impl Model for Conn {
@@ -68,9 +73,9 @@ impl Conn {
     ghost use Rattle.stream_manager.specs.Limits.{IsConfig};
     ghost use Rattle.stream_manager.specs.End.{seen, dropped_of, events_answer};
     ghost use Rattle.stream_manager.specs.EndCalls.{popped};
-    ghost use Rattle.stream_manager.specs.Server.{Posted, Took, server_end, accepted_at, posted_at_server, server_state, arrive_answer, arriving, read_answer, head_check, packet_check, gap_check, moves_new};
-    ghost use Rattle.stream_manager.specs.Stands.{ConnStandsFor, terms_of};
-    ghost use Rattle.stream_manager.specs.ConnCalls.{Does, Answers, Becomes, Hands, Accepts, Keeps, Admits};
+    ghost use Rattle.stream_manager.specs.Server.{Posted, server_end, accepted_at, posted_at_server, server_state, arrive_answer, arriving, head_check, packet_check, gap_check};
+    ghost use Rattle.stream_manager.specs.Stands.{ConnStandsFor};
+    ghost use Rattle.stream_manager.specs.ConnCalls.{Becomes, Keeps};
     ghost use Rattle.stream_manager.specs.Faults.{events_at_server};
     ghost use Rattle.wire_format.specs.Client.{IsClient};
     ghost use Rattle.event_manager.specs.Receiving.{take_answer};
@@ -92,6 +97,9 @@ impl Conn {
         let common = End::new(alloc, config)?;
         let masks = Masks::new(alloc, kinds)?;
         let blocks = BlockSender::new(alloc, blocks)?;
+        let Ok(body) = Box::new(alloc, ClientBody::new()) else {
+            return Err(NoMemory);
+        };
         Ok(Conn {
             common,
             masks,
@@ -99,6 +107,7 @@ impl Conn {
             moves: MoveReceiver::new(config.life),
             taken: MoveList::new(),
             datagram: ArrayVec::new(),
+            body,
         })
     }
 
@@ -183,35 +192,27 @@ impl Conn {
         ensures unchanged { OnErr result (self.new ≡ self.old) }
         ensures terms { terms_of self.new ≡ terms_of self.old }
     {
-        let packet = match decode_client(bytes) {
-            Ok(packet) => packet,
-            Err(fault) => return Err(ArriveFault::Bits(fault)),
-        };
-        self.take(&packet, room)
-    }
-
-    /// Takes a packet that was read, or refuses it.
-    fn take(&mut self, packet: &ClientPacket, room: u32) -> Result<Taken, ArriveFault>
-        requires fits { IsClient packet.now }
-        requires none_waits { self.old.common.receiver.ready ≡ [] }
-        ensures answer { Answers self.old (read_answer self.old.common.config room packet.now) result }
-        ensures stands { OnOk result (Does self.old (Took packet.now room) self.new) }
-        ensures handed { OnOk result (Hands self.old (λ log. Took packet.now room ∷ log) self.new) }
-        ensures moves { OnOk result (Accepts self.old (λ log. Took packet.now room ∷ log) self.new) }
-        ensures unchanged { OnErr result (self.new ≡ self.old) }
-        ensures terms { terms_of self.new ≡ terms_of self.old }
-    {
-        match packet {
-            ClientPacket::Ping(head) => {
-                self.check_ping(head)?;
-                self.take_ping(head);
+        match decode_client_into(bytes, &mut *self.body) {
+            Ok(PacketKind::Ping) => {
+                let head = self.body.head;
+                self.check_ping(&head)?;
+                self.take_ping(&head, room);
                 Ok(Taken { moves: 0 })
             }
-            ClientPacket::Body(body) => {
-                self.check(body)?;
-                let moves = self.take_body(body, room);
+            Ok(PacketKind::Body) => {
+                self.check(&*self.body)?;
+                let moves = take_body(
+                    &mut self.common,
+                    &mut self.masks,
+                    &mut self.blocks,
+                    &mut self.moves,
+                    &mut self.taken,
+                    &*self.body,
+                    room,
+                );
                 Ok(Taken { moves })
             }
+            Err(fault) => Err(ArriveFault::Bits(fault)),
         }
     }
 
@@ -272,14 +273,14 @@ impl Conn {
         }
     }
 
-    /// Takes a ping that nothing refuses.
-    fn take_ping(&mut self, head: &Header)
+    /// Takes a ping that nothing refuses. It brings no moves, whatever the room for them.
+    fn take_ping(&mut self, head: &Header, room: u32)
         requires fits { IsHeader head.now }
         requires fresh { arrival_of true head.now.seq self.old.common.window.horizon ≡ Arrival.Fresh }
         requires known { head.now.horizon ≤ self.old.common.window.sent }
         requires none_waits { self.old.common.receiver.ready ≡ [] }
-        ensures stands { (room : ℕ) → Does self.old (Took (up.Ping head.now) room) self.new }
-        ensures handed { (room : ℕ) → Hands self.old (λ log. Took (up.Ping head.now) room ∷ log) self.new }
+        ensures stands { Does self.old (Took (up.Ping head.now) room) self.new }
+        ensures handed { Hands self.old (λ log. Took (up.Ping head.now) room ∷ log) self.new }
         ensures moves { self.new.taken ≡ [] }
         ensures terms { terms_of self.new ≡ terms_of self.old }
     {
@@ -288,29 +289,6 @@ impl Conn {
         self.masks.discard_plan();
         settle_ghosts(&mut self.masks, &notices);
         self.taken = MoveList::new();
-    }
-
-    /// Takes a data packet that nothing refuses, and gives how many moves are newly accepted.
-    fn take_body(&mut self, body: &ClientBody, room: u32) -> u32
-        requires fits { IsClientBody body.now }
-        requires admits { Admits self.old body.now }
-        requires none_waits { self.old.common.receiver.ready ≡ [] }
-        ensures count { Answers self.old (λ log. moves_new self.old.common.config log room (up.Body body.now)) result }
-        ensures stands { Does self.old (Took (up.Body body.now) room) self.new }
-        ensures handed { Hands self.old (λ log. Took (up.Body body.now) room ∷ log) self.new }
-        ensures moves { Accepts self.old (λ log. Took (up.Body body.now) room ∷ log) self.new }
-        ensures terms { terms_of self.new ≡ terms_of self.old }
-    {
-        let notices = self.common.take(false, &body.head, &body.events);
-        settle_blocks(&mut self.blocks, &notices);
-        self.masks.discard_plan();
-        settle_ghosts(&mut self.masks, &notices);
-        let before = self.moves.accepted();
-        let Ok(count) = self.moves.take(body.first, &body.moves, room) else {
-            unreachable!()
-        };
-        self.taken = moves_from(&body.moves, before - body.first, count);
-        count
     }
 
     /// The moves that the last packet newly brought, until the next call that takes a packet.
@@ -336,6 +314,38 @@ impl Conn {
     {
         self.common.pop_event()
     }
+}
+
+/// Takes a data packet that nothing refuses into these parts of a server's end, and gives how many moves are newly accepted.
+fn take_body(
+    common: &mut End,
+    masks: &mut Masks,
+    blocks: &mut BlockSender,
+    moves: &mut MoveReceiver,
+    taken: &mut MoveList,
+    body: &ClientBody,
+    room: u32,
+) -> u32
+    requires fits { IsClientBody body.now }
+    requires some { ConnStandsForSome (conn_of common.old masks.old blocks.old moves.old taken.old) }
+    requires admits { Admits (conn_of common.old masks.old blocks.old moves.old taken.old) body.now }
+    requires none_waits { common.old.receiver.ready ≡ [] }
+    ensures count { Answers (conn_of common.old masks.old blocks.old moves.old taken.old) (λ log. moves_new common.old.config log room (up.Body body.now)) result }
+    ensures stands { Does (conn_of common.old masks.old blocks.old moves.old taken.old) (Took (up.Body body.now) room) (conn_of common.new masks.new blocks.new moves.new taken.new) }
+    ensures handed { Hands (conn_of common.old masks.old blocks.old moves.old taken.old) (λ log. Took (up.Body body.now) room ∷ log) (conn_of common.new masks.new blocks.new moves.new taken.new) }
+    ensures accepts { Accepts (conn_of common.old masks.old blocks.old moves.old taken.old) (λ log. Took (up.Body body.now) room ∷ log) (conn_of common.new masks.new blocks.new moves.new taken.new) }
+    ensures terms { terms_of (conn_of common.new masks.new blocks.new moves.new taken.new) ≡ terms_of (conn_of common.old masks.old blocks.old moves.old taken.old) }
+{
+    let notices = common.take(false, &body.head, &body.events);
+    settle_blocks(blocks, &notices);
+    masks.discard_plan();
+    settle_ghosts(masks, &notices);
+    let before = moves.accepted();
+    let Ok(count) = moves.take(body.first, &body.moves, room) else {
+        unreachable!()
+    };
+    *taken = moves_from(&body.moves, before - body.first, count);
+    count
 }
 
 /// `count` of these moves from place `start` on, as far as there are so many.

@@ -1,6 +1,6 @@
 //! Readers and writers of std as a source and a sink.
 use crate::{Failed, Sink, Source, StdSink, StdSource};
-use std::io::{Error, ErrorKind, Read};
+use std::io::{BufWriter, Error, ErrorKind, Read};
 use std::test::Fail;
 
 /// A reader of a device that is gone.
@@ -27,13 +27,20 @@ fn std_source(rt: HostRuntime) {
 }
 
 #[test]
-fn std_sink(rt: HostRuntime) -> Result<(), Fail> {
-    let mut sink = StdSink::new(Vec::new(rt.alloc()));
-    assert_eq!(rt; sink.write(b"abc"), Ok(3));
+fn std_sink_gathers(rt: HostRuntime) -> Result<(), Fail> {
+    let alloc = rt.alloc();
+    let mut sink = StdSink::new(BufWriter::with_capacity(alloc, 4, Vec::new(alloc))?);
+    assert_eq!(rt; sink.write(b"ab"), Ok(2));
     assert_eq!(rt; sink.write(b""), Ok(0));
+    assert_eq!(rt; *sink.inner.get_ref().as_slice(), *b"".as_slice());
+    assert_eq!(rt; sink.write(b"cde"), Ok(3));
+    assert_eq!(rt; *sink.inner.get_ref().as_slice(), *b"ab".as_slice());
+    assert_eq!(rt; sink.flush(), Ok(()));
+    assert_eq!(rt; *sink.inner.get_ref().as_slice(), *b"abcde".as_slice());
     let mut room = [0u8; 2];
-    let mut narrow = StdSink::new(room.as_mut_slice());
+    let mut narrow = StdSink::new(BufWriter::with_capacity(alloc, 2, room.as_mut_slice())?);
     assert_eq!(rt; narrow.write(b"abc"), Ok(2));
-    assert_eq!(rt; narrow.write(b"c"), Err(Failed));
+    assert_eq!(rt; narrow.write(b"c"), Ok(1));
+    assert_eq!(rt; narrow.flush(), Err(Failed));
     Ok(())
 }

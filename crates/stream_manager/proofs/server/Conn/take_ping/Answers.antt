@@ -46,9 +46,9 @@ pub invariant_of-self : goal.invariant_of-self
 invariant_of-self c = (Took (up.Ping c.args.head.now) 0 ∷ c.self.invariant.0, stands c c.self.invariant.0 0 c.self.invariant.1)
 
 pub returns-clause-stands : goal.returns-clause-stands
-returns-clause-stands c room log s = stands c log room (subst (λ (x : ConnState). ConnStandsFor x log) (sym c.self.view_is) s)
+returns-clause-stands c log s = stands c log c.args.room (subst (λ (x : ConnState). ConnStandsFor x log) (sym c.self.view_is) s)
 
 pub returns-clause-handed : goal.returns-clause-handed
-returns-clause-handed c room log s =
+returns-clause-handed c log s =
     let was : ConnStandsFor (before c) log = subst (λ (x : ConnState). ConnStandsFor x log) (sym c.self.view_is) s in
     subst (λ (es : List EventItem). delivered_at (TookEnd (record { ping = true; head = c.args.head.now; events = es }) ∷ server_end log) ≡ delivered_at (server_end log) ++ c.take-notices.new.self.receiver.ready) c.new.ensures (c.take-notices.ensures.handed (server_end log) was.common)
