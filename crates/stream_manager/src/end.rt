@@ -1,6 +1,6 @@
 //! What the two ends of a connection have in common.
 
-ghost use Rattle.std.specs.Prelude.{◌≡◌, ℕ, ◌+◌, ◌-◌, ◌<◌, ◌≤◌, List, [], ◌∷◌, ◌++◌, IfOk, OnOk, OnErr, length, take};
+ghost use Rattle.std.specs.Prelude.{◌≡◌, ℕ, ◌+◌, ◌-◌, ◌*◌, ◌<◌, ◌≤◌, List, [], ◌∷◌, ◌++◌, IfOk, OnOk, OnErr, length, take};
 ghost use Rattle.notify_window.specs.State.{send_state};
 ghost use Rattle.notify_window.specs.Log.{send_state_of};
 ghost use Rattle.event_manager.specs.SenderState.{due_now};
@@ -9,7 +9,7 @@ ghost use Rattle.std.specs.Prelude.{sum_by, false, true, All, slice_get, drop};
 ghost use Rattle.std.specs.List.{AllByRecursion};
 ghost use Rattle.notify_window.specs.Log.{arrival_of};
 ghost use Rattle.event_manager.specs.Receiving.{take_answer, run_of};
-ghost use Rattle.wire_format.specs.Events.{event_size, IsEventInRange};
+ghost use Rattle.wire_format.specs.Events.{event_size, spell_events, IsEventInRange};
 ghost use Rattle.tn_types.specs.Fitting.{fitting};
 ghost use Rattle.wire_format.specs.Header.{IsHeaderInRange};
 ghost use Rattle.tn_types.specs.declared.limits.TheConstants.{MAX_LIFE};
@@ -18,12 +18,13 @@ ghost use Rattle.tn_types.specs.declared.choices.Class.TheVariants.{Guaranteed, 
 use crate::config::Config;
 use crate::fault::HeadFault;
 use crate::settling::settle_events;
+use bit_stream::BitWriter;
 use event_manager::{EventAhead, EventReceiver, EventSender, MAX_READY_EVENTS, PostFault};
 use notify_window::{Arrival, Notices, SendState, Window};
 use std::alloc::Global;
 use std::marker::Model;
 use tn_types::{Class, NoMemory, Payload};
-use wire_format::{EventItem, EventList, Header, event_bits};
+use wire_format::{EVENT_COUNT_WIDTH, EventItem, EventList, Header, event_bits, put_events};
 
 /// A window, the events on their way out, and those that came in.
 #[derive(Drop)]
@@ -110,7 +111,7 @@ impl End {
     }
 
     /// The header of the next data packet.
-    fn data_head(&self) -> Header
+    pub(crate) fn data_head(&self) -> Header
         requires { send_state self.now.window ≡ SendState.Room }
         ensures head { Answers self.now (data_head self.now.config.client) result }
         ensures fits { IsHeaderInRange result }
@@ -175,21 +176,18 @@ impl End {
         self.sender.note(count, seq);
     }
 
-    /// Counts the next data packet, in which `room` bits are left for events, and gives its header and its events.
-    pub(crate) fn pack(&mut self, room: u32) -> (Header, EventList)
-        requires { send_state self.old.window ≡ SendState.Room }
-        ensures head { Answers self.old (data_head self.old.config.client) result.0 }
-        ensures events { Answers self.old (events_for self.old.config room) result.1 }
-        ensures head_fits { IsHeaderInRange result.0 }
-        ensures events_fit { AllByRecursion IsEventInRange result.1 }
-        ensures few { sum_by (event_bits self.old.config) result.1 ≤ room }
+    /// Counts the next data packet, in which `room` bits are left for events, and writes these behind their count.
+    pub(crate) fn pack(&mut self, room: u32, out: &mut BitWriter)
+        requires state { send_state self.old.window ≡ SendState.Room }
+        requires room { length out.old.bits + (EVENT_COUNT_WIDTH + room) ≤ 8 * out.old.size }
+        ensures bits { Answers self.old (λ log. out.old.bits ++ spell_events (events_for self.old.config room log)) out.new.bits }
+        ensures size { out.new.size ≡ out.old.size }
         ensures stands { Becomes self.old (λ log. Packed (data_seen self.old.config room log) ∷ log) self.new }
         ensures keeps { Keeps self.old self.new }
     {
-        let head = self.data_head();
         let events = self.events(room);
+        put_events(out, &events);
         self.packed(events.len() as u32);
-        (head, events)
     }
 
     /// Counts nothing: what a ping leaves is what was there.

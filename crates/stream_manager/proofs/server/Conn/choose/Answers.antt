@@ -32,7 +32,7 @@ module _ (g : Over) (c : goal.After-choose g) where
     room : 8 * c.config.result.now.size - 136 - c.due_blocks-blocks.result.1 - c.events_bits-events.result ≡ ghost_room (terms_of (before g c)) log
     room =
         the-ghost-room (before g c) c.config.result.now.size (ap (λ (k : Config). k.size) c.config.ensures.value) c.due_blocks-blocks.result.0 c.due_blocks-blocks.result.1
-        c.due_blocks-blocks.ensures.blocks c.due_blocks-blocks.ensures.bits c.due_blocks-blocks.ensures.log log s c.events_bits-events.result c.events_bits-events.ensures.bits
+        c.due_blocks-blocks.ensures.blocks c.due_blocks-blocks.ensures.bits c.due_blocks-blocks.ensures.log log s c.events_bits-events.result (c.events_bits-events.ensures.bits (server_end log) s.common)
 
     told : c.choose.new.self.plan ≡ Some (choices_at (terms_of (before g c)) log)
     told = choices-told (before g c) c.choose.new.self c.received-received.result _ log s received room c.choose.ensures.plan
