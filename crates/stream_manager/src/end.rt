@@ -24,7 +24,7 @@ use notify_window::{Arrival, Notices, SendState, Window};
 use std::alloc::Global;
 use std::marker::Model;
 use tn_types::{Class, NoMemory, Payload};
-use wire_format::{EVENT_COUNT_WIDTH, EventItem, EventList, Header, event_bits, put_events};
+use wire_format::{EVENT_COUNT_WIDTH, EventList, Header};
 
 /// A window, the events on their way out, and those that came in.
 #[derive(Drop)]
@@ -140,29 +140,12 @@ impl End {
         }
     }
 
-    /// The events of the next data packet, where `room` bits are left for them: the longest front of the due ones that
-    /// fits, at most 31.
-    fn events(&self, room: u32) -> EventList
-        ensures events { Answers self.now (events_for self.now.config room) result }
-        ensures fits { AllByRecursion IsEventInRange result }
-        ensures few { sum_by (event_bits self.now.config) result ≤ room }
-        ensures due { result ≡ take (length result) (due_now self.now.sender) }
-        ensures count { length result ≤ length (due_now self.now.sender) }
-        ensures front { Answers self.now (λ log. take (length result) (due_of (fates log) (sender_log log))) result }
-    {
-        let mut events = self.sender.due();
-        let (count, _) = fitting_front(events.as_slice(), room);
-        events.truncate(count);
-        events
-    }
-
     /// The bits of the events of the next data packet, where `room` bits are left for them.
     pub(crate) fn events_bits(&self, room: u32) -> u32
         ensures bits { Answers self.now (λ log. sum_by (event_bits self.now.config) (events_for self.now.config room log)) result }
         ensures few { result ≤ room }
     {
-        let (_, bits) = fitting_front(self.sender.due().as_slice(), room);
-        bits
+        self.sender.due_share(room).bits
     }
 
     /// Counts a data packet with the first `count` of the due events.
@@ -185,9 +168,9 @@ impl End {
         ensures stands { Becomes self.old (λ log. Packed (data_seen self.old.config room log) ∷ log) self.new }
         ensures keeps { Keeps self.old self.new }
     {
-        let events = self.events(room);
-        put_events(out, &events);
-        self.packed(events.len() as u32);
+        let share = self.sender.due_share(room);
+        self.sender.put_due(share.count, out);
+        self.packed(share.count);
     }
 
     /// Counts nothing: what a ping leaves is what was there.
@@ -282,22 +265,4 @@ impl End {
     {
         self.receiver.pop()
     }
-}
-
-/// How many of these events have at most `room` bits together, from the first on, and their bits.
-fn fitting_front(events: &[EventItem], room: u32) -> (usize, u32)
-    ensures fitting { fitting event_size room events.now ≡ take result.0 events.now }
-    ensures count { result.0 ≤ length events.now }
-    ensures bits { result.1 ≡ sum_by event_size (fitting event_size room events.now) }
-    ensures few { result.1 ≤ room }
-{
-    let mut used = 0;
-    'fit: for (i, event) in events.iter().enumerate() {
-        let bits = event_bits(event);
-        if bits > room - used {
-            return (i, used);
-        }
-        used += bits;
-    }
-    (events.len(), used)
 }

@@ -9,11 +9,11 @@ ghost use Rattle.wire_format.specs.declared.server.ServerPacket.TheVariants as d
 ghost use Rattle.wire_format.specs.Server.{spell_server, server_size, IsServerInRange};
 
 use crate::Conn;
-use crate::blocks::{due_blocks, note_blocks};
+use crate::blocks::{due_blocks, note_blocks, write_blocks};
 use notify_window::SendState;
 use std::sync::ledger::Ledger;
 use tn_types::{Choice, Steps};
-use wire_format::{SERVER_FIXED_BITS, put_blocks, put_ping, put_server_front};
+use wire_format::{SERVER_FIXED_BITS, put_ping, put_server_front};
 
 impl Conn {
     ghost use Rattle.stream_manager.specs.Server.{ServerEvent, ghost_log, choices_at, data_body, server_bytes, server_ping_bytes};
@@ -71,7 +71,7 @@ impl Conn {
         let (blocks, used) = due_blocks(&self.blocks, 4 * size - SERVER_FIXED_BITS);
         self.out.begin(size);
         put_server_front(&mut self.out, &head, self.moves.accepted(), control);
-        put_blocks(&mut self.out, &blocks);
+        write_blocks(&self.blocks, &blocks, &mut self.out);
         note_blocks(&mut self.blocks, &blocks, head.seq);
         self.common
             .pack(6 * size - SERVER_FIXED_BITS - used, &mut self.out);
