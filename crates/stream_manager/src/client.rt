@@ -4,13 +4,10 @@ ghost use Rattle.std.specs.Borrow.{sem};
 ghost use Rattle.std.specs.Io.BufRead.{Rests};
 ghost use Rattle.notify_window.specs.State.{send_state};
 ghost use Rattle.notify_window.specs.Log.{arrival_of};
-ghost use Rattle.bit_stream.specs.Bits.{datagram};
 ghost use Rattle.tn_types.specs.declared.choices.Class.TheVariants.{Guaranteed, Loose};
-ghost use Rattle.wire_format.specs.declared.client.ClientPacket.TheVariants as up;
 ghost use Rattle.wire_format.specs.declared.server.ServerPacket.TheVariants as down;
 ghost use Rattle.wire_format.specs.Header.{IsHeader};
 ghost use Rattle.wire_format.specs.Server.{IsServerBody};
-ghost use Rattle.wire_format.specs.Client.{spell_client, client_size, IsClientInRange};
 
 use crate::arriving::{check_control, check_same, take_blocks};
 use crate::config::Config;

@@ -4,13 +4,11 @@ ghost use Rattle.std.specs.Prelude.{◌≡◌, ℕ, ◌+◌, ◌-◌, ◌*◌, �
 ghost use Rattle.notify_window.specs.State.{send_state};
 ghost use Rattle.notify_window.specs.Log.{send_state_of};
 ghost use Rattle.event_manager.specs.SenderState.{due_now};
-ghost use Rattle.event_manager.specs.Sending.{due_of, post_answer_of};
+ghost use Rattle.event_manager.specs.Sending.{post_answer_of};
 ghost use Rattle.std.specs.Prelude.{sum_by, false, true, All, slice_get, drop};
-ghost use Rattle.std.specs.List.{AllByRecursion};
 ghost use Rattle.notify_window.specs.Log.{arrival_of};
 ghost use Rattle.event_manager.specs.Receiving.{take_answer, run_of};
 ghost use Rattle.wire_format.specs.Events.{event_size, spell_events, IsEventInRange};
-ghost use Rattle.tn_types.specs.Fitting.{fitting};
 ghost use Rattle.wire_format.specs.Header.{IsHeaderInRange};
 ghost use Rattle.tn_types.specs.declared.limits.TheConstants.{MAX_LIFE};
 ghost use Rattle.tn_types.specs.declared.choices.Class.TheVariants.{Guaranteed, Loose};

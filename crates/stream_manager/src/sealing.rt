@@ -3,10 +3,7 @@ ghost use Rattle.std.specs.Prelude.{◌≡◌, ℕ, ◌+◌, ◌-◌, ◌*◌, �
 ghost use Rattle.std.specs.Borrow.{sem};
 ghost use Rattle.std.specs.Io.BufRead.{Rests};
 ghost use Rattle.notify_window.specs.State.{send_state};
-ghost use Rattle.bit_stream.specs.Bits.{datagram};
 ghost use Rattle.ghost_masks.specs.StandsFor.{FitPlan};
-ghost use Rattle.wire_format.specs.declared.server.ServerPacket.TheVariants as down;
-ghost use Rattle.wire_format.specs.Server.{spell_server, server_size, IsServerInRange};
 
 use crate::Conn;
 use crate::blocks::{due_blocks, note_blocks, write_blocks};
@@ -16,7 +13,7 @@ use tn_types::{Choice, Steps};
 use wire_format::{SERVER_FIXED_BITS, put_ping, put_server_front};
 
 impl Conn {
-    ghost use Rattle.stream_manager.specs.Server.{ServerEvent, ghost_log, choices_at, data_body, server_bytes, server_ping_bytes};
+    ghost use Rattle.stream_manager.specs.Server.{ServerEvent, ghost_log, choices_at, server_bytes, server_ping_bytes};
     ghost use Rattle.stream_manager.specs.Stands.{terms_of, ConnStandsFor};
     ghost use Rattle.ghost_model.specs.Ghosts.{Grant};
     ghost use Rattle.ghost_masks.specs.Work.{work_count};

@@ -21,9 +21,7 @@ use notify_window::{Arrival, SendState};
 use quantised_fields::KindTable;
 use std::alloc::Global;
 use std::marker::Model;
-use tn_types::{
-    BlockBytes, Class, MAX_BLOCKS, MAX_LIFE, MAX_READ_BYTES, Move, NoMemory, Payload,
-};
+use tn_types::{BlockBytes, Class, MAX_BLOCKS, MAX_LIFE, MAX_READ_BYTES, Move, NoMemory, Payload};
 use wire_format::{ClientBody, ClientPacket, EventList, Header, MoveList, decode_client};
 
 /// What a packet of the client brought.

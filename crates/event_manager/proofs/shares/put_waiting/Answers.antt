@@ -1,4 +1,4 @@
-use Rattle.std.proofs.Common.{◌≡◌, ℕ, ◌∷◌, ◌+◌, ◌-◌, ◌*◌, ◌≤◌, ◌++◌, List, length, refl, sym, ◌∙◌, ap, subst, Some, arith, drop, take, map}
+use Rattle.std.proofs.Common.{◌≡◌, ℕ, ◌∷◌, ◌+◌, ◌-◌, ◌*◌, ◌≤◌, ◌++◌, List, sym, ◌∙◌, ap, subst, Some, arith, drop, take, map}
 use Rattle.std.specs.Prelude.{slice_get}
 use Rattle.std.specs.List.{flat_map}
 use Rattle.std.specs.Option.{option_copied}

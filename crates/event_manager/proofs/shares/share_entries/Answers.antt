@@ -1,4 +1,4 @@
-use Rattle.std.proofs.Common.{◌≡◌, ℕ, suc, ◌∷◌, ◌+◌, ◌-◌, ◌<◌, ◌≤◌, [], ◌++◌, ◌⊎◌, inl, inr, List, length, get_or, refl, sym, ◌∙◌, ap, subst, true, false, arith, drop}
+use Rattle.std.proofs.Common.{◌≡◌, ℕ, suc, ◌∷◌, ◌+◌, ◌-◌, ◌<◌, ◌≤◌, [], ◌++◌, ◌⊎◌, inl, inr, List, length, get_or, sym, ◌∙◌, ap, subst, true, false, arith, drop}
 use Rattle.std.proofs.lemmas.List.{get_or_read}
 use Rattle.std.proofs.lemmas.Bool.{cases_lt}
 use Rattle.notify_window.specs.declared.progress.Progress.TheVariants.{Due}

@@ -1,4 +1,4 @@
-use Rattle.std.proofs.Common.{◌≡◌, ℕ, ◌+◌, ◌-◌, ◌<◌, ◌≤◌, [], ◌∷◌, ◌++◌, inl, inr, List, length, refl, sym, ◌∙◌, ap, subst, Some, arith, drop, map}
+use Rattle.std.proofs.Common.{◌≡◌, ℕ, ◌+◌, [], ◌∷◌, inl, inr, List, sym, ◌∙◌, ap, subst, Some, arith, drop, map}
 use Rattle.std.specs.Prelude.{slice_get}
 use Rattle.std.specs.Option.{option_copied}
 use Rattle.std.proofs.lemmas.List.{drop_all}
@@ -7,7 +7,6 @@ use Rattle.wire_format.specs.Events.{event_size}
 use Rattle.event_manager.specs.Sending.{loose_item}
 use Rattle.event_manager.specs.Filling.{Fills}
 use Rattle.event_manager.proofs.Filled.{takes, ends, closes, waits-first, waits-next}
-use Rattle.event_manager.proofs.Walks.{waiting-some}
 use Rattle.event_manager.proofs.shares.share_waiting.Goals as goal
 
 pub waiting-init : goal.waiting-init

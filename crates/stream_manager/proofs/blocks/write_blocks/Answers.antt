@@ -27,8 +27,16 @@ put_block-requires-clause-room c =
     let whole : List Bool = flat_map spell_block (map f ns) in
     let bits : c.writing.out.bits ++ flat_map spell_block (x ∷ map f (drop (i + 1) ns)) ≡ before ++ whole = subst (λ (xs : List BlockItem). c.writing.out.bits ++ flat_map spell_block xs ≡ before ++ whole) next c.writing.invariant.bits in
     let fits : length before + length whole ≤ 8 * c.args.out.now.size =
-    omega (arith, c.requires.room, ap length c.as_slice-number-items.ensures.value, ap (λ (l : List ℕ). length (flat_map spell_block (map f l))) c.as_slice-number-items.ensures.value,
-    length-append (number 4 (length (map f c.args.numbers.now))) (flat_map spell_block (map f c.args.numbers.now)), length-number 4 (length (map f c.args.numbers.now)), length-append c.args.out.now.bits (number 4 (length ns)), length-number 4 (length ns)) in
+    omega (
+      arith,
+      c.requires.room,
+      ap length c.as_slice-number-items.ensures.value,
+      ap (λ (l : List ℕ). length (flat_map spell_block (map f l))) c.as_slice-number-items.ensures.value,
+      length-append (number 4 (length (map f c.args.numbers.now))) (flat_map spell_block (map f c.args.numbers.now)),
+      length-number 4 (length (map f c.args.numbers.now)),
+      length-append c.args.out.now.bits (number 4 (length ns)),
+      length-number 4 (length ns),
+    ) in
     omega (arith, block-fits c.writing.out.bits before (8 * c.args.out.now.size) x (map f (drop (i + 1) ns)) whole bits fits, c.writing.invariant.size)
 
 pub writing-preserved : goal.writing-preserved

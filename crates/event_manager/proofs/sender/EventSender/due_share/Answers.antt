@@ -1,4 +1,4 @@
-use Rattle.std.proofs.Common.{◌≡◌, ℕ, ◌-◌, ◌++◌, [], List, length, take, map, sym, ◌∙◌, ap, subst, arith}
+use Rattle.std.proofs.Common.{◌≡◌, ℕ, ◌-◌, ◌++◌, [], length, take, map, sym, ◌∙◌, ap, subst, arith}
 use Rattle.event_manager.specs.Sending.{loose_item}
 use Rattle.event_manager.specs.Entries.{due_items}
 use Rattle.event_manager.specs.SenderState.{SenderState, due_now}

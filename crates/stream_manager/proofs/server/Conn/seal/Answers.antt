@@ -87,10 +87,11 @@ invariant_of-self c =
     let some : IsSome c.self.inside.masks.plan = subst (λ (x : ConnState). IsSome x.masks.plan) (sym c.self.view_is) c.requires.planned in
     let size = ap (λ (k : Config). k.size) c.config.ensures.value in
     let blocks = the-blocks (before c) c.config.result.now.size size (map (block_item c.self.inside.blocks.blocks) c.due_blocks-blocks.result.0) c.due_blocks-blocks.result.1 c.due_blocks-blocks.ensures.blocks c.due_blocks-blocks.ensures.bits c.due_blocks-blocks.ensures.log log s in
-    let room = the-event-room (before c) c.config.result.now.size size (map (block_item c.self.inside.blocks.blocks) c.due_blocks-blocks.result.0) c.due_blocks-blocks.result.1 c.due_blocks-blocks.ensures.blocks c.due_blocks-blocks.ensures.bits c.due_blocks-blocks.ensures.log log s in
-    (Packed (data_body (terms_of (before c)) log c.args.values.now) ∷ log,
-     sealed-stands (before c) log s c.args.values.now some (after c).common (after c).masks (after c).blocks c.data_head-head.result (map (block_item c.self.inside.blocks.blocks) c.due_blocks-blocks.result.0) _
-     blocks room c.data_head-head.ensures.head c.pack.ensures.stands c.note_blocks.ensures.stands c.pack.ensures.keeps.config c.sent.ensures.stands c.sent.ensures.plan)
+    let room = the-event-room (before c) c.config.result.now.size size (map (block_item c.self.inside.blocks.blocks) c.due_blocks-blocks.result.0) c.due_blocks-blocks.result.1 c.due_blocks-blocks.ensures.blocks c.due_blocks-blocks.ensures.bits c.due_blocks-blocks.ensures.log log s in (
+      Packed (data_body (terms_of (before c)) log c.args.values.now) ∷ log,
+      sealed-stands (before c) log s c.args.values.now some (after c).common (after c).masks (after c).blocks c.data_head-head.result (map (block_item c.self.inside.blocks.blocks) c.due_blocks-blocks.result.0) _
+          blocks room c.data_head-head.ensures.head c.pack.ensures.stands c.note_blocks.ensures.stands c.pack.ensures.keeps.config c.sent.ensures.stands c.sent.ensures.plan,
+    )
 
 -- the same, where its bytes are lent
 abbrev was : After-bytes → ConnState
