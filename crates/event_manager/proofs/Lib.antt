@@ -6,3 +6,4 @@ pub mod Places
 pub mod Runs
 pub mod Arrivals
 pub mod Prefixes
+pub mod Filled

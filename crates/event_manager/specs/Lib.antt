@@ -7,3 +7,4 @@ pub mod ReceiverState
 pub mod ReceiverStands
 pub mod Posted
 pub mod Said
+pub mod Filling

@@ -11,12 +11,14 @@ mod laws;
 mod receiver;
 mod said;
 mod sender;
+mod shares;
 #[cfg(test)]
 mod tests;
 
 pub use laws::{delivered_in_order, due_was_posted};
 pub use receiver::{EventAhead, EventReceiver};
 pub use sender::{EventSender, PostFault};
+pub use shares::Share;
 use tn_types::{MAX_EVENTS_AHEAD, MAX_LIFE, MAX_PACKET_EVENTS};
 
 /// The most delivered events that one packet leaves waiting: what is held, and the packet's own.

@@ -1,8 +1,10 @@
 //! The sender of events.
 
-ghost use Rattle.std.specs.Prelude.{◌≡◌, ℕ, ◌+◌, ◌-◌, ◌<◌, ◌≤◌, ◌==◌, List, [], ◌∷◌, ◌++◌, IfOk, OnErr, OnOk, length, take, slice_get, if◌then◌else◌, None, All};
+ghost use Rattle.std.specs.Prelude.{◌≡◌, ℕ, ◌+◌, ◌-◌, ◌*◌, ◌<◌, ◌≤◌, ◌==◌, List, [], ◌∷◌, ◌++◌, IfOk, OnErr, OnOk, length, take, slice_get, if◌then◌else◌, None, All, sum_by};
 
 use crate::entries::{Entry, add_waiting, drop_waiting, due_entries, forget, mark, settle_near};
+use crate::shares::{Share, put_entries, put_waiting, share_entries, share_waiting};
+use bit_stream::BitWriter;
 use circular_buffer::HeapCircularBuffer;
 use notify_window::Progress;
 use std::alloc::Global;
@@ -12,7 +14,7 @@ use tn_types::{
     MAX_LIFE, MAX_PACKET_EVENTS, MAX_UNACKNOWLEDGED_EVENTS, MAX_WAITING_EVENTS, NoMemory, Payload,
     Verdict,
 };
-use wire_format::EventList;
+use wire_format::{EventList, put_event_count};
 
 /// Why a guaranteed event was not taken. Nothing changed.
 #[derive(Clone, Copy, Debug, PartialEq, Eq)]
@@ -57,7 +59,8 @@ impl EventSender {
     ghost use Rattle.event_manager.specs.Sending.{SenderEvent, Posted, PostedLoose, due_of, post_answer_of, first_due_of};
     ghost use Rattle.event_manager.specs.SenderState.{due_now, post_answer};
     ghost use Rattle.event_manager.specs.SenderStands.{StandsFor, SenderDoes, SenderAnswers, Notes, Settles};
-    ghost use Rattle.wire_format.specs.Events.{IsEventInRange};
+    ghost use Rattle.wire_format.specs.Events.{IsEventInRange, event_size, spell_events};
+    ghost use Rattle.event_manager.specs.Filling.{share_of};
 
     /// The sender of a new connection, each end of which posts at most `life` guaranteed events.
     pub fn new(alloc: Global, life: u32) -> Result<EventSender, NoMemory>
@@ -129,6 +132,39 @@ impl EventSender {
         let mut list = due_entries(first, &self.entries);
         add_waiting(&mut list, &self.waiting);
         list
+    }
+
+    /// How many of the events that [`due`](EventSender::due) gives have at most `room` bits together, from the first on, and
+    /// their bits.
+    pub fn due_share(&self, room: u32) -> Share
+        ensures count { result.count ≡ length (share_of room (due_now self.now)) }
+        ensures bits { result.bits ≡ sum_by event_size (share_of room (due_now self.now)) }
+        ensures share { share_of room (due_now self.now) ≡ take result.count (due_now self.now) }
+        ensures log { SenderAnswers self.now due_of (due_now self.now) }
+        ensures few { result.bits ≤ room }
+        ensures small { result.count ≤ MAX_PACKET_EVENTS }
+        ensures due { result.count ≤ length (due_now self.now) }
+    {
+        let first = self.posted - self.entries.len() as u32;
+        match share_entries(first, &self.entries, room) {
+            Ok(share) => share_waiting(share, &self.waiting, room),
+            Err(share) => share,
+        }
+    }
+
+    /// Writes the first `count` of the due events, at most 31, behind their count. The caller sees to it that all bits fit the
+    /// room.
+    pub fn put_due(&self, count: u32, out: &mut BitWriter)
+        requires due { count ≤ length (due_now self.now) }
+        requires small { count ≤ MAX_PACKET_EVENTS }
+        requires room { length out.old.bits + length (spell_events (take count (due_now self.now))) ≤ 8 * out.old.size }
+        ensures bits { out.new.bits ≡ out.old.bits ++ spell_events (take count (due_now self.now)) }
+        ensures size { out.new.size ≡ out.old.size }
+    {
+        let first = self.posted - self.entries.len() as u32;
+        put_event_count(out, count);
+        let left = put_entries(first, &self.entries, count, out);
+        put_waiting(&self.waiting, left, out);
     }
 
     /// Notes that the first `count` of the due events were written in packet `seq`, which is unjudged.

@@ -8,3 +8,4 @@ pub mod GhostTurns
 pub mod Plans
 pub mod Conns
 pub mod Clients
+pub mod Parts

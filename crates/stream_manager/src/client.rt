@@ -4,20 +4,16 @@ ghost use Rattle.std.specs.Borrow.{sem};
 ghost use Rattle.std.specs.Io.BufRead.{Rests};
 ghost use Rattle.notify_window.specs.State.{send_state};
 ghost use Rattle.notify_window.specs.Log.{arrival_of};
-ghost use Rattle.bit_stream.specs.Bits.{datagram};
 ghost use Rattle.tn_types.specs.declared.choices.Class.TheVariants.{Guaranteed, Loose};
-ghost use Rattle.wire_format.specs.declared.client.ClientPacket.TheVariants as up;
 ghost use Rattle.wire_format.specs.declared.server.ServerPacket.TheVariants as down;
 ghost use Rattle.wire_format.specs.Header.{IsHeader};
 ghost use Rattle.wire_format.specs.Server.{IsServerBody};
 ghost use Rattle.stream_manager.specs.ClientCalls.{AdmitsDown, TakesDown, client_of};
-ghost use Rattle.wire_format.specs.Client.{spell_client, client_size, IsClientInRange};
 
 use crate::arriving::{check_control, check_same, take_blocks};
 use crate::config::Config;
 use crate::end::End;
 use crate::fault::ClientFault;
-use arrayvec::ArrayVec;
 use bit_stream::BitWriter;
 use datablocks::BlockReceiver;
 use event_manager::{EventAhead, MAX_READY_EVENTS, PostFault};
@@ -27,10 +23,10 @@ use notify_window::{Arrival, SendState};
 use quantised_fields::KindTable;
 use std::alloc::Global;
 use std::marker::Model;
-use tn_types::{Class, MAX_DATAGRAM_BYTES, MAX_READ_BYTES, Move, NoMemory, Payload};
+use tn_types::{Class, MAX_READ_BYTES, Move, NoMemory, Payload};
 use wire_format::{
-    CLIENT_FIXED_BITS, ClientBody, ClientPacket, EventList, Header, MOVE_BITS, PacketKind,
-    ServerBody, client_bits, decode_server_into, encode_client,
+    CLIENT_FIXED_BITS, EventList, Header, MOVE_BITS, PacketKind, ServerBody, decode_server_into,
+    put_client_front, put_moves, put_ping,
 };
 
 /// What a client's pack makes: the bytes of a datagram, or nothing.
@@ -54,8 +50,8 @@ pub struct Client {
     blocks: BlockReceiver,
     copies: Copies,
     control: Option<u8>,
-    // the bytes of the datagram that was made last
-    datagram: ArrayVec<u8, MAX_DATAGRAM_BYTES>,
+    // where a datagram is written; it holds the one that was made last
+    out: BitWriter,
     // where the next packet that comes is read
     body: Box<ServerBody>,
 }
@@ -102,7 +98,7 @@ impl Client {
             blocks,
             copies,
             control: None,
-            datagram: ArrayVec::new(),
+            out: BitWriter::new(config.size),
             body,
         })
     }
@@ -168,27 +164,6 @@ impl Client {
         self.moves.sample(m)
     }
 
-    /// Counts the next data packet, and gives it.
-    fn packed(&mut self) -> ClientBody
-        requires { send_state self.old.common.window ≡ SendState.Room }
-        ensures body { Answers self.old (client_body self.old.common.config) result }
-        ensures fits { IsClientInRange (up.Body result) }
-        ensures size { client_size (up.Body result) ≤ 8 * self.old.common.config.size }
-        ensures stands { Becomes self.old (λ log. Packed (client_body self.old.common.config log) ∷ log) self.new }
-        ensures keeps { Keeps self.old self.new }
-    {
-        let size = self.common.config().size;
-        let (first, moves) = self.moves.pending();
-        let used = MOVE_BITS * moves.len() as u32;
-        let (head, events) = self.common.pack(8 * size - CLIENT_FIXED_BITS - used);
-        ClientBody {
-            head,
-            first,
-            moves,
-            events,
-        }
-    }
-
     /// Makes the next datagram (docs/connection.md, "Sending"), and lends its bytes.
     pub fn pack(&mut self) -> ClientOut<'_>
         ensures made { (log : List ClientEvent) → ClientStandsFor self.old log → IsOut self.old.common.config log result }
@@ -210,9 +185,17 @@ impl Client {
         ensures few { length result.now ≤ self.old.common.config.size }
         ensures* after { sem 𝓛 (Rests the_row self.entry (ClientSealed self.old)) }
     {
-        let packet = ClientPacket::Body(self.packed());
-        self.datagram = spelled(&packet, self.common.config().size);
-        self.datagram.as_slice()
+        let size = self.common.config().size;
+        let head = self.common.data_head();
+        let (first, moves) = self.moves.pending();
+        let used = MOVE_BITS * moves.len() as u32;
+        self.out.begin(size);
+        put_client_front(&mut self.out, &head, first);
+        put_moves(&mut self.out, &moves);
+        self.common
+            .pack(8 * size - CLIENT_FIXED_BITS - used, &mut self.out);
+        self.out.end();
+        self.out.bytes()
     }
 
     /// Makes a ping, and lends its bytes.
@@ -222,9 +205,11 @@ impl Client {
         ensures few { length result.now ≤ self.old.common.config.size }
         ensures* after { sem 𝓛 (Rests the_row self.entry (ClientPinging self.old)) }
     {
-        let packet = ClientPacket::Ping(self.common.pinged());
-        self.datagram = spelled(&packet, self.common.config().size);
-        self.datagram.as_slice()
+        let head = self.common.pinged();
+        self.out.begin(self.common.config().size);
+        put_ping(&mut self.out, &head);
+        self.out.end();
+        self.out.bytes()
     }
 
     /// Takes bytes that came from the server, at most 65,536, or refuses them by the first refusal that holds; nothing
@@ -393,18 +378,4 @@ fn take_body(
     take_blocks(blocks, &body.blocks);
     let _ = copies.take(&body.ghosts, blocks.held());
     *control = body.control;
-}
-
-/// The datagram of a packet, in as many bytes as it takes, at most `size`.
-fn spelled(packet: &ClientPacket, size: u32) -> ArrayVec<u8, MAX_DATAGRAM_BYTES>
-    requires fits { IsClientInRange packet.now }
-    requires room { client_size packet.now ≤ 8 * size }
-    requires size { size ≤ MAX_DATAGRAM_BYTES }
-    ensures bytes { result.items ≡ datagram (spell_client packet.now) }
-    ensures few { length result.items ≤ size }
-{
-    let _bits = client_bits(packet);
-    let mut out = BitWriter::new(size);
-    encode_client(packet, &mut out);
-    out.finish()
 }

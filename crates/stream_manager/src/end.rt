@@ -1,16 +1,14 @@
 //! What the two ends of a connection have in common.
 
-ghost use Rattle.std.specs.Prelude.{◌≡◌, ℕ, ◌+◌, ◌-◌, ◌<◌, ◌≤◌, List, [], ◌∷◌, ◌++◌, IfOk, OnOk, OnErr, length, take};
+ghost use Rattle.std.specs.Prelude.{◌≡◌, ℕ, ◌+◌, ◌-◌, ◌*◌, ◌<◌, ◌≤◌, List, [], ◌∷◌, ◌++◌, IfOk, OnOk, OnErr, length, take};
 ghost use Rattle.notify_window.specs.State.{send_state};
 ghost use Rattle.notify_window.specs.Log.{send_state_of};
 ghost use Rattle.event_manager.specs.SenderState.{due_now};
-ghost use Rattle.event_manager.specs.Sending.{due_of, post_answer_of};
+ghost use Rattle.event_manager.specs.Sending.{post_answer_of};
 ghost use Rattle.std.specs.Prelude.{sum_by, false, true, All, slice_get, drop};
-ghost use Rattle.std.specs.List.{AllByRecursion};
 ghost use Rattle.notify_window.specs.Log.{arrival_of};
 ghost use Rattle.event_manager.specs.Receiving.{take_answer, run_of};
-ghost use Rattle.wire_format.specs.Events.{event_size, IsEventInRange};
-ghost use Rattle.tn_types.specs.Fitting.{fitting};
+ghost use Rattle.wire_format.specs.Events.{event_size, spell_events, IsEventInRange};
 ghost use Rattle.wire_format.specs.Header.{IsHeaderInRange};
 ghost use Rattle.tn_types.specs.declared.limits.TheConstants.{MAX_LIFE};
 ghost use Rattle.tn_types.specs.declared.choices.Class.TheVariants.{Guaranteed, Loose};
@@ -18,12 +16,13 @@ ghost use Rattle.tn_types.specs.declared.choices.Class.TheVariants.{Guaranteed, 
 use crate::config::Config;
 use crate::fault::HeadFault;
 use crate::settling::settle_events;
+use bit_stream::BitWriter;
 use event_manager::{EventAhead, EventReceiver, EventSender, MAX_READY_EVENTS, PostFault};
 use notify_window::{Arrival, Notices, SendState, Window};
 use std::alloc::Global;
 use std::marker::Model;
 use tn_types::{Class, NoMemory, Payload};
-use wire_format::{EventItem, EventList, Header, event_bits};
+use wire_format::{EVENT_COUNT_WIDTH, EventList, Header};
 
 /// A window, the events on their way out, and those that came in.
 #[derive(Drop)]
@@ -110,7 +109,7 @@ impl End {
     }
 
     /// The header of the next data packet.
-    fn data_head(&self) -> Header
+    pub(crate) fn data_head(&self) -> Header
         requires { send_state self.now.window ≡ SendState.Room }
         ensures head { Answers self.now (data_head self.now.config.client) result }
         ensures fits { IsHeaderInRange result }
@@ -139,29 +138,12 @@ impl End {
         }
     }
 
-    /// The events of the next data packet, where `room` bits are left for them: the longest front of the due ones that
-    /// fits, at most 31.
-    fn events(&self, room: u32) -> EventList
-        ensures events { Answers self.now (events_for self.now.config room) result }
-        ensures fits { AllByRecursion IsEventInRange result }
-        ensures few { sum_by (event_bits self.now.config) result ≤ room }
-        ensures due { result ≡ take (length result) (due_now self.now.sender) }
-        ensures count { length result ≤ length (due_now self.now.sender) }
-        ensures front { Answers self.now (λ log. take (length result) (due_of (fates log) (sender_log log))) result }
-    {
-        let mut events = self.sender.due();
-        let (count, _) = fitting_front(events.as_slice(), room);
-        events.truncate(count);
-        events
-    }
-
     /// The bits of the events of the next data packet, where `room` bits are left for them.
     pub(crate) fn events_bits(&self, room: u32) -> u32
         ensures bits { Answers self.now (λ log. sum_by (event_bits self.now.config) (events_for self.now.config room log)) result }
         ensures few { result ≤ room }
     {
-        let (_, bits) = fitting_front(self.sender.due().as_slice(), room);
-        bits
+        self.sender.due_share(room).bits
     }
 
     /// Counts a data packet with the first `count` of the due events.
@@ -175,21 +157,18 @@ impl End {
         self.sender.note(count, seq);
     }
 
-    /// Counts the next data packet, in which `room` bits are left for events, and gives its header and its events.
-    pub(crate) fn pack(&mut self, room: u32) -> (Header, EventList)
-        requires { send_state self.old.window ≡ SendState.Room }
-        ensures head { Answers self.old (data_head self.old.config.client) result.0 }
-        ensures events { Answers self.old (events_for self.old.config room) result.1 }
-        ensures head_fits { IsHeaderInRange result.0 }
-        ensures events_fit { AllByRecursion IsEventInRange result.1 }
-        ensures few { sum_by (event_bits self.old.config) result.1 ≤ room }
+    /// Counts the next data packet, in which `room` bits are left for events, and writes these behind their count.
+    pub(crate) fn pack(&mut self, room: u32, out: &mut BitWriter)
+        requires state { send_state self.old.window ≡ SendState.Room }
+        requires room { length out.old.bits + (EVENT_COUNT_WIDTH + room) ≤ 8 * out.old.size }
+        ensures bits { Answers self.old (λ log. out.old.bits ++ spell_events (events_for self.old.config room log)) out.new.bits }
+        ensures size { out.new.size ≡ out.old.size }
         ensures stands { Becomes self.old (λ log. Packed (data_seen self.old.config room log) ∷ log) self.new }
         ensures keeps { Keeps self.old self.new }
     {
-        let head = self.data_head();
-        let events = self.events(room);
-        self.packed(events.len() as u32);
-        (head, events)
+        let share = self.sender.due_share(room);
+        self.sender.put_due(share.count, out);
+        self.packed(share.count);
     }
 
     /// Counts nothing: what a ping leaves is what was there.
@@ -284,22 +263,4 @@ impl End {
     {
         self.receiver.pop()
     }
-}
-
-/// How many of these events have at most `room` bits together, from the first on, and their bits.
-fn fitting_front(events: &[EventItem], room: u32) -> (usize, u32)
-    ensures fitting { fitting event_size room events.now ≡ take result.0 events.now }
-    ensures count { result.0 ≤ length events.now }
-    ensures bits { result.1 ≡ sum_by event_size (fitting event_size room events.now) }
-    ensures few { result.1 ≤ room }
-{
-    let mut used = 0;
-    'fit: for (i, event) in events.iter().enumerate() {
-        let bits = event_bits(event);
-        if bits > room - used {
-            return (i, used);
-        }
-        used += bits;
-    }
-    (events.len(), used)
 }

@@ -3,23 +3,17 @@ ghost use Rattle.std.specs.Prelude.{◌≡◌, ℕ, ◌+◌, ◌-◌, ◌*◌, �
 ghost use Rattle.std.specs.Borrow.{sem};
 ghost use Rattle.std.specs.Io.BufRead.{Rests};
 ghost use Rattle.notify_window.specs.State.{send_state};
-ghost use Rattle.bit_stream.specs.Bits.{datagram};
 ghost use Rattle.ghost_masks.specs.StandsFor.{FitPlan};
-ghost use Rattle.wire_format.specs.declared.server.ServerPacket.TheVariants as down;
-ghost use Rattle.wire_format.specs.Server.{spell_server, server_size, IsServerInRange};
 
 use crate::Conn;
-use crate::blocks::{due_blocks, note_blocks};
-use arrayvec::ArrayVec;
-use bit_stream::BitWriter;
+use crate::blocks::{due_blocks, note_blocks, write_blocks};
 use notify_window::SendState;
-use quantised_fields::KindTable;
 use std::sync::ledger::Ledger;
-use tn_types::{Choice, MAX_DATAGRAM_BYTES, Steps};
-use wire_format::{SERVER_FIXED_BITS, ServerBody, ServerPacket, encode_server, server_bits};
+use tn_types::{Choice, Steps};
+use wire_format::{SERVER_FIXED_BITS, put_ping, put_server_front};
 
 impl Conn {
-    ghost use Rattle.stream_manager.specs.Server.{ServerEvent, ghost_log, choices_at, data_body, server_bytes, server_ping_bytes};
+    ghost use Rattle.stream_manager.specs.Server.{ServerEvent, ghost_log, choices_at, server_bytes, server_ping_bytes};
     ghost use Rattle.stream_manager.specs.Stands.{terms_of, ConnStandsFor};
     ghost use Rattle.ghost_model.specs.Ghosts.{Grant};
     ghost use Rattle.ghost_masks.specs.Work.{work_count};
@@ -59,32 +53,6 @@ impl Conn {
         self.masks.choose(received, room, steps);
     }
 
-    /// Counts the data packet that was planned, and gives it.
-    fn packed(&mut self, values: &[i64]) -> ServerBody
-        requires planned { IsSome self.old.masks.plan }
-        requires values { FitPlan self.old.masks values.now }
-        ensures body { Answers self.old (λ log. data_body (terms_of self.old) log values.now) result }
-        ensures fits { IsServerInRange self.old.masks.kinds (down.Body result) }
-        ensures size { server_size self.old.masks.kinds (down.Body result) ≤ 8 * self.old.common.config.size }
-        ensures after { Sealed self.old values.now self.new }
-    {
-        let size = self.common.config().size;
-        let control = self.masks.control_slot();
-        let ghosts = self.masks.items(values);
-        let (blocks, used) = due_blocks(&self.blocks, 4 * size - SERVER_FIXED_BITS);
-        let (head, events) = self.common.pack(6 * size - SERVER_FIXED_BITS - used);
-        note_blocks(&mut self.blocks, &blocks, head.seq);
-        self.masks.sent(head.seq);
-        ServerBody {
-            head,
-            accepted: self.moves.accepted(),
-            control,
-            blocks,
-            events,
-            ghosts,
-        }
-    }
-
     /// Makes the data packet that was planned, and lends its bytes. There is one value for each field that the planned
     /// ghosts carry, in the order of the plan and by rising field, each in its field's range: `is_planned` and `fits` tell.
     pub fn seal(&mut self, values: &[i64]) -> &[u8]
@@ -94,9 +62,20 @@ impl Conn {
         ensures few { length result.now ≤ self.old.common.config.size }
         ensures* after { sem 𝓛 (Rests the_row self.entry (Sealed self.old values.now)) }
     {
-        let packet = ServerPacket::Body(self.packed(values));
-        self.datagram = spelled(&packet, self.masks.kinds(), self.common.config().size);
-        self.datagram.as_slice()
+        let size = self.common.config().size;
+        let head = self.common.data_head();
+        let control = self.masks.control_slot();
+        let (blocks, used) = due_blocks(&self.blocks, 4 * size - SERVER_FIXED_BITS);
+        self.out.begin(size);
+        put_server_front(&mut self.out, &head, self.moves.accepted(), control);
+        write_blocks(&self.blocks, &blocks, &mut self.out);
+        note_blocks(&mut self.blocks, &blocks, head.seq);
+        self.common
+            .pack(6 * size - SERVER_FIXED_BITS - used, &mut self.out);
+        self.masks.write_items(values, &mut self.out);
+        self.masks.sent(head.seq);
+        self.out.end();
+        self.out.bytes()
     }
 
     /// Makes a ping, and lends its bytes.
@@ -106,22 +85,10 @@ impl Conn {
         ensures few { length result.now ≤ self.old.common.config.size }
         ensures* after { sem 𝓛 (Rests the_row self.entry (Pinging self.old)) }
     {
-        let packet = ServerPacket::Ping(self.common.pinged());
-        self.datagram = spelled(&packet, self.masks.kinds(), self.common.config().size);
-        self.datagram.as_slice()
+        let head = self.common.pinged();
+        self.out.begin(self.common.config().size);
+        put_ping(&mut self.out, &head);
+        self.out.end();
+        self.out.bytes()
     }
-}
-
-/// The datagram of a packet, in as many bytes as it takes, at most `size`.
-fn spelled(packet: &ServerPacket, kinds: &KindTable, size: u32) -> ArrayVec<u8, MAX_DATAGRAM_BYTES>
-    requires fits { IsServerInRange kinds.now packet.now }
-    requires room { server_size kinds.now packet.now ≤ 8 * size }
-    requires size { size ≤ MAX_DATAGRAM_BYTES }
-    ensures bytes { result.items ≡ datagram (spell_server kinds.now packet.now) }
-    ensures few { length result.items ≤ size }
-{
-    let _bits = server_bits(packet, kinds);
-    let mut out = BitWriter::new(size);
-    encode_server(packet, kinds, &mut out);
-    out.finish()
 }

@@ -15,7 +15,7 @@ use crate::config::Config;
 use crate::end::End;
 use crate::fault::ArriveFault;
 use crate::settling::{settle_blocks, settle_ghosts};
-use arrayvec::ArrayVec;
+use bit_stream::BitWriter;
 use datablocks::BlockSender;
 use event_manager::{EventAhead, MAX_READY_EVENTS, PostFault};
 use ghost_masks::Masks;
@@ -24,10 +24,7 @@ use notify_window::{Arrival, SendState};
 use quantised_fields::KindTable;
 use std::alloc::Global;
 use std::marker::Model;
-use tn_types::{
-    BlockBytes, Class, MAX_BLOCKS, MAX_DATAGRAM_BYTES, MAX_LIFE, MAX_READ_BYTES, Move, NoMemory,
-    Payload,
-};
+use tn_types::{BlockBytes, Class, MAX_BLOCKS, MAX_LIFE, MAX_READ_BYTES, Move, NoMemory, Payload};
 use wire_format::{ClientBody, EventList, Header, MoveList, PacketKind, decode_client_into};
 
 /// What a packet of the client brought.
@@ -47,8 +44,8 @@ pub struct Conn {
     pub(crate) blocks: BlockSender,
     pub(crate) moves: MoveReceiver,
     pub(crate) taken: MoveList,
-    // the bytes of the datagram that was made last
-    pub(crate) datagram: ArrayVec<u8, MAX_DATAGRAM_BYTES>,
+    // where a datagram is written; it holds the one that was made last
+    pub(crate) out: BitWriter,
     // where the next packet that comes is read
     body: Box<ClientBody>,
 }
@@ -106,7 +103,7 @@ impl Conn {
             blocks,
             moves: MoveReceiver::new(config.life),
             taken: MoveList::new(),
-            datagram: ArrayVec::new(),
+            out: BitWriter::new(config.size),
             body,
         })
     }

@@ -1,11 +1,11 @@
-use Rattle.std.proofs.Common.{◌≡◌, ◌-◌, ◌*◌, ◌+◌, ◌≤◌, ◌∷◌, List, Some, refl, sym, ap, subst}
+use Rattle.std.proofs.Common.{◌≡◌, ◌-◌, ◌*◌, ◌+◌, ◌≤◌, ◌∷◌, List, Some, map, refl, sym, ap, subst}
 use Rattle.notify_window.specs.declared.SendState.TheVariants.{Room}
 use Rattle.notify_window.specs.State.{send_state}
 use Rattle.quantised_fields.specs.declared.kind.Kind.{Kind}
 use Rattle.stream_manager.specs.declared.config.Config.{Config}
 use Rattle.stream_manager.specs.Limits.{Terms}
 use Rattle.stream_manager.specs.End.{fates}
-use Rattle.stream_manager.specs.Server.{ServerEvent, server_end, block_log, received_at, ghost_room, choices_at, with_plan, ghost_log}
+use Rattle.stream_manager.specs.Server.{ServerEvent, server_end, block_item, block_log, received_at, ghost_room, choices_at, with_plan, ghost_log}
 use Rattle.stream_manager.specs.Stands.{ConnState, ConnStandsFor, terms_of}
 use Rattle.ghost_model.specs.Ghosts.{Grant}
 use Rattle.ghost_masks.specs.Work.{work_count}
@@ -31,8 +31,8 @@ module _ (g : Over) (c : goal.After-choose g) where
 
     room : 8 * c.config.result.now.size - 136 - c.due_blocks-blocks.result.1 - c.events_bits-events.result ≡ ghost_room (terms_of (before g c)) log
     room =
-        the-ghost-room (before g c) c.config.result.now.size (ap (λ (k : Config). k.size) c.config.ensures.value) c.due_blocks-blocks.result.0 c.due_blocks-blocks.result.1
-        c.due_blocks-blocks.ensures.blocks c.due_blocks-blocks.ensures.bits c.due_blocks-blocks.ensures.log log s c.events_bits-events.result c.events_bits-events.ensures.bits
+        the-ghost-room (before g c) c.config.result.now.size (ap (λ (k : Config). k.size) c.config.ensures.value) (map (block_item c.self.inside.blocks.blocks) c.due_blocks-blocks.result.0) c.due_blocks-blocks.result.1
+        c.due_blocks-blocks.ensures.blocks c.due_blocks-blocks.ensures.bits c.due_blocks-blocks.ensures.log log s c.events_bits-events.result (c.events_bits-events.ensures.bits (server_end log) s.common)
 
     told : c.choose.new.self.plan ≡ Some (choices_at (terms_of (before g c)) log)
     told = choices-told (before g c) c.choose.new.self c.received-received.result _ log s received room c.choose.ensures.plan
