@@ -3,7 +3,7 @@ use Rattle.pair_core.specs.History.{Up}
 use Rattle.match_engine.specs.Journal.{room_in}
 use Rattle.match_engine.proofs.lines.up.Goals as goal
 
-pub returns-in-Ok-clause-stands : goal.returns-in-Ok-clause-stands
-returns-in-Ok-clause-stands c t steps s =
+pub returns-in-Came-clause-stands : goal.returns-in-Came-clause-stands
+returns-in-Came-clause-stands c t steps s =
     let now = c.up.ensures.stands t steps s in
     record { pair = c.server_events.ensures.stands t (Up c.args.k (room_in t steps) ∷ steps) now.pair; waiting = now.waiting; places = now.places }
