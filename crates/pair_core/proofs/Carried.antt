@@ -6,7 +6,6 @@ use Rattle.std.specs.Result.{is_ok}
 use Rattle.std.specs.List.{AllByRecursion}
 use Rattle.tn_types.specs.declared.choices.Class.{Class}
 use Rattle.tn_types.specs.declared.choices.Class.TheVariants.{Guaranteed, Loose}
-use Rattle.bit_stream.specs.Bits.{datagram}
 use Rattle.notify_window.specs.declared.SendState.{SendState}
 use Rattle.notify_window.specs.declared.SendState.TheVariants.{Held, Worn, Room}
 use Rattle.wire_format.specs.declared.fault.BitsFault.{BitsFault}
@@ -44,7 +43,7 @@ use Rattle.stream_manager.specs.Client as client_log
 use Rattle.stream_manager.specs.Client.{ClientEvent, client_end, client_datagrams, seen_down, client_state, posted_at_client, client_body, client_ping, took_at_client, sampled_answer, sampled_at, sample_log, moves_acked}
 use Rattle.pair_core.specs.History.{PairStep, Show, Hide, Near, Post, ClientPost, Sample, Pack, ClientPack, Down, Up, Raw, history, absorbing, values_of, server_posts, client_posts, client_samples, client_gets, server_gets}
 use Rattle.pair_core.specs.Conditions.{MayBeDrained}
-use Rattle.pair_core.specs.Laws.{IsPayload, StepFits, posted_at}
+use Rattle.pair_core.specs.Laws.{IsPayload, posted_at}
 use Rattle.pair_core.proofs.Good.{IsGoodStep, AreGood, FitRoom, FitNext, reads-fit, all-drained}
 use Rattle.pair_core.proofs.GhostItems.{ghosts-fit, control-fits}
 use Rattle.pair_core.proofs.LegalLogs.{IsLegalLog, drained-still, plan-legal, packed-legal, took-legal}

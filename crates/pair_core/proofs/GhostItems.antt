@@ -1,5 +1,5 @@
 -- The ghosts of a data packet lie in their ranges, so that each packet has a spelling.
-use Rattle.std.proofs.Common.{◌≡◌, ℕ, zero, suc, ◌+◌, ◌-◌, ◌/◌, ◌%◌, ◌==◌, ◌<◌, ◌≤◌, ◌^◌, Bool, true, false, cond, List, [], ◌∷◌, ◌++◌, ◌∙◌, Option, Some, None, length, drop, get_or, refl, sym, ap, subst, arith}
+use Rattle.std.proofs.Common.{◌≡◌, ℕ, zero, suc, ◌/◌, ◌%◌, ◌==◌, ◌<◌, ◌≤◌, ◌^◌, Bool, true, false, cond, List, [], ◌∷◌, ◌++◌, ◌∙◌, Option, Some, None, length, drop, refl, sym, ap, subst, arith}
 use Rattle.std.specs.Prelude.{ℤ, ◌≤ℤ◌, All, IfSome, IsTrue, map, slice_get}
 use Rattle.std.specs.List.{AllByRecursion, find}
 use Rattle.std.specs.Option.{option_and_then}
@@ -16,21 +16,20 @@ use Rattle.quantised_fields.specs.declared.kind.Kind.{Kind}
 use Rattle.quantised_fields.specs.Kinds.{table_fault, IsWithinLimits}
 use Rattle.quantised_fields.specs.Levels.{is_sound, range_of, greatest_of, level_of}
 use Rattle.quantised_fields.proofs.Limits.{within_limits}
-use Rattle.quantised_fields.proofs.Specs.{Sound, sound}
+use Rattle.quantised_fields.proofs.Specs.{sound}
 use Rattle.quantised_fields.proofs.Nearest.{level_fits}
 use Rattle.quantised_fields.proofs.Gaps.{gap_grows}
-use Rattle.wire_format.specs.declared.ghosts.GhostItem.{GhostItem}
-use Rattle.wire_format.specs.Ghosts.{AreLevels, chosen, widths, field_widths, IsGhost, IsKind}
+use Rattle.wire_format.specs.Ghosts.{AreLevels, chosen, widths, field_widths, IsGhost}
 use Rattle.wire_format.specs.Reading.{AreListed}
 use Rattle.ghost_model.specs.Words.{is_update, upto}
 use Rattle.ghost_model.specs.Scope.{ScopeEvent, shows, given, is_in_control, control_slot}
 use Rattle.ghost_model.specs.Scope as scope
-use Rattle.ghost_model.specs.Ghosts.{GhostEvent, scope_log}
+use Rattle.ghost_model.specs.Ghosts.{GhostEvent}
 use Rattle.ghost_model.specs.Legal.{IsLegal, IsItsMask}
 use Rattle.ghost_model.proofs.Fresh.{slot_below}
 use Rattle.ghost_model.proofs.Legal.{held_given}
 use Rattle.ghost_masks.specs.Plan.{sizes, fields_in, fields_of, kind_of, block_of, masked, carried_by, plan_of, IsItem}
-use Rattle.ghost_masks.specs.Carried.{fields_carried, all_carried, AreValues, levels_for, ghost_by, ghost_for, ghosts_for}
+use Rattle.ghost_masks.specs.Carried.{fields_carried, all_carried, AreValues, levels_for, ghost_by, ghosts_for}
 use Rattle.ghost_masks.proofs.Carried.{values_split}
 use Rattle.ghost_masks.proofs.Items.{plan_items, plan_short}
 

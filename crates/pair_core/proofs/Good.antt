@@ -1,18 +1,18 @@
 -- What is asked of a list of steps, step by step: payloads in range, conditions met, and who is honest.
-use Rattle.std.proofs.Common.{◌≡◌, ℕ, ℤ, List, [], ◌∷◌, ◌++◌, refl, sym, ap, subst, ◌∙◌}
+use Rattle.std.proofs.Common.{◌≡◌, ℤ, List, [], ◌∷◌, ◌++◌, refl, sym, subst, ◌∙◌}
 use Rattle.std.specs.List.{AllByRecursion}
 use Rattle.tn_types.specs.declared.choices.Drain.{Drain}
 use Rattle.tn_types.specs.declared.choices.Read.{Read}
 use Rattle.notify_window.specs.declared.SendState.{SendState}
 use Rattle.notify_window.specs.declared.SendState.TheVariants.{Held, Worn, Room}
-use Rattle.ghost_model.specs.Ghosts.{GhostEvent, Grant, scope_log}
+use Rattle.ghost_model.specs.Ghosts.{Grant, scope_log}
 use Rattle.ghost_masks.specs.Carried.{all_carried, AreValues}
 use Rattle.stream_manager.specs.declared.config.Config.{Config}
 use Rattle.stream_manager.specs.Limits.{Terms}
 use Rattle.stream_manager.specs.Server as server
 use Rattle.stream_manager.specs.Server.{ServerEvent, server_end, server_state, server_datagrams, ghost_log, choices_at}
 use Rattle.pair_core.specs.History.{PairStep, absorbing, values_of}
-use Rattle.pair_core.specs.Conditions.{MayBeDrained, AreReads, MayDrain, IsReadFor, IsMet, AreMet, IsHonestStep, IsHonest}
+use Rattle.pair_core.specs.Conditions.{MayBeDrained, MayDrain, IsReadFor, IsMet, AreMet, IsHonestStep, IsHonest}
 use Rattle.pair_core.specs.Laws.{StepFits}
 
 pub record IsGoodStep (t : Terms) (steps : List PairStep) (step : PairStep) : Type 0 where

@@ -1,5 +1,5 @@
 -- A packet that is not refused is not refused for its header.
-use Rattle.std.proofs.Common.{◌≡◌, true, List, Result, Ok, Err, refl}
+use Rattle.std.proofs.Common.{◌≡◌, true, List, Ok, Err, refl}
 use Rattle.std.specs.Result.{is_ok}
 use Rattle.wire_format.specs.declared.server.ServerPacket.{ServerPacket}
 use Rattle.wire_format.specs.declared.server.ServerPacket.TheVariants as down
@@ -40,4 +40,3 @@ head-ok_up c log (up.Body p) ok = go (head_answer c.client (server_end log) (see
     go : (r : Checked HeadFault) (next : Checked ArriveFault) → is_ok (then_check (head_at_server r) next) ≡ true → is_ok r ≡ true
     go (Ok x) next ok = refl
     go (Err e) next ok = cc
-

@@ -30,12 +30,12 @@ use Rattle.stream_manager.specs.Server.{ServerEvent, server_datagrams, server_st
 use Rattle.stream_manager.specs.Client as client_log
 use Rattle.stream_manager.specs.Client.{ClientEvent, blocks_in, blocks_came, client_datagrams, client_state, posted_at_client, sampled_answer, took_at_client}
 use Rattle.pair_core.specs.History.{PairStep, Show, Hide, Near, Post, ClientPost, Sample, Pack, ClientPack, Down, Up, Raw, history, absorbing, values_of, server_posts, client_posts, client_samples, client_gets, server_gets}
-use Rattle.pair_core.proofs.Good.{AreGood, FitRoom, reads-fit, good}
+use Rattle.pair_core.proofs.Good.{AreGood, FitRoom, reads-fit}
 use Rattle.pair_core.specs.HeldBlocks.{IsAsGiven, HoldsBlocksAsGiven}
 use Rattle.pair_core.proofs.Spelled.{reads-down}
 use Rattle.pair_core.proofs.Lists.{all-append, all-at}
 use Rattle.pair_core.proofs.Sections.{blocks-all}
-use Rattle.pair_core.proofs.Carried.{Carried, carried, carried-absorbed, ping-down, body-down}
+use Rattle.pair_core.proofs.Carried.{Carried, carried-absorbed, ping-down, body-down}
 
 -- bytes that spell a packet whose blocks are all as they were given
 pub record BringsGivenBlocks (t : Terms) (bytes : List ℕ) : Type 0 where

@@ -1,6 +1,6 @@
 -- Over every list of steps the two ends are joined by a network: the server's plans and packets are those that its rules
 -- give, and each data packet that the client took was sent, and is newer than those before.
-use Rattle.std.proofs.Common.{◌≡◌, ◌⊎◌, inl, inr, ℕ, ◌<◌, Bool, true, false, List, [], ◌∷◌, ◌++◌, if◌then◌else◌, Option, Some, None, Result, Ok, Err, refl, sym, ap, subst}
+use Rattle.std.proofs.Common.{◌≡◌, inl, inr, ℕ, Bool, true, false, List, [], ◌∷◌, if◌then◌else◌, Option, Some, None, Result, Ok, Err, refl, sym, subst}
 use Rattle.std.specs.Prelude.{slice_get, ℤ}
 use Rattle.std.specs.Result.{is_ok}
 use Rattle.std.specs.List.{AllByRecursion}
@@ -15,11 +15,10 @@ use Rattle.wire_format.specs.declared.server.ServerBody.{ServerBody}
 use Rattle.wire_format.specs.declared.server.ServerPacket.{ServerPacket}
 use Rattle.wire_format.specs.declared.server.ServerPacket.TheVariants as down
 use Rattle.wire_format.specs.declared.client.ClientPacket.{ClientPacket}
-use Rattle.wire_format.specs.Server.{IsServer}
 use Rattle.stream_manager.specs.declared.fault.ArriveFault.{ArriveFault}
 use Rattle.stream_manager.specs.declared.fault.ClientFault.{ClientFault}
 use Rattle.stream_manager.specs.Limits.{Terms, AreTerms}
-use Rattle.stream_manager.specs.Wire.{read_down, bytes_down}
+use Rattle.stream_manager.specs.Wire.{read_down}
 use Rattle.tn_types.specs.Checks.{Checked}
 use Rattle.stream_manager.specs.Faults.{checked_packet}
 use Rattle.stream_manager.specs.End.{with_event}
@@ -33,7 +32,7 @@ use Rattle.pair_core.specs.History.{PairStep, Show, Hide, Near, Post, ClientPost
 use Rattle.pair_core.proofs.Good.{AreGood, FitRoom, reads-fit}
 use Rattle.pair_core.proofs.Spelled.{reads-down}
 use Rattle.pair_core.proofs.Lists.{all-append, all-map, all-at}
-use Rattle.pair_core.proofs.Carried.{Carried, carried, carried-absorbed, ping-down, body-down}
+use Rattle.pair_core.proofs.Carried.{Carried, carried-absorbed, ping-down, body-down}
 use Rattle.pair_core.proofs.VerdictLaw.{windows}
 use Rattle.pair_core.proofs.LooseEvents.{new-down}
 

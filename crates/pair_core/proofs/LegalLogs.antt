@@ -1,28 +1,25 @@
 -- Over steps that meet their conditions, what happens to ghosts is legal.
-use Rattle.std.proofs.Common.{◌≡◌, ℕ, zero, suc, ◌+◌, ◌-◌, ◌<◌, ◌≤◌, List, [], ◌∷◌, length, refl, sym, ap, subst, arith}
-use Rattle.std.specs.Prelude.{All, ℤ, None}
+use Rattle.std.proofs.Common.{◌≡◌, ℕ, zero, suc, ◌+◌, ◌-◌, ◌≤◌, List, [], ◌∷◌, length, ap, arith}
+use Rattle.std.specs.Prelude.{ℤ, None}
 use Rattle.std.specs.List.{AllByRecursion}
 use Rattle.std.proofs.lemmas.List.Elements.{All-from_recursion, All-weaker}
-use Rattle.tn_types.specs.declared.choices.Choice.{Choice}
 use Rattle.tn_types.specs.declared.choices.Drain.{Drain}
 use Rattle.quantised_fields.specs.declared.kind.Kind.{Kind}
 use Rattle.quantised_fields.specs.Kinds.{table_fault}
-use Rattle.notify_window.specs.Log.{Fate, sent_of, judged_of}
+use Rattle.notify_window.specs.Log.{Fate, sent_of}
 use Rattle.wire_format.specs.declared.client.ClientPacket.{ClientPacket}
 use Rattle.ghost_model.specs.Ghosts.{GhostEvent, Grant, packets, verdicts}
-use Rattle.ghost_model.specs.Legal.{KindSizes, IsLegal, IsAllowed, IsSendable}
+use Rattle.ghost_model.specs.Legal.{KindSizes, IsLegal, IsSendable}
 use Rattle.ghost_model.proofs.Covered.{in_turn}
 use Rattle.ghost_model.proofs.Legal.{legal_turn}
-use Rattle.ghost_masks.specs.Plan.{sizes, plan_of, IsItem}
+use Rattle.ghost_masks.specs.Plan.{sizes, IsItem}
 use Rattle.ghost_masks.proofs.Items.{plan_items, plan_once}
 use Rattle.ghost_masks.proofs.Stands.{item_sendable}
 use Rattle.stream_manager.specs.Limits.{Terms}
 use Rattle.stream_manager.specs.Settling.{judgements}
 use Rattle.stream_manager.specs.End.{window_log, fates, judged_at}
-use Rattle.stream_manager.specs.Server as server
-use Rattle.stream_manager.specs.Server.{ServerEvent, Scoped, Planned, Packed, Took, ScopeChange, Show, Hide, Near, Absorb, scope_event, server_end, seen_up, ghost_log, choices_at, with_plan, next_body, received_at, ghost_room}
+use Rattle.stream_manager.specs.Server.{ServerEvent, Scoped, Packed, Took, Absorb, server_end, seen_up, ghost_log, choices_at, with_plan, next_body, received_at, ghost_room}
 use Rattle.stream_manager.proofs.GhostTurns.{judgements-packets, judgements-verdicts, packets-sent, verdicts-judged}
-use Rattle.ghost_model.specs.Legal.{IsUp}
 use Rattle.pair_core.specs.History.{absorbing}
 use Rattle.pair_core.specs.Conditions.{MayBeDrained}
 

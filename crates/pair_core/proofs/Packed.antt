@@ -1,5 +1,5 @@
 -- What a pair stands for after a pack.
-use Rattle.std.proofs.Common.{◌≡◌, ℕ, ℤ, Bool, List, [], ◌∷◌, ◌++◌, Option, Some, None, length, refl, sym, ap, subst, ◌∙◌}
+use Rattle.std.proofs.Common.{◌≡◌, ℕ, ℤ, Bool, List, [], ◌∷◌, ◌++◌, Option, Some, None, length, sym, ap, subst, ◌∙◌}
 use Rattle.std.specs.Prelude.{IfSome}
 use Rattle.tn_types.specs.declared.choices.Choice.{Choice}
 use Rattle.tn_types.specs.declared.choices.Drain.{Drain}
@@ -10,10 +10,9 @@ use Rattle.notify_window.specs.declared.SendState.TheVariants.{Held, Worn, Room}
 use Rattle.ghost_model.specs.Ghosts.{GhostEvent, Grant}
 use Rattle.ghost_masks.specs.Plan.{IsItem}
 use Rattle.ghost_masks.specs.Carried.{all_carried, AreValues}
-use Rattle.ghost_masks.specs.StandsFor.{MasksState, StandsFor as MasksStandFor}
+use Rattle.ghost_masks.specs.StandsFor.{StandsFor as MasksStandFor}
 use Rattle.ghost_masks.proofs.Items.{plan_items}
 use Rattle.std.specs.List.{AllByRecursion}
-use Rattle.stream_manager.specs.declared.config.Config.{Config}
 use Rattle.stream_manager.specs.Limits.{Terms}
 use Rattle.stream_manager.specs.ConnCalls.{Becomes, Planning, Sealed, Pinging, Keeps as KeepsConn}
 use Rattle.stream_manager.specs.Stands.{ConnState, ConnStandsFor, IsPlanned, terms_of}
@@ -23,7 +22,7 @@ use Rattle.pair_core.specs.History.{PairStep, Pack, history, absorbing, values_o
 use Rattle.pair_core.specs.Conditions.{AreReads, IsReadFor}
 use Rattle.pair_core.specs.Answers.{answer, made}
 use Rattle.pair_core.specs.Stands.{PairState, StandsFor}
-use Rattle.pair_core.specs.Calls.{Does, Packs}
+use Rattle.pair_core.specs.Calls.{Packs}
 use Rattle.pair_core.proofs.Good.{absorbed-state, absorbed-sends}
 use Rattle.pair_core.proofs.ReadValues.{same-carried}
 

@@ -1,11 +1,11 @@
 -- What is asked for a data packet is what its ghosts carry: one value for each field, in its range.
-use Rattle.std.proofs.Common.{◌≡◌, ℕ, zero, suc, ◌+◌, ◌-◌, ◌*◌, ◌/◌, ◌%◌, ◌^◌, ◌==◌, ◌<◌, ◌≤◌, Bool, true, false, not, cond, List, [], ◌∷◌, ◌++◌, ◌∙◌, Option, Some, None, length, refl, sym, ap, subst, arith, inl, inr, append-nil}
-use Rattle.std.specs.Prelude.{ℤ, ◌≤ℤ◌, All, IfSome, IsSome, is_some, map, filter, slice_get}
+use Rattle.std.proofs.Common.{◌≡◌, ℕ, zero, suc, ◌+◌, ◌-◌, ◌/◌, ◌^◌, ◌==◌, ◌<◌, ◌≤◌, Bool, true, false, not, cond, List, [], ◌∷◌, ◌++◌, ◌∙◌, Option, Some, None, length, refl, sym, ap, subst, arith, inl, inr, append-nil}
+use Rattle.std.specs.Prelude.{ℤ, ◌≤ℤ◌, IfSome, IsSome, is_some, map, filter, slice_get}
 use Rattle.std.specs.List.{AllByRecursion}
 use Rattle.std.proofs.Math.Nat.{div-div-eq-div-mul, pow-suc}
-use Rattle.std.proofs.lemmas.Bool.{cases_Bool, cases_lt}
+use Rattle.std.proofs.lemmas.Bool.{cases_lt}
 use Rattle.std.proofs.lemmas.List.{map-append}
-use Rattle.std.proofs.lemmas.List.Elements.{filter-append, All-from_recursion}
+use Rattle.std.proofs.lemmas.List.Elements.{filter-append}
 use Rattle.std.proofs.lemmas.Nat.Bits.{bit_at_ones, bit_at-zero}
 use Rattle.tn_types.specs.BitWords.{has_bit}
 use Rattle.tn_types.specs.declared.choices.Op.{Op}
@@ -18,13 +18,13 @@ use Rattle.quantised_fields.specs.Kinds.{table_fault}
 use Rattle.ghost_model.specs.Words.{is_kill, upto}
 use Rattle.ghost_model.specs.declared.phase.Phase.{Phase}
 use Rattle.ghost_model.specs.declared.phase.Phase.TheVariants.{Wanted, Live}
-use Rattle.ghost_model.specs.Phases.{is_up, is_gone, IsWriteStep}
+use Rattle.ghost_model.specs.Phases.{is_up, IsWriteStep}
 use Rattle.ghost_model.specs.Scope.{ScopeEvent, table, given, is_hidden, has_received, has_unjudged}
 use Rattle.ghost_model.specs.Scope as scope
 use Rattle.ghost_model.specs.Ghosts.{GhostEvent, Grant, scope_log, phase}
-use Rattle.ghost_model.specs.Legal.{IsUp, IsItsMask}
+use Rattle.ghost_model.specs.Legal.{IsItsMask}
 use Rattle.ghost_model.proofs.Bits.{no_bit}
-use Rattle.ghost_scope.specs.Table.{Table, IsOrdered, phase_of}
+use Rattle.ghost_scope.specs.Table.{Table, IsOrdered}
 use Rattle.ghost_scope.specs.StandsFor.{StandsFor as PeriodsStandFor}
 use Rattle.ghost_scope.proofs.Told.{kind_told}
 use Rattle.ghost_masks.specs.Plan.{sizes, fields_of, kind_of, masked, carried_by, IsItem}

@@ -33,7 +33,7 @@ use Rattle.stream_manager.specs.Server.{ServerEvent, server_end, block_log, serv
 use Rattle.stream_manager.specs.Client as client_log
 use Rattle.stream_manager.specs.Client.{ClientEvent, client_end, seen_down, blocks_in, blocks_came, client_datagrams, client_state, posted_at_client, sampled_answer, took_at_client}
 use Rattle.pair_core.specs.History.{PairStep, Show, Hide, Near, Post, ClientPost, Sample, Pack, ClientPack, Down, Up, Raw, history, absorbing, values_of, server_posts, client_posts, client_samples, client_gets, server_gets}
-use Rattle.pair_core.proofs.Good.{AreGood, FitRoom, reads-fit, good}
+use Rattle.pair_core.proofs.Good.{AreGood, FitRoom, reads-fit}
 use Rattle.pair_core.specs.HeldBlocks.{HoldsReceivedBlocks}
 use Rattle.pair_core.proofs.Spelled.{reads-down}
 use Rattle.pair_core.proofs.Lists.{all-append, all-at, all-map}
@@ -44,7 +44,7 @@ use Rattle.datablocks.specs.Sending.{SenderEvent, Wrote, carriers}
 use Rattle.notify_window.specs.Fates.{any_received}
 use Rattle.stream_manager.specs.Server.{wrote_blocks}
 use Rattle.pair_core.specs.Verdicts.{ReceivedIsTrue}
-use Rattle.pair_core.proofs.Carried.{Carried, carried, carried-absorbed, ping-down, body-down}
+use Rattle.pair_core.proofs.Carried.{Carried, carried-absorbed, ping-down, body-down}
 
 -- the blocks of packet n, none where it was not sent
 abbrev blocks_of : ℕ → List ServerEvent → List BlockItem

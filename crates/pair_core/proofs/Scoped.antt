@@ -1,5 +1,5 @@
 -- What the lists of a server's end say of its periods, its masks say as well.
-use Rattle.std.proofs.Common.{◌≡◌, ℕ, ◌<◌, Bool, true, false, List, ◌∷◌, ◌∙◌, sym, ap, subst, arith}
+use Rattle.std.proofs.Common.{◌≡◌, ℕ, ◌<◌, true, false, List, ◌∙◌, sym, ap, subst, arith}
 use Rattle.std.specs.Prelude.{ℤ, Option, Some, slice_get}
 use Rattle.tn_types.specs.declared.choices.Drain.{Drain}
 use Rattle.stream_manager.specs.Limits.{Terms}

@@ -3,7 +3,6 @@ use Rattle.std.proofs.Common.{◌≡◌, ◌≢◌, ℕ, zero, suc, ◌<◌, ◌
 use Rattle.std.specs.Prelude.{slice_get, ℤ}
 use Rattle.tn_types.specs.declared.choices.Drain.{Drain}
 use Rattle.std.specs.Result.{is_ok}
-use Rattle.std.specs.List.{AllByRecursion}
 use Rattle.std.proofs.lemmas.Bool.{cases_lt}
 use Rattle.tn_types.specs.declared.choices.Class.{Class}
 use Rattle.tn_types.specs.declared.choices.Class.TheVariants.{Guaranteed, Loose}
@@ -20,21 +19,19 @@ use Rattle.wire_format.specs.declared.client.ClientPacket.{ClientPacket}
 use Rattle.wire_format.specs.declared.client.ClientPacket.TheVariants as up
 use Rattle.wire_format.specs.Server.{IsServer}
 use Rattle.wire_format.specs.Client.{IsClient}
-use Rattle.stream_manager.specs.declared.config.Config.{Config}
-use Rattle.stream_manager.specs.declared.fault.HeadFault.{HeadFault}
 use Rattle.stream_manager.specs.declared.fault.ArriveFault.{ArriveFault}
 use Rattle.stream_manager.specs.declared.fault.ClientFault.{ClientFault}
 use Rattle.stream_manager.specs.Limits.{Terms, AreTerms}
 use Rattle.stream_manager.specs.Wire.{read_down, read_up, bytes_down, bytes_up}
-use Rattle.tn_types.specs.Checks.{Checked, then_check}
-use Rattle.stream_manager.specs.Faults.{head_at_server, head_at_client, checked_packet}
-use Rattle.stream_manager.specs.End.{Seen, EndEvent, window_log, fates, head_answer, with_event}
+use Rattle.tn_types.specs.Checks.{Checked}
+use Rattle.stream_manager.specs.Faults.{checked_packet}
+use Rattle.stream_manager.specs.End.{Seen, EndEvent, window_log, fates, with_event}
 use Rattle.stream_manager.specs.Server as server_log
 use Rattle.stream_manager.specs.Server.{ServerEvent, server_end, server_datagrams, server_state, posted_at_server, seen_up, next_body, server_ping, took_at_server}
 use Rattle.stream_manager.specs.Client as client_log
 use Rattle.stream_manager.specs.Client.{ClientEvent, client_end, client_datagrams, client_state, posted_at_client, sampled_answer, seen_down, client_body, client_ping, took_at_client}
 use Rattle.pair_core.specs.History.{PairStep, Show, Hide, Near, Post, ClientPost, Sample, Pack, ClientPack, Down, Up, Raw, history, absorbing, values_of, server_posts, client_posts, client_samples, client_gets, server_gets}
-use Rattle.pair_core.proofs.Good.{AreGood, FitRoom, reads-fit, good}
+use Rattle.pair_core.proofs.Good.{AreGood, FitRoom, reads-fit}
 use Rattle.pair_core.specs.Verdicts.{VerdictsAreTrue, VerdictsAreTrueDown, VerdictsAreTrueUp, LostForGoodDown, LostForGoodUp}
 use Rattle.pair_core.proofs.Spelled.{reads-down, reads-up}
 use Rattle.pair_core.proofs.Lists.{all-at}

@@ -1,5 +1,5 @@
 -- What each step answers after the steps before it, and what both ends have by then.
-use Rattle.std.specs.Prelude.{◌≡◌, refl, ℕ, List, [], length, slice_get, Bool, true, false, Option, Some, None, Result, Ok, Err}
+use Rattle.std.specs.Prelude.{◌≡◌, refl, ℕ, List, [], length, slice_get, true, false, Option, Some, None, Result, Ok, Err}
 use Rattle.tn_types.specs.declared.choices.Class.{Class}
 use Rattle.tn_types.specs.declared.choices.Class.TheVariants.{Guaranteed, Loose}
 use Rattle.notify_window.specs.declared.SendState.{SendState}

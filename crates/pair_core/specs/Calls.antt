@@ -15,7 +15,7 @@ use Rattle.pair_core.specs.declared.step.Answer.{Answer}
 use Rattle.pair_core.specs.declared.step.Answer.TheVariants as says
 use Rattle.pair_core.specs.History.{PairStep, Show, Hide, Near, Post, ClientPost, Sample, Pack, ClientPack, Down, Up, Raw, history}
 use Rattle.pair_core.specs.Conditions.{MayDrain, IsReadFor, IsMet, HasRanges}
-use Rattle.pair_core.specs.Answers.{answer, client_delivered, server_delivered, accepted_in}
+use Rattle.pair_core.specs.Answers.{client_delivered, server_delivered, accepted_in}
 use Rattle.pair_core.specs.Stands.{PairState, StandsFor}
 use Rattle.pair_core.specs.History.{absorbing}
 

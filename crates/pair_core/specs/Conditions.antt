@@ -2,7 +2,7 @@
 -- brought nearer and drained only while it is shown and not hidden. A pack that makes a data packet reads exactly the fields
 -- that the packet carries, in the order of its ghosts and by rising field, each in its range; a pack that makes a ping or
 -- nothing drains and reads nothing.
-use Rattle.std.specs.Prelude.{◌≡◌, refl, ℕ, ℤ, ◌<◌, ◌≤◌, Bool, true, false, Option, Some, None, List, [], ◌∷◌, ◌++◌, map, filter, length, slice_get}
+use Rattle.std.specs.Prelude.{◌≡◌, refl, ℕ, ℤ, ◌<◌, ◌≤◌, Bool, true, false, Option, Some, List, [], ◌∷◌, ◌++◌, map, filter, slice_get}
 use Rattle.std.specs.List.{AllByRecursion}
 use Rattle.tn_types.specs.declared.limits.TheConstants.{MAX_FIELDS, MAX_SHOWN_PERIODS, MAX_SHOWS, MAX_DISTANCE_LEVEL}
 use Rattle.tn_types.specs.declared.choices.Choice.{Choice}

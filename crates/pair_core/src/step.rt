@@ -17,26 +17,47 @@ pub enum PairStep {
         control: bool,
     },
     /// Period `n` ends. It answers `Done`.
-    Hide { n: u32 },
+    Hide {
+        n: u32,
+    },
     /// The object of period `n` is at this level of distance now. It answers `Done`.
-    Near { n: u32, level: u8 },
+    Near {
+        n: u32,
+        level: u8,
+    },
     /// The server posts an event. It answers `Posted` or `PostRefused` where it is guaranteed, else `Loose`.
-    Post { class: Class, payload: Payload },
+    Post {
+        class: Class,
+        payload: Payload,
+    },
     /// The client posts one. The same answers.
-    ClientPost { class: Class, payload: Payload },
+    ClientPost {
+        class: Class,
+        payload: Payload,
+    },
     /// The client takes up a move of its player. It answers `Sampled` or `MoveRefused`.
-    Sample { m: Move },
+    Sample {
+        m: Move,
+    },
     /// The server makes its next datagram. It is made by `Pair::pack`, which knows the values; no step of this kind is given.
     Pack,
     /// The client makes its next datagram. It answers `Packed` or `Worn`.
     ClientPack,
     /// The client gets the server's datagram of place `k`, counted from 0. It answers `NotSent`, `ClientRefused` or `Came`.
-    Down { k: u32 },
+    Down {
+        k: u32,
+    },
     /// The server gets the client's datagram of place `k`, where `room` further moves have a place. It answers `NotSent`,
     /// `ServerRefused` or `Came`.
-    Up { k: u32, room: u32 },
+    Up {
+        k: u32,
+        room: u32,
+    },
     /// The server gets bytes that nobody need have sent. It answers `ServerRefused` or `Came`.
-    Raw { bytes: RawBytes, room: u32 },
+    Raw {
+        bytes: RawBytes,
+        room: u32,
+    },
 }
 
 /// What a step answers.

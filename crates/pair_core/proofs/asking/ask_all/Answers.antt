@@ -1,8 +1,6 @@
-use Rattle.std.proofs.Common.{◌≡◌, ◌∙◌, ℕ, ◌+◌, ◌*◌, ◌<◌, ◌≤◌, ◌++◌, ◌∷◌, [], List, length, get_or, take, true, sym, ap, subst, arith}
-use Rattle.std.specs.Prelude.{IsSome}
+use Rattle.std.proofs.Common.{◌∙◌, ℕ, List, take, sym, ap, subst, arith}
 use Rattle.std.proofs.lemmas.List.{take_more}
-use Rattle.tn_types.specs.declared.choices.Choice.{Choice}
-use Rattle.pair_core.specs.Conditions.{asked_by, asked_by_all}
+use Rattle.pair_core.specs.Conditions.{asked_by_all}
 use Rattle.pair_core.specs.Asking.{AreAsked}
 use Rattle.pair_core.proofs.Asked.{asked-then, all-push}
 use Rattle.pair_core.proofs.asking.ask_all.Goals as goal

@@ -1,6 +1,6 @@
-use Rattle.std.proofs.Common.{◌≡◌, ◌∙◌, ℕ, zero, ◌+◌, ◌<◌, ◌≤◌, Bool, true, false, cond, List, [], ◌∷◌, ◌++◌, refl, sym, ap, subst, arith, rules, append-nil, FitsSigned, w64}
+use Rattle.std.proofs.Common.{◌≡◌, ◌∙◌, ℕ, ◌+◌, Bool, true, false, cond, List, [], ◌∷◌, ◌++◌, refl, sym, ap, subst, arith, rules, append-nil, FitsSigned, w64}
 use Rattle.std.proofs.lemmas.Int.{to_z-of_z}
-use Rattle.std.specs.Prelude.{map, filter, ℤ, vec_len, vec_capacity, IsSome}
+use Rattle.std.specs.Prelude.{map, filter, ℤ, IsSome}
 use Rattle.tn_types.specs.BitWords.{has_bit}
 use Rattle.ghost_model.specs.Words.{upto}
 use Rattle.pair_core.specs.Asking.{AreAsked}

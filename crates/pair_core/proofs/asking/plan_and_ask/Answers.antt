@@ -1,19 +1,15 @@
-use Rattle.std.proofs.Common.{◌≡◌, ◌∙◌, ℕ, ◌+◌, ◌*◌, ◌<◌, ◌≤◌, ◌++◌, List, [], ◌∷◌, length, true, sym, ap, subst, arith}
+use Rattle.std.proofs.Common.{◌≡◌, ◌∙◌, ℕ, ◌<◌, ◌++◌, List, ◌∷◌, length, true, sym, ap, subst, arith}
 use Rattle.std.specs.Prelude.{ℤ, All, IsSome}
-use Rattle.std.specs.List.{AllByRecursion}
 use Rattle.std.proofs.lemmas.List.Elements.{All-from_recursion}
 use Rattle.tn_types.specs.BitWords.{has_bit}
 use Rattle.tn_types.specs.declared.choices.Choice.{Choice}
-use Rattle.tn_types.specs.declared.choices.Read.{Read}
-use Rattle.quantised_fields.specs.declared.kind.Kind.{Kind}
 use Rattle.ghost_model.specs.Ghosts.{Grant}
-use Rattle.ghost_masks.specs.Plan.{IsItem}
 use Rattle.ghost_masks.specs.Carried.{all_carried, AreValues}
 use Rattle.ghost_masks.proofs.Items.{plan_short}
-use Rattle.stream_manager.specs.Server.{ServerEvent, ghost_log, choices_at, received_at, ghost_room}
-use Rattle.stream_manager.specs.Stands.{ConnStandsFor, terms_of}
+use Rattle.stream_manager.specs.Server.{ghost_log, choices_at, received_at, ghost_room}
+use Rattle.stream_manager.specs.Stands.{terms_of}
 use Rattle.pair_core.specs.History.{values_of}
-use Rattle.pair_core.specs.Conditions.{asked_by_all, AreReads}
+use Rattle.pair_core.specs.Conditions.{asked_by_all}
 use Rattle.pair_core.proofs.ReadValues.{supplies, all-may-be-asked, reads-values, same-carried}
 use Rattle.pair_core.proofs.Packed.{planned-items}
 use Rattle.pair_core.proofs.asking.plan_and_ask.Goals as goal

@@ -1,9 +1,7 @@
-use Rattle.std.proofs.Common.{◌≡◌, ◌∙◌, ℕ, ◌+◌, ◌<◌, ◌^◌, List, length, get_or, take, sym, ap, subst, arith}
+use Rattle.std.proofs.Common.{◌≡◌, ◌∙◌, ℕ, ◌<◌, ◌^◌, List, length, get_or, take, sym, ap, subst}
 use Rattle.std.proofs.lemmas.List.{take_more}
 use Rattle.tn_types.specs.declared.choices.Drain.{Drain}
 use Rattle.quantised_fields.specs.declared.kind.Kind.{Kind}
-use Rattle.ghost_model.specs.Ghosts.{scope_log}
-use Rattle.ghost_model.specs.Legal as legal
 use Rattle.ghost_scope.specs.Shown.{IsUp}
 use Rattle.ghost_masks.specs.Plan.{fields_of}
 use Rattle.stream_manager.specs.Limits.{Terms}

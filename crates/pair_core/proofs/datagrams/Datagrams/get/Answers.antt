@@ -1,4 +1,4 @@
-use Rattle.std.proofs.Common.{◌≡◌, ◌∙◌, ◌-◌, ◌≤◌, ℕ, List, Some, None, length, take, drop, sym, ap, subst, refl}
+use Rattle.std.proofs.Common.{◌≡◌, ◌∙◌, ◌-◌, ◌≤◌, ℕ, List, Some, length, take, drop, sym, ap, subst, refl}
 use Rattle.std.specs.Prelude.{slice_get}
 use Rattle.pair_core.specs.Flat.{cut, AreFlat}
 use Rattle.pair_core.proofs.Flat.{cut-none, short-at}

@@ -1,4 +1,4 @@
-use Rattle.std.proofs.Common.{◌≡◌, ◌∙◌, length, sym, ap, arith}
+use Rattle.std.proofs.Common.{length, ap, arith}
 use Rattle.pair_core.proofs.Flat.{cut-length}
 use Rattle.pair_core.proofs.datagrams.Datagrams.len.Goals as goal
 

@@ -1,5 +1,4 @@
-use Rattle.std.proofs.Common.{◌≡◌, ◌∙◌, ◌++◌, ◌∷◌, [], ◌+◌, ◌<◌, ℕ, List, length, sym, ap, subst, arith, if◌then◌else◌, length-append}
-use Rattle.pair_core.specs.Flat.{cut, AreFlat}
+use Rattle.std.proofs.Common.{◌≡◌, ◌∙◌, ◌++◌, ◌∷◌, [], ◌+◌, ◌<◌, ℕ, List, length, ap, arith, if◌then◌else◌, length-append}
 use Rattle.pair_core.proofs.Flat.{flat-more, cut-more, cut-length}
 use Rattle.pair_core.proofs.datagrams.Datagrams.push.Goals as goal
 use Rattle.pair_core.proofs.datagrams.Datagrams.push.Goals.{After-push_reserved}

@@ -1,4 +1,4 @@
-use Rattle.std.proofs.Common.{◌≡◌, ◌&&◌, sym, subst}
+use Rattle.std.proofs.Common.{◌&&◌, sym, subst}
 use Rattle.pair_core.specs.Stands.{PairState, StandsFor}
 use Rattle.pair_core.proofs.Brought.{raw_stands}
 use Rattle.pair_core.proofs.pair.Pair.bring_raw.Goals as goal

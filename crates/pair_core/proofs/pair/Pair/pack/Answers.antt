@@ -4,8 +4,8 @@ use Rattle.notify_window.specs.declared.SendState.TheVariants.{Held, Worn, Room}
 use Rattle.ghost_masks.specs.Carried.{all_carried, AreValues}
 use Rattle.stream_manager.specs.declared.config.Config.{Config}
 use Rattle.stream_manager.specs.Limits.{Terms}
-use Rattle.stream_manager.specs.Server.{ServerEvent, ghost_log}
-use Rattle.stream_manager.specs.Stands.{ConnState, ConnStandsFor, terms_of}
+use Rattle.stream_manager.specs.Server.{ghost_log}
+use Rattle.stream_manager.specs.Stands.{ConnStandsFor, terms_of}
 use Rattle.pair_core.specs.History.{history, absorbing}
 use Rattle.pair_core.specs.Conditions.{HasRanges}
 use Rattle.pair_core.specs.Stands.{PairState, StandsFor}
@@ -75,12 +75,11 @@ returns-in-Room-clause-answer g c t steps s =
     (subst (λ (x : PairState). StandsFor x t steps) (sym c.self.view_is) s)
 
 pub returns-in-Room-clause-told : goal.returns-in-Room-clause-told
-returns-in-Room-clause-told g c =
-    (
-      c.plan_and_ask.ensures.told.reads,
-      subst (λ (x : PairState). Packs x c.args.drains.now c.plan_and_ask.ensures.told.reads (record { conn = c.seal-bytes.follows.lender-at-none; client = c.self.inside.client; down = c.push-in-Room.new.self.list; up = c.self.inside.up.list; prepared = c.push-in-Room.new.self.has_room && c.self.inside.up.has_room })) c.self.view_is
-          (subst (λ (d : List (List ℕ)). Packs (record { conn = c.self.inside.conn; client = c.self.inside.client; down = c.self.inside.down.list; up = c.self.inside.up.list; prepared = c.self.inside.down.has_room && c.self.inside.up.has_room }) c.args.drains.now c.plan_and_ask.ensures.told.reads (record { conn = c.seal-bytes.follows.lender-at-none; client = c.self.inside.client; down = d; up = c.self.inside.up.list; prepared = c.push-in-Room.new.self.has_room && c.self.inside.up.has_room })) (sym c.push-in-Room.ensures)
-          (room-packs (record { conn = c.self.inside.conn; client = c.self.inside.client; down = c.self.inside.down.list; up = c.self.inside.up.list; prepared = c.self.inside.down.has_room && c.self.inside.up.has_room }) c.args.drains.now c.plan_and_ask.ensures.told.reads c.absorb_all.new.conn c.absorb_all.ensures.stands c.absorb_all.ensures.keeps (c.push-in-Room.new.self.has_room && c.self.inside.up.has_room) c.plan_and_ask.new.conn c.seal-bytes.follows.lender-at-none c.as_slice.result.now c.seal-bytes.result.now
-          c.in-Room.ensures.log c.plan_and_ask.ensures.planning c.seal-bytes.follows.holds-at-none (c.as_slice.ensures.value ∙ c.plan_and_ask.ensures.told.of_reads) c.plan_and_ask.ensures.told.fit c.seal-bytes.ensures.bytes)),
-      c.plan_and_ask.ensures.told.asks,
-    )
+returns-in-Room-clause-told g c = (
+  c.plan_and_ask.ensures.told.reads,
+  subst (λ (x : PairState). Packs x c.args.drains.now c.plan_and_ask.ensures.told.reads (record { conn = c.seal-bytes.follows.lender-at-none; client = c.self.inside.client; down = c.push-in-Room.new.self.list; up = c.self.inside.up.list; prepared = c.push-in-Room.new.self.has_room && c.self.inside.up.has_room })) c.self.view_is
+      (subst (λ (d : List (List ℕ)). Packs (record { conn = c.self.inside.conn; client = c.self.inside.client; down = c.self.inside.down.list; up = c.self.inside.up.list; prepared = c.self.inside.down.has_room && c.self.inside.up.has_room }) c.args.drains.now c.plan_and_ask.ensures.told.reads (record { conn = c.seal-bytes.follows.lender-at-none; client = c.self.inside.client; down = d; up = c.self.inside.up.list; prepared = c.push-in-Room.new.self.has_room && c.self.inside.up.has_room })) (sym c.push-in-Room.ensures)
+      (room-packs (record { conn = c.self.inside.conn; client = c.self.inside.client; down = c.self.inside.down.list; up = c.self.inside.up.list; prepared = c.self.inside.down.has_room && c.self.inside.up.has_room }) c.args.drains.now c.plan_and_ask.ensures.told.reads c.absorb_all.new.conn c.absorb_all.ensures.stands c.absorb_all.ensures.keeps (c.push-in-Room.new.self.has_room && c.self.inside.up.has_room) c.plan_and_ask.new.conn c.seal-bytes.follows.lender-at-none c.as_slice.result.now c.seal-bytes.result.now
+      c.in-Room.ensures.log c.plan_and_ask.ensures.planning c.seal-bytes.follows.holds-at-none (c.as_slice.ensures.value ∙ c.plan_and_ask.ensures.told.of_reads) c.plan_and_ask.ensures.told.fit c.seal-bytes.ensures.bytes)),
+  c.plan_and_ask.ensures.told.asks,
+)

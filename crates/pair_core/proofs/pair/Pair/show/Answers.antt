@@ -1,4 +1,4 @@
-use Rattle.std.proofs.Common.{◌≡◌, ◌∙◌, ◌<◌, ◌&&◌, true, false, sym, subst, arith}
+use Rattle.std.proofs.Common.{◌≡◌, ◌∙◌, ◌<◌, false, sym, subst, arith}
 use Rattle.ghost_scope.specs.Shown.{up_count, has_control}
 use Rattle.stream_manager.specs.Server.{ghost_log}
 use Rattle.pair_core.specs.History.{history}
