@@ -31,8 +31,8 @@ use Rattle.stream_manager.specs.Client.{client_datagrams}
 use Rattle.match_script.specs.declared.types.BodyLine.{BodyLine}
 use Rattle.match_script.specs.declared.types.BodyLine.TheVariants as script
 use Rattle.pair_core.specs.History.{PairStep, Show, Hide, Near, Post, ClientPost, Sample, Pack, ClientPack, Down, Up, Raw, history, absorbing, server_posts, server_gets, values_of}
-use Rattle.pair_core.specs.Conditions.{AreReads, MayDrain, IsReadFor, field_of, asked_by_all, AreMet, IsHonest, IsHonestStep}
-use Rattle.match_engine.specs.Journal.{client_named, own, with_line, steps_of, journal}
+use Rattle.pair_core.specs.Conditions.{MayDrain, IsReadFor, field_of, asked_by_all, AreMet, IsHonest, IsHonestStep}
+use Rattle.match_engine.specs.Journal.{own, with_line, steps_of, journal}
 
 abbrev pub ShowsNothing : List ServerEvent → Type 0
 ShowsNothing log = shows (scope_log (ghost_log log)) ≡ 0
@@ -148,14 +148,13 @@ are-met t (Raw bytes room ∷ steps) plain = absurd plain.0
 are-met t (Post class v ∷ steps) plain = (tt, are-met t steps plain.1)
 are-met t (ClientPost class v ∷ steps) plain = (tt, are-met t steps plain.1)
 are-met t (Sample m ∷ steps) plain = (tt, are-met t steps plain.1)
-are-met t (Pack drains reads ∷ steps) plain =
-    (
-      subst (λ d. MayDrain t (history t steps).server (server_state t.config (history t steps).server) d × IsReadFor t (absorbing d (history t steps).server) (server_state t.config (history t steps).server) reads) (sym plain.0.0) (
-        none-drained t (history t steps).server (server_state t.config (history t steps).server),
-        subst (IsReadFor t (history t steps).server (server_state t.config (history t steps).server)) (sym plain.0.1) (none-read t (history t steps).server (server_state t.config (history t steps).server) (nothing-shown t steps plain.1)),
-      ),
-      are-met t steps plain.1,
-    )
+are-met t (Pack drains reads ∷ steps) plain = (
+  subst (λ d. MayDrain t (history t steps).server (server_state t.config (history t steps).server) d × IsReadFor t (absorbing d (history t steps).server) (server_state t.config (history t steps).server) reads) (sym plain.0.0) (
+    none-drained t (history t steps).server (server_state t.config (history t steps).server),
+    subst (IsReadFor t (history t steps).server (server_state t.config (history t steps).server)) (sym plain.0.1) (none-read t (history t steps).server (server_state t.config (history t steps).server) (nothing-shown t steps plain.1)),
+  ),
+  are-met t steps plain.1,
+)
 are-met t (ClientPack ∷ steps) plain = (tt, are-met t steps plain.1)
 are-met t (Down k ∷ steps) plain = (tt, are-met t steps plain.1)
 are-met t (Up k room ∷ steps) plain = (tt, are-met t steps plain.1)

@@ -1,5 +1,5 @@
 -- What a pack tells: the datagram that it made stands last of those that were sent.
-use Rattle.std.proofs.Common.{◌≡◌, ℕ, Bool, true, false, List, [], ◌∷◌, ◌++◌, length, Some, Result, Ok, Err, refl, ◌∙◌, ap}
+use Rattle.std.proofs.Common.{◌≡◌, ℕ, Bool, true, false, List, [], ◌∷◌, ◌++◌, length, Some, Result, Ok, Err, ◌∙◌, ap}
 use Rattle.std.specs.Prelude.{slice_get, IfOk, OnOk}
 use Rattle.tn_types.specs.declared.choices.NoMemory.{NoMemory}
 use Rattle.wire_format.specs.declared.server.ServerPacket.TheVariants as server_packet

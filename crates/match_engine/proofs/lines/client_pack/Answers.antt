@@ -1,6 +1,4 @@
-use Rattle.std.proofs.Common.{◌≡◌, List}
-use Rattle.stream_manager.specs.Limits.{Terms}
-use Rattle.pair_core.specs.History.{PairStep}
+use Rattle.std.proofs.Common.{◌≡◌}
 use Rattle.pair_core.specs.Stands.{StandsFor}
 use Rattle.match_report.specs.declared.told.Told.{Told}
 use Rattle.match_engine.specs.Report.{client_packed_told}

@@ -3,7 +3,7 @@ use Rattle.stream_manager.specs.Limits.{Terms}
 use Rattle.stream_manager.specs.Server.{server_state}
 use Rattle.tn_types.specs.declared.choices.Read.{Read}
 use Rattle.pair_core.specs.History.{PairStep, Pack, history}
-use Rattle.pair_core.specs.Stands.{PairState, StandsFor}
+use Rattle.pair_core.specs.Stands.{StandsFor}
 use Rattle.match_report.specs.declared.told.Told.{Told}
 use Rattle.match_engine.specs.Report.{packed_told}
 use Rattle.match_engine.proofs.NoObjects.{no-reads}
