@@ -1,5 +1,5 @@
 -- No more datagrams are sent than lines are done.
-use Rattle.std.proofs.Common.{◌≡◌, ℕ, suc, ◌≤◌, Bool, true, false, ◌==◌, List, [], ◌∷◌, if◌then◌else◌, length, refl, ap, arith, length-append}
+use Rattle.std.proofs.Common.{◌≡◌, ℕ, ℤ, Some, suc, ◌≤◌, Bool, true, false, ◌==◌, List, [], ◌∷◌, if◌then◌else◌, length, refl, ap, arith, length-append}
 use Rattle.std.specs.Prelude.{slice_get}
 use Rattle.std.specs.Result.{is_ok}
 use Rattle.tn_types.specs.declared.choices.Class.{Class}
@@ -18,7 +18,8 @@ use Rattle.stream_manager.specs.Server.{ServerEvent, server_datagrams, server_st
 use Rattle.stream_manager.specs.Wire.{bytes_down}
 use Rattle.stream_manager.specs.Client as client_log
 use Rattle.stream_manager.specs.Client.{ClientEvent, client_datagrams, client_state, posted_at_client, client_bytes, client_ping_bytes, sampled_answer}
-use Rattle.pair_core.specs.History.{PairStep, Post, ClientPost, Sample, Pack, ClientPack, Down, Up, history, server_posts, client_posts, client_samples}
+use Rattle.pair_core.specs.History.{PairStep, Show, Hide, Near, Post, ClientPost, Sample, Pack, ClientPack, Down, Up, Raw, history, absorbing, values_of, server_posts, client_posts, client_samples}
+use Rattle.pair_core.proofs.Good.{absorbed-sends}
 use Rattle.pair_core.proofs.Brought.{gets_sends_up, gets_sends_down}
 use Rattle.match_engine.specs.Journal.{client_named, own, with_line, steps_of, journal}
 
@@ -45,13 +46,13 @@ client-samples k m log = go (is_ok (sampled_answer k log))
     go true = refl
     go false = refl
 
-server-packs : (t : Terms) (log : List ServerEvent) → length (server_datagrams t (server_log.packing t log [])) ≤ suc (length (server_datagrams t log))
-server-packs t log = go (server_state t.config log)
+server-packs : (t : Terms) (values : List ℤ) (log : List ServerEvent) → length (server_datagrams t (server_log.packing t log values)) ≤ suc (length (server_datagrams t log))
+server-packs t values log = go (server_state t.config log)
   where
-    go : (state : SendState) → length (server_datagrams t (server_log.packed_onto t log [] state)) ≤ suc (length (server_datagrams t log))
+    go : (state : SendState) → length (server_datagrams t (server_log.packed_onto t log values state)) ≤ suc (length (server_datagrams t log))
     go Held = omega (arith, length-append (server_datagrams t log) (server_ping_bytes t log ∷ []))
     go Worn = omega arith
-    go Room = omega (arith, length-append (server_datagrams t log) (bytes_down t (down.Body (next_body t log [])) ∷ []))
+    go Room = omega (arith, length-append (server_datagrams t log) (bytes_down t (down.Body (next_body t log values)) ∷ []))
 
 client-packs : (k : Config) (log : List ClientEvent) → length (client_datagrams k (after (client_log.packing k log) log)) ≤ suc (length (client_datagrams k log))
 client-packs k log = go (client_state k log)
@@ -66,7 +67,11 @@ few-down t [] = omega arith
 few-down t (Post class v ∷ steps) = omega (arith, few-down t steps, ap length (server-posts t class v (history t steps).server))
 few-down t (ClientPost class v ∷ steps) = omega (arith, few-down t steps)
 few-down t (Sample m ∷ steps) = omega (arith, few-down t steps)
-few-down t (Pack ∷ steps) = omega (arith, few-down t steps, server-packs t (history t steps).server)
+few-down t (Show kind block level control ∷ steps) = omega (arith, few-down t steps)
+few-down t (Hide n ∷ steps) = omega (arith, few-down t steps)
+few-down t (Near n level ∷ steps) = omega (arith, few-down t steps)
+few-down t (Raw bytes room ∷ steps) = omega (arith, few-down t steps, ap length (gets_sends_down t room (Some bytes) (history t steps).server))
+few-down t (Pack drains reads ∷ steps) = omega (arith, few-down t steps, server-packs t (values_of reads) (absorbing drains (history t steps).server), ap length (absorbed-sends t drains (history t steps).server))
 few-down t (ClientPack ∷ steps) = omega (arith, few-down t steps)
 few-down t (Down n ∷ steps) = omega (arith, few-down t steps)
 few-down t (Up n room ∷ steps) = omega (arith, few-down t steps, ap length (gets_sends_down t room (slice_get (client_datagrams t.config (history t steps).client) n) (history t steps).server))
@@ -76,7 +81,11 @@ few-up t [] = omega arith
 few-up t (Post class v ∷ steps) = omega (arith, few-up t steps)
 few-up t (ClientPost class v ∷ steps) = omega (arith, few-up t steps, ap length (client-posts t.config class v (history t steps).client))
 few-up t (Sample m ∷ steps) = omega (arith, few-up t steps, ap length (client-samples t.config m (history t steps).client))
-few-up t (Pack ∷ steps) = omega (arith, few-up t steps)
+few-up t (Show kind block level control ∷ steps) = omega (arith, few-up t steps)
+few-up t (Hide n ∷ steps) = omega (arith, few-up t steps)
+few-up t (Near n level ∷ steps) = omega (arith, few-up t steps)
+few-up t (Raw bytes room ∷ steps) = omega (arith, few-up t steps)
+few-up t (Pack drains reads ∷ steps) = omega (arith, few-up t steps)
 few-up t (ClientPack ∷ steps) = omega (arith, few-up t steps, client-packs t.config (history t steps).client)
 few-up t (Down n ∷ steps) = omega (arith, few-up t steps, ap length (gets_sends_up t (slice_get (server_datagrams t (history t steps).server) n) (history t steps).client))
 few-up t (Up n room ∷ steps) = omega (arith, few-up t steps)

@@ -10,9 +10,11 @@ use Rattle.match_script.specs.Ranges.{LineFits, HeadFits, HasRanges}
 use Rattle.match_script.specs.Ranges.{BlockFits}
 use Rattle.stream_manager.specs.Limits.{Terms, IsBlockBytes, AreTerms}
 use Rattle.pair_core.specs.Laws.{StepFits}
+use Rattle.pair_core.proofs.Good.{AreGood, good}
 use Rattle.pair_core.proofs.InOrder.{delivers_down, delivers_up, accepts}
 use Rattle.pair_core.proofs.LooseEvents.{loose_down, loose_up}
 use Rattle.match_engine.specs.Journal.{client_named, own, with_line, steps_of, journal, client_terms}
+use Rattle.match_engine.proofs.NoObjects.{plain-journal, are-met, is-honest}
 use Rattle.match_engine.specs.Laws.{after, EventsInOrder, MovesInOrder, LooseInOrder}
 
 step-fits : (t : Terms) (clients : ℕ) (line : BodyLine) (lines : List BodyLine) → LineFits clients line → AllByRecursion StepFits (steps_of t lines) → AllByRecursion StepFits (with_line t line (steps_of t lines))
@@ -72,17 +74,23 @@ terms-fit head c h l = record {
 pub steps-fit : (s : Script) (c n : ℕ) → HasRanges s → AllByRecursion StepFits (journal (client_terms s.head c) c (after n s))
 steps-fit s c n h = journal-fits (client_terms s.head c) s.head.clients c (after n s) (all-reverse (LineFits s.head.clients) (take n s.body) (all-take (LineFits s.head.clients) n s.body (all-by_recursion (LineFits s.head.clients) s.body h.lines)))
 
+-- and nothing else is asked of them
+pub are-good : (s : Script) (c n : ℕ) → HasRanges s → AreGood (client_terms s.head c) (journal (client_terms s.head c) c (after n s))
+are-good s c n h =
+    let plain = plain-journal (client_terms s.head c) c (after n s) in
+    good (client_terms s.head c) (journal (client_terms s.head c) c (after n s)) (steps-fit s c n h) (are-met (client_terms s.head c) (journal (client_terms s.head c) c (after n s)) plain) (is-honest (journal (client_terms s.head c) c (after n s)) plain)
+
 pub in_order : EventsInOrder
 in_order s c n h l =
     let limits = terms-fit s.head c h.head l in
-    let fit = steps-fit s c n h in
+    let fit = are-good s c n h in
     (delivers_down (client_terms s.head c) (journal (client_terms s.head c) c (after n s)) limits fit, delivers_up (client_terms s.head c) (journal (client_terms s.head c) c (after n s)) limits fit)
 
 pub moves-in_order : MovesInOrder
-moves-in_order s c n h l = accepts (client_terms s.head c) (journal (client_terms s.head c) c (after n s)) (terms-fit s.head c h.head l) (steps-fit s c n h)
+moves-in_order s c n h l = accepts (client_terms s.head c) (journal (client_terms s.head c) c (after n s)) (terms-fit s.head c h.head l) (are-good s c n h)
 
 pub loose-in_order : LooseInOrder
 loose-in_order s c n h l =
     let limits = terms-fit s.head c h.head l in
-    let fit = steps-fit s c n h in
+    let fit = are-good s c n h in
     (loose_down (client_terms s.head c) (journal (client_terms s.head c) c (after n s)) limits fit, loose_up (client_terms s.head c) (journal (client_terms s.head c) c (after n s)) limits fit)

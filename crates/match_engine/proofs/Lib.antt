@@ -1,3 +1,4 @@
+pub mod NoObjects
 pub mod Isolated
 pub mod InOrder
 pub mod Refused

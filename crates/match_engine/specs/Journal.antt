@@ -35,11 +35,11 @@ waiting_in t steps = accepted_in t steps
 abbrev pub room_in : Terms → List PairStep → ℕ
 room_in t steps = MAX_WAITING_MOVES - length (waiting_in t steps)
 
--- the steps with that of one more line
+-- the steps with that of one more line: no line shows an object yet, so a pack drains and reads nothing
 abbrev pub with_line : Terms → BodyLine → List PairStep → List PairStep
 with_line t (script.Post c class payload) steps = Post class payload ∷ steps
 with_line t (script.ClientPost c class payload) steps = ClientPost class payload ∷ steps
-with_line t (script.Pack c) steps = Pack ∷ steps
+with_line t (script.Pack c) steps = Pack [] [] ∷ steps
 with_line t (script.ClientPack c) steps = ClientPack ∷ steps
 with_line t (script.Down c k) steps = Down k ∷ steps
 with_line t (script.Up c k) steps = Up k (room_in t steps) ∷ steps

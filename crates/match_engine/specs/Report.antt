@@ -1,6 +1,6 @@
 -- The report of a script: one line for each line of its body. What a line tells is a function of the journal of the
 -- client that it names, and of nothing else.
-use Rattle.std.specs.Prelude.{ℕ, true, false, List, [], ◌∷◌, ◌++◌, length, map, drop, reverse, Result, Ok, Err}
+use Rattle.std.specs.Prelude.{ℕ, true, false, List, [], ◌∷◌, ◌++◌, length, map, drop, reverse}
 use Rattle.std.specs.List.{flat_map}
 use Rattle.tn_types.specs.declared.choices.Class.{Class}
 use Rattle.tn_types.specs.declared.choices.Class.TheVariants.{Guaranteed, Loose}
@@ -11,19 +11,17 @@ use Rattle.match_script.specs.declared.types.BodyLine.{BodyLine}
 use Rattle.match_script.specs.declared.types.BodyLine.TheVariants as script
 use Rattle.match_script.specs.declared.types.Head.{Head}
 use Rattle.match_script.specs.declared.types.Script.{Script}
-use Rattle.stream_manager.specs.declared.server.Taken.{Taken}
 use Rattle.stream_manager.specs.declared.config.Config.{Config}
 use Rattle.stream_manager.specs.Limits.{Terms}
 use Rattle.stream_manager.specs.End.{dropped_of}
 use Rattle.stream_manager.specs.Wire.{bytes_down}
 use Rattle.stream_manager.specs.Server.{ServerEvent, server_end, server_state, server_datagrams, posted_at_server, next_body, server_ping_bytes}
 use Rattle.stream_manager.specs.Client.{ClientEvent, client_end, client_state, client_datagrams, client_bytes, client_ping_bytes, posted_at_client, sampled_answer, control_at}
-use Rattle.pair_core.specs.declared.fault.DownFault.{DownFault}
-use Rattle.pair_core.specs.declared.fault.DownFault.TheVariants as down
-use Rattle.pair_core.specs.declared.fault.UpFault.{UpFault}
-use Rattle.pair_core.specs.declared.fault.UpFault.TheVariants as up
+use Rattle.pair_core.specs.declared.step.Answer.{Answer}
+use Rattle.pair_core.specs.declared.step.Answer.TheVariants as says
 use Rattle.pair_core.specs.History.{PairStep, Down, Up, history}
-use Rattle.pair_core.specs.Answers.{down_answer, up_answer, client_delivered, server_delivered, client_run, sampled_in, accepted_in}
+use Rattle.pair_core.specs.Answers.{answer, client_delivered, server_delivered, client_run, sampled_in, accepted_in}
+use Rattle.match_report.specs.declared.told.Way.{Way}
 use Rattle.match_report.specs.declared.told.Way.TheVariants as way
 use Rattle.match_report.specs.declared.told.EventTold.{EventTold}
 use Rattle.match_report.specs.declared.told.Told.{Told}
@@ -69,24 +67,22 @@ handed_down t steps place = map event_told (drop (length (client_delivered t ste
 abbrev pub handed_up : Terms → List PairStep → ℕ → ℕ → List EventTold
 handed_up t steps place room = map event_told (drop (length (server_delivered t steps)) (server_delivered t (Up place room ∷ steps)))
 
-abbrev pub down_told : ℕ → ℕ → List EventTold → Result (Unit {0}) DownFault → Told
-down_told c place events (Ok u) = told_as.Came way.Down c place 0 events
-down_told c place events (Err (down.NotSent sent)) = told_as.NotSent way.Down c place sent
-down_told c place events (Err (down.Refused fault)) = told_as.ClientRefused c place fault
-
-abbrev pub up_told : ℕ → ℕ → List EventTold → Result Taken UpFault → Told
-up_told c place events (Ok taken) = told_as.Came way.Up c place taken.moves events
-up_told c place events (Err (up.NotSent sent)) = told_as.NotSent way.Up c place sent
-up_told c place events (Err (up.Refused fault)) = told_as.ServerRefused way.Up c place fault
+-- by the answer of the delivery: no other one is given to it
+abbrev pub brought_told : Way → ℕ → ℕ → List EventTold → Answer → Told
+brought_told w c place events (says.NotSent k sent) = told_as.NotSent w c place sent
+brought_told w c place events (says.ServerRefused fault) = told_as.ServerRefused w c place fault
+brought_told w c place events (says.ClientRefused fault) = told_as.ClientRefused c place fault
+brought_told w c place events (says.Came moves) = told_as.Came w c place moves events
+brought_told w c place events other = told_as.Came w c place 0 events
 
 -- what a delivery tells after these steps
 abbrev pub brought_down_told : ℕ → ℕ → Terms → List PairStep → Told
-brought_down_told c place t steps = down_told c place (handed_down t steps place) (down_answer t steps place)
+brought_down_told c place t steps = brought_told way.Down c place (handed_down t steps place) (answer t steps (Down place))
 
 abbrev pub brought_up_told : ℕ → ℕ → Terms → List PairStep → Told
 brought_up_told c place t steps =
     let room = room_in t steps in
-    up_told c place (handed_up t steps place room) (up_answer t steps place room)
+    brought_told way.Up c place (handed_up t steps place room) (answer t steps (Up place room))
 
 -- no tick takes a move yet
 abbrev pub show_told : Terms → List PairStep → ℕ → Told

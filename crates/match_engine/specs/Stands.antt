@@ -6,7 +6,12 @@ use Rattle.match_script.specs.declared.types.BodyLine.{BodyLine}
 use Rattle.match_script.specs.declared.types.Head.{Head}
 use Rattle.match_script.specs.Ranges.{HeadFits}
 use Rattle.stream_manager.specs.Limits.{Terms}
-use Rattle.pair_core.specs.History.{PairStep}
+use Rattle.ghost_model.specs.Scope.{shows}
+use Rattle.ghost_model.specs.Ghosts.{scope_log}
+use Rattle.stream_manager.specs.Server.{ghost_log}
+use Rattle.pair_core.specs.declared.step.Answer.{Answer}
+use Rattle.pair_core.specs.declared.step.Answer.TheVariants as says
+use Rattle.pair_core.specs.History.{PairStep, history}
 use Rattle.pair_core.specs.Stands.{PairState, StandsFor as PairStandsFor}
 use Rattle.match_engine.specs.declared.seat.Seat.{Seat}
 use Rattle.match_engine.specs.Journal.{waiting_in, journal, client_terms}
@@ -25,6 +30,37 @@ pub record MatchState : Type 0 where
 pub record IsQuiet (p : PairState) : Type 0 where
   pub server : p.conn.common.receiver.ready ≡ []
   pub client : p.client.common.receiver.ready ≡ []
+
+-- the pair stands for some steps after which no object was shown
+pub record IsWithoutObjects (p : PairState) : Type 0 where
+  pub terms : Terms
+  pub steps : List PairStep
+  pub stands : PairStandsFor p terms steps
+  pub nothing : shows (scope_log (ghost_log (history terms steps).server)) ≡ 0
+
+-- the answers of a post, of a move and of a pack
+abbrev pub TellsPost : Answer → Type 0
+TellsPost (says.Posted number) = Unit {0}
+TellsPost (says.PostRefused fault) = Unit {0}
+TellsPost (says.Loose dropped) = Unit {0}
+TellsPost other = ⊥
+
+abbrev pub TellsMove : Answer → Type 0
+TellsMove (says.Sampled number) = Unit {0}
+TellsMove (says.MoveRefused fault) = Unit {0}
+TellsMove other = ⊥
+
+abbrev pub TellsPack : Answer → Type 0
+TellsPack (says.Packed ping place) = Unit {0}
+TellsPack (says.Worn life) = Unit {0}
+TellsPack other = ⊥
+
+-- the answers of a delivery to the server
+abbrev pub TellsUp : Answer → Type 0
+TellsUp (says.NotSent k sent) = Unit {0}
+TellsUp (says.ServerRefused fault) = Unit {0}
+TellsUp (says.Came moves) = Unit {0}
+TellsUp other = ⊥
 
 pub record StandsFor (m : MatchState) (past : List BodyLine) : Type 0 where
   pub head : HeadFits m.head

@@ -1,19 +1,24 @@
 //! One line of a script on the connection of the client that it names.
-ghost use Rattle.std.specs.Prelude.{◌≡◌, ℕ, ◌<◌, ◌≤◌, List, [], ◌∷◌, ◌++◌, IfOk, IfSome, OnOk, Some, length, map};
+ghost use Rattle.std.specs.Prelude.{◌≡◌, true, ℕ, Bool, ◌<◌, ◌≤◌, List, [], ◌∷◌, ◌++◌, IfOk, IfSome, OnOk, Option, Some, Result, if◌then◌else◌, length, map, slice_get};
 ghost use Rattle.std.specs.Option.{option_copied};
+ghost use Rattle.event_manager.specs.declared.sender.PostFault.{PostFault};
+ghost use Rattle.move_manager.specs.declared.faults.MoveFault.{MoveFault};
 ghost use Rattle.stream_manager.specs.Client.{sampled_answer};
+ghost use Rattle.pair_core.specs.declared.step.Answer.TheVariants as says;
 ghost use Rattle.pair_core.specs.History.{Post, ClientPost, Sample, Pack, ClientPack, Down, Up, history};
-ghost use Rattle.pair_core.specs.Calls.{Does, Answers, Stays};
+ghost use Rattle.pair_core.specs.Answers.{post_answer, sample_answer};
+ghost use Rattle.pair_core.specs.Calls.{Does, Answers, Stays, Stands};
 ghost use Rattle.match_engine.specs.Journal.{with_line, room_in};
 ghost use Rattle.match_engine.specs.Report.{event_told, told as line_told, post_told, client_post_told, show_told};
 ghost use Rattle.match_engine.specs.Report.{packed_told, client_packed_told, brought_down_told, brought_up_told};
-ghost use Rattle.match_engine.specs.Stands.{IsQuiet, SeatBecomes, SeatAnswers};
+ghost use Rattle.match_engine.specs.Stands.{IsQuiet, IsWithoutObjects, TellsPost, TellsMove, TellsPack, SeatBecomes, SeatAnswers};
 ghost use Rattle.match_report.specs.declared.told.Told.TheVariants as told_as;
 
 use crate::seat::Seat;
+use crate::zeros::Zeros;
 use match_report::{EventTold, Events, Told, Way};
 use match_script::BodyLine;
-use pair_core::{DownFault, Made, Pair, UpFault};
+use pair_core::{Answer, Pair, PairStep};
 use std::alloc::Global;
 use tn_types::{Class, MAX_DATAGRAM_BYTES, MAX_DATAGRAMS, Move, NoMemory, Payload, RawBytes};
 
@@ -47,66 +52,81 @@ fn server_events(alloc: Global, pair: &mut Pair) -> Result<Events, NoMemory>
     Ok(events)
 }
 
+/// What is told of a post, by its answer.
+fn posted(up: bool, client: u8, answer: Answer) -> Told
+    requires { TellsPost answer }
+    ensures guaranteed { (r : Result ℕ PostFault) → answer ≡ post_answer r → result ≡ told_as.Post up client r }
+    ensures loose { (dropped : Option (List ℕ)) → answer ≡ says.Loose dropped → result ≡ told_as.PostLoose up client dropped }
+{
+    match answer {
+        Answer::Posted { number } => Told::Post {
+            up,
+            client,
+            number: Ok(number),
+        },
+        Answer::PostRefused(fault) => Told::Post {
+            up,
+            client,
+            number: Err(fault),
+        },
+        Answer::Loose { dropped } => Told::PostLoose {
+            up,
+            client,
+            dropped,
+        },
+        _ => unreachable!(),
+    }
+}
+
 fn post(pair: &mut Pair, client: u8, class: Class, payload: Payload) -> Told
-    requires { IsQuiet pair.old }
+    requires stands { Stands pair.old }
+    requires quiet { IsQuiet pair.old }
     ensures told { Answers pair.old (λ t steps. post_told t steps client class) result }
     ensures stands { Does pair.old (Post class payload) pair.new }
     ensures quiet { IsQuiet pair.new }
 {
-    match class {
-        Class::Guaranteed => {
-            let number = pair.post(payload);
-            Told::Post {
-                up: false,
-                client,
-                number,
-            }
-        }
-        Class::Loose => {
-            let dropped = pair.post_loose(payload);
-            Told::PostLoose {
-                up: false,
-                client,
-                dropped,
-            }
-        }
-    }
+    let answer = pair.step(&PairStep::Post { class, payload });
+    posted(false, client, answer)
 }
 
 fn client_post(pair: &mut Pair, client: u8, class: Class, payload: Payload) -> Told
-    requires { IsQuiet pair.old }
+    requires stands { Stands pair.old }
+    requires quiet { IsQuiet pair.old }
     ensures told { Answers pair.old (λ t steps. client_post_told t steps client class) result }
     ensures stands { Does pair.old (ClientPost class payload) pair.new }
     ensures quiet { IsQuiet pair.new }
 {
-    match class {
-        Class::Guaranteed => {
-            let number = pair.client_post(payload);
-            Told::Post {
-                up: true,
-                client,
-                number,
-            }
-        }
-        Class::Loose => {
-            let dropped = pair.client_post_loose(payload);
-            Told::PostLoose {
-                up: true,
-                client,
-                dropped,
-            }
-        }
+    let answer = pair.step(&PairStep::ClientPost { class, payload });
+    posted(true, client, answer)
+}
+
+/// What is told of a move, by its answer.
+fn moved(client: u8, answer: Answer) -> Told
+    requires { TellsMove answer }
+    ensures { (r : Result ℕ MoveFault) → answer ≡ sample_answer r → result ≡ told_as.Moved client r }
+{
+    match answer {
+        Answer::Sampled { number } => Told::Moved {
+            client,
+            number: Ok(number),
+        },
+        Answer::MoveRefused(fault) => Told::Moved {
+            client,
+            number: Err(fault),
+        },
+        _ => unreachable!(),
     }
 }
 
 fn sample(pair: &mut Pair, client: u8, m: Move) -> Told
-    requires { IsQuiet pair.old }
+    requires stands { Stands pair.old }
+    requires quiet { IsQuiet pair.old }
     ensures told { Answers pair.old (λ t steps. told_as.Moved client (sampled_answer t.config (history t steps).client)) result }
     ensures stands { Does pair.old (Sample m) pair.new }
     ensures quiet { IsQuiet pair.new }
 {
-    let number = pair.sample(m);
-    Told::Moved { client, number }
+    let answer = pair.step(&PairStep::Sample { m });
+    moved(client, answer)
 }
 
 /// What is told of a datagram that was made.
@@ -132,120 +152,115 @@ fn packed(
     })
 }
 
-fn pack(alloc: Global, pair: &mut Pair, client: u8) -> Result<Told, NoMemory>
-    requires quiet { IsQuiet pair.old }
-    requires few { length pair.old.down < MAX_DATAGRAMS }
-    ensures told { IfOk result (Answers pair.old (packed_told client)) }
-    ensures stands { OnOk result (Does pair.old Pack pair.new) }
-    ensures quiet { OnOk result (IsQuiet pair.new) }
+/// What is told of a pack, by its answer.
+fn packed_by(
+    alloc: Global,
+    up: bool,
+    client: u8,
+    answer: Answer,
+    pair: &Pair,
+) -> Result<Told, NoMemory>
+    requires { TellsPack answer }
+    ensures worn { (life : ℕ) → answer ≡ says.Worn life → IfOk result (λ told. told ≡ told_as.PackWorn up client life) }
+    ensures made { (ping : Bool) (place : ℕ) (bytes : List ℕ) → answer ≡ says.Packed ping place
+        → slice_get (if up then pair.now.up else pair.now.down) place ≡ Some bytes
+        → IfOk result (λ told. told ≡ told_as.Packed up client place ping bytes) }
 {
-    match pair.pack(alloc)? {
-        Made::Worn { life } => Ok(Told::PackWorn {
-            up: false,
-            client,
-            life,
-        }),
-        Made::Data { place } => packed(
+    match answer {
+        Answer::Worn { life } => Ok(Told::PackWorn { up, client, life }),
+        Answer::Packed { ping, place } => packed(
             alloc,
-            false,
+            up,
             client,
             place,
-            false,
-            pair.server_datagram(place),
+            ping,
+            pair.datagram(!up, place),
         ),
-        Made::Ping { place } => packed(
-            alloc,
-            false,
-            client,
-            place,
-            true,
-            pair.server_datagram(place),
-        ),
+        _ => unreachable!(),
     }
 }
 
+fn pack(alloc: Global, pair: &mut Pair, client: u8) -> Result<Told, NoMemory>
+    requires stands { IsWithoutObjects pair.old }
+    requires quiet { IsQuiet pair.old }
+    requires few { length pair.old.down < MAX_DATAGRAMS }
+    ensures told { IfOk result (Answers pair.old (packed_told client)) }
+    ensures stands { OnOk result (Does pair.old (Pack [] []) pair.new) }
+    ensures quiet { OnOk result (IsQuiet pair.new) }
+{
+    pair.prepare(alloc)?;
+    // no line of a script shows an object yet, so that nothing is drained and no value is asked for
+    let answer = pair.pack(&[], &mut Zeros);
+    packed_by(alloc, false, client, answer, pair)
+}
+
 fn client_pack(alloc: Global, pair: &mut Pair, client: u8) -> Result<Told, NoMemory>
+    requires stands { Stands pair.old }
     requires quiet { IsQuiet pair.old }
     requires few { length pair.old.up < MAX_DATAGRAMS }
     ensures told { IfOk result (Answers pair.old (client_packed_told client)) }
     ensures stands { OnOk result (Does pair.old ClientPack pair.new) }
     ensures quiet { OnOk result (IsQuiet pair.new) }
 {
-    match pair.client_pack(alloc)? {
-        Made::Worn { life } => Ok(Told::PackWorn {
-            up: true,
-            client,
-            life,
-        }),
-        Made::Data { place } => packed(
-            alloc,
-            true,
-            client,
-            place,
-            false,
-            pair.client_datagram(place),
-        ),
-        Made::Ping { place } => packed(
-            alloc,
-            true,
-            client,
-            place,
-            true,
-            pair.client_datagram(place),
-        ),
-    }
+    pair.prepare(alloc)?;
+    let answer = pair.step(&PairStep::ClientPack);
+    packed_by(alloc, true, client, answer, pair)
 }
 
 fn down(alloc: Global, pair: &mut Pair, client: u8, k: u32) -> Result<Told, NoMemory>
-    requires { IsQuiet pair.old }
+    requires stands { Stands pair.old }
+    requires quiet { IsQuiet pair.old }
     ensures told { IfOk result (Answers pair.old (brought_down_told client k)) }
     ensures stands { OnOk result (Does pair.old (Down k) pair.new) }
     ensures quiet { OnOk result (IsQuiet pair.new) }
 {
-    match pair.down(k) {
-        Ok(()) => Ok(Told::Came {
+    match pair.step(&PairStep::Down { k }) {
+        Answer::Came { moves } => Ok(Told::Came {
             way: Way::Down,
             client,
             k,
-            moves: 0,
+            moves,
             events: client_events(alloc, pair)?,
         }),
-        Err(DownFault::NotSent { sent }) => Ok(Told::NotSent {
+        Answer::NotSent { k: _, sent } => Ok(Told::NotSent {
             way: Way::Down,
             client,
             k,
             sent,
         }),
-        Err(DownFault::Refused(fault)) => Ok(Told::ClientRefused { client, k, fault }),
+        Answer::ClientRefused(fault) => Ok(Told::ClientRefused { client, k, fault }),
+        _ => unreachable!(),
     }
 }
 
 fn up(alloc: Global, seat: &mut Seat, client: u8, k: u32) -> Result<Told, NoMemory>
-    requires { IsQuiet seat.old.pair }
+    requires stands { Stands seat.old.pair }
+    requires quiet { IsQuiet seat.old.pair }
     ensures told { IfOk result (SeatAnswers seat.old (brought_up_told client k)) }
     ensures stands { OnOk result (SeatBecomes seat.old (λ t steps. Up k (room_in t steps) ∷ steps) seat.new) }
     ensures quiet { OnOk result (IsQuiet seat.new.pair) }
 {
     match seat.up(k) {
-        Ok(taken) => Ok(Told::Came {
+        Answer::Came { moves } => Ok(Told::Came {
             way: Way::Up,
             client,
             k,
-            moves: taken.moves,
+            moves,
             events: server_events(alloc, &mut seat.pair)?,
         }),
-        Err(UpFault::NotSent { sent }) => Ok(Told::NotSent {
+        Answer::NotSent { k: _, sent } => Ok(Told::NotSent {
             way: Way::Up,
             client,
             k,
             sent,
         }),
-        Err(UpFault::Refused(fault)) => Ok(Told::ServerRefused {
+        Answer::ServerRefused(fault) => Ok(Told::ServerRefused {
             way: Way::Up,
             client,
             k,
             fault,
         }),
+        _ => unreachable!(),
     }
 }
 
@@ -265,6 +280,7 @@ fn show(pair: &Pair, client: u8) -> Told
 
 /// Does a line on the connection of its client, and gives what the report tells of it.
 pub(crate) fn line_on(alloc: Global, seat: &mut Seat, line: &BodyLine) -> Result<Told, NoMemory>
+    requires stands { IsWithoutObjects seat.old.pair }
     requires quiet { IsQuiet seat.old.pair }
     requires few_down { length seat.old.pair.down < MAX_DATAGRAMS }
     requires few_up { length seat.old.pair.up < MAX_DATAGRAMS }

@@ -1,16 +1,17 @@
 //! A client's connection in a match, with its accepted moves.
-ghost use Rattle.std.specs.Prelude.{◌≡◌, ◌≤◌, ◌++◌, ◌∷◌, [], List, IfOk, OnErr, length};
+ghost use Rattle.std.specs.Prelude.{◌≡◌, ◌≤◌, ◌++◌, ◌∷◌, [], List, IfOk, length};
 ghost use Rattle.stream_manager.specs.Limits.{IsConfig, Terms};
-ghost use Rattle.pair_core.specs.History.{PairStep, Up};
-ghost use Rattle.pair_core.specs.Answers.{up_answer, server_delivered};
+ghost use Rattle.pair_core.specs.History.{PairStep as JournalStep, Up};
+ghost use Rattle.pair_core.specs.Answers.{answer, server_delivered};
+ghost use Rattle.pair_core.specs.Calls.{Stands, Unchanged};
 ghost use Rattle.match_engine.specs.Journal.{room_in};
-ghost use Rattle.match_engine.specs.Stands.{IsQuiet, SeatStandsFor, SeatAnswers, SeatBecomes};
+ghost use Rattle.match_engine.specs.Stands.{IsQuiet, TellsUp, SeatStandsFor, SeatAnswers, SeatBecomes};
 
 use circular_buffer::HeapCircularBuffer;
-use pair_core::{Pair, UpFault};
+use pair_core::{Answer, Pair, PairStep};
 use quantised_fields::KindTable;
 use std::alloc::Global;
-use stream_manager::{Config, Taken};
+use stream_manager::Config;
 use tn_types::{BlockBytes, MAX_BLOCKS, MAX_WAITING_MOVES, Move, NoMemory};
 
 /// A client's connection, and its accepted moves that wait for a tick, the oldest first.
@@ -42,19 +43,23 @@ impl Seat {
 
     /// The server gets the client's datagram of place `k`. Each move that it newly accepts waits, as far as there is a
     /// place. No event may wait.
-    pub(crate) fn up(&mut self, k: u32) -> Result<Taken, UpFault>
-        requires { self.old.pair.conn.common.receiver.ready ≡ [] }
-        ensures answer { SeatAnswers self.old (λ t steps. up_answer t steps k (room_in t steps)) result }
+    pub(crate) fn up(&mut self, k: u32) -> Answer
+        requires stands { Stands self.old.pair }
+        requires none_waits { self.old.pair.conn.common.receiver.ready ≡ [] }
+        ensures one_of { TellsUp result }
+        ensures answer { SeatAnswers self.old (λ t steps. answer t steps (Up k (room_in t steps))) result }
         ensures stands { SeatBecomes self.old (λ t steps. Up k (room_in t steps) ∷ steps) self.new }
-        ensures handed { (t : Terms) (steps : List PairStep) → SeatStandsFor self.old t steps
+        ensures handed { (t : Terms) (steps : List JournalStep) → SeatStandsFor self.old t steps
             → server_delivered t (Up k (room_in t steps) ∷ steps)
             ≡ server_delivered t steps ++ self.new.pair.conn.common.receiver.ready }
         ensures client { self.new.pair.client ≡ self.old.pair.client }
-        ensures unchanged { OnErr result (self.new ≡ self.old) }
+        ensures unchanged { Unchanged self.old.pair result self.new.pair }
     {
-        let room = MAX_WAITING_MOVES.saturating_sub(self.waiting.len());
-        let taken = self.pair.up(k, room as u32)?;
-        self.waiting.fill_from_slice(self.pair.conn().taken_moves());
-        Ok(taken)
+        let room = MAX_WAITING_MOVES.saturating_sub(self.waiting.len()) as u32;
+        let answer = self.pair.step(&PairStep::Up { k, room });
+        if let Answer::Came { moves: _ } = answer {
+            self.waiting.fill_from_slice(self.pair.conn().taken_moves());
+        }
+        answer
     }
 }

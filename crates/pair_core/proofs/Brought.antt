@@ -1,5 +1,5 @@
 -- What a pair stands for after a delivery.
-use Rattle.std.proofs.Common.{◌≡◌, ℕ, List, ◌∷◌, ◌++◌, Some, None, Result, Ok, Err, refl, sym, subst, ap, ◌∙◌}
+use Rattle.std.proofs.Common.{◌≡◌, ℕ, List, ◌∷◌, Some, None, Result, Ok, Err, refl, sym, subst, ap, ◌∙◌}
 use Rattle.std.specs.Prelude.{slice_get, Option}
 use Rattle.wire_format.specs.declared.client.ClientPacket.{ClientPacket}
 use Rattle.wire_format.specs.declared.server.ServerPacket.{ServerPacket}
@@ -10,10 +10,9 @@ use Rattle.quantised_fields.specs.declared.kind.Kind.{Kind}
 use Rattle.stream_manager.specs.Limits.{Terms}
 use Rattle.stream_manager.specs.ClientCalls.{KeepsTerms}
 use Rattle.stream_manager.specs.Stands.{ConnState, ConnStandsFor, terms_of, ClientState, ClientStandsFor}
-use Rattle.stream_manager.specs.Server.{ServerEvent, server_datagrams, server_answer, took_at_server, accepted_at}
+use Rattle.stream_manager.specs.Server.{ServerEvent, server_datagrams, server_answer, took_at_server}
 use Rattle.stream_manager.specs.Client.{ClientEvent, client_datagrams, client_answer, took_at_client}
-use Rattle.pair_core.specs.History.{PairStep, Down, Up, history, client_gets, server_gets}
-use Rattle.pair_core.specs.Answers.{accepted_in}
+use Rattle.pair_core.specs.History.{PairStep, Down, Up, Raw, history, client_gets, server_gets}
 use Rattle.pair_core.specs.Stands.{PairState, StandsFor}
 
 -- an arrival sends nothing
@@ -35,7 +34,7 @@ gets_sends_down t room (Some bytes) log = took_sends_down t log room (server_ans
 
 pub down_stands : (p : PairState) (new : ClientState) (t : Terms) (steps : List PairStep) (k : ℕ) (bytes : List ℕ) → slice_get p.down k ≡ Some bytes → KeepsTerms p.client new
     → ((log : List ClientEvent) → ClientStandsFor p.client log → ClientStandsFor new (took_at_client log (client_answer p.client.common.config p.client.copies.kinds log bytes)))
-    → StandsFor p t steps → StandsFor (record { conn = p.conn; client = new; down = p.down; up = p.up }) t (Down k ∷ steps)
+    → StandsFor p t steps → StandsFor (record { conn = p.conn; client = new; down = p.down; up = p.up; prepared = p.prepared }) t (Down k ∷ steps)
 down_stands p new t steps k bytes there keeps gets s =
     let sent : slice_get (server_datagrams t (history t steps).server) k ≡ Some bytes = ap (λ (l : List (List ℕ)). slice_get l k) (sym s.down) ∙ there in
     let kinds : ClientStandsFor new (took_at_client (history t steps).client (client_answer p.client.common.config t.kinds (history t steps).client bytes)) =
@@ -54,7 +53,7 @@ down_stands p new t steps k bytes there keeps gets s =
 
 pub up_stands : (p : PairState) (new : ConnState) (t : Terms) (steps : List PairStep) (k room : ℕ) (bytes : List ℕ) → slice_get p.up k ≡ Some bytes → terms_of new ≡ terms_of p.conn
     → ((log : List ServerEvent) → ConnStandsFor p.conn log → ConnStandsFor new (took_at_server log room (server_answer p.conn.common.config log bytes)))
-    → StandsFor p t steps → StandsFor (record { conn = new; client = p.client; down = p.down; up = p.up }) t (Up k room ∷ steps)
+    → StandsFor p t steps → StandsFor (record { conn = new; client = p.client; down = p.down; up = p.up; prepared = p.prepared }) t (Up k room ∷ steps)
 up_stands p new t steps k room bytes there terms gets s =
     let sent : slice_get (client_datagrams t.config (history t steps).client) k ≡ Some bytes = ap (λ (l : List (List ℕ)). slice_get l k) (sym s.up) ∙ there in
     let config : p.conn.common.config ≡ t.config = ap (λ (x : Terms). x.config) s.terms in
@@ -70,14 +69,17 @@ up_stands p new t steps k room bytes there terms gets s =
       up = s.up;
     }
 
--- the moves that the server newly accepts are those that its end lends
-pub up_moves : (p : PairState) (new : ConnState) (t : Terms) (steps : List PairStep) (k room : ℕ) (bytes : List ℕ) → slice_get p.up k ≡ Some bytes
-    → ((log : List ServerEvent) → ConnStandsFor p.conn log → accepted_at p.conn.common.config (took_at_server log room (server_answer p.conn.common.config log bytes)) ≡ accepted_at p.conn.common.config log ++ new.taken)
-    → StandsFor p t steps → accepted_in t (Up k room ∷ steps) ≡ accepted_in t steps ++ new.taken
-up_moves p new t steps k room bytes there moves s =
-    let before = (history t steps).server in
-    let sent : slice_get (client_datagrams t.config (history t steps).client) k ≡ Some bytes = ap (λ (l : List (List ℕ)). slice_get l k) (sym s.up) ∙ there in
+pub raw_stands : (p : PairState) (new : ConnState) (t : Terms) (steps : List PairStep) (bytes : List ℕ) (room : ℕ) → terms_of new ≡ terms_of p.conn
+    → ((log : List ServerEvent) → ConnStandsFor p.conn log → ConnStandsFor new (took_at_server log room (server_answer p.conn.common.config log bytes)))
+    → StandsFor p t steps → StandsFor (record { conn = new; client = p.client; down = p.down; up = p.up; prepared = p.prepared }) t (Raw bytes room ∷ steps)
+raw_stands p new t steps bytes room terms gets s =
     let config : p.conn.common.config ≡ t.config = ap (λ (x : Terms). x.config) s.terms in
-    let now : accepted_at t.config (server_gets t.config room (Some bytes) before) ≡ accepted_at t.config before ++ new.taken =
-    subst (λ (x : Config). accepted_at x (took_at_server before room (server_answer x before bytes)) ≡ accepted_at x before ++ new.taken) config (moves before s.conn) in
-    subst (λ (o : Option (List ℕ)). accepted_at t.config (server_gets t.config room o before) ≡ accepted_at t.config before ++ new.taken) (sym sent) now
+    record {
+      terms = terms ∙ s.terms;
+      client_config = s.client_config;
+      client_kinds = s.client_kinds;
+      conn = subst (λ (x : Config). ConnStandsFor new (took_at_server (history t steps).server room (server_answer x (history t steps).server bytes))) config (gets (history t steps).server s.conn);
+      client = s.client;
+      down = s.down ∙ sym (gets_sends_down t room (Some bytes) (history t steps).server);
+      up = s.up;
+    }

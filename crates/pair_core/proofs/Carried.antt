@@ -1,13 +1,11 @@
 -- What goes over the network: each datagram that was sent spells a packet whose guaranteed events are those that were
 -- posted, and so are those that came.
-use Rattle.std.proofs.Common.{◌≡◌, ◌≢◌, ◌==◌, ◌-◌, length-append, length-drop, ℕ, ◌+◌, ◌<◌, ◌≤◌, ◌^◌, Bool, true, false, List, [], ◌∷◌, ◌++◌, length, Option, Some, None, Result, Ok, Err, refl, sym, subst, arith, if◌then◌else◌}
-use Rattle.std.specs.Prelude.{slice_get, IfSome}
-use Rattle.tn_types.specs.declared.choices.Choice.{Choice}
+use Rattle.std.proofs.Common.{◌≡◌, ◌≢◌, ◌==◌, ◌-◌, length-append, length-drop, ℕ, ◌+◌, ◌<◌, ◌≤◌, ◌^◌, Bool, true, false, List, [], ◌∷◌, ◌++◌, length, Option, Some, None, Result, Ok, Err, refl, sym, ap, subst, arith, if◌then◌else◌}
+use Rattle.std.specs.Prelude.{slice_get, ℤ}
 use Rattle.std.specs.Result.{is_ok}
 use Rattle.std.specs.List.{AllByRecursion}
 use Rattle.tn_types.specs.declared.choices.Class.{Class}
 use Rattle.tn_types.specs.declared.choices.Class.TheVariants.{Guaranteed, Loose}
-use Rattle.bit_stream.specs.Bits.{datagram}
 use Rattle.notify_window.specs.declared.SendState.{SendState}
 use Rattle.notify_window.specs.declared.SendState.TheVariants.{Held, Worn, Room}
 use Rattle.wire_format.specs.declared.fault.BitsFault.{BitsFault}
@@ -17,10 +15,11 @@ use Rattle.wire_format.specs.declared.client.ClientPacket.{ClientPacket}
 use Rattle.wire_format.specs.declared.client.ClientPacket.TheVariants as up
 use Rattle.wire_format.specs.Server.{IsServer}
 use Rattle.wire_format.specs.Client.{IsClient}
-use Rattle.wire_format.specs.Ghosts.{IsGhost}
-use Rattle.wire_format.specs.Reading.{AreListed}
-use Rattle.ghost_model.specs.Ghosts.{Grant}
-use Rattle.ghost_masks.specs.Carried.{ghosts_for}
+use Rattle.ghost_model.specs.Ghosts.{Grant, scope_log}
+use Rattle.ghost_model.specs.Legal.{IsAllowed}
+use Rattle.ghost_masks.specs.Plan.{sizes}
+use Rattle.tn_types.specs.declared.choices.Drain.{Drain}
+use Rattle.tn_types.specs.declared.choices.Read.{Read}
 use Rattle.stream_manager.specs.declared.config.Config.{Config}
 use Rattle.move_manager.specs.declared.faults.MoveFault.TheVariants as move_refused
 use Rattle.move_manager.specs.Accepting as moves
@@ -39,13 +38,17 @@ use Rattle.move_manager.specs.Accepting.{accepted_of, accept}
 use Rattle.move_manager.proofs.InOrder.{Holds, IsFront, holds-push, front-push, front-accept}
 use Rattle.stream_manager.specs.End.{came_of, with_event}
 use Rattle.stream_manager.specs.Server as server_log
-use Rattle.stream_manager.specs.Server.{ServerEvent, server_end, server_datagrams, seen_up, server_state, posted_at_server, with_plan, next_body, server_ping, ghost_log, took_at_server, packet_answer, accepted_at, move_log, moves_taken}
+use Rattle.stream_manager.specs.Server.{ServerEvent, server_end, server_datagrams, seen_up, server_state, posted_at_server, with_plan, next_body, server_ping, ghost_log, ScopeChange, scope_event, received_at, ghost_room, took_at_server, packet_answer, accepted_at, move_log, moves_taken}
 use Rattle.stream_manager.specs.Client as client_log
 use Rattle.stream_manager.specs.Client.{ClientEvent, client_end, client_datagrams, seen_down, client_state, posted_at_client, client_body, client_ping, took_at_client, sampled_answer, sampled_at, sample_log, moves_acked}
-use Rattle.pair_core.specs.History.{PairStep, Post, ClientPost, Sample, Pack, ClientPack, Down, Up, history, server_posts, client_posts, client_samples, client_gets, server_gets}
-use Rattle.pair_core.specs.Laws.{IsPayload, StepFits, posted_at}
-use Rattle.pair_core.specs.Stands.{ShowsNothing}
-use Rattle.pair_core.proofs.NoGhosts.{packed-nothing, took-nothing, no-plan, no-control}
+use Rattle.pair_core.specs.History.{PairStep, Show, Hide, Near, Post, ClientPost, Sample, Pack, ClientPack, Down, Up, Raw, history, absorbing, values_of, server_posts, client_posts, client_samples, client_gets, server_gets}
+use Rattle.pair_core.specs.Conditions.{MayBeDrained}
+use Rattle.pair_core.specs.Laws.{IsPayload, posted_at}
+use Rattle.pair_core.proofs.Good.{IsGoodStep, AreGood, FitRoom, FitNext, reads-fit, all-drained}
+use Rattle.pair_core.proofs.GhostItems.{ghosts-fit, control-fits}
+use Rattle.pair_core.proofs.LegalLogs.{IsLegalLog, drained-still, plan-legal, packed-legal, took-legal}
+use Rattle.pair_core.proofs.Heads.{head-ok_up}
+use Rattle.pair_core.proofs.Windows.{head-meets}
 use Rattle.pair_core.proofs.Spelled.{reads-down, reads-up}
 use Rattle.pair_core.proofs.Lists.{all-append, all-map, all-at}
 use Rattle.pair_core.proofs.Fits.{EndFits, start-fits, posted-fits, loose-fits, packed-fits, pinged-fits, took-fits, data_head-fits, ping_head-fits, events-fit}
@@ -129,7 +132,7 @@ pub record Carried (t : Terms) (s : List ServerEvent) (u : List ClientEvent) : T
   pub came_down : ArePosted (posted_at (server_end s)) (came_of (client_end u))
   pub came_up : ArePosted (posted_at (client_end u)) (came_of (server_end s))
   pub moves : Moves t.config.life (accepted_at t.config s) (sampled_at u) (acked_of (sample_log u))
-  pub nothing : ShowsNothing s
+  pub legal : IsLegalLog t.kinds s
 
 module _ (t : Terms) (limits : AreTerms t) where
   start : Carried t [] []
@@ -141,13 +144,13 @@ module _ (t : Terms) (limits : AreTerms t) where
     came_down = tt;
     came_up = tt;
     moves = record { accepted = omega arith; sampled = omega arith; front = record { within = omega arith; first = refl }; acked = omega arith; few = omega arith };
-    nothing = refl;
+    legal = tt;
   }
 
   -- ---- posts
 
   posts-down : (class : Class) (v : List ℕ) (s : List ServerEvent) (u : List ClientEvent) → IsPayload v → Carried t s u → Carried t (server_posts t.config class v s) u
-  posts-down Loose v s u fits h = record { server = loose-fits t.config.life (server_end s) v fits h.server; client = h.client; down = h.down; up = h.up; came_down = h.came_down; came_up = h.came_up; moves = h.moves; nothing = h.nothing }
+  posts-down Loose v s u fits h = record { server = loose-fits t.config.life (server_end s) v fits h.server; client = h.client; down = h.down; up = h.up; came_down = h.came_down; came_up = h.came_up; moves = h.moves; legal = h.legal }
   posts-down Guaranteed v s u fits h = go (is_ok (posted_at_server t.config s)) refl
     where
       go : (b : Bool) → is_ok (posted_at_server t.config s) ≡ b → Carried t (if b then server_log.Posted Guaranteed v ∷ s else s) u
@@ -161,11 +164,11 @@ module _ (t : Terms) (limits : AreTerms t) where
         came_down = posted-push (posted_at (server_end s)) v (came_of (client_end u)) h.came_down;
         came_up = h.came_up;
         moves = h.moves;
-        nothing = h.nothing;
+        legal = h.legal;
       }
 
   posts-up : (class : Class) (v : List ℕ) (s : List ServerEvent) (u : List ClientEvent) → IsPayload v → Carried t s u → Carried t s (client_posts t.config class v u)
-  posts-up Loose v s u fits h = record { server = h.server; client = loose-fits t.config.life (client_end u) v fits h.client; down = h.down; up = h.up; came_down = h.came_down; came_up = h.came_up; moves = h.moves; nothing = h.nothing }
+  posts-up Loose v s u fits h = record { server = h.server; client = loose-fits t.config.life (client_end u) v fits h.client; down = h.down; up = h.up; came_down = h.came_down; came_up = h.came_up; moves = h.moves; legal = h.legal }
   posts-up Guaranteed v s u fits h = go (is_ok (posted_at_client t.config u)) refl
     where
       go : (b : Bool) → is_ok (posted_at_client t.config u) ≡ b → Carried t s (if b then client_log.Posted Guaranteed v ∷ u else u)
@@ -178,7 +181,7 @@ module _ (t : Terms) (limits : AreTerms t) where
         came_down = h.came_down;
         came_up = posted-push (posted_at (client_end u)) v (came_of (server_end s)) h.came_up;
         moves = h.moves;
-        nothing = h.nothing;
+        legal = h.legal;
       }
 
   -- ---- samples
@@ -205,7 +208,7 @@ module _ (t : Terms) (limits : AreTerms t) where
               acked = h.moves.acked;
               few = omega (arith, h.moves.few, apart.1, one);
             };
-            nothing = h.nothing;
+            legal = h.legal;
           }
 
   -- ---- packs
@@ -223,20 +226,20 @@ module _ (t : Terms) (limits : AreTerms t) where
   pub ping-down : (s : List ServerEvent) (u : List ClientEvent) → server_state t.config s ≡ Held → Carried t s u → IsServer t.kinds (down.Ping (server_ping t.config s))
   ping-down s u e h = ping_head-fits t.config.life t.config.client (server_end s) short limits.config.client e h.server
 
-  pub body-down : (s : List ServerEvent) (u : List ClientEvent) → server_state t.config s ≡ Room → Carried t s u → IsServer t.kinds (down.Body (next_body t s []))
-  body-down s u e h = record {
+  pub body-down : (s : List ServerEvent) (u : List ClientEvent) (values : List ℤ) → server_state t.config s ≡ Room → FitNext t s values → Carried t s u → IsServer t.kinds (down.Body (next_body t s values))
+  body-down s u values e fit h = record {
     head = data_head-fits t.config.life t.config.client (server_end s) short limits.config.client e h.server;
     accepted = omega (arith, h.moves.accepted, short);
-    control = subst (λ (o : Option ℕ). IfSome o (λ slot. slot < 2 ^ 8)) (sym (no-control t.kinds (Grant ∷ ghost_log s) h.nothing)) tt;
+    control = control-fits (scope_log (ghost_log (with_plan t s)));
     blocks = blocks-fit t s limits;
     events = events-fit t.config t.config.life _ (server_end s) short h.server;
-    ghosts = subst (λ (cs : List Choice). AreListed 128 (IsGhost t.kinds) (ghosts_for t.kinds (Grant ∷ ghost_log s) cs [])) (sym (no-plan t.kinds (Grant ∷ ghost_log s) h.nothing _ _)) (record { few = omega arith; each = tt });
+    ghosts = ghosts-fit t.kinds (Grant ∷ ghost_log s) limits.kinds (received_at s) (ghost_room t s) values (plan-legal t s h.legal) fit;
   }
 
-  packs-down : (s : List ServerEvent) (u : List ClientEvent) → Carried t s u → Carried t (server_log.packing t s []) u
-  packs-down s u h = go (server_state t.config s) refl
+  packs-down : (s : List ServerEvent) (u : List ClientEvent) (values : List ℤ) → FitRoom t s values → Carried t s u → Carried t (server_log.packing t s values) u
+  packs-down s u values fit h = go (server_state t.config s) refl
     where
-      go : (state : SendState) → server_state t.config s ≡ state → Carried t (server_log.packed_onto t s [] state) u
+      go : (state : SendState) → server_state t.config s ≡ state → Carried t (server_log.packed_onto t s values state) u
       go Worn e = h
       go Held e = record {
         server = pinged-fits t.config.life (server_end s) _ h.server;
@@ -247,14 +250,14 @@ module _ (t : Terms) (limits : AreTerms t) where
         came_down = h.came_down;
         came_up = h.came_up;
         moves = h.moves;
-        nothing = h.nothing;
+        legal = h.legal;
       }
       go Room e = record {
         server = packed-fits t.config.life (server_end s) _ e h.server;
         client = h.client;
         down = all-append (IsDown t (posted_at (server_end s)) (length (accepted_at t.config s))) (server_datagrams t s) _ h.down (
-          is-down (posted_at (server_end s)) (length (accepted_at t.config s)) (down.Body (next_body t s []))
-              (body-down s u e h)
+          is-down (posted_at (server_end s)) (length (accepted_at t.config s)) (down.Body (next_body t s values))
+              (body-down s u values e (fit e) h)
               (posted-events t.config _ (server_end s))
               (omega arith),
           tt,
@@ -263,8 +266,18 @@ module _ (t : Terms) (limits : AreTerms t) where
         came_down = h.came_down;
         came_up = h.came_up;
         moves = h.moves;
-        nothing = packed-nothing (with_plan t s) (next_body t s []) h.nothing;
+        legal = packed-legal t s values limits.kinds h.legal;
       }
+
+  -- ---- objects in scope
+
+  scoped : (change : ScopeChange) (s : List ServerEvent) (u : List ClientEvent) → IsAllowed (sizes t.kinds) (scope_event change) (ghost_log s) → Carried t s u → Carried t (server_log.Scoped change ∷ s) u
+  scoped change s u may h = record { server = h.server; client = h.client; down = h.down; up = h.up; came_down = h.came_down; came_up = h.came_up; moves = h.moves; legal = (may, h.legal) }
+
+  pub absorbs-down : (drains : List Drain) (s : List ServerEvent) (u : List ClientEvent) → AllByRecursion (MayBeDrained t (ghost_log s)) drains → Carried t s u → Carried t (absorbing drains s) u
+  absorbs-down [] s u may h = h
+  absorbs-down (d ∷ drains) s u may h =
+      absorbs-down drains (server_log.Scoped (server_log.Absorb d.n d.bits) ∷ s) u (drained-still t d s drains may.1) (scoped (server_log.Absorb d.n d.bits) s u (may.0.up, may.0.fields) h)
 
   -- all sampled moves that the server may lack
   waiting-moves : (s : List ServerEvent) (u : List ClientEvent) → Carried t s u → length (packet_of (sample_log u)).moves + acked_of (sample_log u) ≡ length (sampled_at u)
@@ -299,7 +312,7 @@ module _ (t : Terms) (limits : AreTerms t) where
         came_down = h.came_down;
         came_up = h.came_up;
         moves = h.moves;
-        nothing = h.nothing;
+        legal = h.legal;
       }
       go Room e = record {
         server = h.server;
@@ -315,7 +328,7 @@ module _ (t : Terms) (limits : AreTerms t) where
         came_down = h.came_down;
         came_up = h.came_up;
         moves = h.moves;
-        nothing = h.nothing;
+        legal = h.legal;
       }
 
   -- ---- arrivals
@@ -344,7 +357,7 @@ module _ (t : Terms) (limits : AreTerms t) where
     came_down = posted-items (posted_at (server_end s)) (seen_down p).events (came_of (client_end u)) posted h.came_down;
     came_up = h.came_up;
     moves = moves-down p (accepted_at t.config s) (sample_log u) tells h.moves;
-    nothing = h.nothing;
+    legal = h.legal;
   }
     where
       same-sampled : (p : ServerPacket) → sampled_at u ≡ sampled_of (moves_acked p (sample_log u))
@@ -366,10 +379,11 @@ module _ (t : Terms) (limits : AreTerms t) where
         longer = grows.longer;
       }
 
-  took-up : (s : List ServerEvent) (u : List ClientEvent) (room : ℕ) (p : ClientPacket) (a : Checked ArriveFault) → IsClient p → ArePosted (posted_at (client_end u)) (seen_up p).events → HoldsMoves (sampled_at u) p
+  took-up : (s : List ServerEvent) (u : List ClientEvent) (room : ℕ) (p : ClientPacket) (a : Checked ArriveFault) → server_log.packet_check t.config s p ≡ a → IsClient p → ArePosted (posted_at (client_end u)) (seen_up p).events → HoldsMoves (sampled_at u) p
       → Carried t s u → Carried t (took_at_server s room (checked_packet p a)) u
-  took-up s u room p (Err e) fits posted holds h = h
-  took-up s u room p (Ok x) fits posted holds h =
+  took-up s u room p (Err e) is fits posted holds h = h
+  took-up s u room p (Ok x) is fits posted holds h =
+      let meets = head-meets t.config.client (server_end s) (seen_up p) (head-ok_up t.config s p (ap is_ok is)) in
       let accepts = moves-up p room (move_log s) (sampled_at u) (acked_of (sample_log u)) holds h.moves in
       record {
         server = took-fits t.config.life (server_end s) (seen_up p) (seq-up p fits) h.server;
@@ -380,7 +394,7 @@ module _ (t : Terms) (limits : AreTerms t) where
         came_down = h.came_down;
         came_up = posted-items (posted_at (client_end u)) (seen_up p).events (came_of (server_end s)) posted h.came_up;
         moves = accepts.moves;
-        nothing = took-nothing s p room h.nothing;
+        legal = took-legal t.kinds s p room meets.within h.legal;
       }
 
   gets-down : (s : List ServerEvent) (u : List ClientEvent) (k : ℕ) (o : Option (List ℕ)) → slice_get (server_datagrams t s) k ≡ o → Carried t s u → Carried t s (client_gets t o u)
@@ -395,16 +409,29 @@ module _ (t : Terms) (limits : AreTerms t) where
   gets-up s u k room (Some bytes) e h =
       let d : IsUp t.config (posted_at (client_end u)) (sampled_at u) bytes = all-at (IsUp t.config (posted_at (client_end u)) (sampled_at u)) (client_datagrams t.config u) k bytes h.up e in
       subst (λ (r : Result ClientPacket BitsFault). Carried t (took_at_server s room (server_log.packet_answer t.config s r)) u) (sym d.reads)
-      (took-up s u room d.packet (server_log.packet_check t.config s d.packet) d.fits d.posted d.moves h)
+      (took-up s u room d.packet (server_log.packet_check t.config s d.packet) refl d.fits d.posted d.moves h)
 
   -- ---- all steps
 
-  pub carried : (steps : List PairStep) → AllByRecursion StepFits steps → Carried t (history t steps).server (history t steps).client
+  pub absorbed-step : (steps : List PairStep) (drains : List Drain) (reads : List Read) → IsGoodStep t steps (Pack drains reads) → Carried t (history t steps).server (history t steps).client → Carried t (absorbing drains (history t steps).server) (history t steps).client
+  absorbed-step steps drains reads step h =
+      absorbs-down drains (history t steps).server (history t steps).client (all-drained t (history t steps).server (server_state t.config (history t steps).server) drains step.met.0) h
+
+  pub carried : (steps : List PairStep) → AreGood t steps → Carried t (history t steps).server (history t steps).client
   carried [] fit = start
-  carried (Post class v ∷ steps) fit = posts-down class v (history t steps).server (history t steps).client fit.0 (carried steps fit.1)
-  carried (ClientPost class v ∷ steps) fit = posts-up class v (history t steps).server (history t steps).client fit.0 (carried steps fit.1)
+  carried (Show kind block level control ∷ steps) fit = scoped (server_log.Show kind block level control) (history t steps).server (history t steps).client fit.0.met.ranges (carried steps fit.1)
+  carried (Hide n ∷ steps) fit = scoped (server_log.Hide n) (history t steps).server (history t steps).client fit.0.met (carried steps fit.1)
+  carried (Near n level ∷ steps) fit = scoped (server_log.Near n level) (history t steps).server (history t steps).client (fit.0.met.up, fit.0.met.level) (carried steps fit.1)
+  carried (Post class v ∷ steps) fit = posts-down class v (history t steps).server (history t steps).client fit.0.ranges (carried steps fit.1)
+  carried (ClientPost class v ∷ steps) fit = posts-up class v (history t steps).server (history t steps).client fit.0.ranges (carried steps fit.1)
   carried (Sample m ∷ steps) fit = samples-up m (history t steps).server (history t steps).client (carried steps fit.1)
-  carried (Pack ∷ steps) fit = packs-down (history t steps).server (history t steps).client (carried steps fit.1)
+  carried (Pack drains reads ∷ steps) fit =
+      packs-down (absorbing drains (history t steps).server) (history t steps).client (values_of reads) (reads-fit t (history t steps).server drains reads fit.0.met.1) (absorbed-step steps drains reads fit.0 (carried steps fit.1))
   carried (ClientPack ∷ steps) fit = packs-up (history t steps).server (history t steps).client (carried steps fit.1)
   carried (Down k ∷ steps) fit = gets-down (history t steps).server (history t steps).client k (slice_get (server_datagrams t (history t steps).server) k) refl (carried steps fit.1)
   carried (Up k room ∷ steps) fit = gets-up (history t steps).server (history t steps).client k room (slice_get (client_datagrams t.config (history t steps).client) k) refl (carried steps fit.1)
+  carried (Raw bytes room ∷ steps) fit = absurd fit.0.honest
+
+  -- behind what a pack absorbs
+  pub carried-absorbed : (steps : List PairStep) (drains : List Drain) (reads : List Read) → IsGoodStep t steps (Pack drains reads) → AreGood t steps → Carried t (absorbing drains (history t steps).server) (history t steps).client
+  carried-absorbed steps drains reads step fit = absorbed-step steps drains reads step (carried steps fit)

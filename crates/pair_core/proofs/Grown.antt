@@ -1,6 +1,7 @@
 -- What the window of an end has seen stays, whatever steps come later.
 use Rattle.std.proofs.Common.{◌≡◌, ℕ, Bool, true, false, List, [], ◌∷◌, ◌++◌, Option, Some, None, Result, Ok, Err, if◌then◌else◌, refl, ap}
-use Rattle.std.specs.Prelude.{slice_get}
+use Rattle.std.specs.Prelude.{slice_get, ℤ}
+use Rattle.tn_types.specs.declared.choices.Drain.{Drain}
 use Rattle.std.specs.Result.{is_ok}
 use Rattle.tn_types.specs.declared.choices.Class.{Class}
 use Rattle.tn_types.specs.declared.choices.Class.TheVariants.{Guaranteed, Loose}
@@ -18,7 +19,7 @@ use Rattle.stream_manager.specs.Server as server_log
 use Rattle.stream_manager.specs.Server.{ServerEvent, server_end, server_datagrams, server_state, server_answer, posted_at_server, took_at_server}
 use Rattle.stream_manager.specs.Client as client_log
 use Rattle.stream_manager.specs.Client.{ClientEvent, client_end, client_datagrams, client_state, client_answer, posted_at_client, sampled_answer, took_at_client}
-use Rattle.pair_core.specs.History.{PairStep, Post, ClientPost, Sample, Pack, ClientPack, Down, Up, history, server_posts, client_posts, client_samples, client_gets, server_gets}
+use Rattle.pair_core.specs.History.{PairStep, Show, Hide, Near, Post, ClientPost, Sample, Pack, ClientPack, Down, Up, Raw, history, absorbing, values_of, server_posts, client_posts, client_samples, client_gets, server_gets}
 
 -- new is old with more events
 abbrev pub Grew : List WindowEvent → List WindowEvent → Type 0
@@ -57,10 +58,14 @@ module _ (t : Terms) (old : List WindowEvent) where
       go true = g
       go false = g
 
-  server-packs : (s : List ServerEvent) → ServerGrew s → ServerGrew (server_log.packing t s [])
-  server-packs s g = go (server_state t.config s)
+  server-absorbs : (drains : List Drain) (s : List ServerEvent) → ServerGrew s → ServerGrew (absorbing drains s)
+  server-absorbs [] s g = g
+  server-absorbs (d ∷ drains) s g = server-absorbs drains (server_log.Scoped (server_log.Absorb d.n d.bits) ∷ s) g
+
+  server-packs : (values : List ℤ) (s : List ServerEvent) → ServerGrew s → ServerGrew (server_log.packing t s values)
+  server-packs values s g = go (server_state t.config s)
     where
-      go : (state : SendState) → ServerGrew (server_log.packed_onto t s [] state)
+      go : (state : SendState) → ServerGrew (server_log.packed_onto t s values state)
       go Held = g
       go Worn = g
       go Room = grew-more _ old (window_log (server_end s)) g
@@ -94,7 +99,11 @@ server-grew t [] steps = ([], refl)
 server-grew t (Post class v ∷ later) steps = server-posts t _ class v (history t (later ++ steps)).server (server-grew t later steps)
 server-grew t (ClientPost class v ∷ later) steps = server-grew t later steps
 server-grew t (Sample m ∷ later) steps = server-grew t later steps
-server-grew t (Pack ∷ later) steps = server-packs t _ (history t (later ++ steps)).server (server-grew t later steps)
+server-grew t (Show kind block level control ∷ later) steps = server-grew t later steps
+server-grew t (Hide n ∷ later) steps = server-grew t later steps
+server-grew t (Near n level ∷ later) steps = server-grew t later steps
+server-grew t (Pack drains reads ∷ later) steps = server-packs t _ (values_of reads) (absorbing drains (history t (later ++ steps)).server) (server-absorbs t _ drains (history t (later ++ steps)).server (server-grew t later steps))
+server-grew t (Raw bytes room ∷ later) steps = server-takes t _ (history t (later ++ steps)).server room (Some bytes) (server-grew t later steps)
 server-grew t (ClientPack ∷ later) steps = server-grew t later steps
 server-grew t (Down k ∷ later) steps = server-grew t later steps
 server-grew t (Up k room ∷ later) steps = server-takes t _ (history t (later ++ steps)).server room (slice_get (client_datagrams t.config (history t (later ++ steps)).client) k) (server-grew t later steps)
@@ -104,7 +113,11 @@ client-grew t [] steps = ([], refl)
 client-grew t (Post class v ∷ later) steps = client-grew t later steps
 client-grew t (ClientPost class v ∷ later) steps = client-posts t _ class v (history t (later ++ steps)).client (client-grew t later steps)
 client-grew t (Sample m ∷ later) steps = client-samples t _ m (history t (later ++ steps)).client (client-grew t later steps)
-client-grew t (Pack ∷ later) steps = client-grew t later steps
+client-grew t (Show kind block level control ∷ later) steps = client-grew t later steps
+client-grew t (Hide n ∷ later) steps = client-grew t later steps
+client-grew t (Near n level ∷ later) steps = client-grew t later steps
+client-grew t (Pack drains reads ∷ later) steps = client-grew t later steps
+client-grew t (Raw bytes room ∷ later) steps = client-grew t later steps
 client-grew t (ClientPack ∷ later) steps = client-packs t _ (history t (later ++ steps)).client (client-grew t later steps)
 client-grew t (Down k ∷ later) steps = client-takes t _ (history t (later ++ steps)).client (slice_get (server_datagrams t (history t (later ++ steps)).server) k) (client-grew t later steps)
 client-grew t (Up k room ∷ later) steps = client-grew t later steps

@@ -1,6 +1,7 @@
 -- Each packet on the way down has blocks of the match alone, and so has each that came.
 use Rattle.std.proofs.Common.{◌≡◌, ℕ, zero, suc, ◌<◌, ◌==◌, Bool, true, false, List, [], ◌∷◌, if◌then◌else◌, length, reverse, Option, Some, None, Result, Ok, Err, refl, sym, subst, arith}
-use Rattle.std.specs.Prelude.{slice_get}
+use Rattle.std.specs.Prelude.{slice_get, ℤ}
+use Rattle.tn_types.specs.declared.choices.Drain.{Drain}
 use Rattle.std.specs.Result.{is_ok}
 use Rattle.std.specs.List.{AllByRecursion, slice_index_or}
 use Rattle.std.proofs.lemmas.Grind.{reverse_onto}
@@ -28,13 +29,13 @@ use Rattle.stream_manager.specs.Server as server_log
 use Rattle.stream_manager.specs.Server.{ServerEvent, server_datagrams, server_state, posted_at_server, next_body, server_ping, took_at_server, server_answer}
 use Rattle.stream_manager.specs.Client as client_log
 use Rattle.stream_manager.specs.Client.{ClientEvent, blocks_in, blocks_came, client_datagrams, client_state, posted_at_client, sampled_answer, took_at_client}
-use Rattle.pair_core.specs.History.{PairStep, Post, ClientPost, Sample, Pack, ClientPack, Down, Up, history, server_posts, client_posts, client_samples, client_gets, server_gets}
-use Rattle.pair_core.specs.Laws.{StepFits}
+use Rattle.pair_core.specs.History.{PairStep, Show, Hide, Near, Post, ClientPost, Sample, Pack, ClientPack, Down, Up, Raw, history, absorbing, values_of, server_posts, client_posts, client_samples, client_gets, server_gets}
+use Rattle.pair_core.proofs.Good.{AreGood, FitRoom, reads-fit}
 use Rattle.pair_core.specs.HeldBlocks.{IsAsGiven, HoldsBlocksAsGiven}
 use Rattle.pair_core.proofs.Spelled.{reads-down}
 use Rattle.pair_core.proofs.Lists.{all-append, all-at}
 use Rattle.pair_core.proofs.Sections.{blocks-all}
-use Rattle.pair_core.proofs.Carried.{Carried, carried, ping-down, body-down}
+use Rattle.pair_core.proofs.Carried.{Carried, carried-absorbed, ping-down, body-down}
 
 -- bytes that spell a packet whose blocks are all as they were given
 pub record BringsGivenBlocks (t : Terms) (bytes : List ℕ) : Type 0 where
@@ -89,13 +90,17 @@ module _ (t : Terms) (limits : AreTerms t) where
       go false = h
       go true = record { down = h.down; came = h.came }
 
+  absorbs-down : (drains : List Drain) (s : List ServerEvent) (u : List ClientEvent) → Given t s u → Given t (absorbing drains s) u
+  absorbs-down [] s u h = h
+  absorbs-down (d ∷ drains) s u h = absorbs-down drains (server_log.Scoped (server_log.Absorb d.n d.bits) ∷ s) u (record { down = h.down; came = h.came })
+
   brings : (p : ServerPacket) → IsServer t.kinds p → AllByRecursion (IsAsGiven t.blocks) (blocks_in p) → BringsGivenBlocks t (bytes_down t p)
   brings p fits known = record { packet = p; reads = reads-down t p fits; known = known }
 
-  packs-down : (s : List ServerEvent) (u : List ClientEvent) → Carried t s u → Given t s u → Given t (server_log.packing t s []) u
-  packs-down s u c h = go (server_state t.config s) refl
+  packs-down : (s : List ServerEvent) (u : List ClientEvent) (values : List ℤ) → FitRoom t s values → Carried t s u → Given t s u → Given t (server_log.packing t s values) u
+  packs-down s u values fit c h = go (server_state t.config s) refl
     where
-      go : (state : SendState) → server_state t.config s ≡ state → Given t (server_log.packed_onto t s [] state) u
+      go : (state : SendState) → server_state t.config s ≡ state → Given t (server_log.packed_onto t s values state) u
       go Worn e = h
       go Held e = record {
         down = all-append (BringsGivenBlocks t) (server_datagrams t s) _ h.down (brings (down.Ping (server_ping t.config s)) (ping-down t limits s u e c) tt, tt);
@@ -103,7 +108,7 @@ module _ (t : Terms) (limits : AreTerms t) where
       }
       go Room e = record {
         down = all-append (BringsGivenBlocks t) (server_datagrams t s) _ h.down
-            (brings (down.Body (next_body t s [])) (body-down t limits s u e c) (blocks-all (IsAsGiven t.blocks) t (server_log.with_plan t s) (script-block t.blocks)), tt);
+            (brings (down.Body (next_body t s values)) (body-down t limits s u values e (fit e) c) (blocks-all (IsAsGiven t.blocks) t (server_log.with_plan t s) (script-block t.blocks)), tt);
         came = h.came;
       }
 
@@ -134,15 +139,21 @@ module _ (t : Terms) (limits : AreTerms t) where
   gets-up s u room None h = h
   gets-up s u room (Some bytes) h = took-up s u room (server_answer t.config s bytes) h
 
-  pub given : (steps : List PairStep) → AllByRecursion StepFits steps → Given t (history t steps).server (history t steps).client
+  pub given : (steps : List PairStep) → AreGood t steps → Given t (history t steps).server (history t steps).client
   given [] fit = record { down = tt; came = tt }
   given (Post class v ∷ steps) fit = posts-down class v (history t steps).server (history t steps).client (given steps fit.1)
   given (ClientPost class v ∷ steps) fit = posts-up class v (history t steps).server (history t steps).client (given steps fit.1)
   given (Sample m ∷ steps) fit = samples-up m (history t steps).server (history t steps).client (given steps fit.1)
-  given (Pack ∷ steps) fit = packs-down (history t steps).server (history t steps).client (carried t limits steps fit.1) (given steps fit.1)
+  given (Show kind block level control ∷ steps) fit = let h = given steps fit.1 in record { down = h.down; came = h.came }
+  given (Hide n ∷ steps) fit = let h = given steps fit.1 in record { down = h.down; came = h.came }
+  given (Near n level ∷ steps) fit = let h = given steps fit.1 in record { down = h.down; came = h.came }
+  given (Pack drains reads ∷ steps) fit =
+      packs-down (absorbing drains (history t steps).server) (history t steps).client (values_of reads) (reads-fit t (history t steps).server drains reads fit.0.met.1)
+      (carried-absorbed t limits steps drains reads fit.0 fit.1) (absorbs-down drains (history t steps).server (history t steps).client (given steps fit.1))
+  given (Raw bytes room ∷ steps) fit = absurd fit.0.honest
   given (ClientPack ∷ steps) fit = packs-up (history t steps).server (history t steps).client (given steps fit.1)
   given (Down k ∷ steps) fit = gets-down (history t steps).server (history t steps).client k (slice_get (server_datagrams t (history t steps).server) k) refl (given steps fit.1)
   given (Up k room ∷ steps) fit = gets-up (history t steps).server (history t steps).client room (slice_get (client_datagrams t.config (history t steps).client) k) (given steps fit.1)
 
-pub holds_as_given : (t : Terms) (steps : List PairStep) → AreTerms t → AllByRecursion StepFits steps → HoldsBlocksAsGiven t steps
+pub holds_as_given : (t : Terms) (steps : List PairStep) → AreTerms t → AreGood t steps → HoldsBlocksAsGiven t steps
 holds_as_given t steps limits fit b v held = held-given t.blocks (blocks_came (history t steps).client) b v (given t limits steps fit).came held

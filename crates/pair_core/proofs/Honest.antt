@@ -1,10 +1,10 @@
 -- Over every list of steps, what is on its way between the ends is what an honest end sent: its packets name the client, and
 -- their events, blocks and moves fit what the other end has.
-use Rattle.std.proofs.Common.{◌≡◌, ℕ, ◌-◌, ◌*◌, ◌≤◌, Bool, true, false, List, [], ◌∷◌, length, map, take, Option, Some, None, if◌then◌else◌, Result, Ok, Err, refl, sym, ap, subst, arith}
-use Rattle.std.specs.Prelude.{slice_get}
+use Rattle.std.proofs.Common.{◌≡◌, ℕ, ◌-◌, ◌*◌, ◌≤◌, Bool, true, false, List, [], ◌∷◌, length, map, take, Option, Some, None, if◌then◌else◌, Result, Ok, Err, refl, sym, subst, arith}
+use Rattle.std.specs.Prelude.{slice_get, ℤ}
 use Rattle.std.specs.Result.{is_ok}
 use Rattle.std.specs.List.{AllByRecursion, slice_index_or}
-use Rattle.tn_types.specs.declared.choices.Choice.{Choice}
+use Rattle.tn_types.specs.declared.choices.Drain.{Drain}
 use Rattle.tn_types.specs.declared.choices.Class.{Class}
 use Rattle.tn_types.specs.declared.choices.Class.TheVariants.{Guaranteed, Loose}
 use Rattle.tn_types.specs.declared.moves.Move.{Move}
@@ -12,7 +12,6 @@ use Rattle.notify_window.specs.declared.SendState.{SendState}
 use Rattle.notify_window.specs.declared.SendState.TheVariants.{Held, Worn, Room}
 use Rattle.wire_format.specs.declared.fault.BitsFault.{BitsFault}
 use Rattle.wire_format.specs.declared.blocks.BlockItem.{BlockItem}
-use Rattle.wire_format.specs.declared.server.ServerBody.{ServerBody}
 use Rattle.wire_format.specs.declared.server.ServerPacket.{ServerPacket}
 use Rattle.wire_format.specs.declared.server.ServerPacket.TheVariants as down
 use Rattle.wire_format.specs.declared.client.ClientPacket.{ClientPacket}
@@ -22,8 +21,6 @@ use Rattle.tn_types.specs.declared.limits.TheConstants.{MAX_PACKET_BLOCKS}
 use Rattle.wire_format.specs.Blocks.{block_size}
 use Rattle.datablocks.specs.Sending.{due_of}
 use Rattle.tn_types.specs.Fitting.{fitting}
-use Rattle.ghost_model.specs.Ghosts.{Grant}
-use Rattle.ghost_masks.specs.Carried.{ghosts_for}
 use Rattle.move_manager.specs.Sending.{acked_of}
 use Rattle.stream_manager.specs.declared.fault.ArriveFault.{ArriveFault}
 use Rattle.stream_manager.specs.declared.fault.ClientFault.{ClientFault}
@@ -36,31 +33,26 @@ use Rattle.notify_window.specs.Log.{sent_of}
 use Rattle.stream_manager.specs.End.{window_log, fates, came_of, with_event}
 use Rattle.stream_manager.proofs.Fitting.{fitting-all}
 use Rattle.stream_manager.specs.Server as server_log
-use Rattle.stream_manager.specs.Server.{ServerEvent, server_end, block_log, server_datagrams, server_state, posted_at_server, seen_up, next_body, server_ping, took_at_server, block_item, ghost_log, accepted_at, move_log}
+use Rattle.stream_manager.specs.Server.{ServerEvent, server_end, block_log, server_datagrams, server_state, posted_at_server, seen_up, next_body, server_ping, took_at_server, block_item, accepted_at, move_log}
 use Rattle.stream_manager.specs.Client as client_log
 use Rattle.stream_manager.specs.Client.{ClientEvent, client_end, client_datagrams, client_state, posted_at_client, sampled_answer, seen_down, client_body, client_ping, took_at_client, sample_log, sampled_at}
-use Rattle.pair_core.specs.History.{PairStep, Post, ClientPost, Sample, Pack, ClientPack, Down, Up, history, server_posts, client_posts, client_samples, client_gets, server_gets}
-use Rattle.pair_core.specs.Laws.{StepFits, posted_at}
-use Rattle.pair_core.proofs.NoGhosts.{no-plan, no-control}
+use Rattle.pair_core.specs.History.{PairStep, Show, Hide, Near, Post, ClientPost, Sample, Pack, ClientPack, Down, Up, Raw, history, absorbing, values_of, server_posts, client_posts, client_samples, client_gets, server_gets}
+use Rattle.pair_core.proofs.Good.{AreGood, FitRoom, reads-fit}
+use Rattle.pair_core.specs.Laws.{posted_at}
 use Rattle.pair_core.proofs.Spelled.{reads-down, reads-up}
 use Rattle.pair_core.proofs.Lists.{all-at, all-take}
-use Rattle.pair_core.proofs.Carried.{Carried, carried, ping-down, body-down, ping-up, body-up, HoldsMoves, IsUp, moves-up}
-use Rattle.pair_core.proofs.VerdictLaw.{Windows, windows, true-verdicts}
+use Rattle.pair_core.proofs.Carried.{Carried, carried, carried-absorbed, ping-down, body-down, ping-up, body-up, HoldsMoves, IsUp, moves-up}
+use Rattle.pair_core.proofs.VerdictLaw.{Windows, windows, true-verdicts, absorbs-down as windows-absorbed}
 use Rattle.pair_core.proofs.Reached.{events_of, Brings, EventsOn, start-events, near-events, sends-events, pings-events, takes-events, better}
 
 -- a block of the script
 abbrev pub IsOf : List (List ℕ) → BlockItem → Type 0
 IsOf blocks item = item.bytes ≡ slice_index_or blocks item.number []
 
--- what a data packet of the server holds, where no object was shown to the client
-pub record IsPlainBody (blocks : List (List ℕ)) (p : ServerBody) : Type 0 where
-  pub script : AllByRecursion (IsOf blocks) p.blocks
-  pub ghosts : p.ghosts ≡ []
-  pub control : p.control ≡ None
-
-abbrev pub IsPlain : List (List ℕ) → ServerPacket → Type 0
-IsPlain blocks (down.Ping head) = Unit {0}
-IsPlain blocks (down.Body p) = IsPlainBody blocks p
+-- the blocks of a packet of the server are those of the script
+abbrev pub IsScript : List (List ℕ) → ServerPacket → Type 0
+IsScript blocks (down.Ping head) = Unit {0}
+IsScript blocks (down.Body p) = AllByRecursion (IsOf blocks) p.blocks
 
 -- the moves of a packet of the client leave no gap behind so many
 abbrev pub BeginsWithin : ℕ → ClientPacket → Type 0
@@ -72,7 +64,7 @@ begins-later m n l (up.Ping head) h = tt
 begins-later m n l (up.Body p) h = omega arith
 
 pub record Honest (t : Terms) (s : List ServerEvent) (u : List ClientEvent) : Type 0 where
-  pub down : EventsOn (read_down t.config t.kinds) seen_down (IsPlain t.blocks) t.config.client (server_end s) (client_end u) (server_datagrams t s)
+  pub down : EventsOn (read_down t.config t.kinds) seen_down (IsScript t.blocks) t.config.client (server_end s) (client_end u) (server_datagrams t s)
   pub up : EventsOn (read_up t.config) seen_up (BeginsWithin (length (accepted_at t.config s))) t.config.client (client_end u) (server_end s) (client_datagrams t.config u)
 
 are-of : (blocks : List (List ℕ)) (ns : List ℕ) → AllByRecursion (IsOf blocks) (map (block_item blocks) ns)
@@ -85,7 +77,7 @@ same-packet r p q e f = cc
 
 module _ (t : Terms) (limits : AreTerms t) where
   start : Honest t [] []
-  start = record { down = start-events (read_down t.config t.kinds) seen_down (IsPlain t.blocks) t.config.client; up = start-events (read_up t.config) seen_up (BeginsWithin 0) t.config.client }
+  start = record { down = start-events (read_down t.config t.kinds) seen_down (IsScript t.blocks) t.config.client; up = start-events (read_up t.config) seen_up (BeginsWithin 0) t.config.client }
 
   -- ---- posts and samples
 
@@ -112,34 +104,37 @@ module _ (t : Terms) (limits : AreTerms t) where
       go true = record { down = h.down; up = h.up }
       go false = h
 
+  scoped : (change : server_log.ScopeChange) (s : List ServerEvent) (u : List ClientEvent) → Honest t s u → Honest t (server_log.Scoped change ∷ s) u
+  scoped change s u h = record { down = h.down; up = h.up }
+
+  absorbs-down : (drains : List Drain) (s : List ServerEvent) (u : List ClientEvent) → Honest t s u → Honest t (absorbing drains s) u
+  absorbs-down [] s u h = h
+  absorbs-down (d ∷ drains) s u h = absorbs-down drains (server_log.Scoped (server_log.Absorb d.n d.bits) ∷ s) u (scoped (server_log.Absorb d.n d.bits) s u h)
+
   -- ---- packs
 
-  plain-next : (s : List ServerEvent) (u : List ClientEvent) → Carried t s u → IsPlainBody t.blocks (next_body t s [])
-  plain-next s u c = record {
-    script = script (due_of (fates (server_end s)) (block_log s) (length t.blocks));
-    ghosts = ap (λ (cs : List Choice). ghosts_for t.kinds (Grant ∷ ghost_log s) cs []) (no-plan t.kinds (Grant ∷ ghost_log s) c.nothing _ _);
-    control = no-control t.kinds (Grant ∷ ghost_log s) c.nothing;
-  }
+  script-next : (s : List ServerEvent) (values : List ℤ) → AllByRecursion (IsOf t.blocks) (next_body t s values).blocks
+  script-next s values = script (due_of (fates (server_end s)) (block_log s) (length t.blocks))
     where
       script : (ns : List ℕ) → AllByRecursion (IsOf t.blocks) (fitting block_size (4 * t.config.size - SERVER_FIXED_BITS) (take MAX_PACKET_BLOCKS (map (block_item t.blocks) ns)))
       script ns = fitting-all (IsOf t.blocks) block_size (4 * t.config.size - SERVER_FIXED_BITS) (take MAX_PACKET_BLOCKS (map (block_item t.blocks) ns)) (all-take (IsOf t.blocks) MAX_PACKET_BLOCKS (map (block_item t.blocks) ns) (are-of t.blocks ns))
 
-  packs-down : (s : List ServerEvent) (u : List ClientEvent) → Carried t s u → Windows t s u → Honest t s u → Honest t (server_log.packing t s []) u
-  packs-down s u c w h = go (server_state t.config s) refl
+  packs-down : (s : List ServerEvent) (u : List ClientEvent) (values : List ℤ) → FitRoom t s values → Carried t s u → Windows t s u → Honest t s u → Honest t (server_log.packing t s values) u
+  packs-down s u values fit c w h = go (server_state t.config s) refl
     where
-      go : (state : SendState) → server_state t.config s ≡ state → Honest t (server_log.packed_onto t s [] state) u
+      go : (state : SendState) → server_state t.config s ≡ state → Honest t (server_log.packed_onto t s values state) u
       go Worn e = h
       go Held e = record {
-        down = pings-events (read_down t.config t.kinds) seen_down (IsPlain t.blocks) t.config.client (server_end s) (client_end u) (server_datagrams t s) h.down (down.Ping (server_ping t.config s)) (bytes_down t (down.Ping (server_ping t.config s)))
+        down = pings-events (read_down t.config t.kinds) seen_down (IsScript t.blocks) t.config.client (server_end s) (client_end u) (server_datagrams t s) h.down (down.Ping (server_ping t.config s)) (bytes_down t (down.Ping (server_ping t.config s)))
             refl (reads-down t (down.Ping (server_ping t.config s)) (ping-down t limits s u e c)) refl refl refl tt;
         up = h.up;
       }
       go Room e = record {
-        down = sends-events (read_down t.config t.kinds) seen_down (IsPlain t.blocks) t.config.client (server_end s) (client_end u) (server_datagrams t s) h.down (down.Body (next_body t s [])) (bytes_down t (down.Body (next_body t s [])))
-            refl (reads-down t (down.Body (next_body t s [])) (body-down t limits s u e c)) refl
-            (near-events (read_down t.config t.kinds) seen_down (IsPlain t.blocks) t.config.client (server_end s) (client_end u) (server_datagrams t s) h.down
+        down = sends-events (read_down t.config t.kinds) seen_down (IsScript t.blocks) t.config.client (server_end s) (client_end u) (server_datagrams t s) h.down (down.Body (next_body t s values)) (bytes_down t (down.Body (next_body t s values)))
+            refl (reads-down t (down.Body (next_body t s values)) (body-down t limits s u values e (fit e) c)) refl
+            (near-events (read_down t.config t.kinds) seen_down (IsScript t.blocks) t.config.client (server_end s) (client_end u) (server_datagrams t s) h.down
             (true-verdicts (read_down t.config t.kinds) seen_down (server_end s) (client_end u) (server_datagrams t s) w.down).0 t.config _)
-            (plain-next s u c) w.down.known;
+            (script-next s values) w.down.known;
         up = h.up;
       }
 
@@ -164,11 +159,11 @@ module _ (t : Terms) (limits : AreTerms t) where
 
   -- ---- arrivals
 
-  took-down : (s : List ServerEvent) (u : List ClientEvent) (bytes : List ℕ) (a : Checked ClientFault) (b : Brings (read_down t.config t.kinds) seen_down (IsPlain t.blocks) t.config.client (λ n. events_of n (server_end s)) (sent_of (window_log (server_end s))) (run_of (came_of (client_end u))) bytes)
+  took-down : (s : List ServerEvent) (u : List ClientEvent) (bytes : List ℕ) (a : Checked ClientFault) (b : Brings (read_down t.config t.kinds) seen_down (IsScript t.blocks) t.config.client (λ n. events_of n (server_end s)) (sent_of (window_log (server_end s))) (run_of (came_of (client_end u))) bytes)
       → Honest t s u → Honest t s (took_at_client u (checked_packet b.packet a))
   took-down s u bytes (Err e) b h = h
   took-down s u bytes (Ok x) b h = record {
-    down = takes-events (read_down t.config t.kinds) seen_down (IsPlain t.blocks) t.config.client (server_end s) (client_end u) (server_datagrams t s) h.down (seen_down b.packet) b.own;
+    down = takes-events (read_down t.config t.kinds) seen_down (IsScript t.blocks) t.config.client (server_end s) (client_end u) (server_datagrams t s) h.down (seen_down b.packet) b.own;
     up = h.up;
   }
 
@@ -185,7 +180,7 @@ module _ (t : Terms) (limits : AreTerms t) where
   gets-down : (s : List ServerEvent) (u : List ClientEvent) (k : ℕ) (o : Option (List ℕ)) → slice_get (server_datagrams t s) k ≡ o → Honest t s u → Honest t s (client_gets t o u)
   gets-down s u k None e h = h
   gets-down s u k (Some bytes) e h =
-      let b : Brings (read_down t.config t.kinds) seen_down (IsPlain t.blocks) t.config.client (λ n. events_of n (server_end s)) (sent_of (window_log (server_end s))) (run_of (came_of (client_end u))) bytes = all-at _ (server_datagrams t s) k bytes h.down.brings e in
+      let b : Brings (read_down t.config t.kinds) seen_down (IsScript t.blocks) t.config.client (λ n. events_of n (server_end s)) (sent_of (window_log (server_end s))) (run_of (came_of (client_end u))) bytes = all-at _ (server_datagrams t s) k bytes h.down.brings e in
       subst (λ (r : Result ServerPacket BitsFault). Honest t s (took_at_client u (client_log.packet_answer t.config u r))) (sym b.reads)
       (took-down s u bytes (client_log.packet_check t.config u b.packet) b h)
 
@@ -199,12 +194,19 @@ module _ (t : Terms) (limits : AreTerms t) where
 
   -- ---- all steps
 
-  pub honest : (steps : List PairStep) → AllByRecursion StepFits steps → Honest t (history t steps).server (history t steps).client
+  pub honest : (steps : List PairStep) → AreGood t steps → Honest t (history t steps).server (history t steps).client
   honest [] fit = start
   honest (Post class v ∷ steps) fit = posts-down class v (history t steps).server (history t steps).client (honest steps fit.1)
   honest (ClientPost class v ∷ steps) fit = posts-up class v (history t steps).server (history t steps).client (honest steps fit.1)
   honest (Sample m ∷ steps) fit = samples-up m (history t steps).server (history t steps).client (honest steps fit.1)
-  honest (Pack ∷ steps) fit = packs-down (history t steps).server (history t steps).client (carried t limits steps fit.1) (windows t limits steps fit.1) (honest steps fit.1)
+  honest (Show kind block level control ∷ steps) fit = scoped (server_log.Show kind block level control) (history t steps).server (history t steps).client (honest steps fit.1)
+  honest (Hide n ∷ steps) fit = scoped (server_log.Hide n) (history t steps).server (history t steps).client (honest steps fit.1)
+  honest (Near n level ∷ steps) fit = scoped (server_log.Near n level) (history t steps).server (history t steps).client (honest steps fit.1)
+  honest (Pack drains reads ∷ steps) fit =
+      packs-down (absorbing drains (history t steps).server) (history t steps).client (values_of reads) (reads-fit t (history t steps).server drains reads fit.0.met.1)
+      (carried-absorbed t limits steps drains reads fit.0 fit.1) (windows-absorbed t limits drains (history t steps).server (history t steps).client (windows t limits steps fit.1))
+      (absorbs-down drains (history t steps).server (history t steps).client (honest steps fit.1))
+  honest (Raw bytes room ∷ steps) fit = absurd fit.0.honest
   honest (ClientPack ∷ steps) fit = packs-up (history t steps).server (history t steps).client (carried t limits steps fit.1) (windows t limits steps fit.1) (honest steps fit.1)
   honest (Down k ∷ steps) fit = gets-down (history t steps).server (history t steps).client k (slice_get (server_datagrams t (history t steps).server) k) refl (honest steps fit.1)
   honest (Up k room ∷ steps) fit = gets-up (history t steps).server (history t steps).client k room (slice_get (client_datagrams t.config (history t steps).client) k) refl (carried t limits steps fit.1) (honest steps fit.1)

@@ -3,14 +3,23 @@ pub mod Lists
 pub mod Fits
 pub mod Posted
 pub mod Sections
-pub mod NoGhosts
+pub mod Flat
+pub mod Asked
+pub mod ReadValues
+pub mod Packed
+pub mod Good
+pub mod Scoped
+mod GhostItems
+pub mod LegalLogs
 mod Spelled
-mod Carried
+mod Heads
+pub mod Carried
 mod Windows
 mod Grown
 pub mod VerdictLaw
 mod Reached
 mod Honest
+pub mod Joined
 pub mod RefusalLaw
 pub mod InOrder
 pub mod HeldBlocks

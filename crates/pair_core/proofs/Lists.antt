@@ -1,5 +1,5 @@
 -- Facts of all items of a list, and items by their place.
-use Rattle.std.proofs.Common.{◌≡◌, ℕ, zero, suc, List, [], ◌∷◌, ◌++◌, length, take, drop, Some, refl, subst}
+use Rattle.std.proofs.Common.{◌≡◌, ℕ, zero, suc, ◌<◌, List, [], ◌∷◌, ◌++◌, length, take, drop, get_or, Some, refl, subst, arith}
 use Rattle.std.specs.Prelude.{slice_get}
 use Rattle.std.specs.List.{AllByRecursion}
 
@@ -36,3 +36,8 @@ all-map P Q f (x ∷ xs) h = (f x h.0, all-map P Q f xs h.1)
 pub slice_get-at : {A : Type 0} (before : List A) (v : A) (after : List A) → slice_get (before ++ v ∷ after) (length before) ≡ Some v
 slice_get-at [] v after = refl
 slice_get-at (u ∷ before) v after = slice_get-at before v after
+
+pub all-get : {A : Type 0} (P : A → Type 0) (xs : List A) (k : ℕ) (d : A) → k < length xs → AllByRecursion P xs → P (get_or xs k d)
+all-get P [] k d lt h = absurd (omega arith)
+all-get P (x ∷ xs) zero d lt h = h.0
+all-get P (x ∷ xs) (suc k) d lt h = all-get P xs k d (omega arith) h.1

@@ -1,13 +1,13 @@
 -- Each datagram on its way reads as a packet with the unguaranteed events that were written under its number, and what
 -- came was in packets of rising numbers.
 use Rattle.std.proofs.Common.{◌≡◌, ℕ, Bool, true, false, List, [], ◌∷◌, ◌++◌, if◌then◌else◌, Option, Some, None, Result, Ok, Err, refl, sym, subst}
-use Rattle.std.specs.Prelude.{slice_get}
+use Rattle.std.specs.Prelude.{slice_get, ℤ}
+use Rattle.tn_types.specs.declared.choices.Drain.{Drain}
 use Rattle.std.specs.Result.{is_ok}
 use Rattle.std.specs.List.{AllByRecursion}
 use Rattle.tn_types.specs.declared.choices.Class.{Class}
 use Rattle.tn_types.specs.declared.choices.Class.TheVariants.{Guaranteed, Loose}
 use Rattle.tn_types.specs.declared.moves.Move.{Move}
-use Rattle.bit_stream.specs.Bits.{datagram}
 use Rattle.notify_window.specs.declared.SendState.{SendState}
 use Rattle.notify_window.specs.declared.SendState.TheVariants.{Held, Worn, Room}
 use Rattle.notify_window.specs.Log.{horizon_of}
@@ -31,12 +31,12 @@ use Rattle.stream_manager.specs.Server as server_log
 use Rattle.stream_manager.specs.Server.{ServerEvent, server_end, server_datagrams, seen_ping, seen_body, seen_client_body, seen_up, server_state, posted_at_server, with_plan, next_body, server_ping, took_at_server}
 use Rattle.stream_manager.specs.Client as client_log
 use Rattle.stream_manager.specs.Client.{ClientEvent, client_end, client_datagrams, seen_down, client_state, posted_at_client, client_body, client_ping, took_at_client, sampled_answer}
-use Rattle.pair_core.specs.History.{PairStep, Post, ClientPost, Sample, Pack, ClientPack, Down, Up, history, server_posts, client_posts, client_samples, client_gets, server_gets}
-use Rattle.pair_core.specs.Laws.{StepFits}
+use Rattle.pair_core.specs.History.{PairStep, Show, Hide, Near, Post, ClientPost, Sample, Pack, ClientPack, Down, Up, Raw, history, absorbing, values_of, server_posts, client_posts, client_samples, client_gets, server_gets}
+use Rattle.pair_core.proofs.Good.{AreGood, FitRoom, reads-fit}
 use Rattle.pair_core.specs.LooseEvents.{LooseDown, LooseUp}
 use Rattle.pair_core.proofs.Spelled.{reads-down, reads-up}
 use Rattle.pair_core.proofs.Lists.{all-append, all-map, all-at}
-use Rattle.pair_core.proofs.Carried.{Carried, carried, ping-down, body-down, ping-up, body-up}
+use Rattle.pair_core.proofs.Carried.{Carried, carried, carried-absorbed, ping-down, body-down, ping-up, body-up}
 use Rattle.pair_core.proofs.LooseItems.{loose_in, written, Sends, start-sends, posted-sends, loose-sends, packed-sends, pinged-sends, took-sends, Flies, flies-push, flies-last, IsNew, not-old, Gets, gets-push, gets-more, gets-posted}
 
 abbrev SeenFlies : List (List (List ℕ)) → Seen → Type 0
@@ -74,7 +74,7 @@ first-passed : {E : Type 0} (a b : Checked E) → then_check a b ≡ Ok tt → a
 first-passed (Ok x) b e = refl
 first-passed (Err fault) b e = absurd cc
 
-passed-at_client : (a : Checked HeadFault) → head_at_client a ≡ Ok tt → a ≡ Ok tt
+pub passed-at_client : (a : Checked HeadFault) → head_at_client a ≡ Ok tt → a ≡ Ok tt
 passed-at_client (Ok x) e = refl
 passed-at_client (Err fault) e = absurd cc
 
@@ -83,7 +83,7 @@ passed-at_server (Ok x) e = refl
 passed-at_server (Err fault) e = absurd cc
 
 module _ (t : Terms) (limits : AreTerms t) where
-  new-down : (u : List ClientEvent) (p : ServerPacket) → client_log.packet_check t.config u p ≡ Ok tt → IsNew (seen_down p).ping (seen_down p).head.seq (horizon_of (window_log (client_end u)))
+  pub new-down : (u : List ClientEvent) (p : ServerPacket) → client_log.packet_check t.config u p ≡ Ok tt → IsNew (seen_down p).ping (seen_down p).head.seq (horizon_of (window_log (client_end u)))
   new-down u (down.Ping head) e = tt
   new-down u (down.Body p) e = not-old t.config.client (client_end u) (seen_body p) (passed-at_client (head_answer t.config.client (client_end u) (seen_body p)) (first-passed _ (client_log.body_check u p) e))
 
@@ -116,6 +116,13 @@ module _ (t : Terms) (limits : AreTerms t) where
       go false = h
       go true = record { server = h.server; client = h.client; down = h.down; up = h.up; came_down = h.came_down; came_up = h.came_up }
 
+  scoped : (change : server_log.ScopeChange) (s : List ServerEvent) (u : List ClientEvent) → Ordered t s u → Ordered t (server_log.Scoped change ∷ s) u
+  scoped change s u h = record { server = h.server; client = h.client; down = h.down; up = h.up; came_down = h.came_down; came_up = h.came_up }
+
+  absorbs-down : (drains : List Drain) (s : List ServerEvent) (u : List ClientEvent) → Ordered t s u → Ordered t (absorbing drains s) u
+  absorbs-down [] s u h = h
+  absorbs-down (d ∷ drains) s u h = absorbs-down drains (server_log.Scoped (server_log.Absorb d.n d.bits) ∷ s) u (scoped (server_log.Absorb d.n d.bits) s u h)
+
   -- ---- packs
 
   flies-down : (ws : List (List (List ℕ))) (p : ServerPacket) → IsServer t.kinds p → SeenFlies ws (seen_down p) → FliesDown t ws (bytes_down t p)
@@ -124,16 +131,16 @@ module _ (t : Terms) (limits : AreTerms t) where
   flies-up : (ws : List (List (List ℕ))) (p : ClientPacket) → IsClient p → SeenFlies ws (seen_up p) → FliesUp t.config ws (bytes_up t.config p)
   flies-up ws p fits flies = record { packet = p; reads = reads-up t.config p fits; flies = flies }
 
-  packs-down : (s : List ServerEvent) (u : List ClientEvent) → Carried t s u → Ordered t s u → Ordered t (server_log.packing t s []) u
-  packs-down s u c h = go (server_state t.config s) refl
+  packs-down : (s : List ServerEvent) (u : List ClientEvent) (values : List ℤ) → FitRoom t s values → Carried t s u → Ordered t s u → Ordered t (server_log.packing t s values) u
+  packs-down s u values fit c h = go (server_state t.config s) refl
     where
       ws : List (List (List ℕ))
       ws = written (server_end s)
 
       body : Seen
-      body = seen_body (next_body t s [])
+      body = seen_body (next_body t s values)
 
-      go : (state : SendState) → server_state t.config s ≡ state → Ordered t (server_log.packed_onto t s [] state) u
+      go : (state : SendState) → server_state t.config s ≡ state → Ordered t (server_log.packed_onto t s values state) u
       go Worn e = h
       go Held e = record {
         server = pinged-sends (server_end s) (seen_ping (server_ping t.config s)) h.server;
@@ -148,7 +155,7 @@ module _ (t : Terms) (limits : AreTerms t) where
         client = h.client;
         down = all-append (FliesDown t (ws ++ loose_in body.events ∷ [])) (server_datagrams t s) _
             (all-map (FliesDown t ws) (FliesDown t (ws ++ loose_in body.events ∷ [])) (down-push t ws (loose_in body.events)) (server_datagrams t s) h.down)
-            (flies-down (ws ++ loose_in body.events ∷ []) (down.Body (next_body t s [])) (body-down t limits s u e c) (flies-last (server_end s) body.head.seq (loose_in body.events) refl h.server), tt);
+            (flies-down (ws ++ loose_in body.events ∷ []) (down.Body (next_body t s values)) (body-down t limits s u values e (fit e) c) (flies-last (server_end s) body.head.seq (loose_in body.events) refl h.server), tt);
         up = h.up;
         came_down = gets-push ws (loose_in body.events) (client_end u) h.came_down;
         came_up = h.came_up;
@@ -224,18 +231,24 @@ module _ (t : Terms) (limits : AreTerms t) where
 
   -- ---- all steps
 
-  ordered : (steps : List PairStep) → AllByRecursion StepFits steps → Ordered t (history t steps).server (history t steps).client
+  ordered : (steps : List PairStep) → AreGood t steps → Ordered t (history t steps).server (history t steps).client
   ordered [] fit = record { server = start-sends; client = start-sends; down = tt; up = tt; came_down = refl; came_up = refl }
   ordered (Post class v ∷ steps) fit = posts-down class v (history t steps).server (history t steps).client (ordered steps fit.1)
   ordered (ClientPost class v ∷ steps) fit = posts-up class v (history t steps).server (history t steps).client (ordered steps fit.1)
   ordered (Sample m ∷ steps) fit = samples-up m (history t steps).server (history t steps).client (ordered steps fit.1)
-  ordered (Pack ∷ steps) fit = packs-down (history t steps).server (history t steps).client (carried t limits steps fit.1) (ordered steps fit.1)
+  ordered (Show kind block level control ∷ steps) fit = scoped (server_log.Show kind block level control) (history t steps).server (history t steps).client (ordered steps fit.1)
+  ordered (Hide n ∷ steps) fit = scoped (server_log.Hide n) (history t steps).server (history t steps).client (ordered steps fit.1)
+  ordered (Near n level ∷ steps) fit = scoped (server_log.Near n level) (history t steps).server (history t steps).client (ordered steps fit.1)
+  ordered (Pack drains reads ∷ steps) fit =
+      packs-down (absorbing drains (history t steps).server) (history t steps).client (values_of reads) (reads-fit t (history t steps).server drains reads fit.0.met.1)
+      (carried-absorbed t limits steps drains reads fit.0 fit.1) (absorbs-down drains (history t steps).server (history t steps).client (ordered steps fit.1))
+  ordered (Raw bytes room ∷ steps) fit = absurd fit.0.honest
   ordered (ClientPack ∷ steps) fit = packs-up (history t steps).server (history t steps).client (carried t limits steps fit.1) (ordered steps fit.1)
   ordered (Down k ∷ steps) fit = gets-down (history t steps).server (history t steps).client k (slice_get (server_datagrams t (history t steps).server) k) refl (ordered steps fit.1)
   ordered (Up k room ∷ steps) fit = gets-up (history t steps).server (history t steps).client k room (slice_get (client_datagrams t.config (history t steps).client) k) refl (ordered steps fit.1)
 
-pub loose_down : (t : Terms) (steps : List PairStep) → AreTerms t → AllByRecursion StepFits steps → LooseDown t steps
+pub loose_down : (t : Terms) (steps : List PairStep) → AreTerms t → AreGood t steps → LooseDown t steps
 loose_down t steps limits fit = let h = ordered t limits steps fit in gets-posted (server_end (history t steps).server) (client_end (history t steps).client) h.server h.came_down
 
-pub loose_up : (t : Terms) (steps : List PairStep) → AreTerms t → AllByRecursion StepFits steps → LooseUp t steps
+pub loose_up : (t : Terms) (steps : List PairStep) → AreTerms t → AreGood t steps → LooseUp t steps
 loose_up t steps limits fit = let h = ordered t limits steps fit in gets-posted (client_end (history t steps).client) (server_end (history t steps).server) h.client h.came_up

@@ -1,6 +1,7 @@
 -- The blocks of each packet that the client processed are among those that came, so each block of a Received packet is held.
 use Rattle.std.proofs.Common.{◌≡◌, ℕ, ◌≤◌, ◌+◌, ◌++◌, ◌∙◌, ap, not, ◌&&◌, ◌||◌, inl, inr, ◌==◌, Bool, true, false, List, [], ◌∷◌, if◌then◌else◌, reverse, Option, Some, None, Result, Ok, Err, refl, sym, subst, arith}
-use Rattle.std.specs.Prelude.{slice_get}
+use Rattle.std.specs.Prelude.{slice_get, ℤ}
+use Rattle.tn_types.specs.declared.choices.Drain.{Drain}
 use Rattle.std.specs.Result.{is_ok}
 use Rattle.std.specs.Prelude.{is_some}
 use Rattle.std.proofs.lemmas.Bool.{cases_lt}
@@ -31,19 +32,19 @@ use Rattle.stream_manager.specs.Server as server_log
 use Rattle.stream_manager.specs.Server.{ServerEvent, server_end, block_log, server_datagrams, server_state, posted_at_server, next_body, server_ping, took_at_server, server_answer}
 use Rattle.stream_manager.specs.Client as client_log
 use Rattle.stream_manager.specs.Client.{ClientEvent, client_end, seen_down, blocks_in, blocks_came, client_datagrams, client_state, posted_at_client, sampled_answer, took_at_client}
-use Rattle.pair_core.specs.History.{PairStep, Post, ClientPost, Sample, Pack, ClientPack, Down, Up, history, server_posts, client_posts, client_samples, client_gets, server_gets}
-use Rattle.pair_core.specs.Laws.{StepFits}
+use Rattle.pair_core.specs.History.{PairStep, Show, Hide, Near, Post, ClientPost, Sample, Pack, ClientPack, Down, Up, Raw, history, absorbing, values_of, server_posts, client_posts, client_samples, client_gets, server_gets}
+use Rattle.pair_core.proofs.Good.{AreGood, FitRoom, reads-fit}
 use Rattle.pair_core.specs.HeldBlocks.{HoldsReceivedBlocks}
 use Rattle.pair_core.proofs.Spelled.{reads-down}
 use Rattle.pair_core.proofs.Lists.{all-append, all-at, all-map}
-use Rattle.pair_core.proofs.VerdictLaw.{Windows, windows, true_down}
+use Rattle.pair_core.proofs.VerdictLaw.{Windows, windows, true_down, absorbs-down as windows-absorbed}
 use Rattle.notify_window.specs.Log.{sent_of, horizon_of, is_processed, Fate, Unjudged, Received, Lost, is_received}
 use Rattle.notify_window.proofs.Horizons.{processed-above}
 use Rattle.datablocks.specs.Sending.{SenderEvent, Wrote, carriers}
 use Rattle.notify_window.specs.Fates.{any_received}
 use Rattle.stream_manager.specs.Server.{wrote_blocks}
 use Rattle.pair_core.specs.Verdicts.{ReceivedIsTrue}
-use Rattle.pair_core.proofs.Carried.{Carried, carried, ping-down, body-down}
+use Rattle.pair_core.proofs.Carried.{Carried, carried-absorbed, ping-down, body-down}
 
 -- the blocks of packet n, none where it was not sent
 abbrev blocks_of : ℕ → List ServerEvent → List BlockItem
@@ -140,6 +141,13 @@ module _ (t : Terms) (limits : AreTerms t) where
       go false = h
       go true = record { written = h.written; reached = h.reached; brings = h.brings }
 
+  scoped : (change : server_log.ScopeChange) (s : List ServerEvent) (u : List ClientEvent) → BlockWay t s u → BlockWay t (server_log.Scoped change ∷ s) u
+  scoped change s u h = record { written = h.written; reached = h.reached; brings = all-map (Brings t s) (Brings t (server_log.Scoped change ∷ s)) (λ bytes d. record { packet = d.packet; reads = d.reads; seq = d.seq; own = d.own }) (server_datagrams t s) h.brings }
+
+  absorbs-down : (drains : List Drain) (s : List ServerEvent) (u : List ClientEvent) → BlockWay t s u → BlockWay t (absorbing drains s) u
+  absorbs-down [] s u h = h
+  absorbs-down (d ∷ drains) s u h = absorbs-down drains (server_log.Scoped (server_log.Absorb d.n d.bits) ∷ s) u (scoped (server_log.Absorb d.n d.bits) s u h)
+
   -- a data packet is sent
   sends : (p : ServerBody) (s : List ServerEvent) (u : List ClientEvent) → IsServer t.kinds (down.Body p) → p.head.seq ≡ sent_by s + 1 → horizon_of (window_log (client_end u)) ≤ sent_by s → BlockWay t s u → BlockWay t (server_log.Packed p ∷ s) u
   sends p s u fits next known h = record {
@@ -164,10 +172,10 @@ module _ (t : Terms) (limits : AreTerms t) where
   plans : (s : List ServerEvent) (u : List ClientEvent) → BlockWay t s u → BlockWay t (server_log.with_plan t s) u
   plans s u h = record { written = h.written; reached = h.reached; brings = all-map (Brings t s) (Brings t (server_log.with_plan t s)) (λ bytes d. record { packet = d.packet; reads = d.reads; seq = d.seq; own = d.own }) (server_datagrams t s) h.brings }
 
-  packs-down : (s : List ServerEvent) (u : List ClientEvent) → Carried t s u → Windows t s u → BlockWay t s u → BlockWay t (server_log.packing t s []) u
-  packs-down s u c w h = go (server_state t.config s) refl
+  packs-down : (s : List ServerEvent) (u : List ClientEvent) (values : List ℤ) → FitRoom t s values → Carried t s u → Windows t s u → BlockWay t s u → BlockWay t (server_log.packing t s values) u
+  packs-down s u values fit c w h = go (server_state t.config s) refl
     where
-      go : (state : SendState) → server_state t.config s ≡ state → BlockWay t (server_log.packed_onto t s [] state) u
+      go : (state : SendState) → server_state t.config s ≡ state → BlockWay t (server_log.packed_onto t s values state) u
       go Worn e = h
       go Held e = record {
         written = h.written;
@@ -176,7 +184,7 @@ module _ (t : Terms) (limits : AreTerms t) where
             (all-map (Brings t s) (Brings t (server_log.Pinged (server_ping t.config s) ∷ s)) (λ bytes d. record { packet = d.packet; reads = d.reads; seq = d.seq; own = d.own }) (server_datagrams t s) h.brings)
             (record { packet = down.Ping (server_ping t.config s); reads = reads-down t (down.Ping (server_ping t.config s)) (ping-down t limits s u e c); seq = omega arith; own = λ e. absurd cc }, tt);
       }
-      go Room e = sends (next_body t s []) (server_log.with_plan t s) u (body-down t limits s u e c) refl w.down.known (plans s u h)
+      go Room e = sends (next_body t s values) (server_log.with_plan t s) u (body-down t limits s u values e (fit e) c) refl w.down.known (plans s u h)
 
   packs-up : (s : List ServerEvent) (u : List ClientEvent) → BlockWay t s u → BlockWay t s (with_event (client_log.packing t.config u) u)
   packs-up s u h = go (client_state t.config u)
@@ -217,12 +225,19 @@ module _ (t : Terms) (limits : AreTerms t) where
   gets-up s u room None h = h
   gets-up s u room (Some bytes) h = took-up s u room (server_answer t.config s bytes) h
 
-  way : (steps : List PairStep) → AllByRecursion StepFits steps → BlockWay t (history t steps).server (history t steps).client
+  way : (steps : List PairStep) → AreGood t steps → BlockWay t (history t steps).server (history t steps).client
   way [] fit = record { written = λ b. tt; reached = λ n b done holding. cc; brings = tt }
   way (Post class v ∷ steps) fit = posts-down class v (history t steps).server (history t steps).client (way steps fit.1)
   way (ClientPost class v ∷ steps) fit = posts-up class v (history t steps).server (history t steps).client (way steps fit.1)
   way (Sample m ∷ steps) fit = samples-up m (history t steps).server (history t steps).client (way steps fit.1)
-  way (Pack ∷ steps) fit = packs-down (history t steps).server (history t steps).client (carried t limits steps fit.1) (windows t limits steps fit.1) (way steps fit.1)
+  way (Show kind block level control ∷ steps) fit = scoped (server_log.Show kind block level control) (history t steps).server (history t steps).client (way steps fit.1)
+  way (Hide n ∷ steps) fit = scoped (server_log.Hide n) (history t steps).server (history t steps).client (way steps fit.1)
+  way (Near n level ∷ steps) fit = scoped (server_log.Near n level) (history t steps).server (history t steps).client (way steps fit.1)
+  way (Pack drains reads ∷ steps) fit =
+      packs-down (absorbing drains (history t steps).server) (history t steps).client (values_of reads) (reads-fit t (history t steps).server drains reads fit.0.met.1)
+      (carried-absorbed t limits steps drains reads fit.0 fit.1) (windows-absorbed t limits drains (history t steps).server (history t steps).client (windows t limits steps fit.1))
+      (absorbs-down drains (history t steps).server (history t steps).client (way steps fit.1))
+  way (Raw bytes room ∷ steps) fit = absurd fit.0.honest
   way (ClientPack ∷ steps) fit = packs-up (history t steps).server (history t steps).client (way steps fit.1)
   way (Down k ∷ steps) fit = gets-down (history t steps).server (history t steps).client k (slice_get (server_datagrams t (history t steps).server) k) refl (way steps fit.1)
   way (Up k room ∷ steps) fit = gets-up (history t steps).server (history t steps).client room (slice_get (client_datagrams t.config (history t steps).client) k) (way steps fit.1)
@@ -236,7 +251,7 @@ received-held t s u truth h b (n ∷ ns) all e = go (fates (server_end s) n) ref
     go Lost is rest e = rest e
     go Received is rest e = h.reached n b (truth n is) all.0.1
 
-pub holds_received : (t : Terms) (steps : List PairStep) → AreTerms t → AllByRecursion StepFits steps → HoldsReceivedBlocks t steps
+pub holds_received : (t : Terms) (steps : List PairStep) → AreTerms t → AreGood t steps → HoldsReceivedBlocks t steps
 holds_received t steps limits fit b e =
     let h : BlockWay t (history t steps).server (history t steps).client = way t limits steps fit in
     received-held t (history t steps).server (history t steps).client (true_down t steps limits fit).0 h b (carriers b (block_log (history t steps).server)) (h.written b) e

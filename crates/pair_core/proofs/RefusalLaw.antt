@@ -1,5 +1,5 @@
 -- The only refusals between honest ends are that nothing was sent and that a packet is old.
-use Rattle.std.proofs.Common.{◌≡◌, ℕ, zero, suc, ◌≤◌, Bool, true, false, not, ◌&&◌, ◌==◌, nat_le, nat_lt, List, [], ◌∷◌, length, Option, Some, None, if◌then◌else◌, Result, Ok, Err, refl, sym, ◌∙◌, ap, subst, arith}
+use Rattle.std.proofs.Common.{◌≡◌, ◌<◌, ℕ, zero, suc, ◌≤◌, Bool, true, false, not, ◌&&◌, ◌==◌, nat_le, nat_lt, List, [], ◌∷◌, length, Option, Some, None, if◌then◌else◌, Result, Ok, Err, refl, sym, ◌∙◌, ap, subst, arith}
 use Rattle.std.specs.Prelude.{slice_get}
 use Rattle.std.specs.Str.{bytes_eq}
 use Rattle.std.specs.List.{AllByRecursion, slice_index_or}
@@ -21,17 +21,31 @@ use Rattle.stream_manager.specs.declared.fault.ArriveFault.{ArriveFault}
 use Rattle.stream_manager.specs.declared.fault.ClientFault.{ClientFault}
 use Rattle.stream_manager.specs.Limits.{Terms, AreTerms}
 use Rattle.stream_manager.specs.Wire.{read_down, read_up}
+use Rattle.tn_types.specs.declared.choices.Class.TheVariants.{Guaranteed, Loose}
+use Rattle.notify_window.specs.declared.SendState.{SendState}
+use Rattle.notify_window.specs.declared.SendState.TheVariants.{Held, Worn, Room}
+use Rattle.event_manager.specs.declared.sender.PostFault.{PostFault}
+use Rattle.move_manager.specs.declared.faults.MoveFault.{MoveFault}
+use Rattle.wire_format.specs.declared.server.ServerBody.{ServerBody}
 use Rattle.tn_types.specs.Checks.{Checked, then_check}
 use Rattle.stream_manager.specs.Faults.{head_at_server, head_at_client, events_at_server, events_at_client, checked_packet, without_packet}
 use Rattle.stream_manager.specs.End.{Seen, EndEvent, window_log, came_of, head_answer, events_answer}
 use Rattle.stream_manager.specs.Server as server_log
-use Rattle.stream_manager.specs.Server.{ServerEvent, server_end, server_datagrams, seen_up, accepted_at, taken_of}
+use Rattle.stream_manager.specs.Server.{ServerEvent, server_end, server_datagrams, seen_up, server_state, posted_at_server, accepted_at, taken_of}
 use Rattle.stream_manager.specs.Client as client_log
-use Rattle.stream_manager.specs.Client.{ClientEvent, client_end, client_datagrams, seen_down, blocks_check, blocks_came, sampled_at}
-use Rattle.pair_core.specs.History.{PairStep, history}
-use Rattle.pair_core.specs.Answers.{refused_down, brought_down, down_answer, refused_up, brought_up, up_answer}
-use Rattle.pair_core.specs.Laws.{StepFits, posted_at}
-use Rattle.pair_core.specs.Refusals.{IsOldAtClient, IsOldAtServer, RefusesLittleDown, RefusesLittleUp}
+use Rattle.stream_manager.specs.Client.{ClientEvent, client_end, client_datagrams, client_state, posted_at_client, sampled_answer, seen_down, blocks_check, blocks_came, sampled_at}
+use Rattle.ghost_logs.specs.Blocks.{RefusesNoGhosts}
+use Rattle.ghost_logs.proofs.Refused.{refuses-no-ghosts}
+use Rattle.pair_core.specs.History.{PairStep, Show, Hide, Near, Post, ClientPost, Sample, Pack, ClientPack, Down, Up, Raw, history}
+use Rattle.pair_core.specs.Conditions.{IsHonestStep}
+use Rattle.pair_core.specs.Answers.{answer, made, post_answer, sample_answer, came_down, brought_down, came_up, brought_up}
+use Rattle.pair_core.proofs.Good.{AreGood}
+use Rattle.pair_core.proofs.Joined.{WasSent, SpellsSent, Joins, joins, joined}
+use Rattle.pair_core.proofs.ReceivedBlocks.{holds_received}
+use Rattle.pair_core.proofs.LooseItems.{not-old}
+use Rattle.pair_core.proofs.LooseEvents.{passed-at_client}
+use Rattle.pair_core.specs.Laws.{posted_at}
+use Rattle.pair_core.specs.Refusals.{IsOldAtClient, IsOldAtServer, RefusesLittle}
 use Rattle.pair_core.proofs.Lists.{all-at, all-map}
 use Rattle.pair_core.proofs.Carried.{Carried, carried, IsDown, TellsAtMost}
 use Rattle.pair_core.proofs.Windows.{Spells, tested}
@@ -39,7 +53,7 @@ use Rattle.pair_core.proofs.VerdictLaw.{Windows, windows}
 use Rattle.pair_core.proofs.Reached.{events_of, IsNear, Brings}
 use Rattle.pair_core.specs.HeldBlocks.{IsAsGiven}
 use Rattle.pair_core.proofs.HeldBlocks.{given}
-use Rattle.pair_core.proofs.Honest.{IsOf, IsPlain, BeginsWithin, Honest, honest, same-packet}
+use Rattle.pair_core.proofs.Honest.{IsOf, IsScript, BeginsWithin, Honest, honest, same-packet}
 
 -- ---- the header
 
@@ -79,8 +93,8 @@ head-down (Err (WrongClient named)) h = absurd h
 head-down (Err (Old seq horizon)) h = tt
 head-down (Err (AckAhead horizon last)) h = absurd h
 
-then-down : (r next : Checked ClientFault) → next ≡ Ok tt → OldOnlyDown r → OldOnlyDown (then_check r next)
-then-down (Ok u) next is h = rw is tt
+then-down : (r next : Checked ClientFault) → (r ≡ Ok tt → next ≡ Ok tt) → OldOnlyDown r → OldOnlyDown (then_check r next)
+then-down (Ok u) next is h = rw (is refl) tt
 then-down (Err e) next is h = h
 
 all-pass : {E : Type 0} (a b c d : Checked E) → a ≡ Ok tt → b ≡ Ok tt → c ≡ Ok tt → d ≡ Ok tt → then_check a (then_check b (then_check c d)) ≡ Ok tt
@@ -114,16 +128,17 @@ blocks-little blocks came (item ∷ items) all these =
 
 module _ (t : Terms) where
   check-down : (u : List ClientEvent) (p : ServerPacket) → (seen_down p).head.client ≡ t.config.client → (seen_down p).head.horizon ≤ sent_of (window_log (client_end u)) → TellsAtMost (length (sampled_at u)) p
-      → AllByRecursion (IsNear (run_of (came_of (client_end u)))) (seen_down p).events → IsPlain t.blocks p → AllByRecursion (IsOf t.blocks) (blocks_came u) → OldOnlyDown (client_log.packet_check t.config u p)
-  check-down u (down.Ping head) named within tells near plain came = head-down (head_answer t.config.client (client_end u) (seen_down (down.Ping head))) (head-little t.config.client (client_end u) (seen_down (down.Ping head)) named within)
-  check-down u (down.Body p) named within tells near plain came =
+      → AllByRecursion (IsNear (run_of (came_of (client_end u)))) (seen_down p).events → IsScript t.blocks p → ((q : ServerBody) → p ≡ down.Body q → horizon_of (window_log (client_end u)) < q.head.seq → client_log.ghosts_check u q ≡ Ok tt) → AllByRecursion (IsOf t.blocks) (blocks_came u) → OldOnlyDown (client_log.packet_check t.config u p)
+  check-down u (down.Ping head) named within tells near script ghosts came = head-down (head_answer t.config.client (client_end u) (seen_down (down.Ping head))) (head-little t.config.client (client_end u) (seen_down (down.Ping head)) named within)
+  check-down u (down.Body p) named within tells near script ghosts came =
       let few : nat_lt (length (sampled_at u)) p.accepted ≡ false = grind (arith, nat_tests) in
       then-down (head_at_client (head_answer t.config.client (client_end u) (seen_down (down.Body p)))) (client_log.body_check u p)
-      (all-pass (client_log.moves_check u p.accepted) (blocks_check (blocks_came u) p.blocks) (events_at_client (events_answer (client_end u) p.events)) (client_log.ghosts_check u p)
-      (rw few) (blocks-little t.blocks (blocks_came u) p.blocks came plain.script) (ap events_at_client (events-little (run_of (came_of (client_end u))) p.events near)) (rw (plain.ghosts, plain.control)))
+      (λ passed. all-pass (client_log.moves_check u p.accepted) (blocks_check (blocks_came u) p.blocks) (events_at_client (events_answer (client_end u) p.events)) (client_log.ghosts_check u p)
+      (rw few) (blocks-little t.blocks (blocks_came u) p.blocks came script) (ap events_at_client (events-little (run_of (came_of (client_end u))) p.events near))
+      (ghosts p refl (not-old t.config.client (client_end u) (seen_down (down.Body p)) (passed-at_client (head_answer t.config.client (client_end u) (seen_down (down.Body p))) passed))))
       (head-down (head_answer t.config.client (client_end u) (seen_down (down.Body p))) (head-little t.config.client (client_end u) (seen_down (down.Body p)) named within))
 
-  answer-down : (p : ServerPacket) (a : Checked ClientFault) → OldOnlyDown a → RefusesLittleDown (refused_down (without_packet (checked_packet p a)))
+  answer-down : (p : ServerPacket) (a : Checked ClientFault) → OldOnlyDown a → RefusesLittle (came_down (without_packet (checked_packet p a)))
   answer-down p (Ok u) h = tt
   answer-down p (Err e) h = h
 
@@ -131,22 +146,26 @@ module _ (t : Terms) where
   tells-fewer m n (down.Ping head) l h = tt
   tells-fewer m n (down.Body p) l h = omega arith
 
-  brings-down : (s : List ServerEvent) (u : List ClientEvent) (k : ℕ) (o : Option (List ℕ)) → slice_get (server_datagrams t s) k ≡ o → Carried t s u → Windows t s u → Honest t s u → AllByRecursion (IsOf t.blocks) (blocks_came u) → RefusesLittleDown (brought_down t (record { server = s; client = u }) o)
-  brings-down s u k None e c w h came = tt
-  brings-down s u k (Some bytes) e c w h came =
-      let b : Brings (read_down t.config t.kinds) seen_down (IsPlain t.blocks) t.config.client (λ n. events_of n (server_end s)) (sent_of (window_log (server_end s))) (run_of (came_of (client_end u))) bytes = all-at _ (server_datagrams t s) k bytes h.down.brings e in
+  brings-down : (s : List ServerEvent) (u : List ClientEvent) (k : ℕ) (o : Option (List ℕ)) → slice_get (server_datagrams t s) k ≡ o → Carried t s u → Windows t s u → Honest t s u → Joins t s u → RefusesNoGhosts s u → AllByRecursion (IsOf t.blocks) (blocks_came u) → RefusesLittle (brought_down t (record { server = s; client = u }) k o)
+  brings-down s u k None e c w h j none came = tt
+  brings-down s u k (Some bytes) e c w h j none came =
+      let b : Brings (read_down t.config t.kinds) seen_down (IsScript t.blocks) t.config.client (λ n. events_of n (server_end s)) (sent_of (window_log (server_end s))) (run_of (came_of (client_end u))) bytes = all-at _ (server_datagrams t s) k bytes h.down.brings e in
       let d : IsDown t (posted_at (server_end s)) (length (accepted_at t.config s)) bytes = all-at _ (server_datagrams t s) k bytes c.down e in
       let x : Spells (read_down t.config t.kinds) seen_down (window_log (server_end s)) bytes = all-at _ (server_datagrams t s) k bytes w.down.spelled e in
+      let y : SpellsSent t s bytes = all-at _ (server_datagrams t s) k bytes j.spelled e in
       let told : TellsAtMost (length (accepted_at t.config s)) b.packet = subst (TellsAtMost (length (accepted_at t.config s))) (same-packet (read_down t.config t.kinds bytes) d.packet b.packet d.reads b.reads) d.tells in
       let same : x.packet ≡ b.packet = same-packet (read_down t.config t.kinds bytes) x.packet b.packet x.reads b.reads in
       let known : (seen_down b.packet).head.horizon ≤ horizon_of (window_log (server_end s)) = subst (λ (p : ServerPacket). (seen_down p).head.horizon ≤ horizon_of (window_log (server_end s))) same x.tells.known in
-      subst (λ (r : Result ServerPacket BitsFault). RefusesLittleDown (refused_down (without_packet (client_log.packet_answer t.config u r)))) (sym b.reads)
+      subst (λ (r : Result ServerPacket BitsFault). RefusesLittle (came_down (without_packet (client_log.packet_answer t.config u r)))) (sym b.reads)
       (answer-down b.packet (client_log.packet_check t.config u b.packet)
-      (check-down u b.packet b.client (omega (arith, known, w.up.known)) (tells-fewer (length (accepted_at t.config s)) (length (sampled_at u)) b.packet c.moves.front.within told) b.near b.good came))
+      (check-down u b.packet b.client (omega (arith, known, w.up.known)) (tells-fewer (length (accepted_at t.config s)) (length (sampled_at u)) b.packet c.moves.front.within told) b.near b.good
+      (λ q is above. none q (subst (WasSent s) (same-packet (read_down t.config t.kinds bytes) y.packet b.packet y.reads b.reads ∙ is) y.sent) above) came))
 
-pub little_down : (t : Terms) (steps : List PairStep) (k : ℕ) → AreTerms t → AllByRecursion StepFits steps → RefusesLittleDown (down_answer t steps k)
+pub little_down : (t : Terms) (steps : List PairStep) (k : ℕ) → AreTerms t → AreGood t steps → RefusesLittle (answer t steps (Down k))
 little_down t steps k limits fit =
-    brings-down t (history t steps).server (history t steps).client k (slice_get (server_datagrams t (history t steps).server) k) refl (carried t limits steps fit) (windows t limits steps fit) (honest t limits steps fit)
+    let c = carried t limits steps fit in
+    brings-down t (history t steps).server (history t steps).client k (slice_get (server_datagrams t (history t steps).server) k) refl c (windows t limits steps fit) (honest t limits steps fit) (joins t limits steps fit)
+    (refuses-no-ghosts t (history t steps).server (history t steps).client c.legal (joined t limits steps fit) (holds_received t steps limits fit))
     (all-map (IsAsGiven t.blocks) (IsOf t.blocks) (λ item is. given-bytes t.blocks item.number item.bytes is) (blocks_came (history t steps).client) (given t limits steps fit).came)
 
 -- ---- the server
@@ -178,20 +197,50 @@ module _ (t : Terms) where
       (both-pass (server_log.gap_check t.config s p.first) (events_at_server (events_answer (server_end s) p.events)) (rw no_gap) (ap events_at_server (events-little (run_of (came_of (server_end s))) p.events near)))
       (head-up (head_answer t.config.client (server_end s) (seen_up (up.Body p))) (head-little t.config.client (server_end s) (seen_up (up.Body p)) named within))
 
-  answer-up : (s : List ServerEvent) (room : ℕ) (p : ClientPacket) (a : Checked ArriveFault) → OldOnlyUp a → RefusesLittleUp (refused_up (taken_of t.config s room (checked_packet p a)))
+  answer-up : (s : List ServerEvent) (room : ℕ) (p : ClientPacket) (a : Checked ArriveFault) → OldOnlyUp a → RefusesLittle (came_up (taken_of t.config s room (checked_packet p a)))
   answer-up s room p (Ok u) h = tt
   answer-up s room p (Err e) h = h
 
-  brings-up : (s : List ServerEvent) (u : List ClientEvent) (k room : ℕ) (o : Option (List ℕ)) → slice_get (client_datagrams t.config u) k ≡ o → Windows t s u → Honest t s u → RefusesLittleUp (brought_up t (record { server = s; client = u }) room o)
+  brings-up : (s : List ServerEvent) (u : List ClientEvent) (k room : ℕ) (o : Option (List ℕ)) → slice_get (client_datagrams t.config u) k ≡ o → Windows t s u → Honest t s u → RefusesLittle (brought_up t (record { server = s; client = u }) k room o)
   brings-up s u k room None e w h = tt
   brings-up s u k room (Some bytes) e w h =
       let b : Brings (read_up t.config) seen_up (BeginsWithin (length (accepted_at t.config s))) t.config.client (λ n. events_of n (client_end u)) (sent_of (window_log (client_end u))) (run_of (came_of (server_end s))) bytes = all-at _ (client_datagrams t.config u) k bytes h.up.brings e in
       let x : Spells (read_up t.config) seen_up (window_log (client_end u)) bytes = all-at _ (client_datagrams t.config u) k bytes w.up.spelled e in
       let same : x.packet ≡ b.packet = same-packet (read_up t.config bytes) x.packet b.packet x.reads b.reads in
       let known : (seen_up b.packet).head.horizon ≤ horizon_of (window_log (client_end u)) = subst (λ (p : ClientPacket). (seen_up p).head.horizon ≤ horizon_of (window_log (client_end u))) same x.tells.known in
-      subst (λ (r : Result ClientPacket BitsFault). RefusesLittleUp (refused_up (taken_of t.config s room (server_log.packet_answer t.config s r)))) (sym b.reads)
+      subst (λ (r : Result ClientPacket BitsFault). RefusesLittle (came_up (taken_of t.config s room (server_log.packet_answer t.config s r)))) (sym b.reads)
       (answer-up s room b.packet (server_log.packet_check t.config s b.packet) (check-up s b.packet b.client (omega (arith, known, w.down.known)) b.near b.good))
 
-pub little_up : (t : Terms) (steps : List PairStep) (k room : ℕ) → AreTerms t → AllByRecursion StepFits steps → RefusesLittleUp (up_answer t steps k room)
+pub little_up : (t : Terms) (steps : List PairStep) (k room : ℕ) → AreTerms t → AreGood t steps → RefusesLittle (answer t steps (Up k room))
 little_up t steps k room limits fit =
     brings-up t (history t steps).server (history t steps).client k room (slice_get (client_datagrams t.config (history t steps).client) k) refl (windows t limits steps fit) (honest t limits steps fit)
+
+-- ---- all steps
+
+little-made : (state : SendState) (life place : ℕ) → RefusesLittle (made state life place)
+little-made Held life place = tt
+little-made Worn life place = tt
+little-made Room life place = tt
+
+little-post : (r : Result ℕ PostFault) → RefusesLittle (post_answer r)
+little-post (Ok n) = tt
+little-post (Err e) = tt
+
+little-sample : (r : Result ℕ MoveFault) → RefusesLittle (sample_answer r)
+little-sample (Ok n) = tt
+little-sample (Err e) = tt
+
+pub little : (t : Terms) (steps : List PairStep) (step : PairStep) → AreTerms t → AreGood t steps → IsHonestStep step → RefusesLittle (answer t steps step)
+little t steps (Show kind block level control) limits fit honest = tt
+little t steps (Hide n) limits fit honest = tt
+little t steps (Near n level) limits fit honest = tt
+little t steps (Post Guaranteed v) limits fit honest = little-post (posted_at_server t.config (history t steps).server)
+little t steps (Post Loose v) limits fit honest = tt
+little t steps (ClientPost Guaranteed v) limits fit honest = little-post (posted_at_client t.config (history t steps).client)
+little t steps (ClientPost Loose v) limits fit honest = tt
+little t steps (Sample m) limits fit honest = little-sample (sampled_answer t.config (history t steps).client)
+little t steps (Pack drains reads) limits fit honest = little-made (server_state t.config (history t steps).server) t.config.life (length (server_datagrams t (history t steps).server))
+little t steps ClientPack limits fit honest = little-made (client_state t.config (history t steps).client) t.config.life (length (client_datagrams t.config (history t steps).client))
+little t steps (Down k) limits fit honest = little_down t steps k limits fit
+little t steps (Up k room) limits fit honest = little_up t steps k room limits fit
+little t steps (Raw bytes room) limits fit honest = absurd honest

@@ -1,8 +1,8 @@
 -- Verdicts are true, both ways and for good: over every list of steps the two ways between the ends keep what `Way` says.
 use Rattle.std.proofs.Common.{◌≡◌, ◌≢◌, ℕ, zero, suc, ◌<◌, ◌≤◌, Bool, true, false, List, [], ◌∷◌, ◌++◌, Option, Some, None, Result, Ok, Err, if◌then◌else◌, refl, sym, ◌∙◌, ap, subst, arith, inl, inr}
-use Rattle.std.specs.Prelude.{slice_get}
+use Rattle.std.specs.Prelude.{slice_get, ℤ}
+use Rattle.tn_types.specs.declared.choices.Drain.{Drain}
 use Rattle.std.specs.Result.{is_ok}
-use Rattle.std.specs.List.{AllByRecursion}
 use Rattle.std.proofs.lemmas.Bool.{cases_lt}
 use Rattle.tn_types.specs.declared.choices.Class.{Class}
 use Rattle.tn_types.specs.declared.choices.Class.TheVariants.{Guaranteed, Loose}
@@ -19,25 +19,24 @@ use Rattle.wire_format.specs.declared.client.ClientPacket.{ClientPacket}
 use Rattle.wire_format.specs.declared.client.ClientPacket.TheVariants as up
 use Rattle.wire_format.specs.Server.{IsServer}
 use Rattle.wire_format.specs.Client.{IsClient}
-use Rattle.stream_manager.specs.declared.config.Config.{Config}
-use Rattle.stream_manager.specs.declared.fault.HeadFault.{HeadFault}
 use Rattle.stream_manager.specs.declared.fault.ArriveFault.{ArriveFault}
 use Rattle.stream_manager.specs.declared.fault.ClientFault.{ClientFault}
 use Rattle.stream_manager.specs.Limits.{Terms, AreTerms}
 use Rattle.stream_manager.specs.Wire.{read_down, read_up, bytes_down, bytes_up}
-use Rattle.tn_types.specs.Checks.{Checked, then_check}
-use Rattle.stream_manager.specs.Faults.{head_at_server, head_at_client, checked_packet}
-use Rattle.stream_manager.specs.End.{Seen, EndEvent, window_log, fates, head_answer, with_event}
+use Rattle.tn_types.specs.Checks.{Checked}
+use Rattle.stream_manager.specs.Faults.{checked_packet}
+use Rattle.stream_manager.specs.End.{Seen, EndEvent, window_log, fates, with_event}
 use Rattle.stream_manager.specs.Server as server_log
 use Rattle.stream_manager.specs.Server.{ServerEvent, server_end, server_datagrams, server_state, posted_at_server, seen_up, next_body, server_ping, took_at_server}
 use Rattle.stream_manager.specs.Client as client_log
 use Rattle.stream_manager.specs.Client.{ClientEvent, client_end, client_datagrams, client_state, posted_at_client, sampled_answer, seen_down, client_body, client_ping, took_at_client}
-use Rattle.pair_core.specs.History.{PairStep, Post, ClientPost, Sample, Pack, ClientPack, Down, Up, history, server_posts, client_posts, client_samples, client_gets, server_gets}
-use Rattle.pair_core.specs.Laws.{StepFits}
+use Rattle.pair_core.specs.History.{PairStep, Show, Hide, Near, Post, ClientPost, Sample, Pack, ClientPack, Down, Up, Raw, history, absorbing, values_of, server_posts, client_posts, client_samples, client_gets, server_gets}
+use Rattle.pair_core.proofs.Good.{AreGood, FitRoom, reads-fit}
 use Rattle.pair_core.specs.Verdicts.{VerdictsAreTrue, VerdictsAreTrueDown, VerdictsAreTrueUp, LostForGoodDown, LostForGoodUp}
 use Rattle.pair_core.proofs.Spelled.{reads-down, reads-up}
 use Rattle.pair_core.proofs.Lists.{all-at}
-use Rattle.pair_core.proofs.Carried.{Carried, carried, ping-down, body-down, ping-up, body-up}
+use Rattle.pair_core.proofs.Heads.{head-ok_down, head-ok_up}
+use Rattle.pair_core.proofs.Carried.{Carried, carried, carried-absorbed, ping-down, body-down, ping-up, body-up}
 use Rattle.pair_core.proofs.Grown.{Grew, server-grew, client-grew}
 use Rattle.pair_core.proofs.Windows.{Tells, Spells, Way, Meets, tells-data, tells-ping, start-way, sends, pings, other-sends, takes, other-takes, head-meets}
 
@@ -48,31 +47,6 @@ pub record Both (t : Terms) (s u : List WindowEvent) (downs ups : List (List ℕ
 
 abbrev pub Windows : Terms → List ServerEvent → List ClientEvent → Type 0
 Windows t s u = Both t (window_log (server_end s)) (window_log (client_end u)) (server_datagrams t s) (client_datagrams t.config u)
-
--- a packet that is not refused is not refused for its header
-head-ok_down : (c : Config) (log : List ClientEvent) (p : ServerPacket) → is_ok (client_log.packet_check c log p) ≡ true → is_ok (head_answer c.client (client_end log) (seen_down p)) ≡ true
-head-ok_down c log (down.Ping head) ok = go (head_answer c.client (client_end log) (seen_down (down.Ping head))) ok
-  where
-    go : (r : Checked HeadFault) → is_ok (head_at_client r) ≡ true → is_ok r ≡ true
-    go (Ok x) ok = refl
-    go (Err e) ok = cc
-head-ok_down c log (down.Body p) ok = go (head_answer c.client (client_end log) (seen_down (down.Body p))) (client_log.body_check log p) ok
-  where
-    go : (r : Checked HeadFault) (next : Checked ClientFault) → is_ok (then_check (head_at_client r) next) ≡ true → is_ok r ≡ true
-    go (Ok x) next ok = refl
-    go (Err e) next ok = cc
-
-head-ok_up : (c : Config) (log : List ServerEvent) (p : ClientPacket) → is_ok (server_log.packet_check c log p) ≡ true → is_ok (head_answer c.client (server_end log) (seen_up p)) ≡ true
-head-ok_up c log (up.Ping head) ok = go (head_answer c.client (server_end log) (seen_up (up.Ping head))) ok
-  where
-    go : (r : Checked HeadFault) → is_ok (head_at_server r) ≡ true → is_ok r ≡ true
-    go (Ok x) ok = refl
-    go (Err e) ok = cc
-head-ok_up c log (up.Body p) ok = go (head_answer c.client (server_end log) (seen_up (up.Body p))) (server_log.body_check c log p) ok
-  where
-    go : (r : Checked HeadFault) (next : Checked ArriveFault) → is_ok (then_check (head_at_server r) next) ≡ true → is_ok r ≡ true
-    go (Ok x) next ok = refl
-    go (Err e) next ok = cc
 
 module _ (t : Terms) (limits : AreTerms t) where
   spells-down : (w : List WindowEvent) (p : ServerPacket) → IsServer t.kinds p → Tells (seen_down p).head w → Spells (read_down t.config t.kinds) seen_down w (bytes_down t p)
@@ -106,12 +80,16 @@ module _ (t : Terms) (limits : AreTerms t) where
       go true = h
       go false = h
 
+  pub absorbs-down : (drains : List Drain) (s : List ServerEvent) (u : List ClientEvent) → Windows t s u → Windows t (absorbing drains s) u
+  absorbs-down [] s u h = h
+  absorbs-down (d ∷ drains) s u h = absorbs-down drains (server_log.Scoped (server_log.Absorb d.n d.bits) ∷ s) u h
+
   -- ---- packs
 
-  packs-down : (s : List ServerEvent) (u : List ClientEvent) → Carried t s u → Windows t s u → Windows t (server_log.packing t s []) u
-  packs-down s u c h = go (server_state t.config s) refl
+  packs-down : (s : List ServerEvent) (u : List ClientEvent) (values : List ℤ) → FitRoom t s values → Carried t s u → Windows t s u → Windows t (server_log.packing t s values) u
+  packs-down s u values fit c h = go (server_state t.config s) refl
     where
-      go : (state : SendState) → server_state t.config s ≡ state → Windows t (server_log.packed_onto t s [] state) u
+      go : (state : SendState) → server_state t.config s ≡ state → Windows t (server_log.packed_onto t s values state) u
       go Worn e = h
       go Held e = record {
         down = pings (read_down t.config t.kinds) seen_down (window_log (server_end s)) (window_log (client_end u)) (server_datagrams t s) (bytes_down t (down.Ping (server_ping t.config s)))
@@ -119,8 +97,8 @@ module _ (t : Terms) (limits : AreTerms t) where
         up = h.up;
       }
       go Room e = record {
-        down = sends (read_down t.config t.kinds) seen_down t.config.life (window_log (server_end s)) (window_log (client_end u)) (server_datagrams t s) (bytes_down t (down.Body (next_body t s []))) e
-            (spells-down (Sent ∷ window_log (server_end s)) (down.Body (next_body t s [])) (body-down t limits s u e c) (tells-data t.config.client (server_end s))) h.down;
+        down = sends (read_down t.config t.kinds) seen_down t.config.life (window_log (server_end s)) (window_log (client_end u)) (server_datagrams t s) (bytes_down t (down.Body (next_body t s values))) e
+            (spells-down (Sent ∷ window_log (server_end s)) (down.Body (next_body t s values)) (body-down t limits s u values e (fit e) c) (tells-data t.config.client (server_end s))) h.down;
         up = other-sends (read_up t.config) seen_up (window_log (client_end u)) (window_log (server_end s)) (client_datagrams t.config u) h.up;
       }
 
@@ -178,12 +156,18 @@ module _ (t : Terms) (limits : AreTerms t) where
 
   -- ---- all steps
 
-  pub windows : (steps : List PairStep) → AllByRecursion StepFits steps → Windows t (history t steps).server (history t steps).client
+  pub windows : (steps : List PairStep) → AreGood t steps → Windows t (history t steps).server (history t steps).client
   windows [] fit = record { down = start-way (read_down t.config t.kinds) seen_down; up = start-way (read_up t.config) seen_up }
   windows (Post class v ∷ steps) fit = posts-down class v (history t steps).server (history t steps).client (windows steps fit.1)
   windows (ClientPost class v ∷ steps) fit = posts-up class v (history t steps).server (history t steps).client (windows steps fit.1)
   windows (Sample m ∷ steps) fit = samples-up m (history t steps).server (history t steps).client (windows steps fit.1)
-  windows (Pack ∷ steps) fit = packs-down (history t steps).server (history t steps).client (carried t limits steps fit.1) (windows steps fit.1)
+  windows (Show kind block level control ∷ steps) fit = windows steps fit.1
+  windows (Hide n ∷ steps) fit = windows steps fit.1
+  windows (Near n level ∷ steps) fit = windows steps fit.1
+  windows (Pack drains reads ∷ steps) fit =
+      packs-down (absorbing drains (history t steps).server) (history t steps).client (values_of reads) (reads-fit t (history t steps).server drains reads fit.0.met.1)
+      (carried-absorbed t limits steps drains reads fit.0 fit.1) (absorbs-down drains (history t steps).server (history t steps).client (windows steps fit.1))
+  windows (Raw bytes room ∷ steps) fit = absurd fit.0.honest
   windows (ClientPack ∷ steps) fit = packs-up (history t steps).server (history t steps).client (carried t limits steps fit.1) (windows steps fit.1)
   windows (Down k ∷ steps) fit = gets-down (history t steps).server (history t steps).client k (slice_get (server_datagrams t (history t steps).server) k) refl (windows steps fit.1)
   windows (Up k room ∷ steps) fit = gets-up (history t steps).server (history t steps).client k room (slice_get (client_datagrams t.config (history t steps).client) k) refl (windows steps fit.1)
@@ -219,11 +203,11 @@ module _ {P : Type 0} (read : List ℕ → Result P BitsFault) (seen : P → See
       lost true e = cc
       lost false e = refl
 
-pub true_down : (t : Terms) (steps : List PairStep) → AreTerms t → AllByRecursion StepFits steps → VerdictsAreTrueDown t steps
+pub true_down : (t : Terms) (steps : List PairStep) → AreTerms t → AreGood t steps → VerdictsAreTrueDown t steps
 true_down t steps limits fit =
     true-verdicts (read_down t.config t.kinds) seen_down (server_end (history t steps).server) (client_end (history t steps).client) (server_datagrams t (history t steps).server) (windows t limits steps fit).down
 
-pub true_up : (t : Terms) (steps : List PairStep) → AreTerms t → AllByRecursion StepFits steps → VerdictsAreTrueUp t steps
+pub true_up : (t : Terms) (steps : List PairStep) → AreTerms t → AreGood t steps → VerdictsAreTrueUp t steps
 true_up t steps limits fit =
     true-verdicts (read_up t.config) seen_up (client_end (history t steps).client) (server_end (history t steps).server) (client_datagrams t.config (history t steps).client) (windows t limits steps fit).up
 
@@ -233,10 +217,10 @@ true_up t steps limits fit =
 lost-later : (s : ℕ) (old new : List EndEvent) → Grew (window_log old) (window_log new) → fates old s ≡ Lost → fates new s ≡ Lost
 lost-later s old new grew e = ap (fate_of s) grew.1 ∙ fate-later s grew.0 (window_log old) (λ u. cc) ∙ e
 
-pub lost_down : (t : Terms) (later steps : List PairStep) → AreTerms t → AllByRecursion StepFits (later ++ steps) → LostForGoodDown t later steps
+pub lost_down : (t : Terms) (later steps : List PairStep) → AreTerms t → AreGood t (later ++ steps) → LostForGoodDown t later steps
 lost_down t later steps limits fit s e =
     (true_down t (later ++ steps) limits fit).1 s (lost-later s (server_end (history t steps).server) (server_end (history t (later ++ steps)).server) (server-grew t later steps) e)
 
-pub lost_up : (t : Terms) (later steps : List PairStep) → AreTerms t → AllByRecursion StepFits (later ++ steps) → LostForGoodUp t later steps
+pub lost_up : (t : Terms) (later steps : List PairStep) → AreTerms t → AreGood t (later ++ steps) → LostForGoodUp t later steps
 lost_up t later steps limits fit s e =
     (true_up t (later ++ steps) limits fit).1 s (lost-later s (client_end (history t steps).client) (client_end (history t (later ++ steps)).client) (client-grew t later steps) e)

@@ -1,11 +1,13 @@
--- One connection with its network, as a list of steps, the newest first. Each step is something that the server, the
--- client or the network does, and `history` is what has happened at both ends after them. The network brings only
--- datagrams that were sent, named by their place: any number of times, in any order, as late as it likes. No step shows
--- an object to the client yet, so a pack reads no value.
-use Rattle.std.specs.Prelude.{ℕ, List, [], ◌∷◌, if◌then◌else◌, slice_get, Option, Some, None}
+-- What happens to a pair step by step, the newest step first: what the server is told of objects in scope, what is posted,
+-- sampled and packed at each end, and what the network does; and what has happened at both ends after them. The network
+-- brings only datagrams that were sent, named by their place: any number of times, in any order, as late as it likes. A raw
+-- datagram is any bytes that come to the server's end.
+use Rattle.std.specs.Prelude.{◌≡◌, refl, pos, ℕ, ℤ, Bool, false, List, [], ◌∷◌, map, if◌then◌else◌, slice_get, Option, Some, None}
 use Rattle.std.specs.Result.{is_ok}
 use Rattle.tn_types.specs.declared.choices.Class.{Class}
 use Rattle.tn_types.specs.declared.choices.Class.TheVariants.{Guaranteed, Loose}
+use Rattle.tn_types.specs.declared.choices.Drain.{Drain}
+use Rattle.tn_types.specs.declared.choices.Read.{Read}
 use Rattle.tn_types.specs.declared.moves.Move.{Move}
 use Rattle.stream_manager.specs.declared.config.Config.{Config}
 use Rattle.stream_manager.specs.Limits.{Terms}
@@ -16,13 +18,17 @@ use Rattle.stream_manager.specs.Client as client
 use Rattle.stream_manager.specs.Client.{ClientEvent, posted_at_client, sampled_answer, client_datagrams}
 
 pub data PairStep : Type 0 where
+  Show : (kind block level : ℕ) (control : Bool) → PairStep  -- a period of an object begins at the server
+  Hide : (n : ℕ) → PairStep  -- it ends
+  Near : (n level : ℕ) → PairStep  -- its object is at another level of distance
   Post : (class : Class) (payload : List ℕ) → PairStep  -- the server posts an event
   ClientPost : (class : Class) (payload : List ℕ) → PairStep  -- the client posts one
   Sample : Move → PairStep  -- the client takes up a move of its player
-  Pack : PairStep  -- the server makes a datagram
+  Pack : (drains : List Drain) (reads : List Read) → PairStep  -- the server absorbs what was drained and makes a datagram
   ClientPack : PairStep  -- the client makes one
   Down : (k : ℕ) → PairStep  -- the client gets the server's datagram of this place
   Up : (k room : ℕ) → PairStep  -- the server gets the client's, where so many moves have a place
+  Raw : (bytes : List ℕ) (room : ℕ) → PairStep  -- the server gets bytes that nobody need have sent
 
 pub record History : Type 0 where
   pub server : List ServerEvent
@@ -41,6 +47,19 @@ client_posts c Loose v log = client.Posted Loose v ∷ log
 abbrev pub client_samples : Config → Move → List ClientEvent → List ClientEvent
 client_samples c m log = if is_ok (sampled_answer c log) then client.Sampled m ∷ log else log
 
+-- what was drained is absorbed, in this order
+abbrev pub absorbing : List Drain → List ServerEvent → List ServerEvent
+absorbing [] log = log
+absorbing (d ∷ drains) log = absorbing drains (server.Scoped (server.Absorb d.n d.bits) ∷ log)
+
+-- what was read, whatever its versions
+abbrev pub values_of : List Read → List ℤ
+values_of reads = map (λ r. r.value) reads
+
+-- a pack absorbs what was drained, and packs with what was read
+abbrev pub server_packs : Terms → List Drain → List Read → List ServerEvent → List ServerEvent
+server_packs t drains reads log = server.packing t (absorbing drains log) (values_of reads)
+
 -- an arrival, unless nothing of that place was sent or it is refused
 abbrev pub client_gets : Terms → Option (List ℕ) → List ClientEvent → List ClientEvent
 client_gets t None log = log
@@ -50,17 +69,45 @@ abbrev pub server_gets : Config → ℕ → Option (List ℕ) → List ServerEve
 server_gets c room None log = log
 server_gets c room (Some bytes) log = server.arriving c room bytes log
 
+abbrev pub at_server : History → List ServerEvent → History
+at_server h log = record { server = log; client = h.client }
+
+abbrev pub at_client : History → List ClientEvent → History
+at_client h log = record { server = h.server; client = log }
+
 abbrev pub happens : Terms → PairStep → History → History
-happens t (Post class v) h = record { server = server_posts t.config class v h.server; client = h.client }
-happens t (ClientPost class v) h = record { server = h.server; client = client_posts t.config class v h.client }
-happens t (Sample m) h = record { server = h.server; client = client_samples t.config m h.client }
-happens t Pack h = record { server = server.packing t h.server []; client = h.client }
-happens t ClientPack h = record { server = h.server; client = with_event (client.packing t.config h.client) h.client }
-happens t (Down k) h = record { server = h.server; client = client_gets t (slice_get (server_datagrams t h.server) k) h.client }
-happens t (Up k room) h =
-    record { server = server_gets t.config room (slice_get (client_datagrams t.config h.client) k) h.server; client = h.client }
+happens t (Show kind block level control) h = at_server h (server.Scoped (server.Show kind block level control) ∷ h.server)
+happens t (Hide n) h = at_server h (server.Scoped (server.Hide n) ∷ h.server)
+happens t (Near n level) h = at_server h (server.Scoped (server.Near n level) ∷ h.server)
+happens t (Post class v) h = at_server h (server_posts t.config class v h.server)
+happens t (ClientPost class v) h = at_client h (client_posts t.config class v h.client)
+happens t (Sample m) h = at_client h (client_samples t.config m h.client)
+happens t (Pack drains reads) h = at_server h (server_packs t drains reads h.server)
+happens t ClientPack h = at_client h (with_event (client.packing t.config h.client) h.client)
+happens t (Down k) h = at_client h (client_gets t (slice_get (server_datagrams t h.server) k) h.client)
+happens t (Up k room) h = at_server h (server_gets t.config room (slice_get (client_datagrams t.config h.client) k) h.server)
+happens t (Raw bytes room) h = at_server h (server_gets t.config room (Some bytes) h.server)
 
 -- what has happened after the steps
 abbrev pub history : Terms → List PairStep → History
 history t [] = record { server = []; client = [] }
 history t (step ∷ steps) = happens t step (history t steps)
+
+-- ---- examples: an object of kind 2 is shown, brought nearer and hidden
+
+unlimited : Terms
+unlimited = record { config = record { client = 0; life = 100; size = 128 }; kinds = []; blocks = [] }
+
+shown_and_hidden : history unlimited (Hide 0 ∷ Near 0 1 ∷ Show 2 0 3 false ∷ [])
+    ≡ record { server = server.Scoped (server.Hide 0) ∷ server.Scoped (server.Near 0 1) ∷ server.Scoped (server.Show 2 0 3 false) ∷ []; client = [] }
+unfolding unlimited
+shown_and_hidden = refl
+
+-- drains are absorbed in the order in which they are given, so that the last is the newest
+two_drains : absorbing (record { n = 0; bits = 1 } ∷ record { n = 1; bits = 6 } ∷ []) []
+    ≡ server.Scoped (server.Absorb 1 6) ∷ server.Scoped (server.Absorb 0 1) ∷ []
+two_drains = refl
+
+-- reads that differ in versions alone are the same to a pair
+without_versions : values_of (record { n = 0; field = 1; version = 7; value = pos 3 } ∷ []) ≡ values_of (record { n = 0; field = 1; version = 0; value = pos 3 } ∷ [])
+without_versions = refl

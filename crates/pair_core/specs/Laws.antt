@@ -10,7 +10,8 @@ use Rattle.stream_manager.specs.Limits.{Terms, AreTerms}
 use Rattle.stream_manager.specs.End.{EndEvent, sender_log}
 use Rattle.stream_manager.specs.Server.{server_end}
 use Rattle.stream_manager.specs.Client.{client_end}
-use Rattle.pair_core.specs.History.{PairStep, Post, ClientPost, Sample, Pack, ClientPack, Down, Up, history}
+use Rattle.pair_core.specs.History.{PairStep, Post, ClientPost, history}
+use Rattle.pair_core.specs.Conditions.{AreMet, IsHonest}
 use Rattle.pair_core.specs.Answers.{client_delivered, server_delivered, sampled_in, accepted_in}
 
 -- the guaranteed events that were posted at an end, the oldest first
@@ -24,20 +25,17 @@ IsPayload v = (length v ≤ MAX_EVENT_BYTES) × AreBytes v
 abbrev pub StepFits : PairStep → Type 0
 StepFits (Post class v) = IsPayload v
 StepFits (ClientPost class v) = IsPayload v
-StepFits (Sample m) = Unit {0}
-StepFits Pack = Unit {0}
-StepFits ClientPack = Unit {0}
-StepFits (Down k) = Unit {0}
-StepFits (Up k room) = Unit {0}
+StepFits other = Unit {0}
 
--- it holds of each connection within its limits, after all steps whose payloads are payloads of events
+-- it holds of each connection within its limits, after all steps that met their conditions, where only what the client's end
+-- sent came to the server's end
 abbrev pub Always : (Terms → List PairStep → Type 0) → Type 0
-Always P = (t : Terms) (steps : List PairStep) → AreTerms t → AllByRecursion StepFits steps → P t steps
+Always P = (t : Terms) (steps : List PairStep) → AreTerms t → AllByRecursion StepFits steps → AreMet t steps → IsHonest steps → P t steps
 
 -- it holds whatever steps come later
 abbrev pub AlwaysLater : (Terms → List PairStep → List PairStep → Type 0) → Type 0
-AlwaysLater P =
-    (t : Terms) (later steps : List PairStep) → AreTerms t → AllByRecursion StepFits (later ++ steps) → P t later steps
+AlwaysLater P = (t : Terms) (later steps : List PairStep) → AreTerms t → AllByRecursion StepFits (later ++ steps)
+    → AreMet t (later ++ steps) → IsHonest (later ++ steps) → P t later steps
 
 -- what the client delivered is what the server posted, as far as it has come
 abbrev pub DeliversDown : Terms → List PairStep → Type 0

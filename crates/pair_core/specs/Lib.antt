@@ -1,8 +1,11 @@
 pub mod History
+pub mod Conditions
 pub mod Answers
 pub mod Laws
 pub mod HeldBlocks
 pub mod LooseEvents
+pub mod Asking
+pub mod Flat
 pub mod Stands
 pub mod Calls
 pub mod Verdicts

@@ -1,10 +1,8 @@
 -- The tie between a pair and its steps.
-use Rattle.std.specs.Prelude.{◌≡◌, ℕ, List}
-use Rattle.ghost_model.specs.Ghosts.{scope_log}
-use Rattle.ghost_model.specs.Scope.{shows}
+use Rattle.std.specs.Prelude.{◌≡◌, ℕ, Bool, List}
 use Rattle.stream_manager.specs.Limits.{Terms}
 use Rattle.stream_manager.specs.Stands.{ConnState, ConnStandsFor, terms_of, ClientState, ClientStandsFor}
-use Rattle.stream_manager.specs.Server.{ServerEvent, server_datagrams, ghost_log}
+use Rattle.stream_manager.specs.Server.{server_datagrams}
 use Rattle.stream_manager.specs.Client.{client_datagrams}
 use Rattle.pair_core.specs.History.{PairStep, history}
 
@@ -13,16 +11,7 @@ pub record PairState : Type 0 where
   pub client : ClientState
   pub down : List (List ℕ)
   pub up : List (List ℕ)
-
--- no object was shown to the client
-abbrev pub ShowsNothing : List ServerEvent → Type 0
-ShowsNothing log = shows (scope_log (ghost_log log)) ≡ 0
-
--- the server's end stands for some list in which none was
-pub record IsWithoutGhosts (c : ConnState) : Type 0 where
-  pub log : List ServerEvent
-  pub stands : ConnStandsFor c log
-  pub nothing : ShowsNothing log
+  pub prepared : Bool  -- there is room for the datagram of one more step
 
 pub record StandsFor (p : PairState) (t : Terms) (steps : List PairStep) : Type 0 where
   pub terms : terms_of p.conn ≡ t

@@ -1,99 +1,116 @@
 //! The datagrams that were sent one way.
-ghost use Rattle.std.specs.Prelude.{◌≡◌, ◌<◌, ◌≤◌, ◌++◌, ◌∷◌, [], IfOk, OnOk, IfSome, length, slice_get};
+ghost use Rattle.std.specs.Prelude.{◌≡◌, true, false, ℕ, List, ◌+◌, ◌-◌, ◌<◌, ◌≤◌, ◌++◌, ◌∷◌, [], OnOk, OnErr, IfSome, IsNone, IsTrue, ◌↔◌, Some, None, length, take, drop, slice_get};
 ghost use Rattle.std.specs.Option.{option_copied};
+ghost use Rattle.pair_core.specs.Flat.{cut, Rise};
 
 use std::alloc::Global;
 use std::marker::Model;
 use tn_types::{MAX_DATAGRAM_BYTES, MAX_DATAGRAMS, NoMemory};
 
-/// The bytes of a datagram, at most 1,200.
-#[derive(Drop)]
-pub(crate) struct Datagram {
-    bytes: Vec<u8>,
-}
-
-impl Model for Datagram {
-    ghost use Rattle.std.specs.Prelude.{ℕ, List, ◌≤◌, length};
-    ghost use Rattle.tn_types.specs.declared.limits.TheConstants.{MAX_DATAGRAM_BYTES};
-
-    ghost Value = { List ℕ };
-
-    ghost view = { λ d. d.bytes.items };
-
-    ghost invariant = { λ d. length d.bytes.items ≤ MAX_DATAGRAM_BYTES };
-}
-
-impl Datagram {
-    fn new(alloc: Global, bytes: &[u8]) -> Result<Datagram, NoMemory>
-        requires { length bytes.now ≤ MAX_DATAGRAM_BYTES }
-        ensures { IfOk result (λ d. d ≡ bytes.now) }
-    {
-        match Vec::from_slice(alloc, bytes) {
-            Ok(bytes) => Ok(Datagram { bytes }),
-            Err(_) => Err(NoMemory),
-        }
-    }
-
-    /// The bytes, lent.
-    pub(crate) fn as_slice(&self) -> &[u8]
-        ensures value { result.now ≡ self.now }
-        ensures fits { length result.now ≤ MAX_DATAGRAM_BYTES }
-    {
-        self.bytes.as_slice()
-    }
-}
-
-/// Datagrams in the order in which they were sent, each kept once.
+/// Datagrams in the order in which they were sent, each kept once: their bytes one behind another, and where each ends.
+///
+/// A clause sees their list, and whether there is room for one more.
 #[derive(Drop)]
 pub(crate) struct Datagrams {
-    list: Vec<Datagram>,
+    bytes: Vec<u8>,
+    ends: Vec<usize>,
 }
 
 impl Model for Datagrams {
-    ghost use Rattle.std.specs.Prelude.{ℕ, List, ◌≤◌, length};
-    ghost use Rattle.tn_types.specs.declared.limits.TheConstants.{MAX_DATAGRAMS};
+    ghost use Rattle.std.specs.Prelude.{◌+◌, nat_le, nat_lt, ◌&&◌, vec_len, vec_capacity};
+    ghost use Rattle.tn_types.specs.declared.limits.TheConstants.{MAX_DATAGRAM_BYTES};
+    ghost use Rattle.pair_core.specs.Flat.{Sent, cut, AreFlat};
 
-    ghost Value = { List (List ℕ) };
+    ghost Value = { Sent };
 
-    ghost view = { λ d. d.list.items };
+    ghost view = { λ d. record {
+      list = cut 0 d.ends.items d.bytes.items;
+      has_room = nat_le (vec_len d.bytes + MAX_DATAGRAM_BYTES) (vec_capacity d.bytes) && nat_lt (vec_len d.ends) (vec_capacity d.ends);
+    } };
 
-    ghost invariant = { λ d. length d.list.items ≤ MAX_DATAGRAMS };
+    ghost invariant = { λ d. AreFlat d.ends.items d.bytes.items };
 }
 
 impl Datagrams {
     /// No datagram.
     pub(crate) fn new(alloc: Global) -> Datagrams
-        ensures { result ≡ [] }
+        ensures { result.list ≡ [] }
     {
         Datagrams {
-            list: Vec::new(alloc),
+            bytes: Vec::new(alloc),
+            ends: Vec::new(alloc),
         }
     }
 
     /// How many were sent.
     pub(crate) fn len(&self) -> u32
-        ensures { result ≡ length self.now }
+        ensures { result ≡ length self.now.list }
     {
-        self.list.len() as u32
+        self.ends.len() as u32
+    }
+
+    /// Whether there is room for one more datagram, of any size.
+    pub(crate) fn has_room(&self) -> bool
+        ensures { result ≡ self.now.has_room }
+    {
+        self.bytes.capacity() - self.bytes.len() >= MAX_DATAGRAM_BYTES
+            && self.ends.len() < self.ends.capacity()
+    }
+
+    /// Makes room for one more datagram, of any size. Where memory is wanting, nothing changed.
+    pub(crate) fn prepare(&mut self) -> Result<(), NoMemory>
+        ensures list { self.new.list ≡ self.old.list }
+        ensures room { OnOk result (self.new.has_room ≡ true) }
+        ensures wanting { OnErr result (self.old.has_room ≡ false) }
+        ensures unchanged { OnErr result (self.new ≡ self.old) }
+    {
+        if self.bytes.reserve(MAX_DATAGRAM_BYTES).is_err() {
+            return Err(NoMemory);
+        }
+        if self.ends.reserve(1).is_err() {
+            return Err(NoMemory);
+        }
+        Ok(())
     }
 
     /// The datagram of this place; `None` exactly where none was sent.
-    pub(crate) fn get(&self, place: u32) -> Option<&Datagram>
-        ensures { option_copied result ≡ slice_get self.now place }
+    pub(crate) fn get(&self, place: u32) -> Option<&[u8]>
+        ensures value { option_copied result ≡ slice_get self.now.list place }
+        ensures fits { IfSome result (λ bytes. length bytes.now ≤ MAX_DATAGRAM_BYTES) }
     {
-        self.list.get(place as usize)
-    }
-
-    /// Adds a datagram.
-    pub(crate) fn push(&mut self, alloc: Global, bytes: &[u8]) -> Result<(), NoMemory>
-        requires few { length self.old < MAX_DATAGRAMS }
-        requires fits { length bytes.now ≤ MAX_DATAGRAM_BYTES }
-        ensures { OnOk result (self.new ≡ self.old ++ bytes.now ∷ []) }
-    {
-        let datagram = Datagram::new(alloc, bytes)?;
-        match self.list.push(datagram) {
-            Ok(()) => Ok(()),
-            Err(_) => Err(NoMemory),
+        match span(self.ends.as_slice(), self.bytes.len(), place as usize) {
+            None => None,
+            Some((start, end)) => Some(&self.bytes[start..end]),
         }
     }
+
+    /// Adds a datagram, for which there is room.
+    pub(crate) fn push(&mut self, bytes: &[u8])
+        requires room { self.old.has_room ≡ true }
+        requires few { length self.old.list < MAX_DATAGRAMS }
+        requires fits { length bytes.now ≤ MAX_DATAGRAM_BYTES }
+        ensures { self.new.list ≡ self.old.list ++ bytes.now ∷ [] }
+    {
+        if self.bytes.extend_from_slice(bytes).is_err() {
+            unreachable!()
+        }
+        self.ends.push_reserved(self.bytes.len());
+    }
+}
+
+/// Where the datagram of this place begins and ends, of those that end here, in so many bytes.
+fn span(ends: &[usize], len: usize, place: usize) -> Option<(usize, usize)>
+    requires { Rise 0 ends.now len }
+    ensures none { IsNone result → length ends.now ≤ place }
+    ensures some { IfSome result (λ s. (bytes : List ℕ) → slice_get (cut 0 ends.now bytes) place ≡ Some (take (s.1 - s.0) (drop s.0 bytes))) }
+    ensures within { IfSome result (λ s. (s.0 ≤ s.1) × (s.1 ≤ len)) }
+{
+    if place >= ends.len() {
+        return None;
+    }
+    let end = ends[place];
+    if place == 0 {
+        return Some((0, end));
+    }
+    Some((ends[place - 1], end))
 }

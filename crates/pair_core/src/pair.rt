@@ -1,56 +1,53 @@
 //! Both ends and the network.
-ghost use Rattle.std.specs.Prelude.{◌≡◌, ℕ, ◌<◌, ◌≤◌, List, [], ◌∷◌, ◌++◌, IfOk, IfSome, OnOk, OnErr, length, slice_get, drop};
+ghost use Rattle.std.specs.Prelude.{◌≡◌, true, ◌≤◌, [], IfOk, IfSome, OnOk, OnErr, IsTrue, ◌↔◌, if◌then◌else◌, length, slice_get};
 ghost use Rattle.std.specs.Option.{option_copied};
-ghost use Rattle.notify_window.specs.State.{send_state};
-ghost use Rattle.stream_manager.specs.ConnCalls.{Planning};
-ghost use Rattle.tn_types.specs.declared.choices.Class.TheVariants.{Guaranteed, Loose};
 
 use crate::datagrams::Datagrams;
-use crate::fault::{DownFault, Made, UpFault};
-use event_manager::{MAX_READY_EVENTS, PostFault};
-use move_manager::MoveFault;
-use notify_window::SendState;
+use crate::step::{Answer, PairStep};
+use event_manager::MAX_READY_EVENTS;
 use quantised_fields::KindTable;
 use std::alloc::Global;
-use std::marker::{Brand, Model};
-use std::sync::ledger::{Blank, Ledger};
-use stream_manager::{Client, ClientOut, Config, Conn, Taken};
-use tn_types::{
-    BlockBytes, Class, MAX_BLOCKS, MAX_DATAGRAM_BYTES, MAX_DATAGRAMS, Move, NoMemory, Payload,
-    Steps,
-};
+use std::marker::Model;
+use stream_manager::{Client, Config, Conn};
+use tn_types::{BlockBytes, Class, MAX_BLOCKS, MAX_DATAGRAM_BYTES, NoMemory, Payload};
 
 /// The server's end, the client's end, and the datagrams that each sent.
 ///
 /// A clause sees `PairState`, and what it means by the list of steps.
 #[derive(Drop)]
 pub struct Pair {
-    conn: Conn,
-    client: Client,
-    down: Datagrams,
-    up: Datagrams,
+    pub(crate) conn: Conn,
+    pub(crate) client: Client,
+    pub(crate) down: Datagrams,
+    pub(crate) up: Datagrams,
+    // the values that the last pack was given
+    pub(crate) values: Vec<i64>,
 }
 
 impl Model for Pair {
-    ghost use Rattle.pair_core.specs.Stands.{PairState, IsWithoutGhosts};
+    ghost use Rattle.std.specs.Prelude.{◌&&◌, ◌≤◌, vec_capacity};
+    ghost use Rattle.pair_core.specs.Stands.{PairState};
+    ghost use Rattle.pair_core.specs.declared.asking.TheConstants.{MAX_PACKET_VALUES};
 
     ghost Value = { PairState };
 
-    ghost view = { λ p. record { conn = p.conn; client = p.client; down = p.down; up = p.up } };
+    ghost view = { λ p. record {
+      conn = p.conn;
+      client = p.client;
+      down = p.down.list;
+      up = p.up.list;
+      prepared = p.down.has_room && p.up.has_room;
+    } };
 
-    ghost invariant = { λ p. IsWithoutGhosts p.conn };
+    ghost invariant = { λ p. MAX_PACKET_VALUES ≤ vec_capacity p.values };
 }
 
 impl Pair {
     ghost use Rattle.stream_manager.specs.Limits.{IsConfig};
-    ghost use Rattle.stream_manager.specs.End.{dropped_of};
-    ghost use Rattle.stream_manager.specs.Server.{posted_at_server, server_end};
-    ghost use Rattle.stream_manager.specs.Client.{posted_at_client, sampled_answer, client_end};
     ghost use Rattle.stream_manager.specs.EndCalls.{popped};
-    ghost use Rattle.pair_core.specs.History.{Post, ClientPost, Sample, Pack, ClientPack, Down, Up, history};
-    ghost use Rattle.pair_core.specs.Answers.{pack_answer, client_pack_answer, down_answer, up_answer, client_run};
     ghost use Rattle.pair_core.specs.Stands.{StandsFor};
-    ghost use Rattle.pair_core.specs.Calls.{Does, Answers, Stays, HandsDown, HandsUp, Accepts, KeepsAtServer, KeepsAtClient};
+    ghost use Rattle.pair_core.specs.Answers.{answer};
+    ghost use Rattle.pair_core.specs.Calls.{step_of, Meets, IsReady, Does, Answers, Stays, Hands, Accepts, Keeps, Unchanged};
 
     /// A new connection, in a match of these kinds and blocks, at most 64.
     pub fn new(
@@ -68,12 +65,67 @@ impl Pair {
     {
         let conn = Conn::new(alloc, config, kinds, blocks)?;
         let client = Client::new(alloc, config, kinds)?;
+        let Ok(values) = Vec::with_capacity(alloc, crate::asking::MAX_PACKET_VALUES) else {
+            return Err(NoMemory);
+        };
         Ok(Pair {
             conn,
             client,
             down: Datagrams::new(alloc),
             up: Datagrams::new(alloc),
+            values,
         })
+    }
+
+    /// Makes room for the datagram of one more step, whatever its size. Where memory is wanting, nothing changed.
+    pub fn prepare(&mut self, alloc: Global) -> Result<(), NoMemory>
+        ensures prepared { OnOk result (self.new ≡ record self.old { prepared = true }) }
+        ensures unchanged { OnErr result (self.new ≡ self.old) }
+        ensures stands { Stays self.old self.new }
+    {
+        let _alloc = alloc;
+        self.down.prepare()?;
+        self.up.prepare()
+    }
+
+    /// Whether there is room for the datagram of one more step.
+    pub fn is_prepared(&self) -> bool
+        ensures { result ≡ self.now.prepared }
+    {
+        self.down.has_room() && self.up.has_room()
+    }
+
+    /// Makes one step, and gives its answer. It takes no memory. A step has the condition of the call of an end that it names;
+    /// a delivery wants that no event waits at its end, and a client's pack that there is room for its datagram. A refusal
+    /// leaves the pair as it was.
+    pub fn step(&mut self, step: &PairStep) -> Answer
+        requires meets { Meets self.old (step_of step.now) }
+        requires ready { IsReady self.old step.now }
+        ensures answer { Answers self.old (λ t steps. answer t steps (step_of step.now)) result }
+        ensures stands { Does self.old (step_of step.now) self.new }
+        ensures handed { Hands self.old (step_of step.now) self.new }
+        ensures moves { Accepts self.old (step_of step.now) result self.new }
+        ensures keeps { Keeps self.old (step_of step.now) self.new }
+        ensures unchanged { Unchanged self.old result self.new }
+    {
+        match step {
+            PairStep::Show {
+                kind,
+                block,
+                level,
+                control,
+            } => self.show(*kind, *block, *level, *control),
+            PairStep::Hide { n } => self.hide(*n),
+            PairStep::Near { n, level } => self.near(*n, *level),
+            PairStep::Post { class, payload } => self.post(*class, payload.copy()),
+            PairStep::ClientPost { class, payload } => self.client_post(*class, payload.copy()),
+            PairStep::Sample { m } => self.sample(*m),
+            PairStep::Pack => unreachable!(),
+            PairStep::ClientPack => self.client_pack(),
+            PairStep::Down { k } => self.bring_down(*k),
+            PairStep::Up { k, room } => self.bring_up(*k, *room),
+            PairStep::Raw { bytes, room } => self.bring_raw(bytes.as_slice(), *room),
+        }
     }
 
     /// The server's end.
@@ -90,139 +142,16 @@ impl Pair {
         &self.client
     }
 
-    /// The server posts a guaranteed event, and gives its number.
-    pub fn post(&mut self, payload: Payload) -> Result<u32, PostFault>
-        ensures answer { Answers self.old (λ t steps. posted_at_server t.config (history t steps).server) result }
-        ensures stands { Does self.old (Post Guaranteed payload) self.new }
-        ensures keeps { KeepsAtServer self.old self.new }
+    /// The datagram of this place, counted from 0, of those that the server sent, or else of those that the client sent;
+    /// `None` exactly where none was sent.
+    pub fn datagram(&self, down: bool, k: u32) -> Option<&[u8]>
+        ensures value { option_copied result ≡ slice_get (if down then self.now.down else self.now.up) k }
+        ensures fits { IfSome result (λ bytes. length bytes.now ≤ MAX_DATAGRAM_BYTES) }
     {
-        self.conn.post(payload)
-    }
-
-    /// The server posts an unguaranteed event, and gives back the oldest waiting one where too many wait.
-    pub fn post_loose(&mut self, payload: Payload) -> Option<Payload>
-        ensures dropped { Answers self.old (λ t steps. dropped_of (server_end (history t steps).server)) result }
-        ensures stands { Does self.old (Post Loose payload) self.new }
-        ensures keeps { KeepsAtServer self.old self.new }
-    {
-        self.conn.post_loose(payload)
-    }
-
-    /// The client posts a guaranteed event, and gives its number.
-    pub fn client_post(&mut self, payload: Payload) -> Result<u32, PostFault>
-        ensures answer { Answers self.old (λ t steps. posted_at_client t.config (history t steps).client) result }
-        ensures stands { Does self.old (ClientPost Guaranteed payload) self.new }
-        ensures keeps { KeepsAtClient self.old self.new }
-    {
-        self.client.post(payload)
-    }
-
-    /// The client posts an unguaranteed event, and gives back the oldest waiting one where too many wait.
-    pub fn client_post_loose(&mut self, payload: Payload) -> Option<Payload>
-        ensures dropped { Answers self.old (λ t steps. dropped_of (client_end (history t steps).client)) result }
-        ensures stands { Does self.old (ClientPost Loose payload) self.new }
-        ensures keeps { KeepsAtClient self.old self.new }
-    {
-        self.client.post_loose(payload)
-    }
-
-    /// The client takes up a move of its player, and gives its number.
-    pub fn sample(&mut self, m: Move) -> Result<u32, MoveFault>
-        ensures answer { Answers self.old (λ t steps. sampled_answer t.config (history t steps).client) result }
-        ensures stands { Does self.old (Sample m) self.new }
-        ensures keeps { KeepsAtClient self.old self.new }
-    {
-        self.client.sample(m)
-    }
-
-    /// The server makes its next datagram.
-    pub fn pack(&mut self, alloc: Global) -> Result<Made, NoMemory>
-        requires { length self.old.down < MAX_DATAGRAMS }
-        ensures answer { IfOk result (Answers self.old pack_answer) }
-        ensures stands { OnOk result (Does self.old Pack self.new) }
-        ensures keeps { KeepsAtServer self.old self.new }
-    {
-        let place = self.down.len();
-        let life = self.conn.config().life;
-        match self.conn.pack_state() {
-            SendState::Held => {
-                let bytes = self.conn.ping();
-                self.down.push(alloc, bytes)?;
-                Ok(Made::Ping { place })
-            }
-            SendState::Worn => Ok(Made::Worn { life }),
-            SendState::Room => {
-                // no step shows an object, so that the plan is empty and asks for no value
-                plan_uncounted::<Brand>(&mut self.conn, Blank::new(1));
-                let bytes = self.conn.seal(&[]);
-                self.down.push(alloc, bytes)?;
-                Ok(Made::Data { place })
-            }
-        }
-    }
-
-    /// The client makes its next datagram.
-    pub fn client_pack(&mut self, alloc: Global) -> Result<Made, NoMemory>
-        requires { length self.old.up < MAX_DATAGRAMS }
-        ensures answer { IfOk result (Answers self.old client_pack_answer) }
-        ensures stands { OnOk result (Does self.old ClientPack self.new) }
-        ensures keeps { KeepsAtClient self.old self.new }
-    {
-        let place = self.up.len();
-        // no datagram is longer than its size, nor that than 1,200
-        let _config = self.client.config();
-        match self.client.pack() {
-            ClientOut::Ping(bytes) => {
-                self.up.push(alloc, bytes)?;
-                Ok(Made::Ping { place })
-            }
-            ClientOut::Worn { life } => Ok(Made::Worn { life }),
-            ClientOut::Body(bytes) => {
-                self.up.push(alloc, bytes)?;
-                Ok(Made::Data { place })
-            }
-        }
-    }
-
-    /// The client gets the server's datagram of place `k`, counted from 0. No event may wait at the client.
-    pub fn down(&mut self, k: u32) -> Result<(), DownFault>
-        requires { self.old.client.common.receiver.ready ≡ [] }
-        ensures answer { Answers self.old (λ t steps. down_answer t steps k) result }
-        ensures stands { Does self.old (Down k) self.new }
-        ensures handed { HandsDown self.old (Down k) self.new }
-        ensures server { self.new.conn ≡ self.old.conn }
-        ensures unchanged { OnErr result (self.new ≡ self.old) }
-    {
-        let Some(datagram) = self.down.get(k) else {
-            return Err(DownFault::NotSent {
-                sent: self.down.len(),
-            });
-        };
-        match self.client.arrive(datagram.as_slice()) {
-            Ok(()) => Ok(()),
-            Err(fault) => Err(DownFault::Refused(fault)),
-        }
-    }
-
-    /// The server gets the client's datagram of place `k`, counted from 0, where `room` further moves have a place. No
-    /// event may wait at the server.
-    pub fn up(&mut self, k: u32, room: u32) -> Result<Taken, UpFault>
-        requires { self.old.conn.common.receiver.ready ≡ [] }
-        ensures answer { Answers self.old (λ t steps. up_answer t steps k room) result }
-        ensures stands { Does self.old (Up k room) self.new }
-        ensures handed { HandsUp self.old (Up k room) self.new }
-        ensures moves { OnOk result (Accepts self.old (Up k room) self.new) }
-        ensures client { self.new.client ≡ self.old.client }
-        ensures unchanged { OnErr result (self.new ≡ self.old) }
-    {
-        let Some(datagram) = self.up.get(k) else {
-            return Err(UpFault::NotSent {
-                sent: self.up.len(),
-            });
-        };
-        match self.conn.arrive(datagram.as_slice(), room) {
-            Ok(taken) => Ok(taken),
-            Err(fault) => Err(UpFault::Refused(fault)),
+        if down {
+            self.down.get(k)
+        } else {
+            self.up.get(k)
         }
     }
 
@@ -259,45 +188,4 @@ impl Pair {
     {
         self.conn.waiting()
     }
-
-    /// The server's datagram of this place, counted from 0; `None` exactly where none was sent.
-    pub fn server_datagram(&self, place: u32) -> Option<&[u8]>
-        ensures value { option_copied result ≡ slice_get self.now.down place }
-        ensures fits { IfSome result (λ bytes. length bytes.now ≤ MAX_DATAGRAM_BYTES) }
-    {
-        match self.down.get(place) {
-            None => None,
-            Some(datagram) => Some(datagram.as_slice()),
-        }
-    }
-
-    /// The client's datagram of this place, counted from 0; `None` exactly where none was sent.
-    pub fn client_datagram(&self, place: u32) -> Option<&[u8]>
-        ensures value { option_copied result ≡ slice_get self.now.up place }
-        ensures fits { IfSome result (λ bytes. length bytes.now ≤ MAX_DATAGRAM_BYTES) }
-    {
-        match self.up.get(place) {
-            None => None,
-            Some(datagram) => Some(datagram.as_slice()),
-        }
-    }
-
-    /// How many guaranteed events the client delivered.
-    pub fn client_delivered(&self) -> u32
-        ensures { Answers self.now client_run result }
-    {
-        self.client.delivered()
-    }
-}
-
-// Plans with a counter that nobody reads.
-fn plan_uncounted<L: Ledger>(conn: &mut Conn, blank: Blank)
-    requires name { blank.name ≡ L.name }
-    requires parts { blank.parts ≡ L.parts }
-    requires some { 0 < blank.parts }
-    requires room { send_state conn.old.common.window ≡ SendState.Room }
-    ensures { Planning conn.old conn.new }
-{
-    let mut steps: Steps<L> = Steps::new(blank);
-    let _ = conn.plan(&mut steps);
 }

@@ -9,6 +9,7 @@ use Rattle.match_report.specs.declared.told.Told.{Told}
 use Rattle.match_engine.specs.Journal.{client_named, with_line, journal, client_terms}
 use Rattle.match_engine.specs.Report.{told}
 use Rattle.match_engine.specs.Stands.{MatchState, StandsFor, SeatStandsFor, IsQuiet}
+use Rattle.match_engine.proofs.NoObjects.{nothing-shown, plain-journal}
 use Rattle.match_engine.proofs.Fed.{names-client, fed, few-datagrams, map_if_ok, both_ok}
 use Rattle.match_engine.proofs.game.Match.feed.Goals as goal
 
@@ -75,3 +76,16 @@ returns-clause-stands c =
     (λ f quiet past s. after m c.index_mut-seat.result.now c.client_named-client.result c.args.line.now past c.client_named-client.ensures c.index_mut-seat.ensures.value s fits c.line_on.new.seat
     (f (client_terms m.head (client_named c.args.line.now)) (journal (client_terms m.head (client_named c.args.line.now)) (client_named c.args.line.now) past) (stands m c.index_mut-seat.result.now c.client_named-client.result c.args.line.now past c.client_named-client.ensures c.index_mut-seat.ensures.value s fits)) quiet)
     c.line_on.ensures.stands c.line_on.ensures.quiet)
+
+pub line_on-requires-clause-stands : goal.line_on-requires-clause-stands
+line_on-requires-clause-stands c =
+    let m : MatchState = record { head = c.self.inside.head; seats = c.self.inside.seats.items; done = c.self.inside.done } in
+    let past = c.requires.stands.0 in
+    let s : StandsFor m past = subst (λ (x : MatchState). StandsFor x past) (sym c.self.view_is) c.requires.stands.1 in
+    let fits : LineFits m.head.clients c.args.line.now = subst (λ (x : MatchState). LineFits x.head.clients c.args.line.now) (sym c.self.view_is) c.requires.fits in
+    record {
+      terms = client_terms m.head (client_named c.args.line.now);
+      steps = journal (client_terms m.head (client_named c.args.line.now)) (client_named c.args.line.now) past;
+      stands = (stands m c.index_mut-seat.result.now c.client_named-client.result c.args.line.now past c.client_named-client.ensures c.index_mut-seat.ensures.value s fits).pair;
+      nothing = nothing-shown (client_terms m.head (client_named c.args.line.now)) (journal (client_terms m.head (client_named c.args.line.now)) (client_named c.args.line.now) past) (plain-journal (client_terms m.head (client_named c.args.line.now)) (client_named c.args.line.now) past);
+    }

@@ -1,0 +1,13 @@
+use Rattle.std.proofs.Common.{◌≡◌, ◌≤◌, ◌+◌}
+use Rattle.std.specs.Prelude.{map, filter, vec_len, vec_capacity}
+use Rattle.tn_types.specs.BitWords.{has_bit}
+use Rattle.ghost_model.specs.Words.{upto}
+use Rattle.pair_core.specs.Asking.{AreAsked}
+use Rattle.pair_core.proofs.asking.ask_fields.Given as goal
+
+abbrev pub invariant-fields : goal.invariant-fields
+invariant-fields g l = record {
+  told : AreAsked g.V.Values.ranges g.V.Values.stands g.V.Values.owes g.V.Values.same l.initial.values l.values (map (λ f. (l.choice.n, f)) (filter (has_bit l.choice.mask) (upto l.field))) l.initial.asked.items l.asked.items;
+  few : vec_len l.asked ≤ vec_len l.initial.asked + l.field;
+  room : vec_capacity l.asked ≡ vec_capacity l.initial.asked;
+}
