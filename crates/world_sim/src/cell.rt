@@ -1,5 +1,5 @@
 //! One cell of the field.
-ghost use Rattle.std.specs.Prelude.{◌≡◌, ◌<◌, IfOk, IfErr, [], length, slice_index};
+ghost use Rattle.std.specs.Prelude.{◌≡◌, ◌<◌, ◌≤◌, vec_capacity, insert, IfOk, IfErr, [], length, slice_index};
 ghost use Rattle.world_sim.specs.Rising.{IsRising, IsGap, put_in, without};
 
 use std::alloc::{AllocError, Global};
@@ -39,7 +39,7 @@ impl Cell {
         ensures { self.new ≡ put_in number self.old }
     {
         if let Err(at) = find(&self.numbers, number) {
-            let _ = self.numbers.insert(at, number);
+            put_at(&mut self.numbers, at, number);
         }
     }
 
@@ -67,4 +67,14 @@ fn find(numbers: &[u32], number: u32) -> Result<usize, usize>
     ensures absent { IfErr result (λ i. IsGap numbers.now number i) }
 {
     numbers.binary_search(&number)
+}
+
+// Puts a number at this place.
+fn put_at(numbers: &mut Vec<u32>, at: usize, number: u32)
+    requires at { at ≤ length numbers.old.items }
+    requires room { length numbers.old.items < vec_capacity numbers.old }
+    ensures value { numbers.new.items ≡ insert numbers.old.items at number }
+    ensures kept { vec_capacity numbers.old ≤ vec_capacity numbers.new }
+{
+    let _ = numbers.insert(at, number);
 }

@@ -24,7 +24,8 @@ fn is_target_near(o: &Object, t: &Object) -> bool
 fn any_target(numbers: &[u32], objects: &[Object], o: &Object) -> bool
     requires there { (k : ℕ) → k < length numbers.now → slice_index_or numbers.now k 0 < length objects.now }
     ensures found { result ≡ true → list_any (is_target_near DISC_REACH o.now) objects.now ≡ true }
-    ensures none { result ≡ false → (k : ℕ) → k < length numbers.now → IsNoTarget objects.now o.now (slice_index_or numbers.now k 0) }
+    ensures none { result ≡ false → (k : ℕ) → k < length numbers.now
+        → IsNoTarget objects.now o.now (slice_index_or numbers.now k 0) }
 {
     for n in numbers {
         if is_target_near(o, &objects[*n as usize]) {
