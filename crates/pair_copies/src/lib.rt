@@ -21,8 +21,8 @@ ghost use Rattle.pair_core.specs.Laws.{Always};
 pub fn copies_agree_with_slots()
     ensures copies { Always (λ t steps. CopiesAgree t (history t steps).server (history t steps).client) }
     ensures packets { Always (λ t steps. PacketsFit (history t steps).server (history t steps).client) }
-    ensures blocks { Always (λ t steps. (slot : ℕ) (copy : GhostCopy) → copy_of (ghosts_came (history t steps).client) slot ≡ Some copy
-        → IsHeld (history t steps).client copy.block) }
+    ensures blocks { Always (λ t steps. (slot : ℕ) (copy : GhostCopy)
+        → copy_of (ghosts_came (history t steps).client) slot ≡ Some copy → IsHeld (history t steps).client copy.block) }
 {}
 
 /// The client refuses no packet that is newer than all that came for its ghosts or its control slot.

@@ -12,8 +12,8 @@ abbrev pub IsInRange : (ℕ → ℕ → Option (ℤ × ℤ)) → Read → Type 0
 IsInRange ranges r = IfSome (ranges r.n r.field) (λ x. (x.0 ≤ℤ r.value) × (r.value ≤ℤ x.1))
 
 -- these fields were asked for in their order, and the values stand behind those that stood there before
-pub record AreAsked {V : Type 0} (ranges : V → ℕ → ℕ → Option (ℤ × ℤ)) (stands : V → Read → Type 0) (owes : V → ℕ → ℕ → Bool)
-    (same : V → V → Type 0) (before after : V) (fields : List (ℕ × ℕ)) (old new : List ℤ) : Type 0 where
+pub record AreAsked {V : Type 0} (ranges : V → ℕ → ℕ → Option (ℤ × ℤ)) (stands : V → Read → Type 0)
+    (owes : V → ℕ → ℕ → Bool) (same : V → V → Type 0) (before after : V) (fields : List (ℕ × ℕ)) (old new : List ℤ) : Type 0 where
   pub reads : List Read
   pub of_fields : map field_of reads ≡ fields
   pub behind : new ≡ old ++ values_of reads
@@ -21,8 +21,8 @@ pub record AreAsked {V : Type 0} (ranges : V → ℕ → ℕ → Option (ℤ × 
   pub asks : Asks ranges stands owes same before after reads
 
 -- the values of the next data packet of a server's end were asked for, whatever list it stands for
-pub record IsReadForNext {V : Type 0} (ranges : V → ℕ → ℕ → Option (ℤ × ℤ)) (stands : V → Read → Type 0) (owes : V → ℕ → ℕ → Bool)
-    (same : V → V → Type 0) (before after : V) (conn : ConnState) (values : List ℤ) : Type 0 where
+pub record IsReadForNext {V : Type 0} (ranges : V → ℕ → ℕ → Option (ℤ × ℤ)) (stands : V → Read → Type 0)
+    (owes : V → ℕ → ℕ → Bool) (same : V → V → Type 0) (before after : V) (conn : ConnState) (values : List ℤ) : Type 0 where
   pub reads : List Read
   pub of_reads : values ≡ values_of reads
   pub fit : (log : List ServerEvent) → ConnStandsFor conn log → AreReads (terms_of conn) log reads

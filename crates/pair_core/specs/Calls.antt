@@ -155,8 +155,8 @@ is_asked (r ∷ reads) n f = ((r.n == n) && (r.field == f)) || is_asked reads n 
 
 -- what the asking for these reads did to the values: each read stands, what stood before stands, the fields that were asked
 -- are owed no more, and all else is as it was
-pub record Asks {V : Type 0} (ranges : V → ℕ → ℕ → Option (ℤ × ℤ)) (stands : V → Read → Type 0) (owes : V → ℕ → ℕ → Bool)
-    (same : V → V → Type 0) (before after : V) (reads : List Read) : Type 0 where
+pub record Asks {V : Type 0} (ranges : V → ℕ → ℕ → Option (ℤ × ℤ)) (stands : V → Read → Type 0)
+    (owes : V → ℕ → ℕ → Bool) (same : V → V → Type 0) (before after : V) (reads : List Read) : Type 0 where
   pub stand : AllByRecursion (stands after) reads
   pub kept : (r : Read) → stands before r → stands after r
   pub owed : (n f : ℕ) → owes after n f ≡ (owes before n f && not (is_asked reads n f))

@@ -99,7 +99,10 @@ unlimited : Terms
 unlimited = record { config = record { client = 0; life = 100; size = 128 }; kinds = []; blocks = [] }
 
 shown_and_hidden : history unlimited (Hide 0 ∷ Near 0 1 ∷ Show 2 0 3 false ∷ [])
-    ≡ record { server = server.Scoped (server.Hide 0) ∷ server.Scoped (server.Near 0 1) ∷ server.Scoped (server.Show 2 0 3 false) ∷ []; client = [] }
+    ≡ record {
+      server = server.Scoped (server.Hide 0) ∷ server.Scoped (server.Near 0 1) ∷ server.Scoped (server.Show 2 0 3 false) ∷ [];
+      client = [];
+    }
 unfolding unlimited
 shown_and_hidden = refl
 
@@ -109,5 +112,6 @@ two_drains : absorbing (record { n = 0; bits = 1 } ∷ record { n = 1; bits = 6 
 two_drains = refl
 
 -- reads that differ in versions alone are the same to a pair
-without_versions : values_of (record { n = 0; field = 1; version = 7; value = pos 3 } ∷ []) ≡ values_of (record { n = 0; field = 1; version = 0; value = pos 3 } ∷ [])
+without_versions : values_of (record { n = 0; field = 1; version = 7; value = pos 3 } ∷ [])
+    ≡ values_of (record { n = 0; field = 1; version = 0; value = pos 3 } ∷ [])
 without_versions = refl

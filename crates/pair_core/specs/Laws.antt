@@ -30,7 +30,8 @@ StepFits other = Unit {0}
 -- it holds of each connection within its limits, after all steps that met their conditions, where only what the client's end
 -- sent came to the server's end
 abbrev pub Always : (Terms → List PairStep → Type 0) → Type 0
-Always P = (t : Terms) (steps : List PairStep) → AreTerms t → AllByRecursion StepFits steps → AreMet t steps → IsHonest steps → P t steps
+Always P =
+    (t : Terms) (steps : List PairStep) → AreTerms t → AllByRecursion StepFits steps → AreMet t steps → IsHonest steps → P t steps
 
 -- it holds whatever steps come later
 abbrev pub AlwaysLater : (Terms → List PairStep → List PairStep → Type 0) → Type 0

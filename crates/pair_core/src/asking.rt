@@ -28,7 +28,8 @@ fn has_field(mask: u32, field: u8) -> bool
 fn ask_fields<V: Values>(choice: &Choice, values: &mut V, asked: &mut Vec<i64>)
     requires ranged { (f : ℕ) → f < MAX_FIELDS → has_bit choice.now.mask f ≡ true → IsSome (V.ranges values.old choice.now.n f) }
     requires room { vec_len asked.old + MAX_FIELDS ≤ vec_capacity asked.old }
-    ensures told { AreAsked V.ranges V.stands V.owes V.same values.old values.new (asked_by choice.now) asked.old.items asked.new.items }
+    ensures told { AreAsked V.ranges V.stands V.owes V.same values.old values.new (asked_by choice.now)
+        asked.old.items asked.new.items }
     ensures few { vec_len asked.new ≤ vec_len asked.old + MAX_FIELDS }
     ensures room { vec_capacity asked.new ≡ vec_capacity asked.old }
 {
@@ -42,9 +43,11 @@ fn ask_fields<V: Values>(choice: &Choice, values: &mut V, asked: &mut Vec<i64>)
 
 /// Asks for each field that these items carry, item by item.
 fn ask_all<V: Values>(choices: &[Choice], values: &mut V, asked: &mut Vec<i64>)
-    requires ranged { All (λ c. (f : ℕ) → f < MAX_FIELDS → has_bit c.mask f ≡ true → IsSome (V.ranges values.old c.n f)) choices.now }
+    requires ranged { All (λ c. (f : ℕ) → f < MAX_FIELDS → has_bit c.mask f ≡ true
+        → IsSome (V.ranges values.old c.n f)) choices.now }
     requires room { vec_len asked.old + MAX_FIELDS * length choices.now ≤ vec_capacity asked.old }
-    ensures told { AreAsked V.ranges V.stands V.owes V.same values.old values.new (asked_by_all choices.now) asked.old.items asked.new.items }
+    ensures told { AreAsked V.ranges V.stands V.owes V.same values.old values.new (asked_by_all choices.now)
+        asked.old.items asked.new.items }
     ensures room { vec_capacity asked.new ≡ vec_capacity asked.old }
 {
     'items: for choice in choices {
@@ -63,7 +66,8 @@ pub(crate) fn plan_and_ask<L: Ledger, V: Values>(
     requires parts { blank.parts ≡ L.parts }
     requires some { 0 < blank.parts }
     requires state { send_state conn.old.common.window ≡ SendState.Room }
-    requires ranged { (log : List ServerEvent) × ConnStandsFor conn.old log × HasRanges (terms_of conn.old) (ghost_log log) (V.ranges values.old) }
+    requires ranged { (log : List ServerEvent) × ConnStandsFor conn.old log
+        × HasRanges (terms_of conn.old) (ghost_log log) (V.ranges values.old) }
     requires empty { asked.old.items ≡ [] }
     requires room { MAX_PACKET_VALUES ≤ vec_capacity asked.old }
     ensures planning { Planning conn.old conn.new }

@@ -102,7 +102,8 @@ impl Datagrams {
 fn span(ends: &[usize], len: usize, place: usize) -> Option<(usize, usize)>
     requires { Rise 0 ends.now len }
     ensures none { IsNone result → length ends.now ≤ place }
-    ensures some { IfSome result (λ s. (bytes : List ℕ) → slice_get (cut 0 ends.now bytes) place ≡ Some (take (s.1 - s.0) (drop s.0 bytes))) }
+    ensures some { IfSome result (λ s. (bytes : List ℕ)
+        → slice_get (cut 0 ends.now bytes) place ≡ Some (take (s.1 - s.0) (drop s.0 bytes))) }
     ensures within { IfSome result (λ s. (s.0 ≤ s.1) × (s.1 ≤ len)) }
 {
     if place >= ends.len() {

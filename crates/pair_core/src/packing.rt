@@ -19,7 +19,8 @@ use tn_types::{Drain, MAX_DATAGRAMS, Values};
 
 /// What was drained is due from now on.
 fn absorb_all(conn: &mut Conn, drains: &[Drain])
-    requires { (log : List ServerEvent) × ConnStandsFor conn.old log × AllByRecursion (MayBeDrained (terms_of conn.old) (ghost_log log)) drains.now }
+    requires { (log : List ServerEvent) × ConnStandsFor conn.old log
+        × AllByRecursion (MayBeDrained (terms_of conn.old) (ghost_log log)) drains.now }
     ensures stands { Becomes conn.old (absorbing drains.now) conn.new }
     ensures keeps { KeepsConn conn.old conn.new }
 {
