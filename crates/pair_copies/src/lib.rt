@@ -4,6 +4,9 @@
 //! lose, repeat and delay what it likes.
 #![tactic(auto)]
 
+#[cfg(test)]
+mod tests;
+
 ghost use Rattle.std.specs.Prelude.{◌≡◌, ℕ, Some};
 ghost use Rattle.ghost_client.specs.declared.copy.GhostCopy.{GhostCopy};
 ghost use Rattle.ghost_client.specs.Copies.{copy_of};

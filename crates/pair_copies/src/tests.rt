@@ -1,0 +1,412 @@
+//! Both ends and the network on rows that were worked out beforehand, byte for byte: what is lost, and what comes of it.
+ghost use Rattle.std.specs.Prelude.{◌≡◌, ℕ, true, false, ◌<◌, ◌≤ℤ◌, List, IsTrue, IsSome, Some, slice_get, length, if◌then◌else◌};
+ghost use Rattle.std.specs.Option.{option_and_then};
+ghost use Rattle.ghost_masks.specs.Plan.{kind_of, fields_of};
+ghost use Rattle.ghost_model.specs.Legal.{IsUp};
+ghost use Rattle.ghost_scope.specs.Shown.{has_control};
+ghost use Rattle.stream_manager.specs.Server.{ServerEvent, ghost_log};
+ghost use Rattle.stream_manager.specs.Stands.{ConnStandsFor, terms_of};
+ghost use Rattle.pair_core.specs.Calls.{Stands};
+ghost use Rattle.pair_core.specs.Conditions.{MayBeDrained};
+
+mod worked;
+
+use self::worked::{HIDDEN, RAISED, SHARED, SUPERSEDED};
+use notify_window::SendState;
+use pair_core::{Answer, Pair, PairStep};
+use quantised_fields::{FieldSpec, Kind, KindTable};
+use std::alloc::Global;
+use std::test::Fail;
+use stream_manager::{Config, Conn};
+use tn_types::{BlockBytes, Drain, MAX_DATAGRAMS, MAX_FIELDS, MAX_SHOWS, Move, Read, Values};
+
+const CONFIG: Config = Config {
+    client: 0,
+    life: 100,
+    size: 128,
+};
+
+/// A kind of this weight with fields from 0 to these levels, in so many bits.
+fn kind_with(weight: u8, levels: &[(i64, u32)]) -> Kind {
+    let mut kind = Kind {
+        weight,
+        ..Kind::default()
+    };
+    for (hi, bits) in levels {
+        if !kind.fields.is_full() {
+            kind.fields.push(FieldSpec {
+                lo: 0,
+                hi: *hi,
+                bits: *bits,
+            });
+        }
+    }
+    kind
+}
+
+/// The six kinds of a match: player, disc, mine, drone, flag and clock.
+fn six_kinds() -> Option<KindTable> {
+    let kinds = [
+        kind_with(8, &[(65535, 16), (65535, 16), (100, 7), (20, 5), (255, 8)]),
+        kind_with(6, &[(65535, 16), (65535, 16)]),
+        kind_with(3, &[(65535, 16), (65535, 16), (1, 1)]),
+        kind_with(4, &[(65535, 12), (65535, 12), (100, 5)]),
+        kind_with(5, &[(65535, 16), (65535, 16), (16, 5)]),
+        kind_with(1, &[(16_777_215, 24), (255, 8), (255, 8)]),
+    ];
+    KindTable::new(&kinds).ok()
+}
+
+/// The values of a packet in the order in which they are asked for, of periods that were shown with these kinds.
+#[derive(Drop)]
+struct Given<'a> {
+    kinds: KindTable,
+    shown: &'a [u8],
+    values: &'a [i64],
+    asked: usize,
+}
+
+/// The field of a period.
+fn spec_of(kinds: &KindTable, shown: &[u8], n: u32, field: u8) -> FieldSpec
+    requires { IsSome (option_and_then (λ k. slice_get (fields_of kinds.now k) field) (slice_get shown.now n)) }
+    ensures spec { Some result ≡ option_and_then (λ k. slice_get (fields_of kinds.now k) field) (slice_get shown.now n) }
+    ensures range { result.lo ≤ℤ result.hi }
+{
+    if let Some(number) = shown.get(n as usize) {
+        if let Some(kind) = kinds.kind(*number) {
+            if let Some(spec) = kind.fields.as_slice().get(field as usize) {
+                return *spec;
+            }
+        }
+    }
+    unreachable!()
+}
+
+/// The value, or the least of the field where the field may not have it.
+fn within(spec: &FieldSpec, value: i64) -> i64
+    requires { spec.now.lo ≤ℤ spec.now.hi }
+    ensures least { spec.now.lo ≤ℤ result }
+    ensures greatest { result ≤ℤ spec.now.hi }
+{
+    if spec.contains(value) { value } else { spec.lo }
+}
+
+impl<'a> Values for Given<'a> {
+    ghost use Rattle.std.specs.Prelude.{◌≡◌, ℕ, false, refl, slice_get};
+    ghost use Rattle.std.specs.Option.{option_map, option_and_then};
+    ghost use Rattle.ghost_masks.specs.Plan.{fields_of};
+    ghost use Rattle.std.proofs.Common.{◌∙◌, ap};
+
+    ghost ranges = { λ v n f. option_map (λ s. (s.lo, s.hi))
+        (option_and_then (λ k. slice_get (fields_of v.kinds k) f) (slice_get v.shown.now n)) };
+
+    ghost stands = { λ v r. Unit {0} };
+
+    ghost owes = { λ v n f. false };
+
+    ghost same = { λ a b. (b.kinds ≡ a.kinds) × (b.shown ≡ a.shown) };
+
+    fn value(&mut self, n: u32, field: u8) -> Read {
+        let spec = spec_of(&self.kinds, self.shown, n, field);
+        let next = self.values.get(self.asked).copied().unwrap_or(spec.lo);
+        self.asked = self.asked.saturating_add(1);
+        Read {
+            n,
+            field,
+            version: 0,
+            value: within(&spec, next),
+        }
+    }
+
+    ghost same_refl = { λ x. (refl, refl) };
+
+    ghost same_trans = { λ x y z p q. (q.0 ∙ p.0, q.1 ∙ p.1) };
+
+    ghost same_ranges = { λ x y n f p j. option_map (λ s. (s.lo, s.hi))
+        (option_and_then (λ k. slice_get (fields_of (p.0 j) k) f) (slice_get ((p.1 j).now) n)) };
+}
+
+const WEST: Move = Move {
+    dx: -1,
+    dy: 0,
+    fire: false,
+    act: false,
+};
+
+/// What is done, and what it has to give.
+#[derive(Drop)]
+enum Step {
+    /// The server shows an object of this kind, with block 0, with or without control.
+    Show(u8, bool),
+    /// The server hides this period.
+    Hide(u32),
+    /// The server drains this, and sends this data packet, whose ghosts have exactly these values.
+    Pack(Option<Drain>, &'static [i64], &'static [u8]),
+    /// The client takes the server's datagram of this place.
+    Down(u32),
+    /// The client sends this data packet.
+    ClientPack(&'static [u8]),
+    /// The server takes the client's datagram of this place, with so many new moves.
+    Up(u32, u32),
+    /// The client takes up the move (-1, 0).
+    West,
+    /// Whether this field of the period is settled.
+    Settled(u32, u8, bool),
+    /// The copy of this slot is of this kind with these levels, if there is one.
+    Copy(u8, Option<(u8, &'static [u32])>),
+}
+
+/// Whether a period may be shown so, by what has control.
+fn may_control(conn: &Conn, control: bool) -> bool
+    ensures { IsTrue result → control ≡ true → has_control conn.now.masks.periods ≡ false }
+{
+    !control || !conn.has_control()
+}
+
+/// Shows an object; whether it could be shown.
+fn shows(pair: &mut Pair, kind: u8, control: bool) -> bool
+    requires { Stands pair.old }
+    ensures { Stands pair.new }
+{
+    let conn = pair.conn();
+    if !conn.has_kind(kind) || conn.is_full() || conn.shows() == MAX_SHOWS {
+        return false;
+    }
+    if !may_control(conn, control) {
+        return false;
+    }
+    let step = PairStep::Show {
+        kind,
+        block: 0,
+        level: 0,
+        control,
+    };
+    matches!(pair.step(&step), Answer::Period { .. })
+}
+
+/// Hides a period; whether it was shown.
+fn hides(pair: &mut Pair, n: u32) -> bool
+    requires { Stands pair.old }
+    ensures { Stands pair.new }
+{
+    if !pair.conn().is_up(n) {
+        return false;
+    }
+    matches!(pair.step(&PairStep::Hide { n }), Answer::Done)
+}
+
+/// Whether the period, where it is up, was shown with the kind that is listed for it.
+fn is_listed(conn: &Conn, shown: &[u8], n: u32) -> bool
+    ensures { IsTrue result → (log : List ServerEvent) → ConnStandsFor conn.now log → IsUp (ghost_log log) n
+        → slice_get shown.now n ≡ Some (kind_of (ghost_log log) n) }
+{
+    if !conn.is_up(n) {
+        return true;
+    }
+    if !conn.is_alive(n) {
+        return false;
+    }
+    match shown.get(n as usize) {
+        Some(kind) => *kind == conn.kind(n),
+        None => false,
+    }
+}
+
+/// Whether each period that is up was shown with the kind that is listed for it.
+fn are_listed(conn: &Conn, shown: &[u8]) -> bool
+    ensures { IsTrue result → (log : List ServerEvent) → ConnStandsFor conn.now log → (n : ℕ) → IsUp (ghost_log log) n
+        → slice_get shown.now n ≡ Some (kind_of (ghost_log log) n) }
+{
+    'periods: for n in 0..conn.shows() {
+        if !is_listed(conn, shown, n) {
+            return false;
+        }
+    }
+    true
+}
+
+/// Whether this may be drained of a period.
+fn may_be_drained(conn: &Conn, drain: Drain) -> bool
+    ensures { IsTrue result → (log : List ServerEvent) → ConnStandsFor conn.now log
+        → MayBeDrained (terms_of conn.now) (ghost_log log) drain }
+{
+    conn.is_up(drain.n) && conn.is_alive(drain.n) && conn.has_fields(drain.n, drain.bits)
+}
+
+/// Whether fewer datagrams than may be were sent that way.
+fn has_place(pair: &Pair, down: bool) -> bool
+    ensures { IsTrue result → length (if down then pair.now.down else pair.now.up) < MAX_DATAGRAMS }
+{
+    pair.datagram(down, MAX_DATAGRAMS - 1).is_none()
+}
+
+/// Whether a data packet with these bytes was made that way.
+fn made(pair: &Pair, down: bool, answer: Answer, bytes: &[u8]) -> bool {
+    match answer {
+        Answer::Packed { ping: false, place } => pair.datagram(down, place) == Some(bytes),
+        _ => false,
+    }
+}
+
+/// Whether the server's next datagram is a data packet with these bytes, where its ghosts have exactly these values.
+fn packs(
+    alloc: Global,
+    pair: &mut Pair,
+    shown: &[u8],
+    drain: Option<Drain>,
+    values: &[i64],
+    bytes: &[u8],
+) -> bool
+    requires { Stands pair.old }
+    ensures { Stands pair.new }
+{
+    if pair.prepare(alloc).is_err() {
+        return false;
+    }
+    if !has_place(pair, true) || !are_listed(pair.conn(), shown) {
+        return false;
+    }
+    let mut given = Given {
+        kinds: pair.conn().kinds().copy(),
+        shown,
+        values,
+        asked: 0,
+    };
+    let Some(drain) = drain else {
+        let answer = pair.pack(&[], &mut given);
+        return given.asked == values.len() && made(pair, true, answer, bytes);
+    };
+    if pair.conn().pack_state() != SendState::Room || !may_be_drained(pair.conn(), drain) {
+        return false;
+    }
+    let answer = pair.pack(&[drain], &mut given);
+    given.asked == values.len() && made(pair, true, answer, bytes)
+}
+
+/// Whether the client's next datagram is a data packet with these bytes.
+fn client_packs(alloc: Global, pair: &mut Pair, bytes: &[u8]) -> bool
+    requires { Stands pair.old }
+    ensures { Stands pair.new }
+{
+    if pair.prepare(alloc).is_err() || !has_place(pair, false) {
+        return false;
+    }
+    let answer = pair.step(&PairStep::ClientPack);
+    made(pair, false, answer, bytes)
+}
+
+/// Whether the client takes the server's datagram of this place.
+fn comes_down(pair: &mut Pair, k: u32) -> bool
+    requires { Stands pair.old }
+    ensures { Stands pair.new }
+{
+    if pair.client_waiting() > 0 {
+        return false;
+    }
+    matches!(pair.step(&PairStep::Down { k }), Answer::Came { .. })
+}
+
+/// How many new moves the client's datagram of this place brings; `None` where it is refused.
+fn comes_up(pair: &mut Pair, k: u32) -> Option<u32>
+    requires { Stands pair.old }
+    ensures { Stands pair.new }
+{
+    if pair.server_waiting() > 0 {
+        return None;
+    }
+    match pair.step(&PairStep::Up { k, room: 32 }) {
+        Answer::Came { moves } => Some(moves),
+        _ => None,
+    }
+}
+
+/// Whether the client takes up a move.
+fn goes_west(pair: &mut Pair) -> bool
+    requires { Stands pair.old }
+    ensures { Stands pair.new }
+{
+    matches!(
+        pair.step(&PairStep::Sample { m: WEST }),
+        Answer::Sampled { .. }
+    )
+}
+
+/// Whether the field is settled; `None` where there is none.
+fn is_settled(conn: &Conn, n: u32, field: u8) -> Option<bool> {
+    if n < conn.shows() && usize::from(field) < MAX_FIELDS {
+        Some(conn.settled(n, field))
+    } else {
+        None
+    }
+}
+
+/// Whether the copy of a slot is of this kind with these levels, or there is none.
+fn copies(pair: &Pair, slot: u8, wanted: Option<(u8, &'static [u32])>) -> bool {
+    match (pair.client().copies().get(slot), wanted) {
+        (Some(copy), Some((kind, levels))) => copy.kind == kind && copy.levels.as_slice() == levels,
+        (None, None) => true,
+        _ => false,
+    }
+}
+
+/// Does the step; whether it gave what it had to.
+fn does(alloc: Global, pair: &mut Pair, shown: &[u8], step: &Step) -> bool
+    requires { Stands pair.old }
+    ensures { Stands pair.new }
+{
+    match step {
+        Step::Show(kind, control) => shows(pair, *kind, *control),
+        Step::Hide(n) => hides(pair, *n),
+        Step::Pack(drain, values, bytes) => packs(alloc, pair, shown, *drain, values, bytes),
+        Step::Down(k) => comes_down(pair, *k),
+        Step::ClientPack(bytes) => client_packs(alloc, pair, bytes),
+        Step::Up(k, moves) => comes_up(pair, *k) == Some(*moves),
+        Step::West => goes_west(pair),
+        Step::Settled(n, field, settled) => is_settled(pair.conn(), *n, *field) == Some(*settled),
+        Step::Copy(slot, wanted) => copies(pair, *slot, *wanted),
+    }
+}
+
+/// The place of the first step that doesn't give what it has to. Periods are shown with these kinds.
+fn first_wrong(alloc: Global, pair: &mut Pair, shown: &[u8], steps: &[Step]) -> Option<usize>
+    requires { Stands pair.old }
+{
+    'steps: for (i, step) in steps.iter().enumerate() {
+        if !does(alloc, pair, shown, step) {
+            return Some(i);
+        }
+    }
+    None
+}
+
+/// The same for the steps of a new pair, in a match with one block, the byte `a`.
+fn first_wrong_of_new(alloc: Global, shown: &[u8], steps: &[Step]) -> Result<Option<usize>, Fail> {
+    let kinds = six_kinds().ok_or("no table")?;
+    let blocks = [BlockBytes::from_slice(b"a").ok_or("too long")?];
+    let mut pair = Pair::new(alloc, CONFIG, &kinds, &blocks)?;
+    Ok(first_wrong(alloc, &mut pair, shown, steps))
+}
+
+const PLAYER_AND_MINES: [u8; 21] = [
+    0, 2, 2, 2, 2, 2, 2, 2, 2, 2, 2, 2, 2, 2, 2, 2, 2, 2, 2, 2, 2,
+];
+
+/// Each row by its name, with the kinds that its objects are shown with.
+const ROWS: [(&str, &[u8], &[Step]); 4] = [
+    ("lost_update_superseded", &[5], &SUPERSEDED),
+    ("lost_update_raised_again", &[5], &RAISED),
+    ("hidden_before_create_received", &[0, 2], &HIDDEN),
+    ("priority_and_share", &PLAYER_AND_MINES, &SHARED),
+];
+
+#[test]
+fn rows(rt: HostRuntime) -> Result<(), Fail> {
+    for (name, shown, steps) in ROWS {
+        assert_eq!(rt;
+            first_wrong_of_new(rt.alloc(), shown, steps)?,
+            None,
+            "{name}"
+        );
+    }
+    Ok(())
+}
