@@ -11,7 +11,7 @@ ghost use Rattle.pair_core.specs.Conditions.{MayBeDrained};
 
 mod worked;
 
-use self::worked::{HIDDEN, RAISED, SHARED, SUPERSEDED};
+use self::worked::{HIDDEN, RAISED, SHARED, SUPERSEDED, TAKEN};
 use notify_window::SendState;
 use pair_core::{Answer, Pair, PairStep};
 use quantised_fields::{FieldSpec, Kind, KindTable};
@@ -133,6 +133,13 @@ const WEST: Move = Move {
     act: false,
 };
 
+const EAST: Move = Move {
+    dx: 1,
+    dy: 0,
+    fire: false,
+    act: false,
+};
+
 /// What is done, and what it has to give.
 #[derive(Drop)]
 enum Step {
@@ -150,8 +157,14 @@ enum Step {
     Up(u32, u32),
     /// The client takes up the move (-1, 0).
     West,
+    /// The client takes up the move (1, 0).
+    East,
     /// Whether this field of the period is settled.
     Settled(u32, u8, bool),
+    /// This period holds this slot.
+    Slot(u32, Option<u8>),
+    /// The client's control slot is this.
+    Control(Option<u8>),
     /// The copy of this slot is of this kind with these levels, if there is one.
     Copy(u8, Option<(u8, &'static [u32])>),
 }
@@ -320,15 +333,12 @@ fn comes_up(pair: &mut Pair, k: u32) -> Option<u32>
     }
 }
 
-/// Whether the client takes up a move.
-fn goes_west(pair: &mut Pair) -> bool
+/// Whether the client takes up the move.
+fn moves(pair: &mut Pair, m: Move) -> bool
     requires { Stands pair.old }
     ensures { Stands pair.new }
 {
-    matches!(
-        pair.step(&PairStep::Sample { m: WEST }),
-        Answer::Sampled { .. }
-    )
+    matches!(pair.step(&PairStep::Sample { m }), Answer::Sampled { .. })
 }
 
 /// Whether the field is settled; `None` where there is none.
@@ -338,6 +348,11 @@ fn is_settled(conn: &Conn, n: u32, field: u8) -> Option<bool> {
     } else {
         None
     }
+}
+
+/// Whether the period was shown and holds this slot.
+fn holds(conn: &Conn, n: u32, slot: Option<u8>) -> bool {
+    n < conn.shows() && conn.slot(n) == slot
 }
 
 /// Whether the copy of a slot is of this kind with these levels, or there is none.
@@ -361,8 +376,11 @@ fn does(alloc: Global, pair: &mut Pair, shown: &[u8], step: &Step) -> bool
         Step::Down(k) => comes_down(pair, *k),
         Step::ClientPack(bytes) => client_packs(alloc, pair, bytes),
         Step::Up(k, moves) => comes_up(pair, *k) == Some(*moves),
-        Step::West => goes_west(pair),
+        Step::West => moves(pair, WEST),
+        Step::East => moves(pair, EAST),
         Step::Settled(n, field, settled) => is_settled(pair.conn(), *n, *field) == Some(*settled),
+        Step::Slot(n, slot) => holds(pair.conn(), *n, *slot),
+        Step::Control(slot) => pair.client().control() == *slot,
         Step::Copy(slot, wanted) => copies(pair, *slot, *wanted),
     }
 }
@@ -392,9 +410,10 @@ const PLAYER_AND_MINES: [u8; 21] = [
 ];
 
 /// Each row by its name, with the kinds that its objects are shown with.
-const ROWS: [(&str, &[u8], &[Step]); 4] = [
+const ROWS: [(&str, &[u8], &[Step]); 5] = [
     ("lost_update_superseded", &[5], &SUPERSEDED),
     ("lost_update_raised_again", &[5], &RAISED),
+    ("slot_taken_until_kill_received", &[0, 2, 2], &TAKEN),
     ("hidden_before_create_received", &[0, 2], &HIDDEN),
     ("priority_and_share", &PLAYER_AND_MINES, &SHARED),
 ];

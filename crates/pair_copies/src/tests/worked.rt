@@ -12,12 +12,12 @@ const BLOCK: &[u8] = &[
 
 const BLOCK_CAME: &[u8] = &[0x40, 0, 0, 0x40, 0, 0, 0x40, 0, 0, 0, 0, 0, 0, 0, 0, 0];
 
-/// A clock in slot 0, and the client's second packet, which tells that it came.
+/// A clock in slot 0, and the client's second packet, which tells that the server's second one came.
 const CLOCK: &[u8] = &[
     0x80, 0, 0, 0x40, 0, 0, 0x40, 0, 0, 0, 0, 0, 0, 0, 0, 1, 0, 0x15, 0, 0, 0, 0, 0, 0,
 ];
 
-const CLOCK_CAME: &[u8] = &[0x80, 0, 0, 0x80, 0, 0, 0xc0, 0, 0, 0, 0, 0, 0, 0, 0, 0];
+const SECOND_CAME: &[u8] = &[0x80, 0, 0, 0x80, 0, 0, 0xc0, 0, 0, 0, 0, 0, 0, 0, 0, 0];
 
 /// An update of the clock in slot 0 to tick 1, and one to tick 2.
 const FIRST_TICK: &[u8] = &[
@@ -37,7 +37,7 @@ pub(super) const SUPERSEDED: [Step; 19] = [
     Step::Up(0, 0),
     Step::Pack(None, &[0, 0, 0], CLOCK),
     Step::Down(1),
-    Step::ClientPack(CLOCK_CAME),
+    Step::ClientPack(SECOND_CAME),
     Step::Up(1, 0),
     Step::Copy(0, Some((5, &[0, 0, 0]))),
     Step::Pack(FIRST_FIELD, &[1], FIRST_TICK),
@@ -65,7 +65,7 @@ pub(super) const RAISED: [Step; 17] = [
     Step::Up(0, 0),
     Step::Pack(None, &[0, 0, 0], CLOCK),
     Step::Down(1),
-    Step::ClientPack(CLOCK_CAME),
+    Step::ClientPack(SECOND_CAME),
     Step::Up(1, 0),
     Step::Pack(FIRST_FIELD, &[1], FIRST_TICK),
     Step::Pack(FIRST_FIELD, &[2], SECOND_TICK),
@@ -88,29 +88,96 @@ pub(super) const RAISED: [Step; 17] = [
     Step::Copy(0, Some((5, &[0, 0, 0]))),
 ];
 
-/// A player at (1000, 1000) in slot 0 and a mine beside it in slot 1; a move comes, and the mine is hidden. The packet with
-/// both is lost: the mine is over and its slot free, and the player comes again, from where it is now.
-pub(super) const HIDDEN: [Step; 16] = [
+/// The values of a player at (1000, 1000) and of a mine beside it, and the packet that creates them in slots 0 and 1.
+const BOTH: &[i64] = &[1000, 1000, 100, 20, 0, 1100, 1000, 0];
+
+const PLAYER_AND_MINE: &[u8] = &[
+    0x80, 0, 0, 0x40, 0, 0, 0x40, 0, 0, 0, 0, 0, 0, 0, 0, 2, 0, 1, 0x80, 0x3e, 0x80, 0x3e, 0xf0,
+    0xff, 0, 1, 9, 0xc0, 0x44, 0x80, 0x3e, 0,
+];
+
+/// The player goes west and back, so that the mine is hidden and shown again. The packet that kills it in slot 1 is lost, and
+/// with it an update of the player: the mine is created in slot 2, for slot 1 is taken until the kill, sent again, came.
+pub(super) const TAKEN: [Step; 36] = [
     Step::Show(0, true),
     Step::Show(2, false),
     Step::Pack(None, &[], BLOCK),
     Step::Down(0),
     Step::ClientPack(BLOCK_CAME),
     Step::Up(0, 0),
+    Step::Pack(None, BOTH, PLAYER_AND_MINE),
+    Step::Down(1),
+    Step::ClientPack(SECOND_CAME),
+    Step::Up(1, 0),
+    Step::West,
+    Step::ClientPack(&[
+        0xc0, 0, 0, 0x80, 0, 0, 0xc0, 0, 0, 0, 0, 0, 0, 0x40, 0x70, 8, 0,
+    ]),
+    Step::Up(2, 1),
+    Step::Hide(1),
     Step::Pack(
-        None,
-        &[1000, 1000, 100, 20, 0, 1100, 1000, 0],
+        FIRST_FIELD,
+        &[975],
         &[
-            0x80, 0, 0, 0x40, 0, 0, 0x40, 0, 0, 0, 0, 0, 0, 0, 0, 2, 0, 1, 0x80, 0x3e, 0x80, 0x3e,
-            0xf0, 0xff, 0, 1, 9, 0xc0, 0x44, 0x80, 0x3e, 0,
+            0xc0, 0, 0, 0xc0, 0, 0, 0xc0, 1, 0, 0, 0x40, 0, 0, 0x40, 0, 0, 2, 1, 0, 8, 0xe1, 0x79,
+            0,
         ],
     ),
+    Step::East,
+    Step::ClientPack(&[
+        0, 1, 0, 0x80, 0, 0, 0xc0, 0, 0, 0, 0, 0, 0, 0x80, 0x70, 0x48, 0x22, 0,
+    ]),
+    Step::Up(3, 1),
+    Step::Show(2, false),
+    Step::Pack(
+        FIRST_FIELD,
+        &[1000, 1100, 1000, 0],
+        &[
+            0, 1, 0, 0, 1, 0, 0xc0, 3, 0, 0, 0x80, 0, 0, 0x40, 0, 0, 2, 0, 0x42, 0x40, 0x1f, 0x10,
+            0x48, 0, 0x26, 2, 0xf4, 1,
+        ],
+    ),
+    Step::Slot(1, Some(1)),
+    Step::Slot(2, Some(2)),
+    Step::Down(3),
+    Step::Control(Some(0)),
+    Step::ClientPack(&[0x40, 1, 0, 0, 1, 0, 0x40, 3, 0, 0, 0x80, 0, 0, 0, 0, 0]),
+    Step::Up(4, 0),
+    Step::Slot(1, Some(1)),
+    Step::Pack(
+        None,
+        &[],
+        &[
+            0x40, 1, 0, 0x40, 1, 0, 0xc0, 7, 0, 0, 0x80, 0, 0, 0x40, 0, 0, 1, 1, 0,
+        ],
+    ),
+    Step::Down(4),
+    Step::ClientPack(&[0x80, 1, 0, 0x40, 1, 0, 0xc0, 6, 0, 0, 0x80, 0, 0, 0, 0, 0]),
+    Step::Up(5, 0),
+    Step::Slot(1, None),
+    Step::Copy(0, Some((0, &[1000, 1000, 127, 31, 0]))),
+    Step::Copy(1, None),
+    Step::Copy(2, Some((2, &[1100, 1000, 0]))),
+    Step::Settled(2, 1, true),
+];
+
+/// A player at (1000, 1000) in slot 0 and a mine beside it in slot 1; a move comes, and the mine is hidden. The packet with
+/// both is lost: the mine is over and its slot free, and the player comes again, from where it is now.
+pub(super) const HIDDEN: [Step; 18] = [
+    Step::Show(0, true),
+    Step::Show(2, false),
+    Step::Pack(None, &[], BLOCK),
+    Step::Down(0),
+    Step::ClientPack(BLOCK_CAME),
+    Step::Up(0, 0),
+    Step::Pack(None, BOTH, PLAYER_AND_MINE),
     Step::West,
     Step::ClientPack(&[
         0x80, 0, 0, 0x40, 0, 0, 0x40, 0, 0, 0, 0, 0, 0, 0x40, 0x70, 8, 0,
     ]),
     Step::Up(1, 1),
     Step::Hide(1),
+    Step::Slot(1, Some(1)),
     Step::Pack(
         FIRST_FIELD,
         &[],
@@ -119,6 +186,7 @@ pub(super) const HIDDEN: [Step; 16] = [
     Step::Down(2),
     Step::ClientPack(&[0xc0, 0, 0, 0xc0, 0, 0, 0x40, 1, 0, 0, 0x40, 0, 0, 0, 0, 0]),
     Step::Up(2, 0),
+    Step::Slot(1, None),
     Step::Pack(
         None,
         &[975, 1000, 100, 20, 0],
