@@ -16,6 +16,7 @@ ghost use Rattle.ghost_logs.specs.Blocks.{IsHeld, RefusesNoGhosts};
 ghost use Rattle.ghost_logs.specs.Recovery.{LosesNothing};
 ghost use Rattle.pair_core.specs.History.{history};
 ghost use Rattle.pair_core.specs.Laws.{Always};
+ghost use Rattle.pair_copies.specs.Reads.{AllShowReads, ShowNewest};
 
 /// Each copy that the client has is of the period that holds its slot at the server, of that period's kind and block, and
 /// each of its fields has the level of the last packet that the client processed and that carries the field. A packet that is
@@ -37,4 +38,12 @@ pub fn newer_packets_fit_the_copies()
 /// carries it, or the last packet that carries it was received and the client's copy has that packet's level.
 pub fn no_change_is_lost()
     ensures { Always (λ t steps. LosesNothing (history t steps).server (history t steps).client) }
+{}
+
+/// What a client sees was read. Each level of each copy, of a field that is due too, is that of a value which a pack read of the
+/// field, of the period that holds the copy's slot at the server. And each field of each period that is shown and not hidden is
+/// due, or an unjudged packet carries it, or the client's copy has the level of the value that was read last.
+pub fn copies_show_reads()
+    ensures reads { Always (λ t steps. AllShowReads t steps) }
+    ensures newest { Always (λ t steps. ShowNewest t steps) }
 {}
