@@ -6,7 +6,7 @@ use crate::tests::run_on;
 use std::test::Fail;
 
 /// Each with its name.
-const EXAMPLES: [(&str, &str, &str); 6] = [
+const EXAMPLES: [(&str, &str, &str); 8] = [
     (
         "blocks",
         "tribes 1
@@ -78,6 +78,41 @@ show 0 events 0 sampled 0 accepted 0 taken 0 control - ghosts 0
 ",
     ),
     (
+        "disc",
+        "tribes 1
+match 7 2 100 128 1000
+block 61
+player 0 0 0 1000 1000
+player 1 0 1 2700 1000
+spawn drone 0 1 2000 1500
+spawn clock 0 0 0 0
+go
+move 0 0 0 1 0
+cpack 0
+up 0 0
+tick
+world
+tick
+tick
+world
+tick
+world
+show 0
+",
+        "move 0 0
+cpack 0 0 data 4000000000000000000000000040801800
+up 0 0 ok 1
+tick 1 writes 4
+world 1 | 0 player 1000 1000 100 19 0 | 1 player 2700 1000 100 20 0 | 2 drone 2017 1538 100 | 3 clock 1 0 0 | 4 disc 1000 1000
+tick 2 writes 4
+tick 3 writes 4
+world 3 | 0 player 1000 1000 100 19 0 | 1 player 2700 1000 100 20 0 | 2 drone 1995 1571 100 | 3 clock 3 0 0 | 4 disc 2600 1000
+tick 4 writes 5
+world 4 | 0 player 1000 1000 100 19 1 | 1 player 2700 1000 75 20 0 | 2 drone 1957 1566 100 | 3 clock 4 0 0
+show 0 events 0 sampled 1 accepted 1 taken 1 control - ghosts 0
+",
+    ),
+    (
         "first_event",
         "tribes 1
 match 1 1 100 128 1000
@@ -91,6 +126,47 @@ show 0
 pack 0 0 data 400000000000000000000000000008010000045a1a00
 down 0 0 ok g:6869
 show 0 events 1 sampled 0 accepted 0 taken 0 control - ghosts 0
+",
+    ),
+    (
+        "flag",
+        "tribes 1
+match 1 2 100 128 1000
+block 61
+player 0 0 0 1000 1000
+player 1 0 1 9000 9000
+spawn flag 0 1 1100 1000
+spawn clock 0 0 0 0
+go
+move 0 1 0 0 1
+move 1 -1 -1 1 0
+cpack 0
+cpack 1
+up 0 0
+up 1 0
+tick
+world
+move 0 1 0 0 0
+cpack 0
+up 0 1
+tick
+world
+show 0
+",
+        "move 0 0
+move 1 0
+cpack 0 0 data 4000000000000000000000000040902800
+cpack 1 0 data 4400000000000000000000000040701700
+up 0 0 ok 1
+up 1 0 ok 1
+tick 1 writes 6
+world 1 | 0 player 1025 1000 100 20 0 | 1 player 8975 8975 100 19 0 | 2 flag 1100 1000 1 | 3 clock 1 0 0 | 4 disc 8975 8975
+move 0 1
+cpack 0 1 data 800000000000000000000000008090682200
+up 0 1 ok 1
+tick 2 writes 6
+world 2 | 0 player 1050 1000 100 20 0 | 1 player 8975 8975 100 19 0 | 2 flag 1100 1000 0 | 3 clock 2 1 0 | 4 disc 8875 8875
+show 0 events 0 sampled 2 accepted 2 taken 2 control - ghosts 0
 ",
     ),
     (

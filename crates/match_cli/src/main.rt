@@ -5,6 +5,8 @@ mod command;
 #[cfg(test)]
 mod examples;
 mod input;
+#[cfg(test)]
+mod rows;
 mod status;
 #[cfg(test)]
 mod tests;

@@ -1,6 +1,6 @@
 -- No more datagrams are sent than lines are done.
-use Rattle.std.proofs.Common.{◌≡◌, ℕ, ℤ, Some, suc, ◌≤◌, Bool, true, false, ◌==◌, List, [], ◌∷◌, if◌then◌else◌, length, refl, ap, arith, length-append}
-use Rattle.std.specs.Prelude.{slice_get}
+use Rattle.std.proofs.Common.{◌≡◌, ℕ, ℤ, Some, suc, ◌≤◌, Bool, true, false, List, [], ◌∷◌, if◌then◌else◌, length, refl, ap, arith, length-append}
+use Rattle.std.specs.Prelude.{slice_get, is_some}
 use Rattle.std.specs.Result.{is_ok}
 use Rattle.tn_types.specs.declared.choices.Class.{Class}
 use Rattle.tn_types.specs.declared.choices.Class.TheVariants.{Guaranteed, Loose}
@@ -21,7 +21,10 @@ use Rattle.stream_manager.specs.Client.{ClientEvent, client_datagrams, client_st
 use Rattle.pair_core.specs.History.{PairStep, Show, Hide, Near, Post, ClientPost, Sample, Pack, ClientPack, Down, Up, Raw, history, absorbing, values_of, server_posts, client_posts, client_samples}
 use Rattle.pair_core.proofs.Good.{absorbed-sends}
 use Rattle.pair_core.proofs.Brought.{gets_sends_up, gets_sends_down}
-use Rattle.match_engine.specs.Journal.{client_named, own, with_line, steps_of, journal}
+use Rattle.match_script.specs.declared.types.Head.{Head}
+use Rattle.world_sim.specs.Worlds.{next}
+use Rattle.match_engine.specs.Journal.{Course, concerns, own, next_move, with_line, course_of, course, journal}
+use Rattle.match_engine.specs.World.{world_of}
 
 server-posts : (t : Terms) (class : Class) (v : List ℕ) (log : List ServerEvent) → server_datagrams t (server_posts t.config class v log) ≡ server_datagrams t log
 server-posts t Loose v log = refl
@@ -90,20 +93,62 @@ few-up t (ClientPack ∷ steps) = omega (arith, few-up t steps, client-packs t.c
 few-up t (Down n ∷ steps) = omega (arith, few-up t steps, ap length (gets_sends_up t (slice_get (server_datagrams t (history t steps).server) n) (history t steps).client))
 few-up t (Up n room ∷ steps) = omega (arith, few-up t steps)
 
-few-line : (t : Terms) (line : BodyLine) (steps : List PairStep) → length (with_line t line steps) ≤ suc (length steps)
-few-line t (script.Post c class v) steps = omega arith
-few-line t (script.ClientPost c class v) steps = omega arith
-few-line t (script.Pack c) steps = omega arith
-few-line t (script.ClientPack c) steps = omega arith
-few-line t (script.Down c k) steps = omega arith
-few-line t (script.Up c k) steps = omega arith
-few-line t (script.Move c m) steps = omega arith
-few-line t (script.Show c) steps = omega arith
+few-line : (t : Terms) (line : BodyLine) (k : Course) → length (with_line t line k).steps ≤ suc (length k.steps)
+few-line t script.Tick k = omega arith
+few-line t (script.Post c class v) k = omega arith
+few-line t (script.ClientPost c class v) k = omega arith
+few-line t (script.Pack c) k = omega arith
+few-line t (script.ClientPack c) k = omega arith
+few-line t (script.Down c place) k = omega arith
+few-line t (script.Up c place) k = omega arith
+few-line t (script.Move c m) k = omega arith
+few-line t (script.Show c) k = omega arith
+few-line t script.World k = omega arith
 
 pub few-steps : (t : Terms) (c : ℕ) (lines : List BodyLine) → length (journal t c lines) ≤ length lines
 few-steps t c [] = omega arith
-few-steps t c (line ∷ lines) = go (client_named line == c) (few-steps t c lines)
+few-steps t c (line ∷ lines) = go (concerns c line) (few-steps t c lines)
   where
-    go : (b : Bool) → length (journal t c lines) ≤ length lines → length (steps_of t (if b then line ∷ own c lines else own c lines)) ≤ suc (length lines)
-    go true few = omega (arith, few-line t line (steps_of t (own c lines)))
+    go : (b : Bool) → length (journal t c lines) ≤ length lines → length (course_of t (if b then line ∷ own c lines else own c lines)).steps ≤ suc (length lines)
+    go true few = omega (arith, few-line t line (course_of t (own c lines)))
     go false few = omega arith
+
+-- no more moves are taken than lines are done
+one-more : (b : Bool) → (if b then 1 else 0) ≤ 1
+one-more true = omega arith
+one-more false = omega arith
+
+taken-line : (t : Terms) (line : BodyLine) (k : Course) → (with_line t line k).taken ≤ suc k.taken
+taken-line t script.Tick k = let o = one-more (is_some (next_move t k)) in omega (arith, o)
+taken-line t (script.Post c class v) k = omega arith
+taken-line t (script.ClientPost c class v) k = omega arith
+taken-line t (script.Pack c) k = omega arith
+taken-line t (script.ClientPack c) k = omega arith
+taken-line t (script.Down c place) k = omega arith
+taken-line t (script.Up c place) k = omega arith
+taken-line t (script.Move c m) k = omega arith
+taken-line t (script.Show c) k = omega arith
+taken-line t script.World k = omega arith
+
+pub few-taken : (t : Terms) (c : ℕ) (lines : List BodyLine) → (course t c lines).taken ≤ length lines
+few-taken t c [] = omega arith
+few-taken t c (line ∷ lines) = go (concerns c line) (few-taken t c lines)
+  where
+    go : (b : Bool) → (course t c lines).taken ≤ length lines → (course_of t (if b then line ∷ own c lines else own c lines)).taken ≤ suc (length lines)
+    go true few = omega (arith, taken-line t line (course_of t (own c lines)))
+    go false few = omega arith
+
+-- no more ticks are made than lines are done
+pub few-ticks : (head : Head) (past : List BodyLine) → (world_of head past).ticks ≤ length past
+unfolding next
+few-ticks head [] = omega arith
+few-ticks head (script.Tick ∷ past) = let h = few-ticks head past in omega (arith, h)
+few-ticks head (script.Post c class v ∷ past) = let h = few-ticks head past in omega (arith, h)
+few-ticks head (script.ClientPost c class v ∷ past) = let h = few-ticks head past in omega (arith, h)
+few-ticks head (script.Pack c ∷ past) = let h = few-ticks head past in omega (arith, h)
+few-ticks head (script.ClientPack c ∷ past) = let h = few-ticks head past in omega (arith, h)
+few-ticks head (script.Down c place ∷ past) = let h = few-ticks head past in omega (arith, h)
+few-ticks head (script.Up c place ∷ past) = let h = few-ticks head past in omega (arith, h)
+few-ticks head (script.Move c m ∷ past) = let h = few-ticks head past in omega (arith, h)
+few-ticks head (script.Show c ∷ past) = let h = few-ticks head past in omega (arith, h)
+few-ticks head (script.World ∷ past) = let h = few-ticks head past in omega (arith, h)

@@ -1,5 +1,5 @@
 -- The lines of a script make steps whose payloads are in range, so what is delivered is a front of what was posted.
-use Rattle.std.proofs.Common.{ℕ, zero, suc, ◌<◌, Bool, true, false, ◌==◌, List, [], ◌∷◌, ◌++◌, if◌then◌else◌, take, reverse, refl, sym, subst, arith}
+use Rattle.std.proofs.Common.{ℕ, zero, suc, ◌<◌, Bool, true, false, List, [], ◌∷◌, ◌++◌, if◌then◌else◌, take, reverse, refl, sym, subst, arith}
 use Rattle.std.specs.List.{AllByRecursion, All}
 use Rattle.std.proofs.lemmas.Grind.{reverse_onto}
 use Rattle.match_script.specs.declared.types.BodyLine.{BodyLine}
@@ -13,26 +13,28 @@ use Rattle.pair_core.specs.Laws.{StepFits}
 use Rattle.pair_core.proofs.Good.{AreGood, good}
 use Rattle.pair_core.proofs.InOrder.{delivers_down, delivers_up, accepts}
 use Rattle.pair_core.proofs.LooseEvents.{loose_down, loose_up}
-use Rattle.match_engine.specs.Journal.{client_named, own, with_line, steps_of, journal, client_terms}
+use Rattle.match_engine.specs.Journal.{Course, concerns, own, with_line, course_of, journal, client_terms}
 use Rattle.match_engine.proofs.NoObjects.{plain-journal, are-met, is-honest}
 use Rattle.match_engine.specs.Laws.{after, EventsInOrder, MovesInOrder, LooseInOrder}
 
-step-fits : (t : Terms) (clients : ℕ) (line : BodyLine) (lines : List BodyLine) → LineFits clients line → AllByRecursion StepFits (steps_of t lines) → AllByRecursion StepFits (with_line t line (steps_of t lines))
-step-fits t clients (script.Post c class payload) lines h rest = (h.1, rest)
-step-fits t clients (script.ClientPost c class payload) lines h rest = (h.1, rest)
-step-fits t clients (script.Pack c) lines h rest = (tt, rest)
-step-fits t clients (script.ClientPack c) lines h rest = (tt, rest)
-step-fits t clients (script.Down c k) lines h rest = (tt, rest)
-step-fits t clients (script.Up c k) lines h rest = (tt, rest)
-step-fits t clients (script.Move c m) lines h rest = (tt, rest)
-step-fits t clients (script.Show c) lines h rest = rest
+step-fits : (t : Terms) (clients : ℕ) (line : BodyLine) (k : Course) → LineFits clients line → AllByRecursion StepFits k.steps → AllByRecursion StepFits (with_line t line k).steps
+step-fits t clients script.Tick k h rest = rest
+step-fits t clients (script.Post c class payload) k h rest = (h.1, rest)
+step-fits t clients (script.ClientPost c class payload) k h rest = (h.1, rest)
+step-fits t clients (script.Pack c) k h rest = (tt, rest)
+step-fits t clients (script.ClientPack c) k h rest = (tt, rest)
+step-fits t clients (script.Down c place) k h rest = (tt, rest)
+step-fits t clients (script.Up c place) k h rest = (tt, rest)
+step-fits t clients (script.Move c m) k h rest = (tt, rest)
+step-fits t clients (script.Show c) k h rest = rest
+step-fits t clients script.World k h rest = rest
 
 pub journal-fits : (t : Terms) (clients c : ℕ) (lines : List BodyLine) → AllByRecursion (LineFits clients) lines → AllByRecursion StepFits (journal t c lines)
 journal-fits t clients c [] h = tt
-journal-fits t clients c (line ∷ lines) h = go (client_named line == c) (journal-fits t clients c lines h.1)
+journal-fits t clients c (line ∷ lines) h = go (concerns c line) (journal-fits t clients c lines h.1)
   where
-    go : (b : Bool) → AllByRecursion StepFits (journal t c lines) → AllByRecursion StepFits (steps_of t (if b then line ∷ own c lines else own c lines))
-    go true rest = step-fits t clients line (own c lines) h.0 rest
+    go : (b : Bool) → AllByRecursion StepFits (journal t c lines) → AllByRecursion StepFits (course_of t (if b then line ∷ own c lines else own c lines)).steps
+    go true rest = step-fits t clients line (course_of t (own c lines)) h.0 rest
     go false rest = rest
 
 module _ {A : Type 0} (P : A → Type 0) where

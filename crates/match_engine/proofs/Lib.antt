@@ -2,7 +2,10 @@ pub mod NoObjects
 pub mod Isolated
 pub mod InOrder
 pub mod Refused
+pub mod Accepted
 pub mod Counted
 pub mod Packs
+pub mod Taking
+pub mod Living
 pub mod Fed
 pub mod Written

@@ -32,7 +32,7 @@ use Rattle.match_script.specs.declared.types.BodyLine.{BodyLine}
 use Rattle.match_script.specs.declared.types.BodyLine.TheVariants as script
 use Rattle.pair_core.specs.History.{PairStep, Show, Hide, Near, Post, ClientPost, Sample, Pack, ClientPack, Down, Up, Raw, history, absorbing, server_posts, server_gets, values_of}
 use Rattle.pair_core.specs.Conditions.{MayDrain, IsReadFor, field_of, asked_by_all, AreMet, IsHonest, IsHonestStep}
-use Rattle.match_engine.specs.Journal.{own, with_line, steps_of, journal}
+use Rattle.match_engine.specs.Journal.{Course, own, with_line, course_of, journal}
 
 abbrev pub ShowsNothing : List ServerEvent → Type 0
 ShowsNothing log = shows (scope_log (ghost_log log)) ≡ 0
@@ -178,19 +178,21 @@ is-honest (step ∷ steps) plain = (plain-honest step plain.0, is-honest steps p
 
 -- ---- the journals of a match
 
-plain-line : (t : Terms) (line : BodyLine) (steps : List PairStep) → AllByRecursion IsPlain steps → AllByRecursion IsPlain (with_line t line steps)
-plain-line t (script.Post c class payload) steps rest = (tt, rest)
-plain-line t (script.ClientPost c class payload) steps rest = (tt, rest)
-plain-line t (script.Pack c) steps rest = ((refl, refl), rest)
-plain-line t (script.ClientPack c) steps rest = (tt, rest)
-plain-line t (script.Down c k) steps rest = (tt, rest)
-plain-line t (script.Up c k) steps rest = (tt, rest)
-plain-line t (script.Move c m) steps rest = (tt, rest)
-plain-line t (script.Show c) steps rest = rest
+plain-line : (t : Terms) (line : BodyLine) (k : Course) → AllByRecursion IsPlain k.steps → AllByRecursion IsPlain (with_line t line k).steps
+plain-line t script.Tick k rest = rest
+plain-line t (script.Post c class payload) k rest = (tt, rest)
+plain-line t (script.ClientPost c class payload) k rest = (tt, rest)
+plain-line t (script.Pack c) k rest = ((refl, refl), rest)
+plain-line t (script.ClientPack c) k rest = (tt, rest)
+plain-line t (script.Down c place) k rest = (tt, rest)
+plain-line t (script.Up c place) k rest = (tt, rest)
+plain-line t (script.Move c m) k rest = (tt, rest)
+plain-line t (script.Show c) k rest = rest
+plain-line t script.World k rest = rest
 
-plain-steps : (t : Terms) (lines : List BodyLine) → AllByRecursion IsPlain (steps_of t lines)
+plain-steps : (t : Terms) (lines : List BodyLine) → AllByRecursion IsPlain (course_of t lines).steps
 plain-steps t [] = tt
-plain-steps t (line ∷ lines) = plain-line t line (steps_of t lines) (plain-steps t lines)
+plain-steps t (line ∷ lines) = plain-line t line (course_of t lines) (plain-steps t lines)
 
 pub plain-journal : (t : Terms) (c : ℕ) (lines : List BodyLine) → AllByRecursion IsPlain (journal t c lines)
 plain-journal t c lines = plain-steps t (own c lines)

@@ -1,5 +1,5 @@
 -- What each line tells, by the answer that it tells of: between honest ends no refusal but that of an old packet.
-use Rattle.std.proofs.Common.{ℕ, List}
+use Rattle.std.proofs.Common.{ℕ, ◌<◌, List, ◌∷◌}
 use Rattle.tn_types.specs.declared.choices.Class.{Class}
 use Rattle.tn_types.specs.declared.choices.Class.TheVariants.{Guaranteed, Loose}
 use Rattle.notify_window.specs.declared.SendState.{SendState}
@@ -19,8 +19,11 @@ use Rattle.pair_core.proofs.Good.{AreGood}
 use Rattle.pair_core.proofs.RefusalLaw.{little}
 use Rattle.match_report.specs.declared.told.Way.{Way}
 use Rattle.match_report.specs.declared.told.Way.TheVariants as way
-use Rattle.match_engine.specs.Journal.{room_in, journal, client_terms}
-use Rattle.match_engine.specs.Report.{told, post_told, client_post_told, pack_told, client_pack_told, handed_down, handed_up, brought_told}
+use Rattle.match_script.specs.Ranges.{LineFits}
+use Rattle.world_sim.specs.Worlds.{Worlds}
+use Rattle.match_engine.specs.Journal.{Course, room_in, course, client_terms}
+use Rattle.match_engine.specs.World.{world_of}
+use Rattle.match_engine.specs.Report.{told, post_told, client_post_told, pack_told, client_pack_told, handed_down, handed_up, brought_told, brought_up_told}
 use Rattle.match_engine.specs.Laws.{after, TellsLittle, LittleIsRefused}
 use Rattle.match_engine.proofs.InOrder.{terms-fit, are-good}
 
@@ -58,15 +61,23 @@ module _ (t : Terms) (steps : List PairStep) where
   client_pack-little c Worn = tt
   client_pack-little c Room = tt
 
-  line-little : AreTerms t → AreGood t steps → (line : BodyLine) → TellsLittle (told t steps line)
-  line-little limits fit (script.Post c class payload) = post-little c class
-  line-little limits fit (script.ClientPost c class payload) = client_post-little c class
-  line-little limits fit (script.Pack c) = pack-little c (server_state t.config (history t steps).server)
-  line-little limits fit (script.ClientPack c) = client_pack-little c (client_state t.config (history t steps).client)
-  line-little limits fit (script.Down c k) = brought-little way.Down c k (handed_down t steps k) (answer t steps (Down k)) (little t steps (Down k) limits fit tt)
-  line-little limits fit (script.Up c k) = brought-little way.Up c k (handed_up t steps k (room_in t steps)) (answer t steps (Up k (room_in t steps))) (little t steps (Up k (room_in t steps)) limits fit tt)
-  line-little limits fit (script.Move c m) = tt
-  line-little limits fit (script.Show c) = tt
+module _ (w : Worlds) (t : ℕ → Terms) (k : ℕ → Course) where
+  brought_up-little : (c place : ℕ) → AreTerms (t c) → AreGood (t c) (k c).steps → TellsLittle (brought_up_told c place (t c) (k c))
+  brought_up-little c place limits fit = brought-little way.Up c place (handed_up (t c) (k c).steps place (room_in (t c) (k c))) (answer (t c) (k c).steps (Up place (room_in (t c) (k c)))) (little (t c) (k c).steps (Up place (room_in (t c) (k c))) limits fit tt)
+
+  line-little : (clients : ℕ) (line : BodyLine) → LineFits clients line → ((c : ℕ) → c < clients → AreTerms (t c) × AreGood (t c) (k c).steps) → TellsLittle (told w t k line)
+  line-little clients script.Tick h fit = tt
+  line-little clients (script.Post c class payload) h fit = post-little (t c) (k c).steps c class
+  line-little clients (script.ClientPost c class payload) h fit = client_post-little (t c) (k c).steps c class
+  line-little clients (script.Pack c) h fit = pack-little (t c) (k c).steps c (server_state (t c).config (history (t c) (k c).steps).server)
+  line-little clients (script.ClientPack c) h fit = client_pack-little (t c) (k c).steps c (client_state (t c).config (history (t c) (k c).steps).client)
+  line-little clients (script.Down c place) h fit = brought-little way.Down c place (handed_down (t c) (k c).steps place) (answer (t c) (k c).steps (Down place)) (little (t c) (k c).steps (Down place) (fit c h.0).0 (fit c h.0).1 tt)
+  line-little clients (script.Up c place) h fit = brought_up-little c place (fit c h.0).0 (fit c h.0).1
+  line-little clients (script.Move c m) h fit = tt
+  line-little clients (script.Show c) h fit = tt
+  line-little clients script.World h fit = tt
 
 pub little-refused : LittleIsRefused
-little-refused s c n h l line = line-little (client_terms s.head c) (journal (client_terms s.head c) c (after n s)) (terms-fit s.head c h.head l) (are-good s c n h) line
+little-refused s n line h fits =
+    line-little (world_of s.head (line ∷ after n s)) (client_terms s.head) (λ c. course (client_terms s.head c) c (after n s)) s.head.clients line fits
+    (λ c l. (terms-fit s.head c h.head l, are-good s c n h))

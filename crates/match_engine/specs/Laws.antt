@@ -1,10 +1,10 @@
 -- What the report of a script and the journals of its clients promise.
 use Rattle.std.specs.Prelude.{ℕ, ◌≡◌, ◌<◌, ◌==◌, Bool, false, if◌then◌else◌, List, [], ◌∷◌, ◌++◌, reverse, take}
 use Rattle.match_script.specs.declared.types.BodyLine.{BodyLine}
-use Rattle.match_script.specs.declared.types.BodyLine.TheVariants.{Post, ClientPost, Pack, ClientPack, Down, Up, Move, Show}
+use Rattle.match_script.specs.declared.types.BodyLine.TheVariants.{Pack}
 use Rattle.match_script.specs.declared.types.Head.{Head}
 use Rattle.match_script.specs.declared.types.Script.{Script}
-use Rattle.match_script.specs.Ranges.{HasRanges}
+use Rattle.match_script.specs.Ranges.{LineFits, HasRanges}
 use Rattle.match_report.specs.Text.{report_line}
 use Rattle.stream_manager.specs.Limits.{Terms}
 use Rattle.pair_core.specs.History.{PairStep}
@@ -13,20 +13,14 @@ use Rattle.pair_core.specs.LooseEvents.{LooseDown, LooseUp}
 use Rattle.pair_core.specs.Refusals.{IsOldAtClient, IsOldAtServer}
 use Rattle.match_report.specs.declared.told.Told.{Told}
 use Rattle.match_report.specs.declared.told.Told.TheVariants.{ServerRefused, ClientRefused}
-use Rattle.match_engine.specs.Journal.{own, steps_of, journal, client_terms}
-use Rattle.match_engine.specs.Report.{told, told_lines}
+use Rattle.match_engine.specs.Journal.{own, course_of, journal, client_terms}
+use Rattle.match_engine.specs.Report.{packed_told, told_after, told_lines}
 
 -- ---- isolation
 
 abbrev pub is_pack : ℕ → BodyLine → Bool
-is_pack c (Post d class payload) = false
-is_pack c (ClientPost d class payload) = false
 is_pack c (Pack d) = d == c
-is_pack c (ClientPack d) = false
-is_pack c (Down d k) = false
-is_pack c (Up d k) = false
-is_pack c (Move d m) = false
-is_pack c (Show d) = false
+is_pack c line = false
 
 -- the report's lines of the `pack c` lines
 abbrev pub packs_in : ℕ → List (BodyLine × List ℕ) → List (List ℕ)
@@ -37,9 +31,10 @@ packs_in c (x ∷ xs) = if is_pack c x.0 then x.1 ∷ packs_in c xs else packs_i
 abbrev pub pack_lines : Terms → List BodyLine → List (List ℕ)
 pack_lines t [] = []
 pack_lines t (line ∷ lines) =
-    pack_lines t lines ++ (if is_pack t.config.client line then report_line (told t (steps_of t lines) line) ∷ [] else [])
+    pack_lines t lines ++ (if is_pack t.config.client line then report_line (packed_told t.config.client t (course_of t lines).steps) ∷ [] else [])
 
--- the `pack c` lines of a script's report are a function of the client's own lines, of three numbers and of the blocks
+-- the `pack c` lines of a script's report are a function of the client's own lines, of the ticks, of three numbers and of
+-- the blocks
 abbrev pub Isolation : Type 0
 Isolation =
     (head : Head) (c : ℕ) (past : List BodyLine) → packs_in c (told_lines head past) ≡ pack_lines (client_terms head c) (own c past)
@@ -75,6 +70,6 @@ TellsLittle (ServerRefused way c k fault) = IsOldAtServer fault
 TellsLittle (ClientRefused c k fault) = IsOldAtClient fault
 TellsLittle other = Unit {0}
 
--- whatever line comes next, an end refuses no datagram but an old one
+-- whatever line comes next, at every line, an end refuses no datagram but an old one
 abbrev pub LittleIsRefused : Type 0
-LittleIsRefused = AtEveryLine (λ t steps. (line : BodyLine) → TellsLittle (told t steps line))
+LittleIsRefused = (s : Script) (n : ℕ) (line : BodyLine) → HasRanges s → LineFits s.head.clients line → TellsLittle (told_after s.head (after n s) line)

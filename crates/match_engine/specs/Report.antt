@@ -1,5 +1,5 @@
--- The report of a script: one line for each line of its body. What a line tells is a function of the journal of the
--- client that it names, and of nothing else.
+-- The report of a script: one line for each line of its body. What a line tells that names a client is a function of that
+-- client's lines and of the ticks, and of nothing else; what a tick and `world` tell is a function of the worlds.
 use Rattle.std.specs.Prelude.{ℕ, true, false, List, [], ◌∷◌, ◌++◌, length, map, drop, reverse}
 use Rattle.std.specs.List.{flat_map}
 use Rattle.tn_types.specs.declared.choices.Class.{Class}
@@ -27,7 +27,9 @@ use Rattle.match_report.specs.declared.told.EventTold.{EventTold}
 use Rattle.match_report.specs.declared.told.Told.{Told}
 use Rattle.match_report.specs.declared.told.Told.TheVariants as told_as
 use Rattle.match_report.specs.Text.{report_line}
-use Rattle.match_engine.specs.Journal.{client_named, room_in, journal, client_terms}
+use Rattle.world_sim.specs.Worlds.{Worlds}
+use Rattle.match_engine.specs.Journal.{Course, room_in, course, client_terms}
+use Rattle.match_engine.specs.World.{world_of, living}
 
 -- ---- what a line tells, after these steps of its client
 
@@ -79,32 +81,40 @@ brought_told w c place events other = told_as.Came w c place 0 events
 abbrev pub brought_down_told : ℕ → ℕ → Terms → List PairStep → Told
 brought_down_told c place t steps = brought_told way.Down c place (handed_down t steps place) (answer t steps (Down place))
 
-abbrev pub brought_up_told : ℕ → ℕ → Terms → List PairStep → Told
-brought_up_told c place t steps =
-    let room = room_in t steps in
-    brought_told way.Up c place (handed_up t steps place room) (answer t steps (Up place room))
+abbrev pub brought_up_told : ℕ → ℕ → Terms → Course → Told
+brought_up_told c place t k =
+    let room = room_in t k in
+    brought_told way.Up c place (handed_up t k.steps place room) (answer t k.steps (Up place room))
 
--- no tick takes a move yet
-abbrev pub show_told : Terms → List PairStep → ℕ → Told
-show_told t steps c =
-    told_as.Show c (client_run t steps) (length (sampled_in t steps)) (length (accepted_in t steps)) 0 (control_at (history t steps).client)
+abbrev pub show_told : Terms → Course → ℕ → Told
+show_told t k c =
+    told_as.Show c (client_run t k.steps) (length (sampled_in t k.steps)) (length (accepted_in t k.steps)) k.taken
+    (control_at (history t k.steps).client)
 
-abbrev pub told : Terms → List PairStep → BodyLine → Told
-told t steps (script.Post c class payload) = post_told t steps c class
-told t steps (script.ClientPost c class payload) = client_post_told t steps c class
-told t steps (script.Pack c) = packed_told c t steps
-told t steps (script.ClientPack c) = client_packed_told c t steps
-told t steps (script.Down c place) = brought_down_told c place t steps
-told t steps (script.Up c place) = brought_up_told c place t steps
-told t steps (script.Move c m) = told_as.Moved c (sampled_answer t.config (history t steps).client)
-told t steps (script.Show c) = show_told t steps c
+abbrev pub tick_told : Worlds → Told
+tick_told w = told_as.Tick w.ticks (length w.writes)
+
+abbrev pub world_told : Worlds → Told
+world_told w = told_as.World w.ticks (living w)
+
+-- what a line tells, where this is the world after it, and this the connection of each client before it
+abbrev pub told : Worlds → (ℕ → Terms) → (ℕ → Course) → BodyLine → Told
+told w t k script.Tick = tick_told w
+told w t k (script.Post c class payload) = post_told (t c) (k c).steps c class
+told w t k (script.ClientPost c class payload) = client_post_told (t c) (k c).steps c class
+told w t k (script.Pack c) = packed_told c (t c) (k c).steps
+told w t k (script.ClientPack c) = client_packed_told c (t c) (k c).steps
+told w t k (script.Down c place) = brought_down_told c place (t c) (k c).steps
+told w t k (script.Up c place) = brought_up_told c place (t c) (k c)
+told w t k (script.Move c m) = told_as.Moved c (sampled_answer (t c).config (history (t c) (k c).steps).client)
+told w t k (script.Show c) = show_told (t c) (k c) c
+told w t k script.World = world_told w
 
 -- ---- the report
 
 -- what a line of the script tells after these lines
 abbrev pub told_after : Head → List BodyLine → BodyLine → Told
-told_after head past line =
-    let t = client_terms head (client_named line) in told t (journal t (client_named line) past) line
+told_after head past line = told (world_of head (line ∷ past)) (client_terms head) (λ c. course (client_terms head c) c past) line
 
 -- the same, as the report says it
 abbrev pub line_text : Head → List BodyLine → BodyLine → List ℕ

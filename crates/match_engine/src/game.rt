@@ -1,16 +1,18 @@
-//! The match: the connection of each client.
-ghost use Rattle.std.specs.Prelude.{◌≡◌, ℕ, ◌<◌, ◌≤◌, List, [], ◌∷◌, IfOk, OnOk, length};
+//! The match: its world and the connection of each client.
+ghost use Rattle.std.specs.Prelude.{◌≡◌, ℕ, ◌<◌, ◌≤◌, List, [], ◌∷◌, IfOk, OnOk, Some, None, length};
 ghost use Rattle.match_engine.specs.Journal.{client_named};
 
 use crate::kinds::plain_table;
 use crate::lines::line_on;
 use crate::seat::Seat;
+use crate::ticking::{living_of, take_moves};
 use match_report::Told;
 use match_script::{BodyLine, Head};
 use std::alloc::Global;
 use std::marker::Model;
 use stream_manager::Config;
-use tn_types::{MAX_COUNTED_LINES, NoMemory};
+use tn_types::{MAX_COUNTED_LINES, Move, NoMemory};
+use world_sim::World;
 
 /// A match of up to 16 clients, each with a connection of its own.
 ///
@@ -19,6 +21,9 @@ use tn_types::{MAX_COUNTED_LINES, NoMemory};
 pub struct Match {
     head: Head,
     seats: Vec<Seat>,
+    world: World,
+    // room for the moves of a tick
+    moves: Vec<Option<Move>>,
     done: u32,
 }
 
@@ -29,11 +34,11 @@ impl Model for Match {
 
     ghost Value = { MatchState };
 
-    ghost view = { λ m. record { head = m.head; seats = m.seats.items; done = m.done } };
+    ghost view = { λ m. record { head = m.head; seats = m.seats.items; world = m.world; done = m.done } };
 }
 
-/// The client that a line names.
-fn client_named(line: &BodyLine) -> u8
+/// The client that a line names, if it names one.
+fn client_named(line: &BodyLine) -> Option<u8>
     ensures { result ≡ client_named line.now }
 {
     match line {
@@ -41,23 +46,25 @@ fn client_named(line: &BodyLine) -> u8
             client,
             class: _,
             payload: _,
-        } => *client,
+        } => Some(*client),
         BodyLine::ClientPost {
             client,
             class: _,
             payload: _,
-        } => *client,
-        BodyLine::Pack { client } => *client,
-        BodyLine::ClientPack { client } => *client,
-        BodyLine::Down { client, k: _ } => *client,
-        BodyLine::Up { client, k: _ } => *client,
-        BodyLine::Move { client, m: _ } => *client,
-        BodyLine::Show { client } => *client,
+        } => Some(*client),
+        BodyLine::Pack { client } => Some(*client),
+        BodyLine::ClientPack { client } => Some(*client),
+        BodyLine::Down { client, k: _ } => Some(*client),
+        BodyLine::Up { client, k: _ } => Some(*client),
+        BodyLine::Move { client, m: _ } => Some(*client),
+        BodyLine::Show { client } => Some(*client),
+        BodyLine::Tick | BodyLine::World => None,
     }
 }
 
 impl Match {
     ghost use Rattle.match_script.specs.declared.types.BodyLine.{BodyLine as OneLine};
+    ghost use Rattle.match_script.specs.declared.types.BodyLine.TheVariants as script;
     ghost use Rattle.match_script.specs.Ranges.{HeadFits, LineFits};
     ghost use Rattle.match_engine.specs.Report.{told_after};
     ghost use Rattle.match_engine.specs.Stands.{StandsFor, Does, Answers};
@@ -84,9 +91,12 @@ impl Match {
                 return Err(NoMemory);
             }
         }
+        let world = World::new(alloc, head.seed, &head.setup)?;
         Ok(Match {
             head: own,
             seats,
+            world,
+            moves: Vec::new(alloc),
             done: 0,
         })
     }
@@ -100,9 +110,74 @@ impl Match {
         ensures stands { OnOk result (Does self.old line.now self.new) }
         ensures head { self.new.head ≡ self.old.head }
     {
-        let client = client_named(line) as usize;
+        match client_named(line) {
+            Some(client) => self.serve(alloc, client, line),
+            None => self.of_world(alloc, line),
+        }
+    }
+
+    // Does a line on the connection of the client that it names.
+    fn serve(&mut self, alloc: Global, client: u8, line: &BodyLine) -> Result<Told, NoMemory>
+        requires named { client_named line.now ≡ Some client }
+        requires stands { (past : List OneLine) × StandsFor self.old past }
+        requires fits { LineFits self.old.head.clients line.now }
+        requires few { self.old.done < MAX_COUNTED_LINES }
+        ensures told { IfOk result (Answers self.old (λ past. told_after self.old.head past line.now)) }
+        ensures stands { OnOk result (Does self.old line.now self.new) }
+        ensures head { self.new.head ≡ self.old.head }
+    {
         self.done += 1;
-        let seat = &mut self.seats[client];
+        let seat = &mut self.seats[client as usize];
         line_on(alloc, seat, line)
+    }
+
+    // Does a line that names no client.
+    fn of_world(&mut self, alloc: Global, line: &BodyLine) -> Result<Told, NoMemory>
+        requires named { client_named line.now ≡ None }
+        requires stands { (past : List OneLine) × StandsFor self.old past }
+        requires few { self.old.done < MAX_COUNTED_LINES }
+        ensures told { IfOk result (Answers self.old (λ past. told_after self.old.head past line.now)) }
+        ensures stands { OnOk result (Does self.old line.now self.new) }
+        ensures head { self.new.head ≡ self.old.head }
+    {
+        match line {
+            BodyLine::Tick => self.tick(alloc),
+            BodyLine::World => self.tell_world(alloc),
+            _ => unreachable!(),
+        }
+    }
+
+    // The world makes a tick, which takes each client's oldest waiting move.
+    fn tick(&mut self, alloc: Global) -> Result<Told, NoMemory>
+        requires stands { (past : List OneLine) × StandsFor self.old past }
+        requires few { self.old.done < MAX_COUNTED_LINES }
+        ensures told { IfOk result (Answers self.old (λ past. told_after self.old.head past script.Tick)) }
+        ensures stands { OnOk result (Does self.old script.Tick self.new) }
+        ensures head { self.new.head ≡ self.old.head }
+    {
+        let Ok(()) = take_moves(&mut self.seats, &mut self.moves) else {
+            return Err(NoMemory);
+        };
+        self.world.tick(alloc, self.moves.as_slice())?;
+        self.done += 1;
+        Ok(Told::Tick {
+            ticks: self.world.ticks(),
+            writes: self.world.writes().len(),
+        })
+    }
+
+    // The world is told.
+    fn tell_world(&mut self, alloc: Global) -> Result<Told, NoMemory>
+        requires few { self.old.done < MAX_COUNTED_LINES }
+        ensures told { IfOk result (Answers self.old (λ past. told_after self.old.head past script.World)) }
+        ensures stands { OnOk result (Does self.old script.World self.new) }
+        ensures head { self.new.head ≡ self.old.head }
+    {
+        let objects = living_of(alloc, &self.world)?;
+        self.done += 1;
+        Ok(Told::World {
+            ticks: self.world.ticks(),
+            objects,
+        })
     }
 }

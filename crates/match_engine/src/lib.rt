@@ -8,6 +8,7 @@ mod lines;
 mod output;
 mod running;
 mod seat;
+mod ticking;
 mod zeros;
 
 pub use game::Match;

@@ -8,11 +8,12 @@ ghost use Rattle.pair_core.specs.declared.step.Answer.TheVariants as says;
 ghost use Rattle.pair_core.specs.History.{Post, ClientPost, Sample, Pack, ClientPack, Down, Up, history};
 ghost use Rattle.pair_core.specs.Answers.{post_answer, sample_answer};
 ghost use Rattle.pair_core.specs.Calls.{Does, Answers, Stays, Stands};
-ghost use Rattle.match_engine.specs.Journal.{with_line, room_in};
+ghost use Rattle.match_engine.specs.Journal.{with_line, with_step, room_in};
 ghost use Rattle.match_engine.specs.Report.{event_told, told as line_told, post_told, client_post_told, show_told};
 ghost use Rattle.match_engine.specs.Report.{packed_told, client_packed_told, brought_down_told, brought_up_told};
-ghost use Rattle.match_engine.specs.Stands.{IsQuiet, IsWithoutObjects, TellsPost, TellsMove, TellsPack, SeatBecomes, SeatAnswers};
+ghost use Rattle.match_engine.specs.Stands.{IsQuiet, IsOfClient, IsWithoutObjects, TellsPost, TellsMove, TellsPack, SeatBecomes, SeatAnswers};
 ghost use Rattle.match_report.specs.declared.told.Told.TheVariants as told_as;
+ghost use Rattle.world_sim.specs.Worlds.{Worlds};
 
 use crate::seat::Seat;
 use crate::zeros::Zeros;
@@ -237,7 +238,7 @@ fn up(alloc: Global, seat: &mut Seat, client: u8, k: u32) -> Result<Told, NoMemo
     requires stands { Stands seat.old.pair }
     requires quiet { IsQuiet seat.old.pair }
     ensures told { IfOk result (SeatAnswers seat.old (brought_up_told client k)) }
-    ensures stands { OnOk result (SeatBecomes seat.old (λ t steps. Up k (room_in t steps) ∷ steps) seat.new) }
+    ensures stands { OnOk result (SeatBecomes seat.old (λ t course. with_step (Up k (room_in t course)) course) seat.new) }
     ensures quiet { OnOk result (IsQuiet seat.new.pair) }
 {
     match seat.up(k) {
@@ -265,27 +266,29 @@ fn up(alloc: Global, seat: &mut Seat, client: u8, k: u32) -> Result<Told, NoMemo
 }
 
 /// What a client has.
-fn show(pair: &Pair, client: u8) -> Told
-    ensures { Answers pair.now (λ t steps. show_told t steps client) result }
+fn show(seat: &Seat, client: u8) -> Told
+    ensures { SeatAnswers seat.now (λ t course. show_told t course client) result }
 {
+    let pair = &seat.pair;
     Told::Show {
         client,
         events: pair.client().delivered(),
         sampled: pair.client().sampled(),
         accepted: pair.conn().accepted(),
-        taken: 0,
+        taken: seat.taken,
         control: pair.client().control(),
     }
 }
 
-/// Does a line on the connection of its client, and gives what the report tells of it.
+/// Does a line on the connection of the client that it names, and gives what the report tells of it.
 pub(crate) fn line_on(alloc: Global, seat: &mut Seat, line: &BodyLine) -> Result<Told, NoMemory>
+    requires named { IsOfClient line.now }
     requires stands { IsWithoutObjects seat.old.pair }
     requires quiet { IsQuiet seat.old.pair }
     requires few_down { length seat.old.pair.down < MAX_DATAGRAMS }
     requires few_up { length seat.old.pair.up < MAX_DATAGRAMS }
-    ensures told { IfOk result (SeatAnswers seat.old (λ t steps. line_told t steps line.now)) }
-    ensures stands { OnOk result (SeatBecomes seat.old (λ t steps. with_line t line.now steps) seat.new) }
+    ensures told { IfOk result (λ told. (w : Worlds) → SeatAnswers seat.old (λ t course. line_told w (λ _. t) (λ _. course) line.now) told) }
+    ensures stands { OnOk result (SeatBecomes seat.old (λ t course. with_line t line.now course) seat.new) }
     ensures quiet { OnOk result (IsQuiet seat.new.pair) }
 {
     match line {
@@ -304,6 +307,7 @@ pub(crate) fn line_on(alloc: Global, seat: &mut Seat, line: &BodyLine) -> Result
         BodyLine::Down { client, k } => down(alloc, &mut seat.pair, *client, *k),
         BodyLine::Up { client, k } => up(alloc, seat, *client, *k),
         BodyLine::Move { client, m } => Ok(sample(&mut seat.pair, *client, *m)),
-        BodyLine::Show { client } => Ok(show(&seat.pair, *client)),
+        BodyLine::Show { client } => Ok(show(seat, *client)),
+        BodyLine::Tick | BodyLine::World => unreachable!(),
     }
 }

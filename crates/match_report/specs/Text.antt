@@ -1,8 +1,8 @@
 -- The text of a report, word for word. Numbers are decimal, bytes are pairs of hexadecimal digits in lower case or `-`
 -- for no byte, and each line ends with a newline.
-use Rattle.std.specs.Prelude.{ℕ, List, [], ◌∷◌, ◌++◌, length, ◌==◌, Bool, true, false, if◌then◌else◌, codes, Result, Ok, Err, Option, Some, None}
+use Rattle.std.specs.Prelude.{ℕ, ℤ, List, [], ◌∷◌, ◌++◌, length, ◌==◌, Bool, true, false, if◌then◌else◌, codes, Result, Ok, Err, Option, Some, None}
 use Rattle.std.specs.List.{flat_map}
-use Rattle.std.specs.Fmt.{decimal}
+use Rattle.std.specs.Fmt.{decimal, signed_decimal}
 use Rattle.hex.specs.Hex.{encode_lower}
 use Rattle.tn_types.specs.declared.choices.Class.{Class}
 use Rattle.tn_types.specs.declared.choices.Class.TheVariants.{Guaranteed, Loose}
@@ -11,11 +11,13 @@ use Rattle.event_manager.specs.Said.{post_fault_text}
 use Rattle.move_manager.specs.declared.faults.MoveFault.{MoveFault}
 use Rattle.move_manager.specs.Said.{move_fault_text}
 use Rattle.stream_manager.specs.Said.{server_refusal, client_refusal}
+use Rattle.world_rules.specs.Kinds.{kind_word}
+use Rattle.match_report.specs.declared.living.LivingObject.{LivingObject}
 use Rattle.match_report.specs.declared.told.Way.{Way}
 use Rattle.match_report.specs.declared.told.Way.TheVariants.{Down, Up, Raw}
 use Rattle.match_report.specs.declared.told.EventTold.{EventTold}
 use Rattle.match_report.specs.declared.told.Told.{Told}
-use Rattle.match_report.specs.declared.told.Told.TheVariants.{Post, PostLoose, Packed, PackWorn, Moved, Came, NotSent, ServerRefused, ClientRefused, Show}
+use Rattle.match_report.specs.declared.told.Told.TheVariants.{Post, PostLoose, Packed, PackWorn, Moved, Came, NotSent, ServerRefused, ClientRefused, Show, Tick, World}
 
 -- ---- words
 
@@ -60,6 +62,14 @@ moved_text (Err fault) = move_fault_text fault
 abbrev pub two_numbers : List ℕ → ℕ → ℕ → List ℕ
 two_numbers word first second = word ++ decimal first ++ codes " " ++ decimal second
 
+-- ---- a world
+
+abbrev pub value_text : ℤ → List ℕ
+value_text value = codes " " ++ signed_decimal value
+
+abbrev pub object_text : LivingObject → List ℕ
+object_text o = codes " | " ++ decimal o.number ++ codes " " ++ kind_word o.kind ++ flat_map value_text o.values
+
 -- ---- lines
 
 -- how a line of a delivery begins
@@ -89,6 +99,8 @@ told_text (Show c events sampled accepted taken control) =
     codes "show " ++ decimal c ++ codes " events " ++ decimal events ++ codes " sampled " ++ decimal sampled
     ++ codes " accepted " ++ decimal accepted
     ++ codes " taken " ++ decimal taken ++ codes " control " ++ control_word control ++ codes " ghosts 0"
+told_text (Tick ticks writes) = codes "tick " ++ decimal ticks ++ codes " writes " ++ decimal writes
+told_text (World ticks objects) = codes "world " ++ decimal ticks ++ flat_map object_text objects
 
 -- a line of the report, with its newline
 abbrev pub report_line : Told → List ℕ

@@ -2,9 +2,11 @@
 #![tactic(auto)]
 
 mod line;
+mod living;
 mod told;
 
 pub use line::put_line;
+pub use living::{Living, LivingObject, ValueList};
 pub use told::{EventTold, Events, Told, Way};
 
 #[cfg(test)]

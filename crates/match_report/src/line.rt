@@ -2,9 +2,10 @@
 ghost use Rattle.std.specs.Prelude.{◌≡◌, ◌++◌, ◌∷◌, [], IfOk, OnOk, OnErr, string_bytes};
 ghost use Rattle.std.specs.List.{flat_map};
 ghost use Rattle.std.specs.Fmt.{decimal};
-ghost use Rattle.match_report.specs.Text.{arrival_words, came_text, class_word, control_word, dropped_text, end_word, event_word, hex_text, moved_text, ping_word, posted_text, report_line, told_text, two_numbers};
+ghost use Rattle.match_report.specs.Text.{arrival_words, came_text, class_word, control_word, dropped_text, end_word, event_word, hex_text, moved_text, object_text, ping_word, posted_text, report_line, told_text, two_numbers, value_text};
 ghost use Rattle.stream_manager.specs.Said.{server_refusal, client_refusal};
 
+use crate::living::LivingObject;
 use crate::told::{EventTold, Told, Way};
 use event_manager::PostFault;
 use move_manager::MoveFault;
@@ -12,6 +13,7 @@ use std::alloc::{AllocError, Global};
 use std::fmt::Write;
 use stream_manager::{ArriveFault, ClientFault};
 use tn_types::{Class, NoMemory, Payload};
+use world_rules::kind_word;
 
 fn hex_text(alloc: Global, bytes: &[u8]) -> Result<String, AllocError>
     ensures { IfOk result (λ text. string_bytes text ≡ hex_text bytes.now) }
@@ -167,6 +169,40 @@ fn put_came(
     put_events(text, alloc, events)
 }
 
+fn put_value(text: &mut String, value: i64) -> Result<(), AllocError>
+    ensures { OnOk result (string_bytes text.new ≡ string_bytes text.old ++ value_text value) }
+{
+    text.push_str(" ")?;
+    write!(text, "{value}")
+}
+
+fn put_values(text: &mut String, values: &[i64]) -> Result<(), AllocError>
+    ensures { OnOk result (string_bytes text.new ≡ string_bytes text.old ++ flat_map value_text values.now) }
+{
+    for value in values {
+        put_value(text, *value)?;
+    }
+    Ok(())
+}
+
+fn put_object(text: &mut String, object: &LivingObject) -> Result<(), AllocError>
+    ensures { OnOk result (string_bytes text.new ≡ string_bytes text.old ++ object_text object.now) }
+{
+    put(text, " | ", object.number)?;
+    text.push_str(" ")?;
+    text.push_str(kind_word(object.kind))?;
+    put_values(text, object.values.as_slice())
+}
+
+fn put_objects(text: &mut String, objects: &[LivingObject]) -> Result<(), AllocError>
+    ensures { OnOk result (string_bytes text.new ≡ string_bytes text.old ++ flat_map object_text objects.now) }
+{
+    for object in objects {
+        put_object(text, object)?;
+    }
+    Ok(())
+}
+
 fn put_told(text: &mut String, alloc: Global, told: &Told) -> Result<(), AllocError>
     ensures { OnOk result (string_bytes text.new ≡ string_bytes text.old ++ told_text told.now) }
 {
@@ -258,6 +294,14 @@ fn put_told(text: &mut String, alloc: Global, told: &Told) -> Result<(), AllocEr
             text.push_str(" control ")?;
             put_control(text, *control)?;
             text.push_str(" ghosts 0")
+        }
+        Told::Tick { ticks, writes } => {
+            put(text, "tick ", *ticks)?;
+            write!(text, " writes {writes}")
+        }
+        Told::World { ticks, objects } => {
+            put(text, "world ", *ticks)?;
+            put_objects(text, objects.as_slice())
         }
     }
 }

@@ -1,6 +1,7 @@
 //! What a line of a script did.
 ghost use Rattle.std.specs.Prelude.{◌≡◌, ◌<◌, ◌≤◌, [], ◌∷◌, ◌++◌, length, OnOk};
 
+use crate::living::Living;
 use event_manager::{MAX_READY_EVENTS, PostFault};
 use move_manager::MoveFault;
 use std::alloc::Global;
@@ -81,6 +82,11 @@ impl Events {
 /// What a line of a script did: what its line of the report tells.
 #[derive(Drop)]
 pub enum Told {
+    /// The world made a tick: ticks so far, and the writes of this one.
+    Tick {
+        ticks: u32,
+        writes: usize,
+    },
     /// A guaranteed event was posted at the server, or `up` at the client, or was refused.
     Post {
         up: bool,
@@ -150,5 +156,10 @@ pub enum Told {
         accepted: u32,
         taken: u32,
         control: Option<u8>,
+    },
+    /// The world: ticks so far, and the living objects.
+    World {
+        ticks: u32,
+        objects: Living,
     },
 }

@@ -1,10 +1,11 @@
 -- Lines behind lines, as they are printed.
 use Rattle.std.proofs.Common.{◌≡◌, ℕ, ◌+◌, ◌<◌, List, [], ◌∷◌, ◌++◌, length, map, take, get_or, refl, append_assoc}
 use Rattle.std.proofs.lemmas.List.{append-nil, map-append, take_more}
+use Rattle.world_rules.specs.declared.setup.Spawn.{Spawn}
 use Rattle.match_script.specs.declared.types.BodyLine.{BodyLine}
 use Rattle.match_script.specs.declared.types.Head.{Head}
 use Rattle.match_script.specs.Text.{spelled}
-use Rattle.match_script.specs.Print.{line_words, header_words, version_words, match_words, block_words, go_words, joined, with_line}
+use Rattle.match_script.specs.Print.{line_words, header_words, version_words, match_words, block_words, object_words, go_words, joined, with_line}
 
 joined-append : (front back : List (List ℕ)) → joined (front ++ back) ≡ joined front ++ joined back
 unfolding joined
@@ -40,14 +41,32 @@ pub no_block : (text : List ℕ) → text ++ blocks_text [] ≡ text
 unfolding joined
 no_block text = append-nil text
 
-lines_round : (v m g : List (List ℕ)) (bs : List (List (List ℕ))) → with_line (with_line (with_line [] v) m ++ joined (map spelled bs)) g ≡ joined (map spelled (v ∷ m ∷ [])) ++ (joined (map spelled bs) ++ joined (map spelled (g ∷ [])))
+-- the lines of some objects
+abbrev pub objects_text : List Spawn → List ℕ
+objects_text objects = joined (map spelled (map object_words objects))
+
+pub one_object_more : (text : List ℕ) (objects : List Spawn) (i : ℕ) (d : Spawn) → i < length objects → text ++ objects_text (take (i + 1) objects) ≡ with_line (text ++ objects_text (take i objects)) (object_words (get_or objects i d))
+one_object_more text objects i d lt =
+    let more = take_more objects i d lt in
+    rw (more, lines_more object_words [] (take i objects) (get_or objects i d), append_assoc) refl
+
+pub no_object : (text : List ℕ) → text ++ objects_text [] ≡ text
 unfolding joined
-lines_round v m g bs = simp append_assoc
+no_object text = append-nil text
 
-header_text : (v m g : List (List ℕ)) (bs : List (List (List ℕ))) → with_line (with_line (with_line [] v) m ++ joined (map spelled bs)) g ≡ joined (map spelled ((v ∷ m ∷ []) ++ (bs ++ g ∷ [])))
-header_text v m g bs =
-    rw (map-append spelled (v ∷ m ∷ []) (bs ++ g ∷ []), map-append spelled bs (g ∷ []), joined-append (map spelled (v ∷ m ∷ [])) (map spelled bs ++ map spelled (g ∷ [])), joined-append (map spelled bs) (map spelled (g ∷ [])))
-    (lines_round v m g bs)
+lines_round : (v m g : List (List ℕ)) (bs os : List (List (List ℕ))) → with_line ((with_line (with_line [] v) m ++ joined (map spelled bs)) ++ joined (map spelled os)) g ≡ joined (map spelled (v ∷ m ∷ [])) ++ (joined (map spelled bs) ++ (joined (map spelled os) ++ joined (map spelled (g ∷ []))))
+unfolding joined
+lines_round v m g bs os = simp append_assoc
 
-pub header_lines : (head : Head) → with_line (with_line (with_line [] (version_words head.version)) (match_words head) ++ blocks_text head.blocks) go_words ≡ joined (map spelled (header_words head))
-header_lines head = header_text (version_words head.version) (match_words head) go_words (map block_words head.blocks)
+header_text : (v m g : List (List ℕ)) (bs os : List (List (List ℕ))) → with_line ((with_line (with_line [] v) m ++ joined (map spelled bs)) ++ joined (map spelled os)) g ≡ joined (map spelled ((v ∷ m ∷ []) ++ (bs ++ (os ++ g ∷ []))))
+header_text v m g bs os =
+    rw (map-append spelled (v ∷ m ∷ []) (bs ++ (os ++ g ∷ [])), map-append spelled bs (os ++ g ∷ []), map-append spelled os (g ∷ []), joined-append (map spelled (v ∷ m ∷ [])) (map spelled bs ++ (map spelled os ++ map spelled (g ∷ []))), joined-append (map spelled bs) (map spelled os ++ map spelled (g ∷ [])), joined-append (map spelled os) (map spelled (g ∷ [])))
+    (lines_round v m g bs os)
+
+pub header_lines : (head : Head) → with_line ((with_line (with_line [] (version_words head.version)) (match_words head) ++ blocks_text head.blocks) ++ objects_text head.setup.spawns) go_words ≡ joined (map spelled (header_words head))
+header_lines head = header_text (version_words head.version) (match_words head) go_words (map block_words head.blocks) (map object_words head.setup.spawns)
+
+-- a line of six words as it is written
+pub six_words : (text a b c d e f : List ℕ) → text ++ (a ++ 32 ∷ (b ++ 32 ∷ (c ++ 32 ∷ (d ++ 32 ∷ (e ++ 32 ∷ (f ++ 10 ∷ [])))))) ≡ with_line text (a ∷ b ∷ c ∷ d ∷ e ∷ f ∷ [])
+unfolding spelled
+six_words text a b c d e f = simp append_assoc

@@ -3,6 +3,7 @@ pub mod Numbers
 pub mod Steps
 pub mod MoveLines
 pub mod BlockLines
+pub mod ObjectLines
 pub mod Bodies
 pub mod Joining
 pub mod Printing

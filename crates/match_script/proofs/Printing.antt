@@ -10,7 +10,6 @@ use Rattle.std.specs.Fmt.{decimal, signed_decimal, digits}
 use Rattle.std.proofs.lemmas.Fmt.{decimal_is_IsNumeral, decimal-digits_of}
 use Rattle.std.proofs.lemmas.Int.Digits.{first_digits_of}
 use Rattle.std.proofs.lemmas.Bool.{and_parts}
-use Rattle.std.proofs.lemmas.Int.{ints}
 use Rattle.std.proofs.lemmas.List.Folds.{list_all-append}
 use Rattle.std.proofs.lemmas.List.Sums.{list_all-from_AllPass}
 use Rattle.hex.specs.Hex.{encode_lower, IsBytes, decode_of, is_hex_digit}

@@ -3,7 +3,9 @@ pub mod Words
 pub mod Steps
 pub mod Shape
 pub mod Lines
+pub mod Header
 pub mod Script
+pub mod Following
 pub mod Ranges
 pub mod Print
 pub mod Said

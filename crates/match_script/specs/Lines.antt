@@ -1,17 +1,15 @@
 -- What a line of the body says. A line is known by its first word, the number of its words and, for a post, its
--- class; then its words are read from left to right. A further kind of line is one case here. The lines of the
--- header that have numbers or bytes stand here too.
-use Rattle.std.specs.Prelude.{ℕ, ◌≡◌, ◌^◌, List, [], ◌∷◌, ◌||◌, Bool, false, if◌then◌else◌, codes, Result, Ok, Err, refl}
+-- class; then its words are read from left to right. A further kind of line is one case here.
+use Rattle.std.specs.Prelude.{ℕ, ◌≡◌, ◌^◌, List, [], ◌∷◌, Bool, false, if◌then◌else◌, codes, Result, Ok, Err, refl}
 use Rattle.std.specs.Str.{bytes_eq}
 use Rattle.tn_types.specs.declared.choices.Class.TheVariants.{Loose}
 use Rattle.tn_types.specs.declared.moves.Move.{Move as PlayerMove}
-use Rattle.tn_types.specs.declared.limits.TheConstants.{MAX_EVENT_BYTES, MAX_CLIENTS, MAX_LIFE, MIN_DATAGRAM_BYTES, MAX_DATAGRAM_BYTES, MAX_RADIUS}
+use Rattle.tn_types.specs.declared.limits.TheConstants.{MAX_EVENT_BYTES}
 use Rattle.match_script.specs.declared.types.ScriptFault.{ScriptFault}
 use Rattle.match_script.specs.declared.types.ScriptFault.TheVariants.{UnknownWord, NotBuilt, BadHeader, OutOfRange}
 use Rattle.match_script.specs.declared.types.BodyLine.{BodyLine}
-use Rattle.match_script.specs.declared.types.BodyLine.TheVariants.{Post, ClientPost, Pack, ClientPack, Down, Up, Move, Show}
-use Rattle.match_script.specs.declared.types.Head.{Head}
-use Rattle.match_script.specs.Words.{◌>>=◌, number, number_from, flag, class_named, hex}
+use Rattle.match_script.specs.declared.types.BodyLine.TheVariants.{Tick, Post, ClientPost, Pack, ClientPack, Down, Up, Move, Show, World}
+use Rattle.match_script.specs.Words.{◌>>=◌, number, flag, class_named, hex}
 use Rattle.match_script.specs.Steps.{Stride, step}
 
 abbrev pub is : List ℕ → List ℕ → Bool
@@ -19,10 +17,8 @@ is word name = bytes_eq word name
 
 -- Lines of the format that no version so far reads, in the header and in the body.
 unfoldable pub is_unbuilt : List (List ℕ) → Bool
-is_unbuilt (kind ∷ []) = is kind (codes "tick") || is kind (codes "world")
 is_unbuilt (kind ∷ c ∷ []) = is kind (codes "scan")
 is_unbuilt (kind ∷ c ∷ bytes ∷ []) = is kind (codes "raw")
-is_unbuilt (kind ∷ v ∷ block ∷ team ∷ x ∷ y ∷ []) = is kind (codes "player") || is kind (codes "spawn")
 is_unbuilt words = false
 
 -- why these words are no line of the body
@@ -89,6 +85,10 @@ show_line clients c = do
 
 -- the line of the body that these words are
 unfoldable pub body_line : ℕ → List (List ℕ) → Result BodyLine ScriptFault
+body_line clients (kind ∷ []) =
+    if is kind (codes "tick") then Ok Tick
+    else if is kind (codes "world") then Ok World
+    else Err (no_body_line (kind ∷ []))
 body_line clients (kind ∷ c ∷ []) =
     if is kind (codes "pack") then pack_line clients c
     else if is kind (codes "cpack") then client_pack_line clients c
@@ -107,16 +107,6 @@ body_line clients (kind ∷ c ∷ dx ∷ dy ∷ fire ∷ act ∷ []) =
     else Err (no_body_line (kind ∷ c ∷ dx ∷ dy ∷ fire ∷ act ∷ []))
 body_line clients words = Err (no_body_line words)
 
--- the five numbers of `match SEED CLIENTS LIFE SIZE RADIUS`, as a header with no block yet
-unfoldable pub match_numbers : ℕ → List ℕ → List ℕ → List ℕ → List ℕ → List ℕ → Result Head ScriptFault
-match_numbers version seed clients life size radius = do
-  seed ← number (2 ^ 32) seed
-  clients ← number_from 1 MAX_CLIENTS clients
-  life ← number_from 1 MAX_LIFE life
-  size ← number_from MIN_DATAGRAM_BYTES MAX_DATAGRAM_BYTES size
-  radius ← number_from 0 MAX_RADIUS radius
-  Ok (record { version = version; seed = seed; clients = clients; life = life; size = size; radius = radius; blocks = [] })
-
 packed : body_line 2 (codes "pack" ∷ codes "1" ∷ []) ≡ Ok (Pack 1)
 unfolding body_line pack_line number
 packed = refl
@@ -132,3 +122,7 @@ class_before_numbers = refl
 posted_by_client : body_line 1 (codes "cpost" ∷ codes "0" ∷ codes "u" ∷ codes "-" ∷ []) ≡ Ok (ClientPost 0 Loose [])
 unfolding body_line client_post_line class_named number hex
 posted_by_client = refl
+
+ticked : body_line 1 (codes "tick" ∷ []) ≡ Ok Tick
+unfolding body_line
+ticked = refl

@@ -1,12 +1,14 @@
 -- The one text that a script is printed as: the words of each line with a space between each two, and a newline
 -- behind each line. Numbers are decimal, and bytes are hexadecimal digits in lower case.
-use Rattle.std.specs.Prelude.{ℕ, List, [], ◌∷◌, ◌++◌, map, Bool, true, false, codes}
+use Rattle.std.specs.Prelude.{ℕ, ℤ, List, [], ◌∷◌, ◌++◌, map, Bool, true, false, codes, Option, Some, None}
 use Rattle.std.specs.Fmt.{decimal, signed_decimal}
 use Rattle.hex.specs.Hex.{encode_lower}
 use Rattle.tn_types.specs.declared.choices.Class.{Class}
 use Rattle.tn_types.specs.declared.choices.Class.TheVariants.{Guaranteed, Loose}
 use Rattle.match_script.specs.declared.types.BodyLine.{BodyLine}
-use Rattle.match_script.specs.declared.types.BodyLine.TheVariants.{Post, ClientPost, Pack, ClientPack, Down, Up, Move, Show}
+use Rattle.match_script.specs.declared.types.BodyLine.TheVariants.{Tick, Post, ClientPost, Pack, ClientPack, Down, Up, Move, Show, World}
+use Rattle.world_rules.specs.Kinds.{kind_word}
+use Rattle.world_rules.specs.declared.setup.Spawn.{Spawn}
 use Rattle.match_script.specs.declared.types.Head.{Head}
 use Rattle.match_script.specs.declared.types.Script.{Script}
 use Rattle.match_script.specs.Text.{spelled}
@@ -24,6 +26,7 @@ flag_word true = codes "1"
 flag_word false = codes "0"
 
 abbrev pub line_words : BodyLine → List (List ℕ)
+line_words Tick = codes "tick" ∷ []
 line_words (Post c class bytes) = codes "post" ∷ decimal c ∷ class_word class ∷ hex_word bytes ∷ []
 line_words (ClientPost c class bytes) = codes "cpost" ∷ decimal c ∷ class_word class ∷ hex_word bytes ∷ []
 line_words (Pack c) = codes "pack" ∷ decimal c ∷ []
@@ -32,6 +35,7 @@ line_words (Down c k) = codes "down" ∷ decimal c ∷ decimal k ∷ []
 line_words (Up c k) = codes "up" ∷ decimal c ∷ decimal k ∷ []
 line_words (Move c m) = codes "move" ∷ decimal c ∷ signed_decimal m.dx ∷ signed_decimal m.dy ∷ flag_word m.fire ∷ flag_word m.act ∷ []
 line_words (Show c) = codes "show" ∷ decimal c ∷ []
+line_words World = codes "world" ∷ []
 
 abbrev pub version_words : ℕ → List (List ℕ)
 version_words version = codes "tribes" ∷ decimal version ∷ []
@@ -42,12 +46,32 @@ match_words h = codes "match" ∷ decimal h.seed ∷ decimal h.clients ∷ decim
 abbrev pub block_words : List ℕ → List (List ℕ)
 block_words block = codes "block" ∷ hex_word block ∷ []
 
+-- where an object starts
+abbrev pub placed_words : ℕ → ℕ → ℤ → ℤ → List (List ℕ)
+placed_words block team x y = decimal block ∷ decimal team ∷ signed_decimal x ∷ signed_decimal y ∷ []
+
+abbrev pub place_words : Spawn → List (List ℕ)
+place_words s = placed_words s.block s.team s.x s.y
+
+abbrev pub player_words : ℕ → List (List ℕ) → List (List ℕ)
+player_words client place = codes "player" ∷ decimal client ∷ place
+
+abbrev pub spawn_words : ℕ → List (List ℕ) → List (List ℕ)
+spawn_words kind place = codes "spawn" ∷ kind_word kind ∷ place
+
+abbrev pub owned_line : Option ℕ → Spawn → List (List ℕ)
+owned_line (Some client) s = player_words client (place_words s)
+owned_line None s = spawn_words s.kind (place_words s)
+
+abbrev pub object_words : Spawn → List (List ℕ)
+object_words s = owned_line s.owner s
+
 abbrev pub go_words : List (List ℕ)
 go_words = codes "go" ∷ []
 
 -- the words of each line of a header
 abbrev pub header_words : Head → List (List (List ℕ))
-header_words h = version_words h.version ∷ match_words h ∷ (map block_words h.blocks ++ go_words ∷ [])
+header_words h = version_words h.version ∷ match_words h ∷ (map block_words h.blocks ++ (map object_words h.setup.spawns ++ go_words ∷ []))
 
 -- lines with a newline behind each
 unfoldable pub joined : List (List ℕ) → List ℕ

@@ -4,9 +4,10 @@ use Rattle.std.specs.Prelude.{ℕ, ◌≡◌, ◌^◌, ◌<◌, ◌≤◌, List,
 use Rattle.std.specs.List.{All}
 use Rattle.tn_types.specs.Bytes.{AreBytes}
 use Rattle.tn_types.specs.declared.limits.TheConstants.{MAX_CLIENTS, MAX_LIFE, MIN_DATAGRAM_BYTES, MAX_DATAGRAM_BYTES, MAX_RADIUS, MAX_BODY_LINES, MAX_EVENT_BYTES, MAX_BLOCKS, MAX_BLOCK_BYTES}
+use Rattle.world_rules.specs.Spawning.{SetupFits}
 use Rattle.match_script.specs.declared.limits.TheConstants.{VERSION}
 use Rattle.match_script.specs.declared.types.BodyLine.{BodyLine}
-use Rattle.match_script.specs.declared.types.BodyLine.TheVariants.{Post, ClientPost, Pack, ClientPack, Down, Up, Move, Show}
+use Rattle.match_script.specs.declared.types.BodyLine.TheVariants.{Tick, Post, ClientPost, Pack, ClientPack, Down, Up, Move, Show, World}
 use Rattle.match_script.specs.declared.types.Head.{Head}
 use Rattle.match_script.specs.declared.types.Script.{Script}
 
@@ -24,6 +25,7 @@ BlockFits bytes = BytesFit MAX_BLOCK_BYTES bytes
 
 -- a line of a body for so many clients
 abbrev pub LineFits : ℕ → BodyLine → Type 0
+LineFits clients Tick = Unit {0}
 LineFits clients (Post c class bytes) = (c < clients) × PayloadFits bytes
 LineFits clients (ClientPost c class bytes) = (c < clients) × PayloadFits bytes
 LineFits clients (Pack c) = c < clients
@@ -32,6 +34,7 @@ LineFits clients (Down c k) = (c < clients) × (k < 2 ^ 32)
 LineFits clients (Up c k) = (c < clients) × (k < 2 ^ 32)
 LineFits clients (Move c m) = c < clients
 LineFits clients (Show c) = c < clients
+LineFits clients World = Unit {0}
 
 pub record HeadFits (h : Head) : Type 0 where
   pub version : h.version ≡ VERSION
@@ -45,6 +48,10 @@ pub record HeadFits (h : Head) : Type 0 where
   pub radius : h.radius ≤ MAX_RADIUS
   pub blocks_few : length h.blocks ≤ MAX_BLOCKS
   pub blocks : All BlockFits h.blocks
+  pub setup : SetupFits h.setup
+  pub same_clients : h.setup.clients ≡ h.clients
+  pub same_radius : h.setup.radius ≡ h.radius
+  pub objects : All (λ s. s.block < length h.blocks) h.setup.spawns
 
 pub record HasRanges (s : Script) : Type 0 where
   pub head : HeadFits s.head

@@ -1,8 +1,9 @@
 -- The script of a text, line by line: the header's lines, which end with `go`, then the body's. Where a text has no
 -- script, it has a least line that can't stand where it stands, and that line's first fault.
-use Rattle.std.specs.Prelude.{ℕ, ◌≡◌, suc, ◌+◌, List, [], ◌∷◌, length, Bool, false, not, ◌&&◌, nat_le, nat_lt, if◌then◌else◌, codes, Option, Some, None, Result, Ok, Err, refl}
-use Rattle.tn_types.specs.declared.limits.TheConstants.{MAX_BODY_LINES, MAX_BLOCKS, MAX_BLOCK_BYTES}
-use Rattle.match_script.specs.declared.limits.TheConstants.{VERSION}
+use Rattle.std.specs.Prelude.{ℕ, pos, ◌≡◌, suc, ◌+◌, List, [], ◌∷◌, ◌++◌, length, not, nat_le, if◌then◌else◌, codes, Option, Some, None, Result, Ok, Err, refl}
+use Rattle.std.specs.Option.{option_map_or}
+use Rattle.tn_types.specs.declared.limits.TheConstants.{MAX_BODY_LINES}
+use Rattle.world_rules.specs.declared.setup.Spawn.{Spawn}
 use Rattle.match_script.specs.declared.types.ScriptFault.{ScriptFault}
 use Rattle.match_script.specs.declared.types.ScriptFault.TheVariants.{NotText, BadHeader, TooManyLines}
 use Rattle.match_script.specs.declared.types.ParseFault.{ParseFault}
@@ -11,8 +12,10 @@ use Rattle.match_script.specs.declared.types.BodyLine.{BodyLine}
 use Rattle.match_script.specs.declared.types.Head.{Head}
 use Rattle.match_script.specs.declared.types.Script.{Script}
 use Rattle.match_script.specs.Text.{lines_of, words_of, is_text}
-use Rattle.match_script.specs.Words.{hex}
-use Rattle.match_script.specs.Lines.{is, body_line, match_numbers, no_header_line}
+use Rattle.world_rules.specs.declared.kinds.TheConstants.{PLAYER, CLOCK}
+use Rattle.match_script.specs.Words.{number, number_from, hex}
+use Rattle.match_script.specs.Lines.{body_line, no_header_line}
+use Rattle.match_script.specs.Header.{version_line, match_line, block_line, is_go, kind_named, placed, player_words, spawn_words, named, object_line}
 
 -- a line, numbered from 1, and its first fault
 abbrev pub Fault : Type 0
@@ -40,40 +43,39 @@ abbrev pub stands : {A : Type 0} → ℕ → List (List ℕ) → Option A → Re
 stands n words (Some x) = Ok x
 stands n words None = Err (n, no_header_line words)
 
--- `tribes 1`: the version
-unfoldable pub version_line : List (List ℕ) → Option ℕ
-version_line (kind ∷ version ∷ []) = if is kind (codes "tribes") && is version (codes "1") then Some VERSION else None
-version_line _ = None
+-- block k of the script, if this line gives one
+unfoldable pub block_in : ℕ → List ℕ → Option (List ℕ)
+block_in k line = if is_text line then block_line k (words_of line) else None
 
-abbrev pub without_fault : {A : Type 0} → Result A ScriptFault → Option A
-without_fault (Ok x) = Some x
-without_fault (Err e) = None
+abbrev pub with_block : List ℕ → List (List ℕ) × List (List ℕ) → List (List ℕ) × List (List ℕ)
+with_block block rest = (block ∷ rest.0, rest.1)
 
-unfoldable pub match_line : ℕ → List (List ℕ) → Option Head
-match_line version (kind ∷ seed ∷ clients ∷ life ∷ size ∷ radius ∷ []) =
-    if is kind (codes "match") then without_fault (match_numbers version seed clients life size radius) else None
-match_line version _ = None
+-- the blocks from block k on, up to the first line that gives none, and the lines from that one on
+unfoldable pub blocks_of : ℕ → List (List ℕ) → List (List ℕ) × List (List ℕ)
+blocks_of k [] = ([], [])
+blocks_of k (line ∷ lines) = option_map_or (λ block. with_block block (blocks_of (suc k) lines)) (block_in k line) ([], line ∷ lines)
 
--- `block HEX`: block k of the script, counted from 0
-unfoldable pub block_line : ℕ → List (List ℕ) → Option (List ℕ)
-block_line k (kind ∷ bytes ∷ []) =
-    if is kind (codes "block") && nat_lt k MAX_BLOCKS then without_fault (hex MAX_BLOCK_BYTES bytes) else None
-block_line k _ = None
-
--- `go` ends the header
-unfoldable pub is_go : List (List ℕ) → Bool
-is_go (kind ∷ []) = is kind (codes "go")
-is_go _ = false
-
--- the blocks from block k on, whose line is line 3 + k of the text, up to the line `go`, and the lines after that
-unfoldable pub blocks_of : ℕ → List (List ℕ) → Result (List (List ℕ) × List (List ℕ)) Fault
-blocks_of k [] = Err (3 + k, BadHeader)
-blocks_of k (line ∷ lines) = do
-  words ← text_line (3 + k) line
+-- the objects behind these, of which the line of the next is line n, up to the line `go`, and the lines after that
+unfoldable pub objects_of : ℕ → ℕ → ℕ → List Spawn → List (List ℕ) → Result (List Spawn × List (List ℕ)) Fault
+objects_of clients blocks n before [] = Err (n, BadHeader)
+objects_of clients blocks n before (line ∷ lines) = do
+  words ← text_line n line
   if is_go words then Ok ([], lines) else do
-    block ← stands (3 + k) words (block_line k words)
-    rest ← blocks_of (suc k) lines
-    Ok (block ∷ rest.0, rest.1)
+    object ← stands n words (object_line clients blocks before words)
+    rest ← objects_of clients blocks (suc n) (before ++ object ∷ []) lines
+    Ok (object ∷ rest.0, rest.1)
+
+abbrev pub with_objects : Head → List (List ℕ) → List Spawn → Head
+with_objects head blocks spawns = record {
+  version = head.version;
+  seed = head.seed;
+  clients = head.clients;
+  life = head.life;
+  size = head.size;
+  radius = head.radius;
+  blocks = blocks;
+  setup = record { clients = head.clients; radius = head.radius; spawns = spawns };
+}
 
 -- the header of the lines, and the lines after it
 unfoldable pub header : List (List ℕ) → Result (Head × List (List ℕ)) Fault
@@ -82,12 +84,12 @@ header lines = do
   version ← stands 1 first.0 (version_line first.0)
   second ← header_words 2 first.1
   head ← stands 2 second.0 (match_line version second.0)
-  blocks ← blocks_of 0 second.1
-  Ok (record head { blocks = blocks.0 }, blocks.1)
+  objects ← objects_of head.clients (length (blocks_of 0 second.1).0) (3 + length (blocks_of 0 second.1).0) [] (blocks_of 0 second.1).1
+  Ok (with_objects head (blocks_of 0 second.1).0 objects.0, objects.1)
 
--- how many lines a header is: `tribes`, `match`, the blocks and `go`
+-- how many lines a header is: `tribes`, `match`, the blocks, the objects and `go`
 abbrev pub header_length : Head → ℕ
-header_length head = 3 + length head.blocks
+header_length head = 3 + length head.blocks + length head.setup.spawns
 
 -- line k of the body, counted from 0
 unfoldable pub line_at : ℕ → ℕ → List ℕ → Result BodyLine ScriptFault
@@ -126,10 +128,15 @@ Gives view (Ok x) read = read ≡ Ok (view x)
 Gives view (Err (Bad line fault)) read = read ≡ Err (line, fault)
 Gives view (Err NoMemory) read = Unit {0}
 
-two_blocks : blocks_of 0 (codes "block -" ∷ codes "block -" ∷ codes "go" ∷ codes "pack 0" ∷ []) ≡ Ok ([] ∷ [] ∷ [], codes "pack 0" ∷ [])
-unfolding blocks_of text_line words_of is_go block_line hex
+two_blocks : blocks_of 0 (codes "block -" ∷ codes "block -" ∷ codes "go" ∷ codes "pack 0" ∷ []) ≡ ([] ∷ [] ∷ [], codes "go" ∷ codes "pack 0" ∷ [])
+unfolding blocks_of block_in words_of block_line hex
 two_blocks = refl
 
-no_block_after_the_last : block_line MAX_BLOCKS (codes "block" ∷ codes "61" ∷ []) ≡ None
-unfolding block_line
-no_block_after_the_last = refl
+two_objects : objects_of 1 1 4 [] (codes "player 0 0 1 5 6" ∷ codes "spawn clock 0 0 0 0" ∷ codes "go" ∷ codes "tick" ∷ [])
+    ≡ Ok (
+      record { kind = PLAYER; block = 0; team = 1; x = pos 5; y = pos 6; owner = Some 0 }
+          ∷ record { kind = CLOCK; block = 0; team = 0; x = pos 0; y = pos 0; owner = None } ∷ [],
+      codes "tick" ∷ [],
+    )
+unfolding objects_of text_line words_of is_go named player_words spawn_words kind_named placed number number_from
+two_objects = refl

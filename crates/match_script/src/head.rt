@@ -3,12 +3,14 @@ ghost use Rattle.std.specs.Prelude.{◌≡◌, ◌<◌, ◌≤◌, List, ℕ, []
 ghost use Rattle.std.specs.List.{All};
 ghost use Rattle.match_script.specs.declared.types.ParseFault.TheVariants.{Bad};
 ghost use Rattle.match_script.specs.Text.{lines_of, words_of};
-ghost use Rattle.match_script.specs.Lines.{no_header_line, match_numbers};
-ghost use Rattle.match_script.specs.Script.{Gives, header_words, version_line, match_line, block_line, is_go, blocks_of, header};
+ghost use Rattle.match_script.specs.Lines.{no_header_line};
+ghost use Rattle.match_script.specs.Header.{match_numbers, version_line, match_line, block_line, is_go};
+ghost use Rattle.match_script.specs.Script.{Gives, header_words, block_in, blocks_of, with_objects, header};
 ghost use Rattle.match_script.specs.Ranges.{BlockFits, HeadFits};
 
 use crate::cut::{cut_line, is_text};
 use crate::limits::VERSION;
+use crate::objects::objects_of;
 use crate::types::{Blocks, Head, ParseFault, ScriptFault};
 use crate::unbuilt::no_header_line;
 use crate::word;
@@ -18,13 +20,11 @@ use tn_types::{
     BlockBytes, MAX_BLOCKS, MAX_CLIENTS, MAX_DATAGRAM_BYTES, MAX_LIFE, MAX_RADIUS,
     MIN_DATAGRAM_BYTES,
 };
-
-// The line of the first block, if there is one.
-const FIRST_BLOCK_LINE: u32 = 3;
+use world_rules::{Setup, Spawns};
 
 // The line that is to stand at place n of the header, and what comes after it.
 #[tactic(auto, using(crate::proofs::Bodies::no_line), unfolding(crate::specs::Script::header_words, crate::specs::Script::text_line))]
-fn header_line(n: u32, text: &[u8]) -> Result<(&[u8], &[u8]), ParseFault>
+pub(crate) fn header_line(n: u32, text: &[u8]) -> Result<(&[u8], &[u8]), ParseFault>
     ensures { Gives (λ x. (words_of x.0.now, lines_of x.1.now)) result (header_words n (lines_of text.now)) }
 {
     if text.len() == 0 {
@@ -45,7 +45,7 @@ fn header_line(n: u32, text: &[u8]) -> Result<(&[u8], &[u8]), ParseFault>
 }
 
 // The version that `tribes 1` names.
-#[tactic(auto, unfolding(crate::specs::Script::version_line))]
+#[tactic(auto, unfolding(crate::specs::Header::version_line))]
 fn version_line(line: &[u8]) -> Option<u8>
     ensures value { result ≡ version_line (words_of line.now) }
     ensures fits { IfSome result (λ version. version ≡ VERSION) }
@@ -62,7 +62,7 @@ fn version_line(line: &[u8]) -> Option<u8>
     }
 }
 
-#[tactic(auto, using(crate::proofs::Numbers::number_from_fits, crate::proofs::Numbers::number_below), unfolding(crate::specs::Lines::match_numbers))]
+#[tactic(auto, using(crate::proofs::Numbers::number_from_fits, crate::proofs::Numbers::number_below), unfolding(crate::specs::Header::match_numbers))]
 fn match_numbers(
     alloc: Global,
     version: u8,
@@ -88,11 +88,16 @@ fn match_numbers(
         size,
         radius,
         blocks: Blocks::from_vec(Vec::new(alloc)),
+        setup: Setup {
+            clients: clients as u8,
+            radius,
+            spawns: Spawns::new(alloc),
+        },
     })
 }
 
 // The header that `match SEED CLIENTS LIFE SIZE RADIUS` gives.
-#[tactic(auto, unfolding(crate::specs::Script::match_line))]
+#[tactic(auto, unfolding(crate::specs::Header::match_line))]
 fn match_line(alloc: Global, version: u8, line: &[u8]) -> Option<Head>
     ensures value { result ≡ match_line version (words_of line.now) }
     ensures fits { version ≡ VERSION → IfSome result HeadFits }
@@ -113,7 +118,7 @@ fn match_line(alloc: Global, version: u8, line: &[u8]) -> Option<Head>
 }
 
 // The bytes of block k that `block HEX` gives.
-#[tactic(auto, unfolding(crate::specs::Script::block_line))]
+#[tactic(auto, unfolding(crate::specs::Header::block_line))]
 fn block_line(k: u32, line: &[u8]) -> Option<BlockBytes>
     ensures value { result ≡ block_line k (words_of line.now) }
     ensures few { IfSome result (λ _. k < MAX_BLOCKS) }
@@ -135,8 +140,8 @@ fn block_line(k: u32, line: &[u8]) -> Option<BlockBytes>
 }
 
 // Whether a line is `go`, which ends the header.
-#[tactic(auto, unfolding(crate::specs::Script::is_go))]
-fn is_go(line: &[u8]) -> bool
+#[tactic(auto, unfolding(crate::specs::Header::is_go))]
+pub(crate) fn is_go(line: &[u8]) -> bool
     ensures { result ≡ is_go (words_of line.now) }
 {
     match parted(line) {
@@ -146,7 +151,7 @@ fn is_go(line: &[u8]) -> bool
 }
 
 // Line n of the header can't stand there.
-fn misplaced(n: u32, line: &[u8]) -> ParseFault
+pub(crate) fn misplaced(n: u32, line: &[u8]) -> ParseFault
     ensures { result ≡ Bad n (no_header_line (words_of line.now)) }
 {
     ParseFault::Bad {
@@ -155,28 +160,40 @@ fn misplaced(n: u32, line: &[u8]) -> ParseFault
     }
 }
 
-// The blocks of a text whose header goes on here, and what comes after its line `go`.
-#[tactic(auto, using(crate::proofs::BlockLines::blocks_go_on, crate::proofs::BlockLines::blocks_end, crate::proofs::BlockLines::blocks_stop, crate::proofs::BlockLines::blocks_misplaced, crate::proofs::BlockLines::all_fit_more))]
+// The bytes of block k, if this line gives one.
+#[tactic(auto, unfolding(crate::specs::Script::block_in))]
+fn block_in(k: u32, line: &[u8]) -> Option<BlockBytes>
+    ensures value { result ≡ block_in k line.now }
+    ensures few { IfSome result (λ _. k < MAX_BLOCKS) }
+    ensures fits { IfSome result BlockFits }
+{
+    if is_text(line) {
+        block_line(k, line)
+    } else {
+        None
+    }
+}
+
+// The blocks at the front of a text, and what comes after them.
+#[tactic(auto, using(crate::proofs::BlockLines::blocks_go_on, crate::proofs::BlockLines::blocks_end, crate::proofs::BlockLines::blocks_stop, crate::proofs::BlockLines::all_fit_more))]
 fn blocks_of(alloc: Global, text: &[u8]) -> Result<(Blocks, &[u8]), ParseFault>
-    ensures value { Gives (λ x. (x.0, lines_of x.1.now)) result (blocks_of 0 (lines_of text.now)) }
+    ensures value { Gives (λ x. (x.0, lines_of x.1.now)) result (Ok (blocks_of 0 (lines_of text.now))) }
     ensures few { IfOk result (λ x. length x.0 ≤ MAX_BLOCKS) }
     ensures fits { IfOk result (λ x. All BlockFits x.0) }
 {
     let mut blocks = Vec::new(alloc);
     let mut rest = text;
     let mut k = 0u32;
-    'lines: loop {
-        let (line, after) = header_line(FIRST_BLOCK_LINE + k, rest)?;
-        if is_go(line) {
-            return Ok((Blocks::from_vec(blocks), after));
-        }
-        let Some(block) = block_line(k, line) else {
-            return Err(misplaced(FIRST_BLOCK_LINE + k, line));
+    'lines: while rest.len() > 0 {
+        let (line, after) = cut_line(rest);
+        let Some(block) = block_in(k, line) else {
+            return Ok((Blocks::from_vec(blocks), rest));
         };
         blocks.push(block)?;
         rest = after;
         k += 1;
     }
+    Ok((Blocks::from_vec(blocks), rest))
 }
 
 // The header of a text, and what comes after it.
@@ -194,5 +211,22 @@ pub fn header(alloc: Global, text: &[u8]) -> Result<(Head, &[u8]), ParseFault>
         return Err(misplaced(2, line));
     };
     let (blocks, rest) = blocks_of(alloc, rest)?;
-    Ok((Head { blocks, ..head }, rest))
+    let (spawns, rest) = objects_of(alloc, head.clients, blocks.len() as u8, rest)?;
+    Ok((with_objects(head, blocks, spawns), rest))
+}
+
+// The header with these blocks and objects.
+fn with_objects(head: Head, blocks: Blocks, spawns: Spawns) -> Head
+    ensures { result ≡ with_objects head blocks spawns }
+{
+    let setup = Setup {
+        clients: head.clients,
+        radius: head.radius,
+        spawns,
+    };
+    Head {
+        blocks,
+        setup,
+        ..head
+    }
 }

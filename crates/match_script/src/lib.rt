@@ -6,6 +6,7 @@ mod cut;
 mod head;
 mod limits;
 mod line;
+mod objects;
 mod printer;
 mod reader;
 mod said;

@@ -128,6 +128,15 @@ pub fn body_line(clients: u8, line: &[u8]) -> Result<BodyLine, ScriptFault>
     ensures fits { IfOk result (LineFits clients) }
 {
     match parted(line) {
+        Words::One(kind) => {
+            if kind == b"tick".as_slice() {
+                Ok(BodyLine::Tick)
+            } else if kind == b"world".as_slice() {
+                Ok(BodyLine::World)
+            } else {
+                Err(no_body_line(line))
+            }
+        }
         Words::Two(kind, c) => {
             if kind == b"pack".as_slice() {
                 pack(clients, c)

@@ -4,12 +4,13 @@ ghost use Rattle.match_script.specs.declared.types.BodyLine.TheVariants.{Post, C
 ghost use Rattle.match_script.specs.Text.{spelled};
 ghost use Rattle.match_script.specs.Script.{script_of};
 ghost use Rattle.match_script.specs.Ranges.{HasRanges};
-ghost use Rattle.match_script.specs.Print.{class_word, flag_word, hex_word, line_words, version_words, match_words, block_words, go_words, header_words, joined, with_line, text_of};
+ghost use Rattle.match_script.specs.Print.{class_word, flag_word, hex_word, line_words, version_words, match_words, block_words, placed_words, player_words, spawn_words, object_words, go_words, header_words, joined, with_line, text_of};
 
 use crate::types::{BodyLine, Head, Script};
 use std::alloc::{AllocError, Global};
 use std::fmt::Write;
 use tn_types::{BlockBytes, Class, Move, NoMemory};
+use world_rules::{Spawn, kind_word};
 
 fn class_text(class: Class) -> &'static str
     ensures { result.now ≡ class_word class }
@@ -83,6 +84,7 @@ fn put_line(alloc: Global, out: &mut String, line: &BodyLine) -> Result<(), Allo
     ensures { OnOk result (string_bytes out.new ≡ with_line (string_bytes out.old) (line_words line.now)) }
 {
     match line {
+        BodyLine::Tick => writeln!(out, "tick"),
         BodyLine::Post {
             client,
             class,
@@ -99,6 +101,7 @@ fn put_line(alloc: Global, out: &mut String, line: &BodyLine) -> Result<(), Allo
         BodyLine::Up { client, k } => writeln!(out, "up {client} {k}"),
         BodyLine::Move { client, m } => put_move(out, *client, *m),
         BodyLine::Show { client } => writeln!(out, "show {client}"),
+        BodyLine::World => writeln!(out, "world"),
     }
 }
 
@@ -121,6 +124,7 @@ fn put_match(out: &mut String, head: &Head) -> Result<(), AllocError>
         size,
         radius,
         blocks: _,
+        setup: _,
     } = head;
     writeln!(out, "match {seed} {clients} {life} {size} {radius}")
 }
@@ -151,6 +155,61 @@ fn put_blocks(alloc: Global, out: &mut String, blocks: &[BlockBytes]) -> Result<
     Ok(())
 }
 
+#[tactic(auto, unfolding(crate::specs::Text::spelled))]
+fn put_player(
+    out: &mut String,
+    client: u8,
+    block: u8,
+    team: u8,
+    x: i64,
+    y: i64,
+) -> Result<(), AllocError>
+    ensures { OnOk result (string_bytes out.new ≡ with_line (string_bytes out.old) (player_words client (placed_words block team x y))) }
+{
+    writeln!(out, "player {client} {block} {team} {x} {y}")
+}
+
+#[tactic(auto, unfolding(crate::specs::Text::spelled))]
+fn put_spawn(
+    out: &mut String,
+    kind: u8,
+    block: u8,
+    team: u8,
+    x: i64,
+    y: i64,
+) -> Result<(), AllocError>
+    ensures { OnOk result (string_bytes out.new ≡ with_line (string_bytes out.old) (spawn_words kind (placed_words block team x y))) }
+{
+    let kind = kind_word(kind);
+    writeln!(out, "spawn {kind} {block} {team} {x} {y}")
+}
+
+fn put_object(out: &mut String, object: &Spawn) -> Result<(), AllocError>
+    ensures { OnOk result (string_bytes out.new ≡ with_line (string_bytes out.old) (object_words object.now)) }
+{
+    match object.owner {
+        Some(client) => put_player(out, client, object.block, object.team, object.x, object.y),
+        None => put_spawn(
+            out,
+            object.kind,
+            object.block,
+            object.team,
+            object.x,
+            object.y,
+        ),
+    }
+}
+
+#[tactic(auto, using(crate::proofs::Joining::one_object_more, crate::proofs::Joining::no_object))]
+fn put_objects(out: &mut String, objects: &[Spawn]) -> Result<(), AllocError>
+    ensures { OnOk result (string_bytes out.new ≡ string_bytes out.old ++ joined (map spelled (map object_words objects.now))) }
+{
+    for object in objects {
+        put_object(out, object)?;
+    }
+    Ok(())
+}
+
 #[tactic(auto, using(crate::proofs::Joining::header_lines))]
 fn header_text(alloc: Global, head: &Head) -> Result<String, AllocError>
     ensures { IfOk result (λ text. string_bytes text ≡ joined (map spelled (header_words head.now))) }
@@ -159,6 +218,7 @@ fn header_text(alloc: Global, head: &Head) -> Result<String, AllocError>
     put_version(&mut out, head.version)?;
     put_match(&mut out, head)?;
     put_blocks(alloc, &mut out, head.blocks.as_slice())?;
+    put_objects(&mut out, head.setup.spawns.as_slice())?;
     put_go(&mut out)?;
     Ok(out)
 }

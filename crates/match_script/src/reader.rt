@@ -10,18 +10,19 @@ use crate::head::header;
 use crate::line::body_line;
 use crate::types::{Body, BodyLine, Head, ParseFault, Script, ScriptFault};
 use std::alloc::Global;
-use tn_types::{MAX_BLOCKS, MAX_BODY_LINES};
+use tn_types::{MAX_BLOCKS, MAX_BODY_LINES, MAX_OBJECTS};
 
-// Lines of a header without blocks.
+// Lines of a header without blocks and objects.
 const BARE_HEADER_LINES: u32 = 3;
 
 // How many lines a header is.
 fn header_length(head: &Head) -> u32
-    requires { length head.now.blocks ≤ MAX_BLOCKS }
+    requires blocks { length head.now.blocks ≤ MAX_BLOCKS }
+    requires objects { length head.now.setup.spawns ≤ MAX_OBJECTS }
     ensures value { result ≡ header_length head.now }
-    ensures few { result ≤ BARE_HEADER_LINES + MAX_BLOCKS }
+    ensures few { result ≤ BARE_HEADER_LINES + MAX_BLOCKS + MAX_OBJECTS }
 {
-    BARE_HEADER_LINES + head.blocks.len() as u32
+    BARE_HEADER_LINES + head.blocks.len() as u32 + head.setup.spawns.as_slice().len() as u32
 }
 
 // Line k of the body, counted from 0.
@@ -42,7 +43,7 @@ fn line_at(clients: u8, k: u32, line: &[u8]) -> Result<BodyLine, ScriptFault>
 // The body behind line n of a text.
 #[tactic(auto, using(crate::proofs::Bodies::body_goes_on, crate::proofs::Bodies::body_stops, crate::proofs::Bodies::body_ends, crate::proofs::Bodies::line_few, crate::proofs::Bodies::fits_more))]
 fn body_of(alloc: Global, clients: u8, n: u32, text: &[u8]) -> Result<Body, ParseFault>
-    requires { n ≤ BARE_HEADER_LINES + MAX_BLOCKS }
+    requires { n ≤ BARE_HEADER_LINES + MAX_BLOCKS + MAX_OBJECTS }
     ensures value { Gives (λ b. b) result (body_of clients n 0 (lines_of text.now)) }
     ensures few { IfOk result (λ b. length b ≤ MAX_BODY_LINES) }
     ensures fits { IfOk result (All (LineFits clients)) }

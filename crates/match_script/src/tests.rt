@@ -32,6 +32,30 @@ fn header_faults(rt: HostRuntime) {
             "tribes 1\nmatch 1 1 100 128 1000\nblock -\npost 0 u 61\n",
             4,
         ),
+        (
+            "tribes 1\nmatch 1 1 100 128 1000\nplayer 0 0 0 0 0\ngo\n",
+            3,
+        ),
+        (
+            "tribes 1\nmatch 1 1 100 128 1000\nblock -\nplayer 0 0 0 0 0\nplayer 0 0 0 0 0\ngo\n",
+            5,
+        ),
+        (
+            "tribes 1\nmatch 1 1 100 128 1000\nblock -\nspawn mine 0 0 0 0\nplayer 0 0 0 0 0\ngo\n",
+            5,
+        ),
+        (
+            "tribes 1\nmatch 1 1 100 128 1000\nblock -\nspawn disc 0 0 0 0\ngo\n",
+            4,
+        ),
+        (
+            "tribes 1\nmatch 1 1 100 128 1000\nblock -\nspawn mine 0 2 0 0\ngo\n",
+            4,
+        ),
+        (
+            "tribes 1\nmatch 1 1 100 128 1000\nblock -\nspawn mine 0 0 65536 0\ngo\n",
+            4,
+        ),
     ] {
         let want = Some((line, ScriptFault::BadHeader));
         assert_eq!(rt; first_fault(rt.alloc(), text), want, "at {text:?}");
@@ -50,7 +74,8 @@ fn body_faults(rt: HostRuntime) -> Result<(), Fail> {
         ("pack\t0", ScriptFault::NotText),
         ("pack 0 ", ScriptFault::UnknownWord),
         ("post 99 x 6", ScriptFault::UnknownWord),
-        ("tick", ScriptFault::NotBuilt),
+        ("tick 0", ScriptFault::UnknownWord),
+        ("scan 0", ScriptFault::NotBuilt),
         ("down 0 00000000001", ScriptFault::BadNumber),
         ("down x 4294967296", ScriptFault::BadNumber),
         ("down 1 x", ScriptFault::OutOfRange),
@@ -83,7 +108,12 @@ const READ: &str = "tribes 1
 match 1 1 100 128 1000
 block 6A
 block -
+player 0 0 1 0 65535
+spawn mine 1 0 1 2
+spawn clock 0 1 0 0
 go
+tick
+world
 post 0 g 6a6B
 cpost 0 u -
 pack 0
@@ -97,7 +127,12 @@ const PRINTED: &str = "tribes 1
 match 1 1 100 128 1000
 block 6a
 block -
+player 0 0 1 0 65535
+spawn mine 1 0 1 2
+spawn clock 0 1 0 0
 go
+tick
+world
 post 0 g 6a6b
 cpost 0 u -
 pack 0

@@ -4,10 +4,13 @@ ghost use Rattle.std.specs.Prelude.{◌≡◌, ◌++◌, ◌∷◌, [], OnOk, On
 use std::alloc::{AllocError, AllocFailed, Global};
 use std::marker::Model;
 use tn_types::{BlockBytes, Class, Move, NoMemory, Payload};
+use world_rules::Setup;
 
 /// One line of a script's body. Each client is below the number of clients in the header.
 #[derive(Drop)]
 pub enum BodyLine {
+    /// `tick`: the world makes one tick, and each client's oldest waiting move is taken.
+    Tick,
     /// `post C g HEX` or `post C u HEX`: the server posts an event to a client.
     Post {
         client: u8,
@@ -47,6 +50,8 @@ pub enum BodyLine {
     Show {
         client: u8,
     },
+    /// `world`: the world is told.
+    World,
 }
 
 /// Why a line can't stand where it stands (docs/formats.md, "Faults of a script").
@@ -214,6 +219,9 @@ pub struct Head {
     pub radius: u32,
     /// What each client is to hold: at most 64 blocks of at most 40 bytes each.
     pub blocks: Blocks,
+    /// The players, of clients that rise, and then what else is in the world at the start, with the header's clients and
+    /// radius: at most 1,024 objects, each with a block of the header.
+    pub setup: Setup,
 }
 
 impl Head {
@@ -222,6 +230,7 @@ impl Head {
         ensures { IfOk result (λ h. h ≡ self.now) }
     {
         let blocks = self.blocks.copy(alloc)?;
+        let setup = self.setup.copy(alloc)?;
         Ok(Head {
             version: self.version,
             seed: self.seed,
@@ -230,6 +239,7 @@ impl Head {
             size: self.size,
             radius: self.radius,
             blocks,
+            setup,
         })
     }
 }

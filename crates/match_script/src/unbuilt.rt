@@ -11,13 +11,9 @@ fn is_unbuilt(line: &[u8]) -> bool
     ensures { result ≡ is_unbuilt (words_of line.now) }
 {
     match parted(line) {
-        Words::One(kind) => kind == b"tick".as_slice() || kind == b"world".as_slice(),
         Words::Two(kind, _) => kind == b"scan".as_slice(),
         Words::Three(kind, _, _) => kind == b"raw".as_slice(),
-        Words::Six(kind, _, _, _, _, _) => {
-            kind == b"player".as_slice() || kind == b"spawn".as_slice()
-        }
-        Words::Four(_, _, _, _) | Words::Other => false,
+        _ => false,
     }
 }
 

@@ -80,16 +80,24 @@ pub fn number(limit: u64, word: &[u8]) -> Result<u64, ScriptFault>
     }
 }
 
-// The client that a word names.
+// The number below a small limit that a word says.
 #[tactic(auto, using(crate::proofs::Numbers::number_below))]
+pub fn below(limit: u8, word: &[u8]) -> Result<u8, ScriptFault>
+    ensures value { result ≡ number limit word.now }
+    ensures fits { IfOk result (λ n. n < limit) }
+{
+    match number(u64::from(limit), word) {
+        Ok(n) => Ok(n as u8),
+        Err(fault) => Err(fault),
+    }
+}
+
+// The client that a word names.
 pub fn client(clients: u8, word: &[u8]) -> Result<u8, ScriptFault>
     ensures value { result ≡ number clients word.now }
     ensures fits { IfOk result (λ c. c < clients) }
 {
-    match number(u64::from(clients), word) {
-        Ok(n) => Ok(n as u8),
-        Err(fault) => Err(fault),
-    }
+    below(clients, word)
 }
 
 // The number below 2^32 that a word says.

@@ -1,5 +1,5 @@
 -- The six kinds of a match, by number: player, disc, mine, drone, flag and clock.
-use Rattle.std.specs.Prelude.{ℕ, pos, List, [], ◌∷◌, true, false}
+use Rattle.std.specs.Prelude.{ℕ, pos, List, [], ◌∷◌, true, false, ◌==◌, if◌then◌else◌, codes}
 use Rattle.tn_types.specs.declared.limits.TheConstants.{MAX_CLIENTS, MAX_COORDINATE}
 use Rattle.quantised_fields.specs.declared.field.FieldSpec.{FieldSpec}
 use Rattle.quantised_fields.specs.declared.kind.Kind.{Kind}
@@ -48,3 +48,13 @@ clock_kind = record { fields = up_to MAX_TICK 24 ∷ up_to MAX_SCORE 8 ∷ up_to
 
 abbrev pub match_kinds : List Kind
 match_kinds = player_kind ∷ disc_kind ∷ mine_kind ∷ drone_kind ∷ flag_kind ∷ clock_kind ∷ []
+
+-- a kind as scripts and reports name it
+abbrev pub kind_word : ℕ → List ℕ
+kind_word kind =
+    if kind == PLAYER then codes "player"
+    else if kind == DISC then codes "disc"
+    else if kind == MINE then codes "mine"
+    else if kind == DRONE then codes "drone"
+    else if kind == FLAG then codes "flag"
+    else codes "clock"

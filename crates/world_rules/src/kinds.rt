@@ -1,7 +1,7 @@
 //! The kinds of a match: their fields, weights and numbers.
 ghost use Rattle.std.specs.Prelude.{◌≡◌, ◌≤◌, None, pos, length};
 ghost use Rattle.quantised_fields.specs.Kinds.{table_fault};
-ghost use Rattle.world_rules.specs.Kinds.{coordinate, player_kind, disc_kind, mine_kind, drone_kind, flag_kind, clock_kind, match_kinds as the_kinds};
+ghost use Rattle.world_rules.specs.Kinds.{coordinate, player_kind, disc_kind, mine_kind, drone_kind, flag_kind, clock_kind, kind_word, match_kinds as the_kinds};
 
 use crate::object::{MAX_AMMO, MAX_HP, MAX_SCORE, MAX_TICK};
 use quantised_fields::{FieldList, FieldSpec, Kind, KindTable};
@@ -19,6 +19,25 @@ pub const DRONE: u8 = 3;
 pub const FLAG: u8 = 4;
 /// The number of the kind of clocks.
 pub const CLOCK: u8 = 5;
+
+/// A kind as scripts and reports name it (docs/world.md, "Kinds").
+pub fn kind_word(kind: u8) -> &'static str
+    ensures { result.now ≡ kind_word kind }
+{
+    if kind == PLAYER {
+        "player"
+    } else if kind == DISC {
+        "disc"
+    } else if kind == MINE {
+        "mine"
+    } else if kind == DRONE {
+        "drone"
+    } else if kind == FLAG {
+        "flag"
+    } else {
+        "clock"
+    }
+}
 
 fn field(hi: i64, bits: u32) -> FieldSpec
     ensures { result ≡ record { lo = pos 0; hi = hi; bits = bits } }

@@ -14,7 +14,7 @@ mod sight;
 #[cfg(test)]
 mod tests;
 
-pub use kinds::match_kinds;
+pub use kinds::{kind_word, match_kinds};
 pub use object::{Clock, Disc, Drone, Flag, Mine, Object, Place, Player, State};
 pub use places::step_player;
 pub use setup::{Setup, Spawn, Spawns};

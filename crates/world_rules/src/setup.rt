@@ -1,5 +1,5 @@
 //! What a match starts with.
-ghost use Rattle.std.specs.Prelude.{◌≡◌, ◌++◌, ◌∷◌, [], OnOk, OnErr, length};
+ghost use Rattle.std.specs.Prelude.{◌≡◌, ◌++◌, ◌∷◌, [], OnOk, OnErr, IfOk, length};
 
 use crate::kinds::{DRONE, FLAG, MINE};
 use crate::object::{Clock, Drone, Flag, MAX_AMMO, MAX_HP, Mine, Object, Place, Player, State};
@@ -66,6 +66,16 @@ impl Spawns {
     {
         self.spawns.as_slice()
     }
+
+    /// The same spawns again.
+    pub fn copy(&self, alloc: Global) -> Result<Spawns, NoMemory>
+        ensures { IfOk result (λ s. s ≡ self.now) }
+    {
+        match self.spawns.as_slice().to_vec(alloc) {
+            Ok(spawns) => Ok(Spawns { spawns }),
+            Err(_) => Err(NoMemory),
+        }
+    }
 }
 
 /// The clients of a match, how far their players see in centimetres, and what is there from the start.
@@ -74,6 +84,20 @@ pub struct Setup {
     pub clients: u8,
     pub radius: u32,
     pub spawns: Spawns,
+}
+
+impl Setup {
+    /// The same setup again.
+    pub fn copy(&self, alloc: Global) -> Result<Setup, NoMemory>
+        ensures { IfOk result (λ s. s ≡ self.now) }
+    {
+        let spawns = self.spawns.copy(alloc)?;
+        Ok(Setup {
+            clients: self.clients,
+            radius: self.radius,
+            spawns,
+        })
+    }
 }
 
 impl Spawn {

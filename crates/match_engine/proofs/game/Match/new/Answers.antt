@@ -7,7 +7,7 @@ use Rattle.stream_manager.specs.Limits.{Terms}
 use Rattle.match_engine.specs.declared.seat.Seat.{Seat}
 use Rattle.quantised_fields.specs.declared.kind.Kind.{Kind}
 use Rattle.match_engine.specs.Kinds.{plain_kinds}
-use Rattle.match_engine.specs.Journal.{client_terms}
+use Rattle.match_engine.specs.Journal.{Course, client_terms}
 use Rattle.match_engine.specs.Stands.{SeatStandsFor, IsQuiet}
 use Rattle.match_engine.proofs.game.Match.new.Goals as goal
 
@@ -22,15 +22,18 @@ one_more P xs y n is each last k d l = elim (cases_eq k (length xs)) [
 abbrev terms : goal.Else-is_err → List Kind → List (List ℕ) → Terms
 terms c kinds blocks = record { config = record { client = c.seats.client; life = c.args.head.now.life; size = c.args.head.now.size }; kinds = kinds; blocks = blocks }
 
+abbrev start : Course
+start = record { steps = []; taken = 0 }
+
 pub seats-preserved : goal.seats-preserved
 seats-preserved c =
     let grown : c.push.new.self.items ≡ c.seats.seats.items ++ c.in_ok-seat.seat ∷ [] = c.push.ensures.items ∙ ap (λ ok. if ok then c.seats.seats.items ++ c.in_ok-seat.seat ∷ [] else c.seats.seats.items) c.if-is_err.ensures.negation in
-    let kinds : SeatStandsFor c.in_ok-seat.seat (terms c plain_kinds c.as_slice.result.now) [] = subst (λ (k : List Kind). SeatStandsFor c.in_ok-seat.seat (terms c k c.as_slice.result.now) []) c.plain_table-kinds.ensures c.in_ok-seat.ensures.stands in
-    let stands : SeatStandsFor c.in_ok-seat.seat (client_terms c.args.head.now c.seats.client) [] = subst (λ (b : List (List ℕ)). SeatStandsFor c.in_ok-seat.seat (terms c plain_kinds b) []) c.as_slice.ensures kinds in
+    let kinds : SeatStandsFor c.in_ok-seat.seat (terms c plain_kinds c.as_slice.result.now) start = subst (λ (k : List Kind). SeatStandsFor c.in_ok-seat.seat (terms c k c.as_slice.result.now) start) c.plain_table-kinds.ensures c.in_ok-seat.ensures.stands in
+    let stands : SeatStandsFor c.in_ok-seat.seat (client_terms c.args.head.now c.seats.client) start = subst (λ (b : List (List ℕ)). SeatStandsFor c.in_ok-seat.seat (terms c plain_kinds b) start) c.as_slice.ensures kinds in
     record {
       count = subst (λ (xs : List Seat). length xs ≡ c.seats.client + 1) (sym grown) (omega (arith, c.seats.invariant.count, length-append c.seats.seats.items (c.in_ok-seat.seat ∷ [])));
-      stands = subst (λ (xs : List Seat). (k : ℕ) (d : Seat) → k < c.seats.client + 1 → SeatStandsFor (slice_index_or xs k d) (client_terms c.args.head.now k) []) (sym grown)
-          (one_more (λ p k. SeatStandsFor p (client_terms c.args.head.now k) []) c.seats.seats.items c.in_ok-seat.seat c.seats.client c.seats.invariant.count c.seats.invariant.stands stands);
+      stands = subst (λ (xs : List Seat). (k : ℕ) (d : Seat) → k < c.seats.client + 1 → SeatStandsFor (slice_index_or xs k d) (client_terms c.args.head.now k) start) (sym grown)
+          (one_more (λ p k. SeatStandsFor p (client_terms c.args.head.now k) start) c.seats.seats.items c.in_ok-seat.seat c.seats.client c.seats.invariant.count c.seats.invariant.stands stands);
       quiet = subst (λ (xs : List Seat). (k : ℕ) (d : Seat) → k < c.seats.client + 1 → IsQuiet (slice_index_or xs k d).pair) (sym grown)
           (one_more (λ p k. IsQuiet p.pair) c.seats.seats.items c.in_ok-seat.seat c.seats.client c.seats.invariant.count c.seats.invariant.quiet c.in_ok-seat.ensures.quiet);
     }
