@@ -19,7 +19,7 @@ use Rattle.pair_core.specs.Stands.{PairState, StandsFor as PairStandsFor}
 use Rattle.circular_buffer.specs.Buffer.{buffer}
 use Rattle.match_engine.specs.declared.seat.Seat.{Seat}
 use Rattle.world_sim.specs.Worlds.{Worlds}
-use Rattle.match_engine.specs.Journal.{Course, waiting_in, course, client_terms}
+use Rattle.match_engine.specs.Journal.{Course, waiting_in, course_of, course, client_terms}
 use Rattle.match_engine.specs.World.{world_of}
 
 pub record SeatStandsFor (s : Seat) (t : Terms) (k : Course) : Type 0 where
@@ -28,6 +28,10 @@ pub record SeatStandsFor (s : Seat) (t : Terms) (k : Course) : Type 0 where
   pub taken : s.taken ≡ k.taken
   pub few : k.taken ≤ length (accepted_in t k.steps)
   pub places : s.waiting.capacity ≡ MAX_WAITING_MOVES
+
+-- a seat of which no line was done
+abbrev pub SeatBegins : Seat → Terms → Type 0
+SeatBegins s t = SeatStandsFor s t (course_of t [])
 
 -- a seat whose oldest waiting move a tick took, if there is one
 abbrev pub without_first : Seat → Seat

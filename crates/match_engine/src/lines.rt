@@ -287,7 +287,8 @@ pub(crate) fn line_on(alloc: Global, seat: &mut Seat, line: &BodyLine) -> Result
     requires quiet { IsQuiet seat.old.pair }
     requires few_down { length seat.old.pair.down < MAX_DATAGRAMS }
     requires few_up { length seat.old.pair.up < MAX_DATAGRAMS }
-    ensures told { IfOk result (λ told. (w : Worlds) → SeatAnswers seat.old (λ t course. line_told w (λ _. t) (λ _. course) line.now) told) }
+    ensures told { IfOk result (λ told. (w : Worlds)
+        → SeatAnswers seat.old (λ t course. line_told w (λ _. t) (λ _. course) line.now) told) }
     ensures stands { OnOk result (SeatBecomes seat.old (λ t course. with_line t line.now course) seat.new) }
     ensures quiet { OnOk result (IsQuiet seat.new.pair) }
 {

@@ -4,8 +4,8 @@ ghost use Rattle.stream_manager.specs.Limits.{IsConfig, Terms};
 ghost use Rattle.pair_core.specs.History.{Up};
 ghost use Rattle.pair_core.specs.Answers.{answer, server_delivered};
 ghost use Rattle.pair_core.specs.Calls.{Stands, Unchanged};
-ghost use Rattle.match_engine.specs.Journal.{Course, room_in, with_step, course_of};
-ghost use Rattle.match_engine.specs.Stands.{IsQuiet, TellsUp, SeatStandsFor, SeatAnswers, SeatBecomes, without_first};
+ghost use Rattle.match_engine.specs.Journal.{Course, room_in, with_step};
+ghost use Rattle.match_engine.specs.Stands.{IsQuiet, TellsUp, SeatStandsFor, SeatBegins, SeatAnswers, SeatBecomes, without_first};
 
 use circular_buffer::HeapCircularBuffer;
 use pair_core::{Answer, Pair, PairStep};
@@ -33,7 +33,7 @@ impl Seat {
     ) -> Result<Seat, NoMemory>
         requires config { IsConfig config }
         requires few { length blocks.now ≤ MAX_BLOCKS }
-        ensures stands { IfOk result (λ s. SeatStandsFor s (record { config = config; kinds = kinds.now; blocks = blocks.now }) (course_of (record { config = config; kinds = kinds.now; blocks = blocks.now }) [])) }
+        ensures stands { IfOk result (λ s. SeatBegins s (record { config = config; kinds = kinds.now; blocks = blocks.now })) }
         ensures quiet { IfOk result (λ s. IsQuiet s.pair) }
     {
         let pair = Pair::new(alloc, config, kinds, blocks)?;
@@ -68,6 +68,7 @@ impl Seat {
         }
         answer
     }
+
     /// The oldest move that waits, which a tick takes.
     pub(crate) fn take_move(&mut self) -> Option<Move>
         requires { self.old.taken < 2 ^ 32 - 1 }
