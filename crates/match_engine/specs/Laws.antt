@@ -31,7 +31,8 @@ packs_in c (x ∷ xs) = if is_pack c x.0 then x.1 ∷ packs_in c xs else packs_i
 abbrev pub pack_lines : Terms → List BodyLine → List (List ℕ)
 pack_lines t [] = []
 pack_lines t (line ∷ lines) =
-    pack_lines t lines ++ (if is_pack t.config.client line then report_line (packed_told t.config.client t (course_of t lines).steps) ∷ [] else [])
+    pack_lines t lines
+    ++ (if is_pack t.config.client line then report_line (packed_told t.config.client t (course_of t lines).steps) ∷ [] else [])
 
 -- the `pack c` lines of a script's report are a function of the client's own lines, of the ticks, of three numbers and of
 -- the blocks
@@ -72,4 +73,5 @@ TellsLittle other = Unit {0}
 
 -- whatever line comes next, at every line, an end refuses no datagram but an old one
 abbrev pub LittleIsRefused : Type 0
-LittleIsRefused = (s : Script) (n : ℕ) (line : BodyLine) → HasRanges s → LineFits s.head.clients line → TellsLittle (told_after s.head (after n s) line)
+LittleIsRefused = (s : Script) (n : ℕ) (line : BodyLine) → HasRanges s → LineFits s.head.clients line
+    → TellsLittle (told_after s.head (after n s) line)

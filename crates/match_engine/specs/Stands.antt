@@ -63,12 +63,7 @@ pub record IsWithoutObjects (p : PairState) : Type 0 where
   pub stands : PairStandsFor p terms steps
   pub nothing : shows (scope_log (ghost_log (history terms steps).server)) ≡ 0
 
--- a line that names no client, and one that names one
-abbrev pub IsOfWorld : BodyLine → Type 0
-IsOfWorld script.Tick = Unit {0}
-IsOfWorld script.World = Unit {0}
-IsOfWorld line = ⊥
-
+-- a line that names a client
 abbrev pub IsOfClient : BodyLine → Type 0
 IsOfClient script.Tick = ⊥
 IsOfClient script.World = ⊥

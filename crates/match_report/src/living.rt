@@ -1,4 +1,4 @@
-//! What is told of a world's objects and of a client's copies.
+//! What is told of a world's objects.
 ghost use Rattle.std.specs.Prelude.{◌≡◌, ◌≤◌, ◌<◌, ◌++◌, ◌∷◌, [], OnOk, OnErr, length};
 
 use arrayvec::ArrayVec;
