@@ -25,7 +25,7 @@ use wire_format::{GhostItem, GhostList};
 /// The copies of one client, by slot.
 #[derive(Drop)]
 pub struct Copies {
-    kinds: KindTable,
+    kinds: Box<KindTable>,
     slots: Vec<Option<GhostCopy>>,
 }
 
@@ -36,9 +36,9 @@ impl Model for Copies {
 
     ghost Value = { State };
 
-    ghost view = { λ c. record { kinds = c.kinds; slots = c.slots.items } };
+    ghost view = { λ c. record { kinds = c.kinds.value; slots = c.slots.items } };
 
-    ghost invariant = { λ c. (length c.slots.items ≡ MAX_SLOTS) × AreInRange c.kinds c.slots.items };
+    ghost invariant = { λ c. (length c.slots.items ≡ MAX_SLOTS) × AreInRange c.kinds.value c.slots.items };
 }
 
 impl Copies {
@@ -47,11 +47,11 @@ impl Copies {
         ensures kinds { IfOk result (λ c. c.kinds ≡ kinds.now) }
         ensures empty { IfOk result (λ c. StandsFor c []) }
     {
-        match empty_slots(alloc) {
-            Ok(slots) => Ok(Copies {
-                kinds: kinds.copy(),
-                slots,
-            }),
+        let Ok(slots) = empty_slots(alloc) else {
+            return Err(NoMemory);
+        };
+        match Box::new(alloc, kinds.copy()) {
+            Ok(kinds) => Ok(Copies { kinds, slots }),
             Err(_) => Err(NoMemory),
         }
     }

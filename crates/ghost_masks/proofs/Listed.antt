@@ -1,8 +1,8 @@
 -- Which slots are listed as having work, event by event.
-use Rattle.std.proofs.Common.{◌≡◌, ◌≢◌, ℕ, zero, suc, ◌+◌, ◌<◌, ◌^◌, Bool, true, false, cond, not, ◌&&◌, ◌||◌, List, [], ◌∷◌, ◌++◌, ◌∙◌, length, map, Some, None, Option, refl, sym, ap, subst, inl, inr, arith, eqb}
+use Rattle.std.proofs.Common.{◌≡◌, ◌≢◌, ℕ, zero, suc, ◌+◌, ◌<◌, ◌^◌, Bool, true, false, cond, not, ◌&&◌, ◌||◌, List, [], ◌∷◌, ◌∙◌, length, map, Some, None, Option, refl, sym, ap, inl, inr, arith, eqb}
 use Rattle.std.specs.Prelude.{is_some}
 use Rattle.std.specs.List.{list_any, AllByRecursion}
-use Rattle.std.proofs.lemmas.Bool.{cases_eq, cases_Bool, or_parts}
+use Rattle.std.proofs.lemmas.Bool.{cases_Bool, or_parts}
 use Rattle.std.proofs.lemmas.Bool.Decides.{nat_tests}
 use Rattle.tn_types.specs.declared.choices.Choice.{Choice}
 use Rattle.tn_types.specs.declared.choices.Verdict.{Verdict}
@@ -11,7 +11,7 @@ use Rattle.tn_types.specs.BitWords.{has_bit}
 use Rattle.packet_records.specs.declared.entries.Entry.{Entry}
 use Rattle.ghost_model.specs.declared.phase.Phase.{Phase}
 use Rattle.ghost_model.specs.declared.phase.Phase.TheVariants.{Waiting, Wanted, Creating, Leaving, Live, KillDue, Killing, Gone}
-use Rattle.ghost_model.specs.Phases.{is_up, is_gone, is_waiting, hidden_phase}
+use Rattle.ghost_model.specs.Phases.{is_up, is_waiting, hidden_phase}
 use Rattle.ghost_model.specs.Scope as scope
 use Rattle.ghost_model.specs.Scope.{ScopeEvent, shows, given, table, is_hidden, has_received, has_unjudged}
 use Rattle.tn_types.specs.declared.choices.Op.TheVariants.{Kill, Create}

@@ -1,6 +1,6 @@
 -- The slots with work are those of periods that have it: each of them is held by one, so they are at most as many, and
 -- whatever may be sent is of one of them.
-use Rattle.std.proofs.Common.{◌≡◌, ◌≢◌, ℕ, zero, suc, ◌+◌, ◌<◌, ◌≤◌, Bool, true, false, cond, not, ◌&&◌, List, [], ◌∷◌, ◌++◌, ◌∙◌, length, Some, None, Option, refl, sym, ap, subst, inl, inr, arith, eqb, count_by}
+use Rattle.std.proofs.Common.{◌≡◌, ◌≢◌, ℕ, zero, suc, ◌+◌, ◌<◌, ◌≤◌, Bool, true, false, cond, not, ◌&&◌, List, [], ◌∷◌, ◌∙◌, length, Some, None, refl, sym, ap, inl, inr, arith, eqb, count_by}
 use Rattle.std.proofs.lemmas.Bool.{cases_eq}
 use Rattle.std.proofs.lemmas.Bool.Decides.{nat_tests}
 use Rattle.std.proofs.lemmas.List.Sums.{sum_by-append, sum_by-cons}
@@ -16,7 +16,7 @@ use Rattle.ghost_model.specs.Order.{IsOffer}
 use Rattle.ghost_model.proofs.Steps.{other_test}
 use Rattle.ghost_model.proofs.Legal.{held_given}
 use Rattle.ghost_model.proofs.Fresh.{slot_below}
-use Rattle.ghost_scope.specs.Table.{Table, slot_of, phase_of, is_due, is_busy, IsWork}
+use Rattle.ghost_scope.specs.Table.{Table, is_due, is_busy, IsWork}
 use Rattle.ghost_scope.specs.StandsFor.{StandsFor}
 use Rattle.work_list.specs.Work.{has, IsUnique}
 use Rattle.work_list.proofs.Lists.{has_here, has_later, length-unique}

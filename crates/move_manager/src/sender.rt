@@ -92,13 +92,14 @@ impl MoveSender {
         Ok(())
     }
 
-    /// The number of the first move that the server may lack, and all moves from it on: what a packet carries.
-    pub fn pending(&self) -> (u32, MoveList)
-        ensures value { result ≡ (self.now.first, self.now.waiting) }
+    /// The number of the first move that the server may lack, and all moves from it on, lent: what a packet carries.
+    pub fn pending(&self) -> (u32, &MoveList)
+        ensures first { result.0 ≡ self.now.first }
+        ensures moves { result.1.now ≡ self.now.waiting }
         ensures within { result.0 ≤ self.now.life }
-        ensures log { Answers StandsFor self.now pending_of result }
+        ensures log { Answers StandsFor self.now pending_of (result.0, result.1.now) }
     {
-        (self.first, listed(self.waiting.as_slice()))
+        (self.first, &self.waiting)
     }
 
     /// How many moves were sampled so far.

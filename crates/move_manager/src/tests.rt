@@ -24,8 +24,8 @@ fn moves_applied_once(rt: HostRuntime) {
     let (first, list) = sender.pending();
     assert_eq!(rt; first, 0);
     assert_eq!(rt; list.len(), 32);
-    assert_eq!(rt; receiver.take(first, &list, 32), Ok(32));
-    assert_eq!(rt; receiver.take(first, &list, 32), Ok(0));
+    assert_eq!(rt; receiver.take(first, list, 32), Ok(32));
+    assert_eq!(rt; receiver.take(first, list, 32), Ok(0));
     assert_eq!(rt; receiver.accepted(), 32);
     assert_eq!(rt; sender.acked(30), Ok(()));
     assert_eq!(rt; sender.acked(7), Ok(()));
@@ -33,7 +33,7 @@ fn moves_applied_once(rt: HostRuntime) {
     let (first, list) = sender.pending();
     assert_eq!(rt; first, 30);
     assert_eq!(rt; list.len(), 3);
-    assert_eq!(rt; receiver.take(first, &list, 32), Ok(1));
+    assert_eq!(rt; receiver.take(first, list, 32), Ok(1));
 }
 
 #[test]
@@ -51,13 +51,13 @@ fn moves_refused(rt: HostRuntime) {
     let (_, list) = sender.pending();
     let mut receiver = MoveReceiver::new(1);
     assert_eq!(rt;
-        receiver.take(1, &list, 32),
+        receiver.take(1, list, 32),
         Err(MoveGap {
             first: 1,
             accepted: 0
         })
     );
-    assert_eq!(rt; receiver.take(0, &list, 0), Ok(0));
-    assert_eq!(rt; receiver.take(0, &list, 9), Ok(1));
-    assert_eq!(rt; receiver.take(1, &list, 9), Ok(0));
+    assert_eq!(rt; receiver.take(0, list, 0), Ok(0));
+    assert_eq!(rt; receiver.take(0, list, 9), Ok(1));
+    assert_eq!(rt; receiver.take(1, list, 9), Ok(0));
 }

@@ -191,7 +191,7 @@ impl Client {
         let used = MOVE_BITS * moves.len() as u32;
         self.out.begin(size);
         put_client_front(&mut self.out, &head, first);
-        put_moves(&mut self.out, &moves);
+        put_moves(&mut self.out, moves);
         self.common
             .pack(8 * size - CLIENT_FIXED_BITS - used, &mut self.out);
         self.out.end();

@@ -285,7 +285,7 @@ impl Conn {
         settle_blocks(&mut self.blocks, &notices);
         self.masks.discard_plan();
         settle_ghosts(&mut self.masks, &notices);
-        self.taken = MoveList::new();
+        self.taken.clear();
     }
 
     /// The moves that the last packet newly brought, until the next call that takes a packet.
@@ -327,11 +327,16 @@ fn take_body(
     requires some { ConnStandsForSome (conn_of common.old masks.old blocks.old moves.old taken.old) }
     requires admits { Admits (conn_of common.old masks.old blocks.old moves.old taken.old) body.now }
     requires none_waits { common.old.receiver.ready ≡ [] }
-    ensures count { Answers (conn_of common.old masks.old blocks.old moves.old taken.old) (λ log. moves_new common.old.config log room (up.Body body.now)) result }
-    ensures stands { Does (conn_of common.old masks.old blocks.old moves.old taken.old) (Took (up.Body body.now) room) (conn_of common.new masks.new blocks.new moves.new taken.new) }
-    ensures handed { Hands (conn_of common.old masks.old blocks.old moves.old taken.old) (λ log. Took (up.Body body.now) room ∷ log) (conn_of common.new masks.new blocks.new moves.new taken.new) }
-    ensures accepts { Accepts (conn_of common.old masks.old blocks.old moves.old taken.old) (λ log. Took (up.Body body.now) room ∷ log) (conn_of common.new masks.new blocks.new moves.new taken.new) }
-    ensures terms { terms_of (conn_of common.new masks.new blocks.new moves.new taken.new) ≡ terms_of (conn_of common.old masks.old blocks.old moves.old taken.old) }
+    ensures count { Answers (conn_of common.old masks.old blocks.old moves.old taken.old)
+        (λ log. moves_new common.old.config log room (up.Body body.now)) result }
+    ensures stands { Does (conn_of common.old masks.old blocks.old moves.old taken.old) (Took (up.Body body.now) room)
+        (conn_of common.new masks.new blocks.new moves.new taken.new) }
+    ensures handed { Hands (conn_of common.old masks.old blocks.old moves.old taken.old)
+        (λ log. Took (up.Body body.now) room ∷ log) (conn_of common.new masks.new blocks.new moves.new taken.new) }
+    ensures accepts { Accepts (conn_of common.old masks.old blocks.old moves.old taken.old)
+        (λ log. Took (up.Body body.now) room ∷ log) (conn_of common.new masks.new blocks.new moves.new taken.new) }
+    ensures terms { terms_of (conn_of common.new masks.new blocks.new moves.new taken.new)
+        ≡ terms_of (conn_of common.old masks.old blocks.old moves.old taken.old) }
 {
     let notices = common.take(false, &body.head, &body.events);
     settle_blocks(blocks, &notices);
@@ -341,19 +346,18 @@ fn take_body(
     let Ok(count) = moves.take(body.first, &body.moves, room) else {
         unreachable!()
     };
-    *taken = moves_from(&body.moves, before - body.first, count);
+    pick(taken, &body.moves, before - body.first, count);
     count
 }
 
-/// `count` of these moves from place `start` on, as far as there are so many.
-fn moves_from(moves: &MoveList, start: u32, count: u32) -> MoveList
-    ensures { result ≡ take count (drop start moves.now) }
+/// `count` of these moves from place `start` on, as far as there are so many, in place of those that were taken before.
+fn pick(taken: &mut MoveList, moves: &MoveList, start: u32, count: u32)
+    ensures { taken.new ≡ take count (drop start moves.now) }
 {
     let (_, later) = moves.as_slice().split_at((start as usize).min(moves.len()));
     let (chosen, _) = later.split_at((count as usize).min(later.len()));
-    let mut some = MoveList::new();
+    taken.clear();
     'picking: for m in chosen {
-        some.push(*m);
+        taken.push(*m);
     }
-    some
 }

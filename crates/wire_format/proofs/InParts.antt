@@ -1,7 +1,6 @@
 -- A packet is its parts one after the other.
-use Rattle.std.proofs.Common.{◌≡◌, ◌++◌, List, Bool, [], ◌∙◌, ap, sym, append_assoc}
+use Rattle.std.proofs.Common.{◌≡◌, List, append_assoc}
 use Rattle.std.proofs.lemmas.List.{append-nil}
-use Rattle.bit_stream.specs.Bits.{number}
 use Rattle.quantised_fields.specs.declared.kind.Kind.{Kind}
 use Rattle.wire_format.specs.declared.server.ServerBody.{ServerBody}
 use Rattle.wire_format.specs.declared.server.ServerPacket.TheVariants as server

@@ -9,14 +9,14 @@ use crate::fault::{BitsCause, BitsFault};
 use crate::header::{Header, put_header, put_ping, read_header};
 use crate::items::{list_bits, read_list};
 use crate::kind::PacketKind;
-use crate::moves::{MoveList, put_moves};
+use crate::moves::{MoveList, put_moves, read_moves};
 use crate::parts::{part, within};
 use crate::widths::{
     DATA, EVENT_COUNT_WIDTH, HEADER_BITS, KIND_WIDTH, MAX_PACKET_BITS, MOVE_COUNT_WIDTH,
     NUMBER_WIDTH, PING,
 };
 use bit_stream::{BitReader, BitWriter};
-use tn_types::{MAX_PACKET_EVENTS, MAX_PACKET_MOVES, MAX_READ_BYTES};
+use tn_types::{MAX_PACKET_EVENTS, MAX_READ_BYTES};
 
 /// A packet of a client.
 #[derive(Drop)]
@@ -59,13 +59,7 @@ fn read_client_body(reader: &mut BitReader<'_>, body: &mut ClientBody) -> Result
     ensures { Fills result body.new reader.new (client_body_at body.old.head reader.old) }
 {
     body.first = part(reader, NUMBER_WIDTH)?;
-    read_list(
-        reader,
-        &(),
-        MAX_PACKET_MOVES as u32,
-        MOVE_COUNT_WIDTH,
-        &mut body.moves,
-    )?;
+    read_moves(reader, &mut body.moves)?;
     read_list(
         reader,
         &(),

@@ -1,4 +1,4 @@
-use Rattle.std.proofs.Common.{◌≡◌, List, take, eqb}
+use Rattle.std.proofs.Common.{List, take, eqb}
 use Rattle.std.specs.List.{list_any}
 use Rattle.ghost_model.specs.Scope.{ScopeEvent}
 use Rattle.ghost_model.specs.Ghosts.{GhostEvent, scope_log}

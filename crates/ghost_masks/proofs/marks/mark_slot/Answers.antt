@@ -1,4 +1,4 @@
-use Rattle.std.proofs.Common.{◌≡◌, ◌≢◌, ◌≤◌, ◌∙◌, ℕ, Bool, true, false, not, cond, Some, length, bit_and, eqb, sym, ap, subst, inl, inr, arith}
+use Rattle.std.proofs.Common.{◌≡◌, ◌≤◌, ◌∙◌, ℕ, Bool, true, not, cond, Some, length, bit_and, eqb, sym, ap, subst, inl, inr}
 use Rattle.std.proofs.lemmas.Bool.{cases_eq}
 use Rattle.ghost_model.specs.declared.phase.Phase.TheVariants.{Live}
 use Rattle.ghost_model.specs.Ghosts.{scope_log, phase, slot}

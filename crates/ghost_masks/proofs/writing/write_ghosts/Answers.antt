@@ -1,4 +1,4 @@
-use Rattle.std.proofs.Common.{◌≡◌, ◌+◌, ◌*◌, ◌≤◌, ◌++◌, ◌∷◌, [], ◌∙◌, Bool, List, Option, length, take, drop, get_or, refl, subst, sym, ap, append_assoc, ℤ, arith}
+use Rattle.std.proofs.Common.{◌≡◌, ◌+◌, ◌*◌, ◌≤◌, ◌++◌, [], ◌∙◌, List, Option, length, take, drop, get_or, subst, sym, ap, append_assoc, ℤ, arith}
 use Rattle.std.specs.Prelude.{sum_by, IfSome}
 use Rattle.std.specs.List.{flat_map}
 use Rattle.std.proofs.lemmas.List.{drop_all, append-nil}
@@ -9,10 +9,8 @@ use Rattle.tn_types.specs.declared.choices.Choice.{Choice}
 use Rattle.quantised_fields.specs.declared.kind.Kind.{Kind}
 use Rattle.wire_format.specs.Ghosts.{spell_ghost, spell_ghosts, ghost_size}
 use Rattle.wire_format.proofs.Levels.{length-ghost}
-use Rattle.ghost_model.specs.Ghosts.{GhostEvent}
 use Rattle.ghost_masks.specs.Plan.{item_bits}
 use Rattle.ghost_masks.specs.Carried.{fields_carried, ghost_for, ghosts_for, AreValues}
-use Rattle.ghost_masks.specs.StandsFor.{StandsFor}
 use Rattle.ghost_masks.proofs.Carried.{next_enough, next_own, next_later}
 use Rattle.ghost_masks.proofs.WrittenItems.{written_one, length-ghosts}
 use Rattle.ghost_masks.proofs.writing.write_ghosts.Goals as goal

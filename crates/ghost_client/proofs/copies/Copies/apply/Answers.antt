@@ -27,9 +27,9 @@ invariant_of-self c =
     let range = subst (λ (s : State). IsGhostInRange s.kinds c.args.item.now) (sym c.self.view_is) c.requires.range in
     let fits = subst (λ (s : State). FitsCopy c.args.item.now (copy_in s.slots (slot_named c.args.item.now))) (sym c.self.view_is) c.requires.fits in
     let lt : slot_named c.args.item.now < length slots = omega (arith, long c, c.slot_named-slot.ensures) in
-    rw (written c) (length-set slots (slot_named c.args.item.now) (after c.args.item.now (copy_in slots (slot_named c.args.item.now))) ∙ c.self.invariant.0, applied_in_range c.self.inside.kinds slots c.args.item.now c.self.invariant.1 range fits lt)
+    rw (written c) (length-set slots (slot_named c.args.item.now) (after c.args.item.now (copy_in slots (slot_named c.args.item.now))) ∙ c.self.invariant.0, applied_in_range c.self.inside.kinds.value slots c.args.item.now c.self.invariant.1 range fits lt)
 
 pub returns-clause-applied : goal.returns-clause-applied
 returns-clause-applied c =
-    ap (λ slots. record { kinds = c.self.inside.kinds; slots = slots }) (written c)
+    ap (λ slots. record { kinds = c.self.inside.kinds.value; slots = slots }) (written c)
     ∙ ap (λ (s : State). record s { slots = applied s.slots c.args.item.now }) c.self.view_is

@@ -19,11 +19,11 @@ put_client_front-requires-clause-room c =
 
 pub put_moves-requires : goal.put_moves-requires
 put_moves-requires c =
-    omega (arith, ap length c.begin.ensures.bits, c.begin.ensures.size, c.config.ensures.fits.least, length-client_front c.data_head-head.result c.pending-first.result.0, c.put_client_front.ensures.len, c.put_client_front.ensures.size, length-spell_moves c.pending-first.result.1, c.len.ensures.value, c.len.ensures.fits)
+    omega (arith, ap length c.begin.ensures.bits, c.begin.ensures.size, c.config.ensures.fits.least, length-client_front c.data_head-head.result c.pending-first.result.0, c.put_client_front.ensures.len, c.put_client_front.ensures.size, length-spell_moves c.pending-first.result.1.now, c.len.ensures.value, c.len.ensures.fits)
 
 pub pack-requires-clause-room : goal.pack-requires-clause-room
 pack-requires-clause-room c =
-    omega (arith, ap length c.begin.ensures.bits, c.begin.ensures.size, c.config.ensures.fits.least, length-client_front c.data_head-head.result c.pending-first.result.0, c.put_client_front.ensures.len, c.put_client_front.ensures.size, length-spell_moves c.pending-first.result.1, c.len.ensures.value, c.len.ensures.fits, c.put_moves.ensures.len, c.put_moves.ensures.size)
+    omega (arith, ap length c.begin.ensures.bits, c.begin.ensures.size, c.config.ensures.fits.least, length-client_front c.data_head-head.result c.pending-first.result.0, c.put_client_front.ensures.len, c.put_client_front.ensures.size, length-spell_moves c.pending-first.result.1.now, c.len.ensures.value, c.len.ensures.fits, c.put_moves.ensures.len, c.put_moves.ensures.size)
 
 -- the end before the call, and after it
 abbrev was : After-bytes → ClientState
@@ -40,7 +40,7 @@ module _ (c : After-bytes) where
     first : c.pending-first.result.0 ≡ (packet_of (sample_log log)).first
     first = ap (λ (p : ℕ × List Move). p.0) (c.pending-first.ensures.log (sample_log log) s.moves)
 
-    moves : c.pending-first.result.1 ≡ (packet_of (sample_log log)).moves
+    moves : c.pending-first.result.1.now ≡ (packet_of (sample_log log)).moves
     moves = ap (λ (p : ℕ × List Move). p.1) (c.pending-first.ensures.log (sample_log log) s.moves)
 
     room : 8 * c.config.result.now.size - 121 - 10 * c.len.result ≡ event_room c.self.inside.common.config log
@@ -61,7 +61,7 @@ module _ (c : After-bytes) where
     bytes : c.bytes.result.now ≡ client_bytes c.self.inside.common.config log
     bytes =
         c.bytes.ensures ∙ c.end.ensures.bytes
-        ∙ ap datagram (client-bits c.self.inside.common.config log c.data_head-head.result c.pending-first.result.0 c.pending-first.result.1 _
+        ∙ ap datagram (client-bits c.self.inside.common.config log c.data_head-head.result c.pending-first.result.0 c.pending-first.result.1.now _
         c.begin.new.self.bits c.put_client_front.new.out.bits c.put_moves.new.out.bits c.pack.new.out.bits
         c.begin.ensures.bits c.put_client_front.ensures.bits c.put_moves.ensures.bits (c.pack.ensures.bits (client_end log) s.common)
         (c.data_head-head.ensures.head (client_end log) s.common) first moves room)
