@@ -13,11 +13,13 @@ use Rattle.move_manager.specs.Said.{move_fault_text}
 use Rattle.stream_manager.specs.Said.{server_refusal, client_refusal}
 use Rattle.world_rules.specs.Kinds.{kind_word}
 use Rattle.match_report.specs.declared.living.LivingObject.{LivingObject}
+use Rattle.match_report.specs.declared.copies.FieldTold.{FieldTold}
+use Rattle.match_report.specs.declared.copies.CopyTold.{CopyTold}
 use Rattle.match_report.specs.declared.told.Way.{Way}
 use Rattle.match_report.specs.declared.told.Way.TheVariants.{Down, Up, Raw}
 use Rattle.match_report.specs.declared.told.EventTold.{EventTold}
 use Rattle.match_report.specs.declared.told.Told.{Told}
-use Rattle.match_report.specs.declared.told.Told.TheVariants.{Post, PostLoose, Packed, PackWorn, Moved, Came, NotSent, ServerRefused, ClientRefused, Show, Tick, World}
+use Rattle.match_report.specs.declared.told.Told.TheVariants.{Post, PostLoose, Packed, PackWorn, Moved, Came, NotSent, ServerRefused, ClientRefused, Show, Tick, Scan, World}
 
 -- ---- words
 
@@ -70,6 +72,24 @@ value_text value = codes " " ++ signed_decimal value
 abbrev pub object_text : LivingObject → List ℕ
 object_text o = codes " | " ++ decimal o.number ++ codes " " ++ kind_word o.kind ++ flat_map value_text o.values
 
+-- ---- copies
+
+-- behind the value of a field that is settled
+abbrev pub settled_mark : Bool → List ℕ
+settled_mark true = codes "s"
+settled_mark false = codes ""
+
+abbrev pub field_text : FieldTold → List ℕ
+field_text f = value_text f.value ++ settled_mark f.settled
+
+abbrev pub copy_text : CopyTold → List ℕ
+copy_text c =
+    codes " | " ++ decimal c.slot ++ codes " " ++ kind_word c.kind ++ codes " " ++ decimal c.block ++ flat_map field_text c.fields
+
+-- how many copies there are, and each of them
+abbrev pub copies_text : List CopyTold → List ℕ
+copies_text copies = codes " ghosts " ++ decimal (length copies) ++ flat_map copy_text copies
+
 -- ---- lines
 
 -- how a line of a delivery begins
@@ -95,11 +115,13 @@ told_text (Came way c k moves events) = arrival_words way c k ++ codes "ok" ++ c
 told_text (NotSent way c k sent) = arrival_words way c k ++ codes "notsent " ++ decimal sent
 told_text (ServerRefused way c k fault) = arrival_words way c k ++ server_refusal fault
 told_text (ClientRefused c k fault) = arrival_words Down c k ++ client_refusal fault
-told_text (Show c events sampled accepted taken control) =
+told_text (Show c events sampled accepted taken control copies) =
     codes "show " ++ decimal c ++ codes " events " ++ decimal events ++ codes " sampled " ++ decimal sampled
     ++ codes " accepted " ++ decimal accepted
-    ++ codes " taken " ++ decimal taken ++ codes " control " ++ control_word control ++ codes " ghosts 0"
+    ++ codes " taken " ++ decimal taken ++ codes " control " ++ control_word control ++ copies_text copies
 told_text (Tick ticks writes) = codes "tick " ++ decimal ticks ++ codes " writes " ++ decimal writes
+told_text (Scan c hides nears shows) =
+    codes "scan " ++ decimal c ++ codes " hide " ++ decimal hides ++ codes " near " ++ decimal nears ++ codes " show " ++ decimal shows
 told_text (World ticks objects) = codes "world " ++ decimal ticks ++ flat_map object_text objects
 
 -- a line of the report, with its newline

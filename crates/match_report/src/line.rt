@@ -2,9 +2,10 @@
 ghost use Rattle.std.specs.Prelude.{◌≡◌, ◌++◌, ◌∷◌, [], IfOk, OnOk, OnErr, string_bytes};
 ghost use Rattle.std.specs.List.{flat_map};
 ghost use Rattle.std.specs.Fmt.{decimal};
-ghost use Rattle.match_report.specs.Text.{arrival_words, came_text, class_word, control_word, dropped_text, end_word, event_word, hex_text, moved_text, object_text, ping_word, posted_text, report_line, told_text, two_numbers, value_text};
+ghost use Rattle.match_report.specs.Text.{arrival_words, came_text, class_word, control_word, copies_text, copy_text, dropped_text, end_word, event_word, field_text, hex_text, moved_text, object_text, ping_word, posted_text, report_line, settled_mark, told_text, two_numbers, value_text};
 ghost use Rattle.stream_manager.specs.Said.{server_refusal, client_refusal};
 
+use crate::copies::{CopyTold, FieldTold};
 use crate::living::LivingObject;
 use crate::told::{EventTold, Told, Way};
 use event_manager::PostFault;
@@ -52,6 +53,14 @@ fn put(text: &mut String, word: &str, number: u32) -> Result<(), AllocError>
 {
     text.push_str(word)?;
     write!(text, "{number}")
+}
+
+// Appends a word and a count.
+fn put_count(text: &mut String, word: &str, count: usize) -> Result<(), AllocError>
+    ensures { OnOk result (string_bytes text.new ≡ string_bytes text.old ++ word.now ++ decimal count) }
+{
+    text.push_str(word)?;
+    write!(text, "{count}")
 }
 
 fn put_hex(text: &mut String, alloc: Global, bytes: &[u8]) -> Result<(), AllocError>
@@ -203,6 +212,54 @@ fn put_objects(text: &mut String, objects: &[LivingObject]) -> Result<(), AllocE
     Ok(())
 }
 
+fn settled_mark(settled: bool) -> &'static str
+    ensures { result.now ≡ settled_mark settled }
+{
+    if settled { "s" } else { "" }
+}
+
+fn put_field(text: &mut String, field: &FieldTold) -> Result<(), AllocError>
+    ensures { OnOk result (string_bytes text.new ≡ string_bytes text.old ++ field_text field.now) }
+{
+    put_value(text, field.value)?;
+    text.push_str(settled_mark(field.settled))
+}
+
+fn put_fields(text: &mut String, fields: &[FieldTold]) -> Result<(), AllocError>
+    ensures { OnOk result (string_bytes text.new ≡ string_bytes text.old ++ flat_map field_text fields.now) }
+{
+    for field in fields {
+        put_field(text, field)?;
+    }
+    Ok(())
+}
+
+fn put_copy(text: &mut String, copy: &CopyTold) -> Result<(), AllocError>
+    ensures { OnOk result (string_bytes text.new ≡ string_bytes text.old ++ copy_text copy.now) }
+{
+    put(text, " | ", u32::from(copy.slot))?;
+    text.push_str(" ")?;
+    text.push_str(kind_word(copy.kind))?;
+    put(text, " ", u32::from(copy.block))?;
+    put_fields(text, copy.fields.as_slice())
+}
+
+fn put_each_copy(text: &mut String, copies: &[CopyTold]) -> Result<(), AllocError>
+    ensures { OnOk result (string_bytes text.new ≡ string_bytes text.old ++ flat_map copy_text copies.now) }
+{
+    for copy in copies {
+        put_copy(text, copy)?;
+    }
+    Ok(())
+}
+
+fn put_copies(text: &mut String, copies: &[CopyTold]) -> Result<(), AllocError>
+    ensures { OnOk result (string_bytes text.new ≡ string_bytes text.old ++ copies_text copies.now) }
+{
+    put_count(text, " ghosts ", copies.len())?;
+    put_each_copy(text, copies)
+}
+
 fn put_told(text: &mut String, alloc: Global, told: &Told) -> Result<(), AllocError>
     ensures { OnOk result (string_bytes text.new ≡ string_bytes text.old ++ told_text told.now) }
 {
@@ -285,6 +342,7 @@ fn put_told(text: &mut String, alloc: Global, told: &Told) -> Result<(), AllocEr
             accepted,
             taken,
             control,
+            copies,
         } => {
             put(text, "show ", u32::from(*client))?;
             put(text, " events ", *events)?;
@@ -293,11 +351,22 @@ fn put_told(text: &mut String, alloc: Global, told: &Told) -> Result<(), AllocEr
             put(text, " taken ", *taken)?;
             text.push_str(" control ")?;
             put_control(text, *control)?;
-            text.push_str(" ghosts 0")
+            put_copies(text, copies.as_slice())
         }
         Told::Tick { ticks, writes } => {
             put(text, "tick ", *ticks)?;
-            write!(text, " writes {writes}")
+            put_count(text, " writes ", *writes)
+        }
+        Told::Scan {
+            client,
+            hides,
+            nears,
+            shows,
+        } => {
+            put(text, "scan ", u32::from(*client))?;
+            put_count(text, " hide ", *hides)?;
+            put_count(text, " near ", *nears)?;
+            put_count(text, " show ", *shows)
         }
         Told::World { ticks, objects } => {
             put(text, "world ", *ticks)?;

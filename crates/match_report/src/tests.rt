@@ -1,9 +1,10 @@
-//! Lines of refusals that no script brings about, as the format has them.
-use crate::{Told, Way, put_line};
+//! Lines as the format has them: refusals that no script brings about, what a client has, and a scan.
+use crate::{CopyList, CopyTold, FieldList, FieldTold, Told, Way, put_line};
 use ghost_client::GhostFault;
 use std::alloc::Global;
 use std::test::Fail;
 use stream_manager::{ArriveFault, ClientFault};
+use tn_types::MAX_FIELDS;
 use wire_format::{BitsCause, BitsFault};
 
 fn line_of(alloc: Global, told: &Told) -> Option<Vec<u8>> {
@@ -86,5 +87,76 @@ fn refusals_of_a_client(rt: HostRuntime) -> Result<(), Fail> {
         let line = line_of(rt.alloc(), &told).ok_or("no memory")?;
         assert_eq!(rt; line.as_slice(), want.as_bytes(), "{want}");
     }
+    Ok(())
+}
+
+fn copy_of(slot: u8, kind: u8, block: u8, values: &[(i64, bool)]) -> CopyTold {
+    let mut fields = FieldList::new();
+    for (value, settled) in values {
+        if fields.as_slice().len() < MAX_FIELDS {
+            fields.push(FieldTold {
+                value: *value,
+                settled: *settled,
+            });
+        }
+    }
+    CopyTold {
+        slot,
+        kind,
+        block,
+        fields,
+    }
+}
+
+#[test]
+fn copies_of_a_client(rt: HostRuntime) -> Result<(), Fail> {
+    let player = [
+        (975, false),
+        (1000, true),
+        (100, true),
+        (20, true),
+        (0, true),
+    ];
+    let mut copies = CopyList::new(rt.alloc());
+    copies
+        .push(rt.alloc(), copy_of(0, 0, 0, &player))
+        .ok()
+        .ok_or("no memory")?;
+    copies
+        .push(
+            rt.alloc(),
+            copy_of(12, 2, 3, &[(1100, true), (1000, true), (0, false)]),
+        )
+        .ok()
+        .ok_or("no memory")?;
+    let told = Told::Show {
+        client: 7,
+        events: 1,
+        sampled: 2,
+        accepted: 3,
+        taken: 4,
+        control: Some(0),
+        copies,
+    };
+    let line = line_of(rt.alloc(), &told).ok_or("no memory")?;
+    let want = "show 7 events 1 sampled 2 accepted 3 taken 4 control 0 ghosts 2 \
+| 0 player 0 975 1000s 100s 20s 0s | 12 mine 3 1100s 1000s 0\n";
+    assert_eq!(rt; line.as_slice(), want.as_bytes());
+    Ok(())
+}
+
+#[test]
+fn a_scan(rt: HostRuntime) -> Result<(), Fail> {
+    let told = Told::Scan {
+        client: 15,
+        hides: 1,
+        nears: 20,
+        shows: 1024,
+    };
+    let line = line_of(rt.alloc(), &told).ok_or("no memory")?;
+    assert_eq!(rt;
+        line.as_slice(),
+        b"scan 15 hide 1 near 20 show 1024\n".as_slice()
+    );
     Ok(())
 }

@@ -1,6 +1,7 @@
 //! What a line of a script did.
 ghost use Rattle.std.specs.Prelude.{◌≡◌, ◌<◌, ◌≤◌, [], ◌∷◌, ◌++◌, length, OnOk};
 
+use crate::copies::CopyList;
 use crate::living::Living;
 use event_manager::{MAX_READY_EVENTS, PostFault};
 use move_manager::MoveFault;
@@ -87,6 +88,13 @@ pub enum Told {
         ticks: u32,
         writes: usize,
     },
+    /// The scope of a client was brought up to date: so many periods were hidden, had their level changed, and were shown.
+    Scan {
+        client: u8,
+        hides: usize,
+        nears: usize,
+        shows: usize,
+    },
     /// A guaranteed event was posted at the server, or `up` at the client, or was refused.
     Post {
         up: bool,
@@ -147,8 +155,8 @@ pub enum Told {
         k: u32,
         fault: ClientFault,
     },
-    /// The guaranteed events delivered to a client, its moves that were sampled, accepted and taken by ticks, and its
-    /// control slot.
+    /// The guaranteed events delivered to a client, its moves that were sampled, accepted and taken by ticks, its control
+    /// slot, and its copies by rising slot.
     Show {
         client: u8,
         events: u32,
@@ -156,6 +164,7 @@ pub enum Told {
         accepted: u32,
         taken: u32,
         control: Option<u8>,
+        copies: CopyList,
     },
     /// The world: ticks so far, and the living objects.
     World {

@@ -8,8 +8,8 @@ use Rattle.world_rules.specs.declared.setup.Spawn.{Spawn}
 use Rattle.world_rules.specs.Spawning.{OwnerFits, SpawnFits}
 use Rattle.world_rules.specs.Identity.{OwnersRise, HaveNoOwner}
 use Rattle.match_script.specs.declared.types.ScriptFault.{ScriptFault}
+use Rattle.match_script.specs.declared.types.ScriptFault.TheVariants.{BadHeader}
 use Rattle.match_script.specs.declared.objects.Place.{Place}
-use Rattle.match_script.specs.Lines.{no_header_line}
 use Rattle.match_script.specs.Header.{is_go, is_earlier_player, may_follow, object_line}
 use Rattle.match_script.specs.Script.{Fault, ◌>>=◌, text_line, header_words, stands, objects_of}
 use Rattle.match_script.specs.Following.{Follows}
@@ -29,7 +29,7 @@ then_objects s rest = rest >>= λ x. Ok (s ∷ x.0, x.1)
 -- the objects behind these, by the words of the next line and the lines after it
 abbrev after_line : ℕ → ℕ → ℕ → List Spawn → List (List ℕ) × List (List ℕ) → Read
 after_line clients blocks n before x =
-    cond (is_go x.0) (Ok ([], x.1)) (stands n x.0 (object_line clients blocks before x.0) >>= λ s. then_objects s (objects_of clients blocks (suc n) (before ++ s ∷ []) x.1))
+    cond (is_go x.0) (Ok ([], x.1)) (stands n (object_line clients blocks before x.0) >>= λ s. then_objects s (objects_of clients blocks (suc n) (before ++ s ∷ []) x.1))
 
 by_words : (clients blocks n : ℕ) (before : List Spawn) (lines : List (List ℕ)) (words : Result (List (List ℕ)) Fault) → (words >>= λ w. after_line clients blocks n before (w, lines)) ≡ ((words >>= λ w. Ok (w, lines)) >>= after_line clients blocks n before)
 by_words clients blocks n before lines (Ok words) = refl
@@ -54,7 +54,7 @@ objects_end front clients blocks n lines words after e go = rw (by_line clients 
 pub objects_stop : (front : List Spawn) (clients blocks n m : ℕ) (fault : ScriptFault) (lines : List (List ℕ)) → header_words n lines ≡ Err (m, fault) → behind_objects front (objects_of clients blocks n front lines) ≡ Err (m, fault)
 objects_stop front clients blocks n m fault lines e = rw (by_line clients blocks n front lines, e) refl
 
-pub objects_misplaced : (front : List Spawn) (clients blocks n : ℕ) (lines words after : List (List ℕ)) → header_words n lines ≡ Ok (words, after) → is_go words ≡ false → object_line clients blocks front words ≡ None → behind_objects front (objects_of clients blocks n front lines) ≡ Err (n, no_header_line words)
+pub objects_misplaced : (front : List Spawn) (clients blocks n : ℕ) (lines words after : List (List ℕ)) → header_words n lines ≡ Ok (words, after) → is_go words ≡ false → object_line clients blocks front words ≡ None → behind_objects front (objects_of clients blocks n front lines) ≡ Err (n, BadHeader)
 objects_misplaced front clients blocks n lines words after e go o = rw (by_line clients blocks n front lines, e, go, o) refl
 
 -- ---- who may follow

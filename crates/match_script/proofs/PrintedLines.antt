@@ -15,12 +15,12 @@ use Rattle.world_rules.specs.Spawning.{OwnerFits, SpawnFits}
 use Rattle.world_rules.specs.Kinds.{kind_word}
 use Rattle.world_rules.specs.Identity.{OwnersRise, HaveNoOwner}
 use Rattle.match_script.specs.declared.types.BodyLine.{BodyLine}
-use Rattle.match_script.specs.declared.types.BodyLine.TheVariants.{Tick, Post, ClientPost, Pack, ClientPack, Down, Up, Move, Show, World}
+use Rattle.match_script.specs.declared.types.BodyLine.TheVariants.{Tick, Scan, Post, ClientPost, Pack, ClientPack, Down, Up, Raw, Move, Show, World}
 use Rattle.match_script.specs.declared.types.Head.{Head}
 use Rattle.match_script.specs.declared.types.Script.{Script}
 use Rattle.std.proofs.lemmas.List.{map-append}
 use Rattle.match_script.specs.Text.{words_of, is_text, spelled}
-use Rattle.match_script.specs.Lines.{body_line, post_line, client_post_line, pack_line, client_pack_line, down_line, up_line, move_line, show_line}
+use Rattle.match_script.specs.Lines.{body_line, scan_line, post_line, client_post_line, pack_line, client_pack_line, down_line, up_line, raw_line, move_line, show_line}
 use Rattle.match_script.specs.Header.{match_numbers, version_line, match_line, block_line, is_go, is_earlier_player, may_follow, kind_named, placed, player_words, spawn_words, named, object_line}
 use Rattle.match_script.specs.Script.{script_in, script_of, body_of, line_at, header, header_length, text_line, header_words, block_in, blocks_of, objects_of, with_objects}
 use Rattle.match_script.specs.Ranges.{LineFits, BlockFits, HeadFits, HasRanges}
@@ -51,12 +51,14 @@ place_back k h = number_decimal (2 ^ 32) k h (omega arith)
 line_plain : (clients : ℕ) (line : BodyLine) → clients ≤ 16 → LineFits clients line → list_all is_plain (line_words line) ≡ true
 line_plain clients Tick small h = refl
 line_plain clients World small h = refl
+line_plain clients (Scan c) small h = rw (client_plain clients c small h) refl
 line_plain clients (Post c class bytes) small h = rw (client_plain clients c small h.0, plain_class class, plain_hex bytes (bytes_are bytes h.1.1)) refl
 line_plain clients (ClientPost c class bytes) small h = rw (client_plain clients c small h.0, plain_class class, plain_hex bytes (bytes_are bytes h.1.1)) refl
 line_plain clients (Pack c) small h = rw (client_plain clients c small h) refl
 line_plain clients (ClientPack c) small h = rw (client_plain clients c small h) refl
 line_plain clients (Down c k) small h = rw (client_plain clients c small h.0, place_plain k h.1) refl
 line_plain clients (Up c k) small h = rw (client_plain clients c small h.0, place_plain k h.1) refl
+line_plain clients (Raw c bytes) small h = rw (client_plain clients c small h.0, plain_hex bytes (bytes_are bytes h.1.1)) refl
 line_plain clients (Move c m) small h = rw (client_plain clients c small h, plain_step m.dx m.dx_range, plain_step m.dy m.dy_range, plain_flag m.fire, plain_flag m.act) refl
 line_plain clients (Show c) small h = rw (client_plain clients c small h) refl
 
@@ -66,15 +68,17 @@ move_back clients c m small h =
     move_read clients (decimal c) (signed_decimal m.dx) (signed_decimal m.dy) (flag_word m.fire) (flag_word m.act) c m (client_back clients c small h) (step_back m.dx m.dx_range) (step_back m.dy m.dy_range) (flag_back m.fire) (flag_back m.act)
 
 line_read : (clients : ℕ) (line : BodyLine) → clients ≤ 16 → LineFits clients line → body_line clients (line_words line) ≡ Ok line
-unfolding body_line pack_line client_pack_line down_line up_line post_line client_post_line show_line
+unfolding body_line scan_line pack_line client_pack_line down_line up_line raw_line post_line client_post_line show_line
 line_read clients Tick small h = refl
 line_read clients World small h = refl
+line_read clients (Scan c) small h = rw (client_back clients c small h) refl
 line_read clients (Post c class bytes) small h = rw (class_back class, client_back clients c small h.0, hex_back 24 bytes (bytes_are bytes h.1.1) h.1.0) refl
 line_read clients (ClientPost c class bytes) small h = rw (class_back class, client_back clients c small h.0, hex_back 24 bytes (bytes_are bytes h.1.1) h.1.0) refl
 line_read clients (Pack c) small h = rw (client_back clients c small h) refl
 line_read clients (ClientPack c) small h = rw (client_back clients c small h) refl
 line_read clients (Down c k) small h = rw (client_back clients c small h.0, place_back k h.1) refl
 line_read clients (Up c k) small h = rw (client_back clients c small h.0, place_back k h.1) refl
+line_read clients (Raw c bytes) small h = rw (client_back clients c small h.0, hex_back 1200 bytes (bytes_are bytes h.1.1) h.1.0) refl
 line_read clients (Move c m) small h = move_back clients c m small h
 line_read clients (Show c) small h = rw (client_back clients c small h) refl
 
@@ -82,12 +86,14 @@ line_read clients (Show c) small h = rw (client_back clients c small h) refl
 line_back : (clients k : ℕ) (line : BodyLine) → k < 100000 → clients ≤ 16 → LineFits clients line → line_at clients k (spelled (line_words line)) ≡ Ok line
 line_back clients k Tick few small h = read_at clients k _ _ Tick few refl (line_read clients Tick small h)
 line_back clients k World few small h = read_at clients k _ _ World few refl (line_read clients World small h)
+line_back clients k (Scan c) few small h = read_at clients k _ _ (Scan c) few (line_plain clients (Scan c) small h) (line_read clients (Scan c) small h)
 line_back clients k (Post c class bytes) few small h = read_at clients k _ _ (Post c class bytes) few (line_plain clients (Post c class bytes) small h) (line_read clients (Post c class bytes) small h)
 line_back clients k (ClientPost c class bytes) few small h = read_at clients k _ _ (ClientPost c class bytes) few (line_plain clients (ClientPost c class bytes) small h) (line_read clients (ClientPost c class bytes) small h)
 line_back clients k (Pack c) few small h = read_at clients k _ _ (Pack c) few (line_plain clients (Pack c) small h) (line_read clients (Pack c) small h)
 line_back clients k (ClientPack c) few small h = read_at clients k _ _ (ClientPack c) few (line_plain clients (ClientPack c) small h) (line_read clients (ClientPack c) small h)
 line_back clients k (Down c n) few small h = read_at clients k _ _ (Down c n) few (line_plain clients (Down c n) small h) (line_read clients (Down c n) small h)
 line_back clients k (Up c n) few small h = read_at clients k _ _ (Up c n) few (line_plain clients (Up c n) small h) (line_read clients (Up c n) small h)
+line_back clients k (Raw c bytes) few small h = read_at clients k _ _ (Raw c bytes) few (line_plain clients (Raw c bytes) small h) (line_read clients (Raw c bytes) small h)
 line_back clients k (Move c m) few small h = read_at clients k _ _ (Move c m) few (line_plain clients (Move c m) small h) (line_read clients (Move c m) small h)
 line_back clients k (Show c) few small h = read_at clients k _ _ (Show c) few (line_plain clients (Show c) small h) (line_read clients (Show c) small h)
 

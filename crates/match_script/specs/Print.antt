@@ -6,7 +6,7 @@ use Rattle.hex.specs.Hex.{encode_lower}
 use Rattle.tn_types.specs.declared.choices.Class.{Class}
 use Rattle.tn_types.specs.declared.choices.Class.TheVariants.{Guaranteed, Loose}
 use Rattle.match_script.specs.declared.types.BodyLine.{BodyLine}
-use Rattle.match_script.specs.declared.types.BodyLine.TheVariants.{Tick, Post, ClientPost, Pack, ClientPack, Down, Up, Move, Show, World}
+use Rattle.match_script.specs.declared.types.BodyLine.TheVariants.{Tick, Scan, Post, ClientPost, Pack, ClientPack, Down, Up, Raw, Move, Show, World}
 use Rattle.world_rules.specs.Kinds.{kind_word}
 use Rattle.world_rules.specs.declared.setup.Spawn.{Spawn}
 use Rattle.match_script.specs.declared.types.Head.{Head}
@@ -27,12 +27,14 @@ flag_word false = codes "0"
 
 abbrev pub line_words : BodyLine → List (List ℕ)
 line_words Tick = codes "tick" ∷ []
+line_words (Scan c) = codes "scan" ∷ decimal c ∷ []
 line_words (Post c class bytes) = codes "post" ∷ decimal c ∷ class_word class ∷ hex_word bytes ∷ []
 line_words (ClientPost c class bytes) = codes "cpost" ∷ decimal c ∷ class_word class ∷ hex_word bytes ∷ []
 line_words (Pack c) = codes "pack" ∷ decimal c ∷ []
 line_words (ClientPack c) = codes "cpack" ∷ decimal c ∷ []
 line_words (Down c k) = codes "down" ∷ decimal c ∷ decimal k ∷ []
 line_words (Up c k) = codes "up" ∷ decimal c ∷ decimal k ∷ []
+line_words (Raw c bytes) = codes "raw" ∷ decimal c ∷ hex_word bytes ∷ []
 line_words (Move c m) = codes "move" ∷ decimal c ∷ signed_decimal m.dx ∷ signed_decimal m.dy ∷ flag_word m.fire ∷ flag_word m.act ∷ []
 line_words (Show c) = codes "show" ∷ decimal c ∷ []
 line_words World = codes "world" ∷ []

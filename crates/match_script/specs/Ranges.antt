@@ -7,7 +7,7 @@ use Rattle.tn_types.specs.declared.limits.TheConstants.{MAX_CLIENTS, MAX_LIFE, M
 use Rattle.world_rules.specs.Spawning.{SetupFits}
 use Rattle.match_script.specs.declared.limits.TheConstants.{VERSION}
 use Rattle.match_script.specs.declared.types.BodyLine.{BodyLine}
-use Rattle.match_script.specs.declared.types.BodyLine.TheVariants.{Tick, Post, ClientPost, Pack, ClientPack, Down, Up, Move, Show, World}
+use Rattle.match_script.specs.declared.types.BodyLine.TheVariants.{Tick, Scan, Post, ClientPost, Pack, ClientPack, Down, Up, Raw, Move, Show, World}
 use Rattle.match_script.specs.declared.types.Head.{Head}
 use Rattle.match_script.specs.declared.types.Script.{Script}
 
@@ -26,12 +26,14 @@ BlockFits bytes = BytesFit MAX_BLOCK_BYTES bytes
 -- a line of a body for so many clients
 abbrev pub LineFits : ℕ → BodyLine → Type 0
 LineFits clients Tick = Unit {0}
+LineFits clients (Scan c) = c < clients
 LineFits clients (Post c class bytes) = (c < clients) × PayloadFits bytes
 LineFits clients (ClientPost c class bytes) = (c < clients) × PayloadFits bytes
 LineFits clients (Pack c) = c < clients
 LineFits clients (ClientPack c) = c < clients
 LineFits clients (Down c k) = (c < clients) × (k < 2 ^ 32)
 LineFits clients (Up c k) = (c < clients) × (k < 2 ^ 32)
+LineFits clients (Raw c bytes) = (c < clients) × BytesFit MAX_DATAGRAM_BYTES bytes
 LineFits clients (Move c m) = c < clients
 LineFits clients (Show c) = c < clients
 LineFits clients World = Unit {0}

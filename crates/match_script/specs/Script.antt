@@ -14,7 +14,7 @@ use Rattle.match_script.specs.declared.types.Script.{Script}
 use Rattle.match_script.specs.Text.{lines_of, words_of, is_text}
 use Rattle.world_rules.specs.declared.kinds.TheConstants.{PLAYER, CLOCK}
 use Rattle.match_script.specs.Words.{number, number_from, hex}
-use Rattle.match_script.specs.Lines.{body_line, no_header_line}
+use Rattle.match_script.specs.Lines.{body_line}
 use Rattle.match_script.specs.Header.{version_line, match_line, block_line, is_go, kind_named, placed, player_words, spawn_words, named, object_line}
 
 -- a line, numbered from 1, and its first fault
@@ -38,10 +38,10 @@ header_words n (line ∷ lines) = do
   words ← text_line n line
   Ok (words, lines)
 
--- what the words of line n of the header say, or why they can't stand there
-abbrev pub stands : {A : Type 0} → ℕ → List (List ℕ) → Option A → Result A Fault
-stands n words (Some x) = Ok x
-stands n words None = Err (n, no_header_line words)
+-- what line n of the header says, where it may stand there
+abbrev pub stands : {A : Type 0} → ℕ → Option A → Result A Fault
+stands n (Some x) = Ok x
+stands n None = Err (n, BadHeader)
 
 -- block k of the script, if this line gives one
 unfoldable pub block_in : ℕ → List ℕ → Option (List ℕ)
@@ -61,7 +61,7 @@ objects_of clients blocks n before [] = Err (n, BadHeader)
 objects_of clients blocks n before (line ∷ lines) = do
   words ← text_line n line
   if is_go words then Ok ([], lines) else do
-    object ← stands n words (object_line clients blocks before words)
+    object ← stands n (object_line clients blocks before words)
     rest ← objects_of clients blocks (suc n) (before ++ object ∷ []) lines
     Ok (object ∷ rest.0, rest.1)
 
@@ -81,9 +81,9 @@ with_objects head blocks spawns = record {
 unfoldable pub header : List (List ℕ) → Result (Head × List (List ℕ)) Fault
 header lines = do
   first ← header_words 1 lines
-  version ← stands 1 first.0 (version_line first.0)
+  version ← stands 1 (version_line first.0)
   second ← header_words 2 first.1
-  head ← stands 2 second.0 (match_line version second.0)
+  head ← stands 2 (match_line version second.0)
   objects ← objects_of head.clients (length (blocks_of 0 second.1).0) (3 + length (blocks_of 0 second.1).0) [] (blocks_of 0 second.1).1
   Ok (with_objects head (blocks_of 0 second.1).0 objects.0, objects.1)
 

@@ -2,8 +2,8 @@
 ghost use Rattle.std.specs.Prelude.{◌≡◌, ◌<◌, ◌≤◌, List, ℕ, [], Ok, Err, IfOk, IfSome, length};
 ghost use Rattle.std.specs.List.{All};
 ghost use Rattle.match_script.specs.declared.types.ParseFault.TheVariants.{Bad};
+ghost use Rattle.match_script.specs.declared.types.ScriptFault.TheVariants.{BadHeader};
 ghost use Rattle.match_script.specs.Text.{lines_of, words_of};
-ghost use Rattle.match_script.specs.Lines.{no_header_line};
 ghost use Rattle.match_script.specs.Header.{match_numbers, version_line, match_line, block_line, is_go};
 ghost use Rattle.match_script.specs.Script.{Gives, header_words, block_in, blocks_of, with_objects, header};
 ghost use Rattle.match_script.specs.Ranges.{BlockFits, HeadFits};
@@ -12,7 +12,6 @@ use crate::cut::{cut_line, is_text};
 use crate::limits::VERSION;
 use crate::objects::objects_of;
 use crate::types::{Blocks, Head, ParseFault, ScriptFault};
-use crate::unbuilt::no_header_line;
 use crate::word;
 use crate::words::{Words, parted};
 use std::alloc::Global;
@@ -28,10 +27,7 @@ pub(crate) fn header_line(n: u32, text: &[u8]) -> Result<(&[u8], &[u8]), ParseFa
     ensures { Gives (λ x. (words_of x.0.now, lines_of x.1.now)) result (header_words n (lines_of text.now)) }
 {
     if text.len() == 0 {
-        return Err(ParseFault::Bad {
-            line: n,
-            fault: ScriptFault::BadHeader,
-        });
+        return Err(misplaced(n));
     }
     let (line, rest) = cut_line(text);
     if is_text(line) {
@@ -151,12 +147,12 @@ pub(crate) fn is_go(line: &[u8]) -> bool
 }
 
 // Line n of the header can't stand there.
-pub(crate) fn misplaced(n: u32, line: &[u8]) -> ParseFault
-    ensures { result ≡ Bad n (no_header_line (words_of line.now)) }
+pub(crate) fn misplaced(n: u32) -> ParseFault
+    ensures { result ≡ Bad n BadHeader }
 {
     ParseFault::Bad {
         line: n,
-        fault: no_header_line(line),
+        fault: ScriptFault::BadHeader,
     }
 }
 
@@ -204,11 +200,11 @@ pub fn header(alloc: Global, text: &[u8]) -> Result<(Head, &[u8]), ParseFault>
 {
     let (line, rest) = header_line(1, text)?;
     let Some(version) = version_line(line) else {
-        return Err(misplaced(1, line));
+        return Err(misplaced(1));
     };
     let (line, rest) = header_line(2, rest)?;
     let Some(head) = match_line(alloc, version, line) else {
-        return Err(misplaced(2, line));
+        return Err(misplaced(2));
     };
     let (blocks, rest) = blocks_of(alloc, rest)?;
     let (spawns, rest) = objects_of(alloc, head.clients, blocks.len() as u8, rest)?;

@@ -13,7 +13,6 @@ mod said;
 #[cfg(test)]
 mod tests;
 mod types;
-mod unbuilt;
 mod word;
 mod words;
 

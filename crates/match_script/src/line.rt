@@ -1,15 +1,55 @@
 //! The lines of the body, one function each.
-ghost use Rattle.std.specs.Prelude.{◌≡◌, true, List, ℕ, IfOk};
+ghost use Rattle.std.specs.Prelude.{◌≡◌, ◌∷◌, [], true, List, ℕ, IfOk};
 ghost use Rattle.match_script.specs.Text.{words_of};
-ghost use Rattle.match_script.specs.Lines.{body_line, post_line, client_post_line, pack_line, client_pack_line, down_line, up_line, move_line, show_line};
+ghost use Rattle.match_script.specs.Lines.{GivesLine, body_line, scan_line, post_line, client_post_line, pack_line, client_pack_line, down_line, up_line, raw_line, move_line, show_line};
 ghost use Rattle.tn_types.specs.Steps.{is_step};
 ghost use Rattle.match_script.specs.Ranges.{LineFits};
 
 use crate::types::{BodyLine, ScriptFault};
-use crate::unbuilt::no_body_line;
 use crate::word;
 use crate::words::{Words, parted};
-use tn_types::Move;
+use std::alloc::Global;
+use tn_types::{Bytes, MAX_DATAGRAM_BYTES, Move, NoMemory, RawBytes};
+
+// Why a line of the body was not read.
+#[derive(Clone, Copy, Debug, PartialEq, Eq)]
+pub(crate) enum LineFault {
+    // The line can't stand there: its first fault.
+    Faulty(ScriptFault),
+    // Memory was not to be had.
+    NoMemory,
+}
+
+impl From<ScriptFault> for LineFault {
+    ghost use Rattle.std.specs.Prelude.{◌≡◌};
+    ghost use Rattle.match_script.specs.declared.line.LineFault.TheVariants.{Faulty};
+
+    ghost from_gives = { λ fault e. e ≡ Faulty fault };
+
+    fn from(fault: ScriptFault) -> Self {
+        LineFault::Faulty(fault)
+    }
+}
+
+impl From<NoMemory> for LineFault {
+    ghost use Rattle.std.specs.Prelude.{◌≡◌};
+    ghost use Rattle.match_script.specs.declared.line.LineFault.TheVariants.{NoMemory as NoRoom};
+
+    ghost from_gives = { λ _ e. e ≡ NoRoom };
+
+    fn from(_error: NoMemory) -> Self {
+        LineFault::NoMemory
+    }
+}
+
+#[tactic(auto, unfolding(crate::specs::Lines::scan_line))]
+fn scan(clients: u8, c: &[u8]) -> Result<BodyLine, ScriptFault>
+    ensures value { result ≡ scan_line clients c.now }
+    ensures fits { IfOk result (LineFits clients) }
+{
+    let client = word::client(clients, c)?;
+    Ok(BodyLine::Scan { client })
+}
 
 #[tactic(auto, unfolding(crate::specs::Lines::post_line))]
 fn post(clients: u8, c: &[u8], class: &[u8], bytes: &[u8]) -> Result<BodyLine, ScriptFault>
@@ -79,6 +119,17 @@ fn up(clients: u8, c: &[u8], place: &[u8]) -> Result<BodyLine, ScriptFault>
     Ok(BodyLine::Up { client, k })
 }
 
+#[tactic(auto, unfolding(crate::specs::Lines::raw_line))]
+fn raw(alloc: Global, clients: u8, c: &[u8], bytes: &[u8]) -> Result<BodyLine, LineFault>
+    ensures value { GivesLine result (raw_line clients c.now bytes.now) }
+    ensures fits { IfOk result (LineFits clients) }
+{
+    let client = word::client(clients, c)?;
+    let read: Bytes<MAX_DATAGRAM_BYTES> = word::bytes(bytes)?;
+    let bytes = RawBytes::from_slice(alloc, read.as_slice())?;
+    Ok(BodyLine::Raw { client, bytes })
+}
+
 // The move of these steps.
 fn moved(dx: i8, dy: i8, fire: bool, act: bool) -> Move
     requires dx { is_step dx ≡ true }
@@ -121,58 +172,102 @@ fn show(clients: u8, c: &[u8]) -> Result<BodyLine, ScriptFault>
     Ok(BodyLine::Show { client })
 }
 
+// What a line of one word says.
+#[tactic(auto, unfolding(crate::specs::Lines::body_line))]
+fn one_word(clients: u8, kind: &[u8]) -> Result<BodyLine, ScriptFault>
+    ensures value { result ≡ body_line clients (kind.now ∷ []) }
+    ensures fits { IfOk result (LineFits clients) }
+{
+    if kind == b"tick".as_slice() {
+        Ok(BodyLine::Tick)
+    } else if kind == b"world".as_slice() {
+        Ok(BodyLine::World)
+    } else {
+        Err(ScriptFault::UnknownWord)
+    }
+}
+
+// What a line of two words says.
+#[tactic(auto, unfolding(crate::specs::Lines::body_line))]
+fn two_words(clients: u8, kind: &[u8], c: &[u8]) -> Result<BodyLine, ScriptFault>
+    ensures value { result ≡ body_line clients (kind.now ∷ c.now ∷ []) }
+    ensures fits { IfOk result (LineFits clients) }
+{
+    if kind == b"pack".as_slice() {
+        pack(clients, c)
+    } else if kind == b"cpack".as_slice() {
+        client_pack(clients, c)
+    } else if kind == b"scan".as_slice() {
+        scan(clients, c)
+    } else if kind == b"show".as_slice() {
+        show(clients, c)
+    } else {
+        Err(ScriptFault::UnknownWord)
+    }
+}
+
+// What a line of three words says.
+#[tactic(auto, unfolding(crate::specs::Lines::body_line))]
+fn three_words(
+    alloc: Global,
+    clients: u8,
+    kind: &[u8],
+    c: &[u8],
+    what: &[u8],
+) -> Result<BodyLine, LineFault>
+    ensures value { GivesLine result (body_line clients (kind.now ∷ c.now ∷ what.now ∷ [])) }
+    ensures fits { IfOk result (LineFits clients) }
+{
+    if kind == b"down".as_slice() {
+        Ok(down(clients, c, what)?)
+    } else if kind == b"up".as_slice() {
+        Ok(up(clients, c, what)?)
+    } else if kind == b"raw".as_slice() {
+        raw(alloc, clients, c, what)
+    } else {
+        Err(LineFault::Faulty(ScriptFault::UnknownWord))
+    }
+}
+
+// What a line of four words says.
+#[tactic(auto, unfolding(crate::specs::Lines::body_line))]
+fn four_words(
+    clients: u8,
+    kind: &[u8],
+    c: &[u8],
+    class: &[u8],
+    bytes: &[u8],
+) -> Result<BodyLine, ScriptFault>
+    ensures value { result ≡ body_line clients (kind.now ∷ c.now ∷ class.now ∷ bytes.now ∷ []) }
+    ensures fits { IfOk result (LineFits clients) }
+{
+    if kind == b"post".as_slice() {
+        post(clients, c, class, bytes)
+    } else if kind == b"cpost".as_slice() {
+        client_post(clients, c, class, bytes)
+    } else {
+        Err(ScriptFault::UnknownWord)
+    }
+}
+
 // What a line of the body says, by its words.
 #[tactic(auto, unfolding(crate::specs::Lines::body_line))]
-pub fn body_line(clients: u8, line: &[u8]) -> Result<BodyLine, ScriptFault>
-    ensures value { result ≡ body_line clients (words_of line.now) }
+pub fn body_line(alloc: Global, clients: u8, line: &[u8]) -> Result<BodyLine, LineFault>
+    ensures value { GivesLine result (body_line clients (words_of line.now)) }
     ensures fits { IfOk result (LineFits clients) }
 {
     match parted(line) {
-        Words::One(kind) => {
-            if kind == b"tick".as_slice() {
-                Ok(BodyLine::Tick)
-            } else if kind == b"world".as_slice() {
-                Ok(BodyLine::World)
-            } else {
-                Err(no_body_line(line))
-            }
-        }
-        Words::Two(kind, c) => {
-            if kind == b"pack".as_slice() {
-                pack(clients, c)
-            } else if kind == b"cpack".as_slice() {
-                client_pack(clients, c)
-            } else if kind == b"show".as_slice() {
-                show(clients, c)
-            } else {
-                Err(no_body_line(line))
-            }
-        }
-        Words::Three(kind, c, place) => {
-            if kind == b"down".as_slice() {
-                down(clients, c, place)
-            } else if kind == b"up".as_slice() {
-                up(clients, c, place)
-            } else {
-                Err(no_body_line(line))
-            }
-        }
-        Words::Four(kind, c, class, bytes) => {
-            if kind == b"post".as_slice() {
-                post(clients, c, class, bytes)
-            } else if kind == b"cpost".as_slice() {
-                client_post(clients, c, class, bytes)
-            } else {
-                Err(no_body_line(line))
-            }
-        }
+        Words::One(kind) => Ok(one_word(clients, kind)?),
+        Words::Two(kind, c) => Ok(two_words(clients, kind, c)?),
+        Words::Three(kind, c, what) => three_words(alloc, clients, kind, c, what),
+        Words::Four(kind, c, class, bytes) => Ok(four_words(clients, kind, c, class, bytes)?),
         Words::Six(kind, c, dx, dy, fire, act) => {
             if kind == b"move".as_slice() {
-                sampled(clients, c, dx, dy, fire, act)
+                Ok(sampled(clients, c, dx, dy, fire, act)?)
             } else {
-                Err(no_body_line(line))
+                Err(LineFault::Faulty(ScriptFault::UnknownWord))
             }
         }
-        _ => Err(no_body_line(line)),
+        _ => Err(LineFault::Faulty(ScriptFault::UnknownWord)),
     }
 }

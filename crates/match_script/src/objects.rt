@@ -217,7 +217,7 @@ pub(crate) fn objects_of(
             return Ok((spawns, after));
         }
         let Some(object) = object_line(clients, blocks, &place, count, line) else {
-            return Err(misplaced(first + count, line));
+            return Err(misplaced(first + count));
         };
         let Ok(()) = spawns.push(alloc, object) else {
             return Err(ParseFault::NoMemory);

@@ -1,6 +1,6 @@
 //! From a script to its text.
 ghost use Rattle.std.specs.Prelude.{◌≡◌, ◌++◌, ◌∷◌, [], List, ℕ, OnOk, IfOk, Ok, string_bytes, map};
-ghost use Rattle.match_script.specs.declared.types.BodyLine.TheVariants.{Post, ClientPost};
+ghost use Rattle.match_script.specs.declared.types.BodyLine.TheVariants.{Post, ClientPost, Raw};
 ghost use Rattle.match_script.specs.Text.{spelled};
 ghost use Rattle.match_script.specs.Script.{script_of};
 ghost use Rattle.match_script.specs.Ranges.{HasRanges};
@@ -69,6 +69,15 @@ fn put_client_post(
 }
 
 #[tactic(auto, unfolding(crate::specs::Text::spelled))]
+fn put_raw(alloc: Global, out: &mut String, client: u8, bytes: &[u8]) -> Result<(), AllocError>
+    ensures { OnOk result (string_bytes out.new ≡ with_line (string_bytes out.old) (line_words (Raw client bytes.now))) }
+{
+    let text = hex_text(alloc, bytes)?;
+    let text = text.as_str();
+    writeln!(out, "raw {client} {text}")
+}
+
+#[tactic(auto, unfolding(crate::specs::Text::spelled))]
 fn put_move(out: &mut String, client: u8, m: Move) -> Result<(), AllocError>
     ensures { OnOk result (string_bytes out.new ≡ with_line (string_bytes out.old) (line_words (BodyLine.Move client m))) }
 {
@@ -85,6 +94,7 @@ fn put_line(alloc: Global, out: &mut String, line: &BodyLine) -> Result<(), Allo
 {
     match line {
         BodyLine::Tick => writeln!(out, "tick"),
+        BodyLine::Scan { client } => writeln!(out, "scan {client}"),
         BodyLine::Post {
             client,
             class,
@@ -99,6 +109,7 @@ fn put_line(alloc: Global, out: &mut String, line: &BodyLine) -> Result<(), Allo
         BodyLine::ClientPack { client } => writeln!(out, "cpack {client}"),
         BodyLine::Down { client, k } => writeln!(out, "down {client} {k}"),
         BodyLine::Up { client, k } => writeln!(out, "up {client} {k}"),
+        BodyLine::Raw { client, bytes } => put_raw(alloc, out, *client, bytes.as_slice()),
         BodyLine::Move { client, m } => put_move(out, *client, *m),
         BodyLine::Show { client } => writeln!(out, "show {client}"),
         BodyLine::World => writeln!(out, "world"),

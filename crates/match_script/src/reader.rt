@@ -2,12 +2,13 @@
 ghost use Rattle.std.specs.Prelude.{◌≡◌, ◌≤◌, ◌+◌, List, ℕ, IfOk, length};
 ghost use Rattle.std.specs.List.{All};
 ghost use Rattle.match_script.specs.Text.{lines_of};
+ghost use Rattle.match_script.specs.Lines.{GivesLine};
 ghost use Rattle.match_script.specs.Script.{Gives, line_at, header_length, body_of, script_of};
 ghost use Rattle.match_script.specs.Ranges.{LineFits, HasRanges};
 
 use crate::cut::{cut_line, is_text};
 use crate::head::header;
-use crate::line::body_line;
+use crate::line::{LineFault, body_line};
 use crate::types::{Body, BodyLine, Head, ParseFault, Script, ScriptFault};
 use std::alloc::Global;
 use tn_types::{MAX_BLOCKS, MAX_BODY_LINES, MAX_OBJECTS};
@@ -27,17 +28,17 @@ fn header_length(head: &Head) -> u32
 
 // Line k of the body, counted from 0.
 #[tactic(auto, unfolding(crate::specs::Script::line_at))]
-fn line_at(clients: u8, k: u32, line: &[u8]) -> Result<BodyLine, ScriptFault>
-    ensures value { result ≡ line_at clients k line.now }
+fn line_at(alloc: Global, clients: u8, k: u32, line: &[u8]) -> Result<BodyLine, LineFault>
+    ensures value { GivesLine result (line_at clients k line.now) }
     ensures fits { IfOk result (LineFits clients) }
 {
     if !is_text(line) {
-        return Err(ScriptFault::NotText);
+        return Err(LineFault::Faulty(ScriptFault::NotText));
     }
     if k >= MAX_BODY_LINES {
-        return Err(ScriptFault::TooManyLines);
+        return Err(LineFault::Faulty(ScriptFault::TooManyLines));
     }
-    body_line(clients, line)
+    body_line(alloc, clients, line)
 }
 
 // The body behind line n of a text.
@@ -53,9 +54,10 @@ fn body_of(alloc: Global, clients: u8, n: u32, text: &[u8]) -> Result<Body, Pars
     let mut k = 0u32;
     while rest.len() > 0 {
         let (line, after) = cut_line(rest);
-        match line_at(clients, k, line) {
+        match line_at(alloc, clients, k, line) {
             Ok(line) => lines.push(line)?,
-            Err(fault) => {
+            Err(LineFault::NoMemory) => return Err(ParseFault::NoMemory),
+            Err(LineFault::Faulty(fault)) => {
                 return Err(ParseFault::Bad {
                     line: n + (k + 1),
                     fault,

@@ -19,7 +19,6 @@ impl fmt::Display for ScriptFault {
             ScriptFault::BadNumber => write!(f, "BadNumber"),
             ScriptFault::OutOfRange => write!(f, "OutOfRange"),
             ScriptFault::BadHex => write!(f, "BadHex"),
-            ScriptFault::NotBuilt => write!(f, "NotBuilt"),
         }
     }
 }

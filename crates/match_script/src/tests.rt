@@ -75,7 +75,17 @@ fn body_faults(rt: HostRuntime) -> Result<(), Fail> {
         ("pack 0 ", ScriptFault::UnknownWord),
         ("post 99 x 6", ScriptFault::UnknownWord),
         ("tick 0", ScriptFault::UnknownWord),
-        ("scan 0", ScriptFault::NotBuilt),
+        ("scan", ScriptFault::UnknownWord),
+        ("scan 0 0", ScriptFault::UnknownWord),
+        ("scan ", ScriptFault::BadNumber),
+        ("scan 1", ScriptFault::OutOfRange),
+        ("raw 0", ScriptFault::UnknownWord),
+        ("raw 0 61 61", ScriptFault::UnknownWord),
+        ("raw x 6", ScriptFault::BadNumber),
+        ("raw 1 6", ScriptFault::OutOfRange),
+        ("raw 0 ", ScriptFault::BadHex),
+        ("raw 0 616", ScriptFault::BadHex),
+        ("raw 0 --", ScriptFault::BadHex),
         ("down 0 00000000001", ScriptFault::BadNumber),
         ("down x 4294967296", ScriptFault::BadNumber),
         ("down 1 x", ScriptFault::OutOfRange),
@@ -104,6 +114,36 @@ fn body_faults(rt: HostRuntime) -> Result<(), Fail> {
     Ok(())
 }
 
+// A script whose only line hands the server so many bytes, of which the last is written like this.
+fn raw_script(alloc: Global, count: usize, last: &str) -> Option<String> {
+    let mut text = String::from_str(alloc, MATCH).ok()?;
+    text.push_str("go\nraw 0 ").ok()?;
+    for _ in 1..count {
+        text.push_str("6a").ok()?;
+    }
+    text.push_str(last).ok()?;
+    Some(text)
+}
+
+#[test]
+fn bytes_of_a_datagram(rt: HostRuntime) -> Result<(), Fail> {
+    for (count, last, want) in [
+        (1, "-", None),
+        (1200, "fF", None),
+        (1201, "fF", Some((4, ScriptFault::OutOfRange))),
+        (1201, "fg", Some((4, ScriptFault::BadHex))),
+        (1200, "f", Some((4, ScriptFault::BadHex))),
+    ] {
+        let text = raw_script(rt.alloc(), count, last).ok_or("no memory")?;
+        assert_eq!(rt;
+            first_fault(rt.alloc(), text.as_str()),
+            want,
+            "{count} bytes up to {last}"
+        );
+    }
+    Ok(())
+}
+
 const READ: &str = "tribes 1
 match 1 1 100 128 1000
 block 6A
@@ -113,6 +153,7 @@ spawn mine 1 0 1 2
 spawn clock 0 1 0 0
 go
 tick
+scan 0
 world
 post 0 g 6a6B
 cpost 0 u -
@@ -120,6 +161,8 @@ pack 0
 cpack 0
 down 0 4294967295
 up 0 0
+raw 0 -
+raw 0 00Ff7E
 move 0 -8 7 1 0
 show 0";
 
@@ -132,6 +175,7 @@ spawn mine 1 0 1 2
 spawn clock 0 1 0 0
 go
 tick
+scan 0
 world
 post 0 g 6a6b
 cpost 0 u -
@@ -139,6 +183,8 @@ pack 0
 cpack 0
 down 0 4294967295
 up 0 0
+raw 0 -
+raw 0 00ff7e
 move 0 -8 7 1 0
 show 0
 ";

@@ -3,7 +3,7 @@ ghost use Rattle.std.specs.Prelude.{◌≡◌, ◌++◌, ◌∷◌, [], OnOk, On
 
 use std::alloc::{AllocError, AllocFailed, Global};
 use std::marker::Model;
-use tn_types::{BlockBytes, Class, Move, NoMemory, Payload};
+use tn_types::{BlockBytes, Class, Move, NoMemory, Payload, RawBytes};
 use world_rules::Setup;
 
 /// One line of a script's body. Each client is below the number of clients in the header.
@@ -11,6 +11,10 @@ use world_rules::Setup;
 pub enum BodyLine {
     /// `tick`: the world makes one tick, and each client's oldest waiting move is taken.
     Tick,
+    /// `scan C`: the scope of a client is brought up to date.
+    Scan {
+        client: u8,
+    },
     /// `post C g HEX` or `post C u HEX`: the server posts an event to a client.
     Post {
         client: u8,
@@ -40,6 +44,11 @@ pub enum BodyLine {
     Up {
         client: u8,
         k: u32,
+    },
+    /// `raw C HEX`: the server gets these bytes, which nobody need have made, on a client's connection.
+    Raw {
+        client: u8,
+        bytes: RawBytes,
     },
     /// `move C DX DY FIRE USE`: a client samples a move.
     Move {
@@ -71,8 +80,6 @@ pub enum ScriptFault {
     OutOfRange,
     /// A word where bytes stand is neither `-` nor pairs of hexadecimal digits.
     BadHex,
-    /// The format has this line, but this version doesn't read it yet.
-    NotBuilt,
 }
 
 /// Why bytes were not read as a script.
