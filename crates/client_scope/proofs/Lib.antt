@@ -1,5 +1,5 @@
 mod Lists
-mod Apart
+pub mod Apart
 mod Marking
-mod Periods
+pub mod Periods
 mod Standing

@@ -1,0 +1,175 @@
+-- No more datagrams are sent at either end than items stand in the own list: a scan sends none.
+use Rattle.std.proofs.Common.{◌≡◌, ℕ, suc, ◌≤◌, Bool, true, false, List, [], ◌∷◌, ◌++◌, if◌then◌else◌, length, refl, sym, ap, subst, arith, length-append}
+use Rattle.std.specs.Prelude.{ℤ, Some, slice_get, map}
+use Rattle.std.specs.Result.{is_ok}
+use Rattle.tn_types.specs.declared.choices.Class.{Class}
+use Rattle.tn_types.specs.declared.choices.Class.TheVariants.{Guaranteed, Loose}
+use Rattle.tn_types.specs.declared.moves.Move.{Move}
+use Rattle.notify_window.specs.declared.SendState.{SendState}
+use Rattle.notify_window.specs.declared.SendState.TheVariants.{Held, Worn, Room}
+use Rattle.wire_format.specs.declared.server.ServerPacket.TheVariants as down
+use Rattle.match_script.specs.declared.types.BodyLine.{BodyLine}
+use Rattle.match_script.specs.declared.types.BodyLine.TheVariants as script
+use Rattle.client_scope.specs.declared.period.Near.{Near as NearPeriod}
+use Rattle.stream_manager.specs.declared.config.Config.{Config}
+use Rattle.stream_manager.specs.Limits.{Terms}
+use Rattle.stream_manager.specs.End.{with_event as after}
+use Rattle.stream_manager.specs.Wire.{bytes_down}
+use Rattle.stream_manager.specs.Server as server_log
+use Rattle.stream_manager.specs.Server.{ServerEvent, server_datagrams, server_state, posted_at_server, next_body, server_ping_bytes}
+use Rattle.stream_manager.specs.Client as client_log
+use Rattle.stream_manager.specs.Client.{ClientEvent, client_datagrams, client_state, posted_at_client, client_bytes, client_ping_bytes, sampled_answer}
+use Rattle.pair_core.specs.History.{PairStep, Show, Hide, Near, Post, ClientPost, Sample, Pack, ClientPack, Down, Up, Raw, history, absorbing, values_of, server_posts, client_posts, client_samples}
+use Rattle.pair_core.proofs.Brought.{gets_sends_up, gets_sends_down}
+use Rattle.pair_core.proofs.Good.{absorbed-sends}
+use Rattle.own_lists.specs.Own.{OwnShow, OwnItem, Line, Scan, Tick}
+use Rattle.own_lists.specs.Course.{onto, hide_step, near_step, show_step, scan_steps}
+use Rattle.own_lists.specs.Kept.{Kept, after_line, follows, kept, journal}
+use Rattle.own_lists.specs.declared.showing.Showing.{Showing}
+use Rattle.own_lists.proofs.KeptValues.{wrote_course}
+use Rattle.own_lists.proofs.Meeting.{scan_journal}
+
+-- ---- one step sends one datagram at most
+
+server-posts : (t : Terms) (class : Class) (v : List ℕ) (s : List ServerEvent)
+    → server_datagrams t (server_posts t.config class v s) ≡ server_datagrams t s
+server-posts t Loose v s = refl
+server-posts t Guaranteed v s = go (is_ok (posted_at_server t.config s))
+  where
+    go : (b : Bool) → server_datagrams t (if b then server_log.Posted Guaranteed v ∷ s else s) ≡ server_datagrams t s
+    go true = refl
+    go false = refl
+
+client-posts : (c : Config) (class : Class) (v : List ℕ) (u : List ClientEvent)
+    → client_datagrams c (client_posts c class v u) ≡ client_datagrams c u
+client-posts c Loose v u = refl
+client-posts c Guaranteed v u = go (is_ok (posted_at_client c u))
+  where
+    go : (b : Bool) → client_datagrams c (if b then client_log.Posted Guaranteed v ∷ u else u) ≡ client_datagrams c u
+    go true = refl
+    go false = refl
+
+client-samples : (c : Config) (m : Move) (u : List ClientEvent) → client_datagrams c (client_samples c m u) ≡ client_datagrams c u
+client-samples c m u = go (is_ok (sampled_answer c u))
+  where
+    go : (b : Bool) → client_datagrams c (if b then client_log.Sampled m ∷ u else u) ≡ client_datagrams c u
+    go true = refl
+    go false = refl
+
+server-packs : (t : Terms) (values : List ℤ) (s : List ServerEvent)
+    → length (server_datagrams t (server_log.packing t s values)) ≤ suc (length (server_datagrams t s))
+server-packs t values s = go (server_state t.config s)
+  where
+    go : (state : SendState) → length (server_datagrams t (server_log.packed_onto t s values state)) ≤ suc (length (server_datagrams t s))
+    go Held = omega (arith, length-append (server_datagrams t s) (server_ping_bytes t s ∷ []))
+    go Worn = omega arith
+    go Room = omega (arith, length-append (server_datagrams t s) (bytes_down t (down.Body (next_body t s values)) ∷ []))
+
+client-packs : (c : Config) (u : List ClientEvent)
+    → length (client_datagrams c (after (client_log.packing c u) u)) ≤ suc (length (client_datagrams c u))
+client-packs c u = go (client_state c u)
+  where
+    go : (state : SendState) → length (client_datagrams c (after (client_log.pack_event c u state) u)) ≤ suc (length (client_datagrams c u))
+    go Held = omega (arith, length-append (client_datagrams c u) (client_ping_bytes c u ∷ []))
+    go Worn = omega arith
+    go Room = omega (arith, length-append (client_datagrams c u) (client_bytes c u ∷ []))
+
+module _ (t : Terms) where
+  -- how many datagrams the server sent, and the client
+  abbrev pub sent_down : List PairStep → ℕ
+  sent_down steps = length (server_datagrams t (history t steps).server)
+
+  abbrev pub sent_up : List PairStep → ℕ
+  sent_up steps = length (client_datagrams t.config (history t steps).client)
+
+  pub step_down : (step : PairStep) (steps : List PairStep) → sent_down (step ∷ steps) ≤ suc (sent_down steps)
+  step_down (Show kind block level control) steps = omega arith
+  step_down (Hide n) steps = omega arith
+  step_down (Near n level) steps = omega arith
+  step_down (Post class v) steps = omega (arith, ap length (server-posts t class v (history t steps).server))
+  step_down (ClientPost class v) steps = omega arith
+  step_down (Sample m) steps = omega arith
+  step_down (Pack drains reads) steps =
+      let s = (history t steps).server in omega (arith, server-packs t (values_of reads) (absorbing drains s), ap length (absorbed-sends t drains s))
+  step_down ClientPack steps = omega arith
+  step_down (Down k) steps = omega arith
+  step_down (Up k room) steps =
+      let h = history t steps in omega (arith, ap length (gets_sends_down t room (slice_get (client_datagrams t.config h.client) k) h.server))
+  step_down (Raw bytes room) steps = omega (arith, ap length (gets_sends_down t room (Some bytes) (history t steps).server))
+
+  pub step_up : (step : PairStep) (steps : List PairStep) → sent_up (step ∷ steps) ≤ suc (sent_up steps)
+  step_up (Show kind block level control) steps = omega arith
+  step_up (Hide n) steps = omega arith
+  step_up (Near n level) steps = omega arith
+  step_up (Post class v) steps = omega arith
+  step_up (ClientPost class v) steps = omega (arith, ap length (client-posts t.config class v (history t steps).client))
+  step_up (Sample m) steps = omega (arith, ap length (client-samples t.config m (history t steps).client))
+  step_up (Pack drains reads) steps = omega arith
+  step_up ClientPack steps = client-packs t.config (history t steps).client
+  step_up (Down k) steps =
+      let h = history t steps in omega (arith, ap length (gets_sends_up t (slice_get (server_datagrams t h.server) k) h.client))
+  step_up (Up k room) steps = omega arith
+  step_up (Raw bytes room) steps = omega arith
+
+  -- ---- a scan sends none
+
+  record SendNone (more : List PairStep) : Type 0 where
+    pub down : (steps : List PairStep) → sent_down (onto more steps) ≡ sent_down steps
+    pub up : (steps : List PairStep) → sent_up (onto more steps) ≡ sent_up steps
+
+  shows-send-none : (shows : List Showing) → SendNone (map show_step shows)
+  shows-send-none [] = record { down = λ steps. refl; up = λ steps. refl }
+  shows-send-none (s ∷ shows) =
+      let r = shows-send-none shows in record { down = λ steps. r.down (show_step s ∷ steps); up = λ steps. r.up (show_step s ∷ steps) }
+
+  nears-send-none : (nears : List NearPeriod) (shows : List Showing) → SendNone (map near_step nears ++ map show_step shows)
+  nears-send-none [] shows = shows-send-none shows
+  nears-send-none (p ∷ nears) shows =
+      let r = nears-send-none nears shows in record { down = λ steps. r.down (near_step p ∷ steps); up = λ steps. r.up (near_step p ∷ steps) }
+
+  scan-sends-none : (hides : List ℕ) (nears : List NearPeriod) (shows : List Showing) → SendNone (scan_steps hides nears shows)
+  scan-sends-none [] nears shows = nears-send-none nears shows
+  scan-sends-none (n ∷ hides) nears shows =
+      let r = scan-sends-none hides nears shows in record { down = λ steps. r.down (hide_step n ∷ steps); up = λ steps. r.up (hide_step n ∷ steps) }
+
+  -- ---- items
+
+  record SendOne (old new : List PairStep) : Type 0 where
+    pub down : sent_down new ≤ suc (sent_down old)
+    pub up : sent_up new ≤ suc (sent_up old)
+
+  step-sends : (step : PairStep) (steps : List PairStep) → SendOne steps (step ∷ steps)
+  step-sends step steps = record { down = step_down step steps; up = step_up step steps }
+
+  same-sends : (steps : List PairStep) → SendOne steps steps
+  same-sends steps = record { down = omega arith; up = omega arith }
+
+  line-sends : (line : BodyLine) (k : Kept) → SendOne k.course.steps (after_line t line k).course.steps
+  line-sends script.Tick k = same-sends k.course.steps
+  line-sends (script.Scan c) k = same-sends k.course.steps
+  line-sends (script.Show c) k = same-sends k.course.steps
+  line-sends script.World k = same-sends k.course.steps
+  line-sends line k = step-sends _ k.course.steps
+
+  item-sends : (item : OwnItem) (k : Kept) → SendOne k.course.steps (follows t item k).course.steps
+  item-sends (Line line) k = line-sends line k
+  item-sends (Scan hides nears shows) k =
+      let r = scan-sends-none hides nears (map (λ (s : OwnShow). s.how) shows) in
+      subst (SendOne k.course.steps) (sym (scan_journal hides nears shows k)) (record {
+        down =
+            omega (arith, r.down k.course.steps);
+        up = omega (arith, r.up k.course.steps);
+      })
+  item-sends (Tick writes taken) k = subst (λ c. SendOne k.course.steps c.steps) (sym (wrote_course t writes k)) (same-sends k.course.steps)
+
+  pub few_down : (items : List OwnItem) → length (server_datagrams t (history t (journal t items)).server) ≤ length items
+  few_down [] = omega arith
+  few_down (item ∷ items) = omega (arith, few_down items, (item-sends item (kept t items)).down)
+
+  pub few_up : (items : List OwnItem) → length (client_datagrams t.config (history t (journal t items)).client) ≤ length items
+  few_up [] = omega arith
+  few_up (item ∷ items) = omega (arith, few_up items, (item-sends item (kept t items)).up)
+
+  pub few_data : (items : List OwnItem)
+      → (length (server_datagrams t (history t (journal t items)).server) ≤ length items) × (length (client_datagrams t.config (history t (journal t items)).client) ≤ length items)
+  few_data items = (few_down items, few_up items)

@@ -1,0 +1,11 @@
+pub mod Journals
+pub mod LegalSteps
+pub mod KeptValues
+pub mod Meeting
+pub mod Counting
+pub mod ScanFacts
+pub mod WorldFacts
+pub mod Standing
+pub mod Scanning
+pub mod Ticking
+pub mod Agreeing

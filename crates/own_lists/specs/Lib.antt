@@ -1,0 +1,7 @@
+pub mod Steps
+pub mod Own
+pub mod Course
+pub mod Kept
+pub mod Conditions
+pub mod Past
+pub mod Agreement
