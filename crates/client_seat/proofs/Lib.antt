@@ -1,0 +1,5 @@
+pub mod Making
+pub mod Posts
+pub mod Packs
+pub mod Brought
+pub mod Copies

@@ -1,0 +1,16 @@
+use Rattle.std.proofs.Common.{◌≡◌, ◌≤◌, ◌++◌, length, map}
+use Rattle.event_manager.specs.declared.TheConstants.{MAX_READY_EVENTS}
+use Rattle.pair_core.specs.Calls.{Stays}
+use Rattle.client_seat.specs.Told.{event_told}
+use Rattle.client_seat.proofs.arriving.server_events.Given as goal
+
+abbrev pub invariant-out : goal.invariant-out
+invariant-out l = record {
+  events : l.events ++ map event_told l.pair.conn.common.receiver.ready ≡ map event_told l.fn.pair.conn.common.receiver.ready;
+  few : length l.fn.pair.conn.common.receiver.ready ≤ MAX_READY_EVENTS;
+  stands : Stays l.fn.pair l.pair;
+  other : l.pair.client ≡ l.fn.pair.client;
+}
+
+abbrev pub decreases-out : goal.decreases-out
+decreases-out l = length l.pair.conn.common.receiver.ready

@@ -1,0 +1,11 @@
+//! One client's place in a match: its connection, its accepted moves, and what its own list leaves.
+#![tactic(auto)]
+
+mod arriving;
+mod packing;
+mod posting;
+mod scanning;
+mod seat;
+mod showing;
+
+pub use seat::Seat;

@@ -1,0 +1,104 @@
+//! The datagrams that both ends make.
+ghost use Rattle.std.specs.Prelude.{◌≡◌, true, ℕ, Bool, ◌<◌, ◌≤◌, List, [], IfOk, IfSome, OnOk, length, slice_get, if◌then◌else◌, Some};
+ghost use Rattle.std.specs.Option.{option_copied};
+ghost use Rattle.tn_types.specs.declared.choices.Read.{Read};
+ghost use Rattle.pair_core.specs.declared.step.Answer.TheVariants as says;
+ghost use Rattle.pair_core.specs.History.{ClientPack};
+ghost use Rattle.match_report.specs.declared.told.Told.TheVariants as told_as;
+ghost use Rattle.client_seat.specs.Answering.{TellsPack};
+
+use crate::seat::Seat;
+use match_report::Told;
+use pair_core::{Answer, Pair, PairStep};
+use std::alloc::Global;
+use tn_types::{Drain, MAX_DATAGRAM_BYTES, MAX_DATAGRAMS, NoMemory, RawBytes, Values};
+
+/// What is told of a datagram that was made.
+fn packed(
+    alloc: Global,
+    up: bool,
+    client: u8,
+    place: u32,
+    ping: bool,
+    datagram: Option<&[u8]>,
+) -> Result<Told, NoMemory>
+    requires { IfSome datagram (λ b. length b.now ≤ MAX_DATAGRAM_BYTES) }
+    ensures { IfOk result (λ told. (bytes : List ℕ) → option_copied datagram.entry ≡ Some bytes →
+        told ≡ told_as.Packed up client place ping bytes) }
+{
+    let bytes = RawBytes::from_slice(alloc, datagram.unwrap_or(&[]))?;
+    Ok(Told::Packed {
+        up,
+        client,
+        place,
+        ping,
+        bytes,
+    })
+}
+
+/// What is told of a pack, by its answer.
+fn packed_by(
+    alloc: Global,
+    up: bool,
+    client: u8,
+    answer: Answer,
+    pair: &Pair,
+) -> Result<Told, NoMemory>
+    requires { TellsPack answer }
+    ensures worn { (life : ℕ) → answer ≡ says.Worn life → IfOk result (λ told. told ≡ told_as.PackWorn up client life) }
+    ensures made { (ping : Bool) (place : ℕ) (bytes : List ℕ) → answer ≡ says.Packed ping place
+        → slice_get (if up then pair.now.up else pair.now.down) place ≡ Some bytes
+        → IfOk result (λ told. told ≡ told_as.Packed up client place ping bytes) }
+{
+    match answer {
+        Answer::Worn { life } => Ok(Told::PackWorn { up, client, life }),
+        Answer::Packed { ping, place } => packed(
+            alloc,
+            up,
+            client,
+            place,
+            ping,
+            pair.datagram(!up, place),
+        ),
+        _ => unreachable!(),
+    }
+}
+
+impl Seat {
+    ghost use Rattle.pair_core.specs.Calls.{MayPack, Asks};
+    ghost use Rattle.client_seat.specs.Told.{client_pack_told};
+    ghost use Rattle.own_lists.specs.Course.{with_step};
+    ghost use Rattle.client_seat.specs.Stands.{Stands, Answers, Becomes, Packs};
+
+    /// The server makes its next datagram: where the state is Room, these drains are absorbed first, and the data packet
+    /// carries values that are asked for now. Want of memory may leave the drains absorbed.
+    pub fn pack<V: Values>(
+        &mut self,
+        alloc: Global,
+        client: u8,
+        drains: &[Drain],
+        values: &mut V,
+    ) -> Result<Told, NoMemory>
+        requires stands { Stands self.old }
+        requires few { length self.old.pair.down < MAX_DATAGRAMS }
+        requires may { MayPack self.old.pair drains.now (V.ranges values.old) }
+        ensures { IfOk result (λ told. (reads : List Read) × Packs self.old drains.now reads client told self.new
+            × Asks V.ranges V.stands V.owes V.same values.old values.new reads) }
+    {
+        self.pair.prepare(alloc)?;
+        let answer = self.pair.pack(drains, values);
+        packed_by(alloc, false, client, answer, &self.pair)
+    }
+
+    /// The client makes its next datagram.
+    pub fn client_pack(&mut self, alloc: Global, client: u8) -> Result<Told, NoMemory>
+        requires stands { Stands self.old }
+        requires few { length self.old.pair.up < MAX_DATAGRAMS }
+        ensures told { IfOk result (Answers self.old (λ t k. client_pack_told client t k.steps)) }
+        ensures stands { OnOk result (Becomes self.old (λ t k. with_step ClientPack k) self.new) }
+    {
+        self.pair.prepare(alloc)?;
+        let answer = self.pair.step(&PairStep::ClientPack);
+        packed_by(alloc, true, client, answer, &self.pair)
+    }
+}

@@ -1,0 +1,91 @@
+//! A client's connection in a match, with its accepted moves.
+ghost use Rattle.std.specs.Prelude.{◌≡◌, ◌<◌, ◌≤◌, ◌-◌, ◌^◌, [], List, IfOk, length, slice_get};
+ghost use Rattle.notify_window.specs.declared.SendState.{SendState as State};
+ghost use Rattle.stream_manager.specs.Limits.{IsConfig};
+ghost use Rattle.stream_manager.specs.Server.{server_state};
+ghost use Rattle.pair_core.specs.History.{history};
+
+use circular_buffer::HeapCircularBuffer;
+use notify_window::SendState;
+use pair_core::Pair;
+use quantised_fields::KindTable;
+use std::alloc::Global;
+use std::marker::Model;
+use stream_manager::Config;
+use tn_types::{BlockBytes, MAX_BLOCKS, MAX_WAITING_MOVES, Move, NoMemory};
+
+/// A client's connection, and its accepted moves that wait for a tick, at most 32. No event waits between two calls.
+#[derive(Drop)]
+pub struct Seat {
+    pub(crate) pair: Pair,
+    // the oldest first
+    pub(crate) waiting: HeapCircularBuffer<Move>,
+    // accepted moves that ticks took
+    pub(crate) taken: u32,
+}
+
+impl Model for Seat {
+    ghost use Rattle.std.specs.Prelude.{◌≡◌};
+    ghost use Rattle.tn_types.specs.declared.limits.TheConstants.{MAX_WAITING_MOVES};
+    ghost use Rattle.client_seat.specs.Stands.{SeatState};
+
+    ghost Value = { SeatState };
+
+    ghost view = { λ s. record { pair = s.pair; waiting = s.waiting.items; taken = s.taken } };
+
+    ghost invariant = { λ s. s.waiting.capacity ≡ MAX_WAITING_MOVES };
+}
+
+impl Seat {
+    ghost use Rattle.own_lists.specs.Course.{beginning};
+    ghost use Rattle.client_seat.specs.Stands.{StandsFor, Answers, without_first};
+
+    /// A connection of which nothing happened, in a match of these kinds and blocks, at most 64.
+    pub fn new(
+        alloc: Global,
+        config: Config,
+        kinds: &KindTable,
+        blocks: &[BlockBytes],
+    ) -> Result<Seat, NoMemory>
+        requires config { IsConfig config }
+        requires few { length blocks.now ≤ MAX_BLOCKS }
+        ensures { IfOk result (λ s. StandsFor s (record { config = config; kinds = kinds.now; blocks = blocks.now }) beginning) }
+    {
+        let pair = Pair::new(alloc, config, kinds, blocks)?;
+        match HeapCircularBuffer::with_capacity(alloc, MAX_WAITING_MOVES) {
+            Ok(waiting) => Ok(Seat {
+                pair,
+                waiting,
+                taken: 0,
+            }),
+            Err(_) => Err(NoMemory),
+        }
+    }
+
+    /// The connection.
+    pub fn pair(&self) -> &Pair
+        ensures { result.now ≡ self.now.pair }
+    {
+        &self.pair
+    }
+
+    /// What a pack would make.
+    pub fn pack_state(&self) -> SendState
+        ensures { Answers self.now (λ t k. server_state t.config (history t k.steps).server) result }
+    {
+        self.pair.conn().pack_state()
+    }
+
+    /// The oldest move that waits, which a tick takes.
+    pub fn take_move(&mut self) -> Option<Move>
+        requires { self.old.taken < 2 ^ 32 - 1 }
+        ensures value { result ≡ slice_get self.old.waiting 0 }
+        ensures rest { self.new ≡ without_first self.old }
+    {
+        let first = self.waiting.pop_front();
+        if first.is_some() {
+            self.taken += 1;
+        }
+        first
+    }
+}
