@@ -5,7 +5,7 @@ use crate::rows::ROWS;
 use crate::status::{Status, exit_of};
 use crate::top::top;
 use match_script::ScriptFault;
-use std::alloc::AllocError;
+use std::alloc::{AllocError, Global};
 use std::test::Fail;
 use tn_outside::{MemSink, MemSource, SteadySource};
 
@@ -60,13 +60,28 @@ down 0 0 old 1 32
 
 /// The end of the report of 33 moves, two packs of the client, and both datagrams delivered: the 33rd move finds no place,
 /// and the second datagram has no new move.
-const FULL_MOVES: &str = "move 0 31
-move 0 full 0 31
+const FULL_MOVES: &str = "move 0 full 0 31
 cpack 0 0 data 4000000000000000000000000000984822892492482289249248228924924822892492482289249248228924924822892492482289240200
 cpack 0 1 data 8000000000000000000000000000984822892492482289249248228924924822892492482289249248228924924822892492482289240200
 up 0 0 ok 32
 up 0 1 ok 0
 show 0 events 0 sampled 32 accepted 32 taken 0 control - ghosts 0
+";
+
+/// The end of the report of a clock that ticks 1,000 times, is shown then, and received: the create has tick 1000, and the
+/// packet after it has no ghost.
+const LATE_SHOW: &str = "tick 999 writes 1
+tick 1000 writes 1
+scan 0 hide 0 near 0 show 1
+pack 0 0 data 40000000000000000000000000800082300000
+down 0 0 ok
+cpack 0 0 data 40000040000040000000000000000000
+up 0 0 ok 0
+pack 0 1 data 800000400000400000000000000000010015803e00000000
+down 0 1 ok
+cpack 0 1 data 800000800000c0000000000000000000
+up 0 1 ok 0
+pack 0 2 data c00000800000c0000000000000000000
 ";
 
 /// What a call with these words answers, and what it writes. The source gives and the sink takes at most `most` bytes a
@@ -114,6 +129,16 @@ pub(crate) fn run_on(rt: &HostRuntime, text: &str) -> Result<(Status, Vec<u8>), 
     served(rt, &["run"], text.as_bytes(), ALL, &[], &[])
 }
 
+/// So many lines that end with their number, from 0.
+fn with_numbers(alloc: Global, words: &str, count: u32) -> Result<String, AllocError> {
+    let mut text = String::new(alloc);
+    for number in 0..count {
+        let line = format!(in alloc; "{words} {number}\n")?;
+        text.push_str(line.as_str())?;
+    }
+    Ok(text)
+}
+
 /// The text with a line added so many times.
 fn with_lines(text: String, count: u32, line: &str) -> Result<String, AllocError> {
     let mut text = text;
@@ -150,12 +175,9 @@ fn too_many_events(rt: HostRuntime) -> Result<(), Fail> {
     let script = with_lines(header, 257, "post 0 g -\n")?;
     let (status, bytes) = run_on(&rt, script.as_str())?;
     assert_eq!(rt; status, Status::Done);
-    assert!(rt; bytes.as_slice().starts_with(b"post 0 g 0\npost 0 g 1\n"));
-    assert!(rt;
-        bytes
-            .as_slice()
-            .ends_with(b"post 0 g 255\npost 0 full 0 255\n")
-    );
+    let posts = with_numbers(rt.alloc(), "post 0 g", 256)?;
+    let report = with_lines(posts, 1, "post 0 full 0 255\n")?;
+    assert_eq!(rt; bytes.as_slice(), report.as_bytes());
     Ok(())
 }
 
@@ -179,8 +201,26 @@ fn moves_are_accepted_once(rt: HostRuntime) -> Result<(), Fail> {
     let script = with_lines(moves, 1, "cpack 0\ncpack 0\nup 0 0\nup 0 1\nshow 0\n")?;
     let (status, bytes) = run_on(&rt, script.as_str())?;
     assert_eq!(rt; status, Status::Done);
-    assert!(rt; bytes.as_slice().starts_with(b"move 0 0\nmove 0 1\n"));
-    assert!(rt; bytes.as_slice().ends_with(FULL_MOVES.as_bytes()));
+    let moves = with_numbers(rt.alloc(), "move 0", 32)?;
+    let report = with_lines(moves, 1, FULL_MOVES)?;
+    assert_eq!(rt; bytes.as_slice(), report.as_bytes());
+    Ok(())
+}
+
+#[test]
+fn show_discards_old_writes(rt: HostRuntime) -> Result<(), Fail> {
+    let clock = "tribes 1\nmatch 1 1 100 128 1000\nblock 61\nspawn clock 0 0 0 0\ngo\n";
+    let ticks = with_lines(String::from_str(rt.alloc(), clock)?, 1000, "tick\n")?;
+    let packs = with_lines(ticks, 1, "scan 0\npack 0\ndown 0 0\ncpack 0\nup 0 0\n")?;
+    let script = with_lines(packs, 1, "pack 0\ndown 0 1\ncpack 0\nup 0 1\npack 0\n")?;
+    let (status, bytes) = run_on(&rt, script.as_str())?;
+    assert_eq!(rt; status, Status::Done);
+    assert!(rt;
+        bytes
+            .as_slice()
+            .starts_with(b"tick 1 writes 1\ntick 2 writes 1\n")
+    );
+    assert!(rt; bytes.as_slice().ends_with(LATE_SHOW.as_bytes()));
     Ok(())
 }
 
@@ -204,9 +244,14 @@ fn faulty_scripts(rt: HostRuntime) -> Result<(), Fail> {
             ScriptFault::OutOfRange,
         ),
         (
-            "tribes 1\nmatch 1 1 100 128 1000\ngo\ntick\nscan 0\n",
+            "tribes 1\nmatch 1 1 100 128 1000\ngo\ntick\nscan 1\n",
             5,
-            ScriptFault::NotBuilt,
+            ScriptFault::OutOfRange,
+        ),
+        (
+            "tribes 1\nmatch 1 1 100 128 1000\ngo\nraw 0 4\n",
+            4,
+            ScriptFault::BadHex,
         ),
         (
             "tribes 1\nmatch 1 1 100 128 1000\nspawn clock 0 0 0 0\ngo\n",

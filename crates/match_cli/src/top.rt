@@ -69,7 +69,7 @@ pub fn top<S: Source, K: Sink>(
         → (HasFailed (seen (S.held source.old) (S.held source.new) (S.faults source.old) (S.faults source.new)) → ⊥)
         → (HasFailed (seen (K.written sink.old) (K.written sink.new) (K.faults sink.old) (K.faults sink.new)) → ⊥)
         → (result ≡ Status.Done) ⊎ (result ≡ Status.NoMemory) }
-    // Each client's datagrams in the report are those of a server that serves it alone; in its journal, at every line,
+    // Each client's datagrams in the report are a function of its own list; in the journal of an honest client, at every line,
     // what is delivered is a front of what was posted, of unguaranteed events some in their order, the accepted moves are a
     // front of the sampled ones, and no end refuses a datagram but an old one.
     ensures isolation { Isolation }

@@ -1,207 +1,246 @@
--- What a match stands for after a line.
-use Rattle.std.proofs.Common.{◌≡◌, ◌≢◌, ℕ, suc, ◌+◌, ◌<◌, ◌≤◌, true, false, ◌==◌, List, [], ◌∷◌, length, map, drop, Option, Some, if◌then◌else◌, get_or, set, refl, sym, ◌∙◌, ap, subst, arith, inl, inr, length-set, get_or-set_same, get_or-set_other}
-use Rattle.std.specs.Prelude.{Result, Ok, Err, IfOk, OnOk, slice_get, is_some}
-use Rattle.std.specs.List.{range_with_len}
-use Rattle.std.proofs.lemmas.List.{length-map, length-drop, get_or-map, drop-drop}
+-- What a match stands for after a line of one client: all other clients are as they were.
+use Rattle.std.proofs.Common.{◌≡◌, ◌≢◌, ℕ, zero, suc, ◌+◌, ◌<◌, ◌≤◌, ◌==◌, Bool, true, false, cond, List, [], ◌∷◌, length, Option, Some, get_or, set, refl, sym, ap, ◌∙◌, subst, arith, inl, inr, length-set, get_or-set_same, get_or-set_other}
+use Rattle.std.specs.Prelude.{Result, Ok, Err, IfOk, OnOk}
+use Rattle.std.specs.List.{All}
 use Rattle.std.proofs.lemmas.Bool.Decides.{nat_tests}
 use Rattle.std.proofs.lemmas.Bool.{cases_eq}
 use Rattle.match_script.specs.declared.types.BodyLine.{BodyLine}
 use Rattle.match_script.specs.declared.types.BodyLine.TheVariants as script
+use Rattle.match_script.specs.declared.types.Head.{Head}
 use Rattle.match_script.specs.Ranges.{LineFits}
 use Rattle.stream_manager.specs.Limits.{Terms}
-use Rattle.match_engine.specs.declared.seat.Seat.{Seat}
-use Rattle.match_script.specs.declared.types.Head.{Head}
-use Rattle.tn_types.specs.declared.moves.Move.{Move}
-use Rattle.world_sim.specs.Worlds.{Worlds, next}
-use Rattle.pair_core.specs.Answers.{accepted_in}
-use Rattle.match_engine.specs.Journal.{Course, client_named, concerns, with_line, waiting_in, next_move, ticked, course, journal, client_terms}
-use Rattle.match_engine.specs.World.{moves_of, world_of}
-use Rattle.match_engine.specs.Stands.{MatchState, StandsFor, SeatStandsFor, IsQuiet, IsOfClient, AreFew, without_first}
-use Rattle.match_engine.specs.Report.{told, post_told, client_post_told, packed_told, client_packed_told, brought_down_told, brought_up_told, show_told}
-use Rattle.match_engine.proofs.Counted.{few-down, few-up, few-steps, few-taken, few-ticks}
+use Rattle.world_scope.specs.declared.viewer.Seen.{Seen}
+use Rattle.client_scope.specs.Scans.{shown}
+use Rattle.client_scope.specs.StandsFor.{Table}
+use Rattle.dirty_lanes.specs.Words.{Words}
+use Rattle.own_lists.specs.Own.{OwnItem, Line, client_named, StandsAlone}
+use Rattle.own_lists.specs.Kept.{Kept, kept, follows, put}
+use Rattle.own_lists.specs.Past.{Past, client_terms, kept_by, after}
+use Rattle.own_lists.specs.Agreement.{AreLines}
+use Rattle.client_seat.specs.Stands.{SeatState, StandsFor as SeatStandsFor}
+use Rattle.match_engine.specs.Stands.{MatchState, ClientHolds, StandsFor, IsDirect}
+use Rattle.match_engine.specs.Serving.{Serves, OthersStay}
+
+-- ---- a list with another entry at one place
+
+pub record IsPut {X : Type 0} (n : ℕ) (old new : List X) (x : X) : Type 0 where
+  pub many : length new ≡ length old
+  pub there : (d : X) → get_or new n d ≡ x
+  pub others : (c : ℕ) (d : X) → c ≢ n → get_or new c d ≡ get_or old c d
+
+pub put_set : {X : Type 0} (n : ℕ) (old : List X) (x : X) → n < length old → IsPut n old (set old n x) x
+put_set n old x lt = record {
+  many = length-set old n x;
+  there = λ d. get_or-set_same old n x d lt;
+  others = λ c d apart. get_or-set_other old n c x d apart;
+}
+
+same_entry : {X : Type 0} (xs : List X) (n : ℕ) (d e : X) → n < length xs → get_or xs n d ≡ get_or xs n e
+same_entry [] n d e lt = absurd (omega (arith, lt))
+same_entry (x ∷ xs) zero d e lt = refl
+same_entry (x ∷ xs) (suc n) d e lt = same_entry xs n d e (omega (arith, lt))
+
+pub put_none : {X : Type 0} (n : ℕ) (old : List X) (x : X) (d : X) → n < length old → x ≡ get_or old n d → IsPut n old old x
+put_none n old x d lt is = record {
+  many = refl;
+  there = λ e. same_entry old n e d lt ∙ sym is;
+  others = λ c e apart. refl;
+}
+
+-- ---- lines
 
 -- a line that fits names one of the clients
-pub names-client : (clients : ℕ) (line : BodyLine) (c : ℕ) → client_named line ≡ Some c → LineFits clients line → c < clients
-names-client clients script.Tick c e h = absurd (cc)
-names-client clients (script.Post d class payload) c e h = let same : d ≡ c = cc in rw (sym same) h.0
-names-client clients (script.ClientPost d class payload) c e h = let same : d ≡ c = cc in rw (sym same) h.0
-names-client clients (script.Pack d) c e h = let same : d ≡ c = cc in rw (sym same) h
-names-client clients (script.ClientPack d) c e h = let same : d ≡ c = cc in rw (sym same) h
-names-client clients (script.Down d k) c e h = let same : d ≡ c = cc in rw (sym same) h.0
-names-client clients (script.Up d k) c e h = let same : d ≡ c = cc in rw (sym same) h.0
-names-client clients (script.Move d m) c e h = let same : d ≡ c = cc in rw (sym same) h
-names-client clients (script.Show d) c e h = let same : d ≡ c = cc in rw (sym same) h
-names-client clients script.World c e h = absurd (cc)
+pub names_client : (clients : ℕ) (line : BodyLine) (c : ℕ) → client_named line ≡ Some c → LineFits clients line → c < clients
+names_client clients script.Tick c e h = absurd (cc)
+names_client clients (script.Scan d) c e h = let same : d ≡ c = cc in rw (sym same) h
+names_client clients (script.Post d class payload) c e h = let same : d ≡ c = cc in rw (sym same) h.0
+names_client clients (script.ClientPost d class payload) c e h = let same : d ≡ c = cc in rw (sym same) h.0
+names_client clients (script.Pack d) c e h = let same : d ≡ c = cc in rw (sym same) h
+names_client clients (script.ClientPack d) c e h = let same : d ≡ c = cc in rw (sym same) h
+names_client clients (script.Down d k) c e h = let same : d ≡ c = cc in rw (sym same) h.0
+names_client clients (script.Up d k) c e h = let same : d ≡ c = cc in rw (sym same) h.0
+names_client clients (script.Raw d bytes) c e h = let same : d ≡ c = cc in rw (sym same) h.0
+names_client clients (script.Move d m) c e h = let same : d ≡ c = cc in rw (sym same) h
+names_client clients (script.Show d) c e h = let same : d ≡ c = cc in rw (sym same) h
+names_client clients script.World c e h = absurd (cc)
 
--- and concerns that client, and no other
-its-own : (d c : ℕ) → ◌≡◌ {A = Option ℕ} (Some d) (Some c) → (d == c) ≡ true
-its-own d c e = let same : d ≡ c = cc in grind (arith, nat_tests)
+pub put_there : {A : Type 0} (f : ℕ → A) (d c : ℕ) (x : A) → ◌≡◌ {A = Option ℕ} (Some d) (Some c) → put f d x c ≡ x
+put_there f d c x e = let same : d ≡ c = cc in let yes : (c == d) ≡ true = grind (arith, nat_tests) in ap (λ b. cond b x (f c)) yes
 
-not-own : (d c other : ℕ) → ◌≡◌ {A = Option ℕ} (Some d) (Some c) → other ≢ c → (d == other) ≡ false
-not-own d c other e apart = let same : d ≡ c = cc in grind (arith, nat_tests)
+pub put_elsewhere : {A : Type 0} (f : ℕ → A) (d n c : ℕ) (x : A) → ◌≡◌ {A = Option ℕ} (Some d) (Some n) → c ≢ n → put f d x c ≡ f c
+put_elsewhere f d n c x e apart = let same : d ≡ n = cc in let no : (c == d) ≡ false = grind (arith, nat_tests) in ap (λ b. cond b x (f c)) no
 
-mine : (line : BodyLine) (c : ℕ) → client_named line ≡ Some c → concerns c line ≡ true
-mine script.Tick c e = absurd (cc)
-mine (script.Post d class payload) c e = its-own d c e
-mine (script.ClientPost d class payload) c e = its-own d c e
-mine (script.Pack d) c e = its-own d c e
-mine (script.ClientPack d) c e = its-own d c e
-mine (script.Down d k) c e = its-own d c e
-mine (script.Up d k) c e = its-own d c e
-mine (script.Move d m) c e = its-own d c e
-mine (script.Show d) c e = its-own d c e
-mine script.World c e = absurd (cc)
+put_few : {A : Type 0} (f : ℕ → List A) (d c : ℕ) (x : A) (most : ℕ) → length (f c) ≤ most → length (f d) ≤ most → length (put f d (x ∷ f d) c) ≤ suc most
+put_few f d c x most here there = by (c == d)
+  where
+    by : (b : Bool) → length (cond b (x ∷ f d) (f c)) ≤ suc most
+    by true = omega (arith, there)
+    by false = omega (arith, here)
 
-theirs : (line : BodyLine) (c other : ℕ) → client_named line ≡ Some c → other ≢ c → concerns other line ≡ false
-theirs script.Tick c other e apart = absurd (cc)
-theirs (script.Post d class payload) c other e apart = not-own d c other e apart
-theirs (script.ClientPost d class payload) c other e apart = not-own d c other e apart
-theirs (script.Pack d) c other e apart = not-own d c other e apart
-theirs (script.ClientPack d) c other e apart = not-own d c other e apart
-theirs (script.Down d k) c other e apart = not-own d c other e apart
-theirs (script.Up d k) c other e apart = not-own d c other e apart
-theirs (script.Move d m) c other e apart = not-own d c other e apart
-theirs (script.Show d) c other e apart = not-own d c other e apart
-theirs script.World c other e apart = absurd (cc)
+-- what a line leaves of other clients and of the world
+pub record AsBefore (p q : Past) (n : ℕ) : Type 0 where
+  pub world : q.world ≡ p.world
+  pub scans : (c : ℕ) → c ≢ n → q.scans c ≡ p.scans c
+  pub own : (c : ℕ) → c ≢ n → q.own c ≡ p.own c
 
--- the world doesn't change by it
-same-world : (head : Head) (line : BodyLine) (past : List BodyLine) (c : ℕ) → client_named line ≡ Some c → world_of head (line ∷ past) ≡ world_of head past
-same-world head script.Tick past c e = absurd (cc)
-same-world head (script.Post d class payload) past c e = refl
-same-world head (script.ClientPost d class payload) past c e = refl
-same-world head (script.Pack d) past c e = refl
-same-world head (script.ClientPack d) past c e = refl
-same-world head (script.Down d k) past c e = refl
-same-world head (script.Up d k) past c e = refl
-same-world head (script.Move d m) past c e = refl
-same-world head (script.Show d) past c e = refl
-same-world head script.World past c e = absurd (cc)
+pub as_before : (head : Head) (line : BodyLine) (past : List BodyLine) (n : ℕ) → client_named line ≡ Some n → AsBefore (after head past) (after head (line ∷ past)) n
+as_before head script.Tick past n e = absurd (cc)
+as_before head (script.Scan d) past n e = record { world = refl; scans = λ c apart. put_elsewhere (after head past).scans d n c _ e apart; own = λ c apart. put_elsewhere (after head past).own d n c _ e apart }
+as_before head (script.Post d class payload) past n e = record { world = refl; scans = λ c apart. refl; own = λ c apart. put_elsewhere (after head past).own d n c _ e apart }
+as_before head (script.ClientPost d class payload) past n e = record { world = refl; scans = λ c apart. refl; own = λ c apart. put_elsewhere (after head past).own d n c _ e apart }
+as_before head (script.Pack d) past n e = record { world = refl; scans = λ c apart. refl; own = λ c apart. put_elsewhere (after head past).own d n c _ e apart }
+as_before head (script.ClientPack d) past n e = record { world = refl; scans = λ c apart. refl; own = λ c apart. put_elsewhere (after head past).own d n c _ e apart }
+as_before head (script.Down d k) past n e = record { world = refl; scans = λ c apart. refl; own = λ c apart. put_elsewhere (after head past).own d n c _ e apart }
+as_before head (script.Up d k) past n e = record { world = refl; scans = λ c apart. refl; own = λ c apart. put_elsewhere (after head past).own d n c _ e apart }
+as_before head (script.Raw d bytes) past n e = record { world = refl; scans = λ c apart. refl; own = λ c apart. put_elsewhere (after head past).own d n c _ e apart }
+as_before head (script.Move d m) past n e = record { world = refl; scans = λ c apart. refl; own = λ c apart. put_elsewhere (after head past).own d n c _ e apart }
+as_before head (script.Show d) past n e = record { world = refl; scans = λ c apart. refl; own = λ c apart. put_elsewhere (after head past).own d n c _ e apart }
+as_before head script.World past n e = absurd (cc)
 
-my-course : (t : Terms) (line : BodyLine) (past : List BodyLine) (c : ℕ) → client_named line ≡ Some c → course t c (line ∷ past) ≡ with_line t line (course t c past)
-my-course t line past c e = let own = mine line c e in rw own refl
+all_more : {X : Type 0} (P : X → Type 0) (x : X) (xs : List X) → P x → All P xs → All P (x ∷ xs)
+all_more P x xs h rest zero d lt = h
+all_more P x xs h rest (suc i) d lt = rest i d (omega (arith, lt))
 
-their-course : (t : Terms) (line : BodyLine) (past : List BodyLine) (c other : ℕ) → client_named line ≡ Some c → other ≢ c → course t other (line ∷ past) ≡ course t other past
-their-course t line past c other e apart = let away = theirs line c other e apart in rw away refl
-
--- ---- a line of a client
-
-pub fed : (m : MatchState) (new : Seat) (line : BodyLine) (past : List BodyLine) (n : ℕ) → client_named line ≡ Some n → n < m.head.clients → StandsFor m past
-    → SeatStandsFor new (client_terms m.head n) (with_line (client_terms m.head n) line (course (client_terms m.head n) n past)) → IsQuiet new.pair
-    → StandsFor (record { head = m.head; seats = set m.seats n new; world = m.world; done = m.done + 1 }) (line ∷ past)
-fed m new line past n names lt s now quiet = record {
-  head = s.head;
-  clients = length-set m.seats n new ∙ s.clients;
-  world = s.world ∙ sym (same-world m.head line past n names);
-  done = omega (arith, s.done);
-  seats = λ c d l. elim (cases_eq c n) [
-    | inl same ↦ subst (λ k. SeatStandsFor (get_or (set m.seats n new) k d) (client_terms m.head k) (course (client_terms m.head k) k (line ∷ past))) (sym same)
-        (subst (λ (p : Seat). SeatStandsFor p (client_terms m.head n) (course (client_terms m.head n) n (line ∷ past))) (sym (get_or-set_same m.seats n new d (omega (arith, s.clients))))
-        (subst (λ (k : Course). SeatStandsFor new (client_terms m.head n) k) (sym (my-course (client_terms m.head n) line past n names)) now))
-    | inr other ↦ subst (λ (p : Seat). SeatStandsFor p (client_terms m.head c) (course (client_terms m.head c) c (line ∷ past))) (sym (get_or-set_other m.seats n c new d other))
-        (subst (λ (k : Course). SeatStandsFor (get_or m.seats c d) (client_terms m.head c) k) (sym (their-course (client_terms m.head c) line past n c names other)) (s.seats c d l))
-  ];
-  quiet = λ c d l. elim (cases_eq c n) [
-    | inl same ↦ subst (λ k. IsQuiet (get_or (set m.seats n new) k d).pair) (sym same) (subst (λ (p : Seat). IsQuiet p.pair) (sym (get_or-set_same m.seats n new d (omega (arith, s.clients)))) quiet)
-    | inr other ↦ subst (λ (p : Seat). IsQuiet p.pair) (sym (get_or-set_other m.seats n c new d other)) (s.quiet c d l)
-  ];
+pub more_lines : (head : Head) (line : BodyLine) (past : List BodyLine) → AreLines head past → LineFits head.clients line → length past < 4000000 → AreLines head (line ∷ past)
+more_lines head line past s fits few = record {
+  fits = s.fits;
+  lines = all_more (LineFits head.clients) line past fits s.lines;
+  few = omega (arith, few);
 }
 
--- what it tells is told by its client's connection alone
-pub told-own : (w : Worlds) (t : ℕ → Terms) (k : ℕ → Course) (line : BodyLine) (n : ℕ) → client_named line ≡ Some n → told w (λ _. t n) (λ _. k n) line ≡ told w t k line
-told-own w t k script.Tick n e = absurd (cc)
-told-own w t k (script.Post d class payload) n e = let same : n ≡ d = cc in ap (λ c. post_told (t c) (k c).steps d class) same
-told-own w t k (script.ClientPost d class payload) n e = let same : n ≡ d = cc in ap (λ c. client_post_told (t c) (k c).steps d class) same
-told-own w t k (script.Pack d) n e = let same : n ≡ d = cc in ap (λ c. packed_told d (t c) (k c).steps) same
-told-own w t k (script.ClientPack d) n e = let same : n ≡ d = cc in ap (λ c. client_packed_told d (t c) (k c).steps) same
-told-own w t k (script.Down d place) n e = let same : n ≡ d = cc in ap (λ c. brought_down_told d place (t c) (k c).steps) same
-told-own w t k (script.Up d place) n e = let same : n ≡ d = cc in ap (λ c. brought_up_told d place (t c) (k c)) same
-told-own w t k (script.Move d m) n e = let same : n ≡ d = cc in ap (λ c. told w (λ _. t c) (λ _. k c) (script.Move d m)) same
-told-own w t k (script.Show d) n e = let same : n ≡ d = cc in ap (λ c. show_told (t c) (k c) d) same
-told-own w t k script.World n e = absurd (cc)
+-- ---- one client's line
 
--- a line that names a client is of a client
-pub of-client : (line : BodyLine) (n : ℕ) → client_named line ≡ Some n → IsOfClient line
-of-client script.Tick n e = absurd (cc)
-of-client (script.Post d class payload) n e = tt
-of-client (script.ClientPost d class payload) n e = tt
-of-client (script.Pack d) n e = tt
-of-client (script.ClientPack d) n e = tt
-of-client (script.Down d place) n e = tt
-of-client (script.Up d place) n e = tt
-of-client (script.Move d m) n e = tt
-of-client (script.Show d) n e = tt
-of-client script.World n e = absurd (cc)
+pub fed : (m : MatchState) (past : List BodyLine) (line : BodyLine) (n : ℕ) (seats : List SeatState) (seat : SeatState) (scopes : List Table) (scope : Table) (lanes : Words)
+    → client_named line ≡ Some n → LineFits m.head.clients line → m.done < 4000000 → StandsFor m past
+    → IsPut n m.seats seats seat → IsPut n m.scopes scopes scope → OthersStay n m.lanes lanes
+    → ClientHolds seat scope lanes n (client_terms m.head n) ((after m.head (line ∷ past)).scans n) (kept_by m.head (after m.head (line ∷ past)) n)
+    → StandsFor (record { head = m.head; seats = seats; scopes = scopes; world = m.world; lanes = lanes; done = m.done + 1 }) (line ∷ past)
+fed m past line n seats seat scopes scope lanes named fits few s put_seat put_scope others now =
+    let same = as_before m.head line past n named in
+    record {
+      lines = more_lines m.head line past s.lines fits (omega (arith, few, s.counted));
+      seat_count = put_seat.many ∙ s.seat_count;
+      scope_count = put_scope.many ∙ s.scope_count;
+      same_world = s.same_world ∙ sym same.world;
+      counted = omega (arith, s.counted);
+      objects = others.objects ∙ s.objects;
+      clients = others.clients ∙ s.clients;
+      client = λ c d e lt. elim (cases_eq c n) [
+        | inl is ↦ subst (λ k. ClientHolds (get_or seats k d) (get_or scopes k e) lanes k (client_terms m.head k) ((after m.head (line ∷ past)).scans k) (kept_by m.head (after m.head (line ∷ past)) k)) (sym is)
+            (subst (λ (x : SeatState). ClientHolds x (get_or scopes n e) lanes n (client_terms m.head n) ((after m.head (line ∷ past)).scans n) (kept_by m.head (after m.head (line ∷ past)) n)) (sym (put_seat.there d))
+            (subst (λ (x : Table). ClientHolds seat x lanes n (client_terms m.head n) ((after m.head (line ∷ past)).scans n) (kept_by m.head (after m.head (line ∷ past)) n)) (sym (put_scope.there e)) now))
+        | inr apart ↦ subst (λ (x : SeatState). ClientHolds x (get_or scopes c e) lanes c (client_terms m.head c) ((after m.head (line ∷ past)).scans c) (kept_by m.head (after m.head (line ∷ past)) c)) (sym (put_seat.others c d apart))
+            (subst (λ (x : Table). ClientHolds (get_or m.seats c d) x lanes c (client_terms m.head c) ((after m.head (line ∷ past)).scans c) (kept_by m.head (after m.head (line ∷ past)) c)) (sym (put_scope.others c e apart))
+            (subst (λ (x : List (List Seen)). ClientHolds (get_or m.seats c d) (get_or m.scopes c e) lanes c (client_terms m.head c) x (kept_by m.head (after m.head (line ∷ past)) c)) (sym (same.scans c apart))
+            (subst (λ (x : List OwnItem). ClientHolds (get_or m.seats c d) (get_or m.scopes c e) lanes c (client_terms m.head c) ((after m.head past).scans c) (kept (client_terms m.head c) x)) (sym (same.own c apart))
+            (stays c (get_or m.seats c d) (get_or m.scopes c e) (omega (arith, lt, s.lines.fits.clients)) apart ((after m.head past).scans c) (kept_by m.head (after m.head past) c) (s.client c d e lt)))))
+      ];
+    }
+  where
+    stays : (c : ℕ) (x : SeatState) (y : Table) → c < 16 → c ≢ n → (scans : List (List Seen)) (k : Kept) → ClientHolds x y m.lanes c (client_terms m.head c) scans k → ClientHolds x y lanes c (client_terms m.head c) scans k
+    stays c x y lt apart scans k h = record {
+      course = h.course;
+      periods = h.periods;
+      marks = λ i d l. others.masks c (get_or (shown scans) i d).object lt apart ∙ h.marks i d l;
+    }
 
--- ---- a tick
-
-drop_one : {X : Type 0} (n : ℕ) (xs ws : List X) → ws ≡ drop n xs → drop 1 ws ≡ drop (n + (if is_some (slice_get ws 0) then 1 else 0)) xs
-drop_one n xs [] e = let z : n + 0 ≡ n = omega arith in rw z e
-drop_one n xs (w ∷ ws) e = ap (drop 1) e ∙ drop-drop 1 n xs
-
-one_fits : {X : Type 0} (n : ℕ) (xs ws : List X) → ws ≡ drop n xs → n ≤ length xs → n + (if is_some (slice_get ws 0) then 1 else 0) ≤ length xs
-one_fits n xs [] e le = omega (arith, le)
-one_fits n xs (w ∷ ws) e le = let all = ap (λ l. length l) e ∙ length-drop n xs in omega (arith, le, all)
-
--- a seat after a tick
-seat-ticked : (seat : Seat) (t : Terms) (k : Course) → SeatStandsFor seat t k → SeatStandsFor (without_first seat) t (ticked t k)
-seat-ticked seat t k s = record {
-  pair = s.pair;
-  waiting = drop_one k.taken (accepted_in t k.steps) seat.waiting.items s.waiting ∙ ap (λ (ws : List Move). drop (k.taken + (if is_some (slice_get ws 0) then 1 else 0)) (accepted_in t k.steps)) s.waiting;
-  taken = rw (s.taken, s.waiting) refl;
-  few = one_fits k.taken (accepted_in t k.steps) (waiting_in t k) refl s.few;
-  places = s.places;
+-- what a client's line finds
+pub serves : (m : MatchState) (past : List BodyLine) (n : ℕ) (seat d : SeatState) (scope e : Table) → n < m.head.clients → StandsFor m past → seat ≡ get_or m.seats n d → scope ≡ get_or m.scopes n e
+    → Serves seat scope m.world m.lanes n m.head past
+serves m past n seat d scope e lt s is_seat is_scope = record {
+  lines = s.lines;
+  below = lt;
+  same_world = s.same_world;
+  objects = s.objects;
+  clients = s.clients;
+  holds = subst (λ (x : SeatState). ClientHolds x scope m.lanes n (client_terms m.head n) ((after m.head past).scans n) (kept_by m.head (after m.head past) n)) (sym is_seat)
+      (subst (λ (x : Table). ClientHolds (get_or m.seats n d) x m.lanes n (client_terms m.head n) ((after m.head past).scans n) (kept_by m.head (after m.head past) n)) (sym is_scope) (s.client n d e lt));
 }
-
--- the moves that wait first are those that a tick takes
-moves-agree : (f : ℕ → Option Move) (from : ℕ) (seats : List Seat) → ((k : ℕ) (d : Seat) → k < length seats → slice_get (get_or seats k d).waiting.items 0 ≡ f (from + k)) → map (λ s. slice_get s.waiting.items 0) seats ≡ map f (range_with_len from (length seats))
-moves-agree f from [] h = refl
-moves-agree f from (s ∷ seats) h =
-    let first : slice_get s.waiting.items 0 ≡ f from = (let e : from + 0 ≡ from = omega arith in h 0 s (omega arith) ∙ ap f e) in
-    let rest = moves-agree f (from + 1) seats (λ k d l. let e : from + suc k ≡ from + 1 + k = omega arith in h (suc k) d (omega (arith, l)) ∙ ap f e) in
-    rw (first, rest) refl
-
-pub moves-taken : (m : MatchState) (past : List BodyLine) → StandsFor m past → map (λ s. slice_get s.waiting.items 0) m.seats ≡ moves_of m.head past
-moves-taken m past s =
-    moves-agree (λ c. next_move (client_terms m.head c) (course (client_terms m.head c) c past)) 0 m.seats
-    (λ k d l. let z : 0 + k ≡ k = omega arith in rw z (ap (λ (ws : List Move). slice_get ws 0) (s.seats k d (omega (arith, l, s.clients))).waiting))
-    ∙ ap (λ n. map (λ c. next_move (client_terms m.head c) (course (client_terms m.head c) c past)) (range_with_len 0 n)) s.clients
-
-pub ticked-match : (m : MatchState) (past : List BodyLine) (moves : List (Option Move)) → moves ≡ map (λ s. slice_get s.waiting.items 0) m.seats → StandsFor m past
-    → StandsFor (record { head = m.head; seats = map without_first m.seats; world = next m.world moves; done = m.done + 1 }) (script.Tick ∷ past)
-ticked-match m past moves e s = record {
-  head = s.head;
-  clients = length-map m.seats without_first ∙ s.clients;
-  world = rw (e, moves-taken m past s, s.world) refl;
-  done = omega (arith, s.done);
-  seats = λ c d l. subst (λ (p : Seat). SeatStandsFor p (client_terms m.head c) (ticked (client_terms m.head c) (course (client_terms m.head c) c past))) (sym (get_or-map without_first m.seats c d d (omega (arith, l, s.clients))))
-      (seat-ticked (get_or m.seats c d) (client_terms m.head c) (course (client_terms m.head c) c past) (s.seats c d l));
-  quiet = λ c d l. subst (λ (p : Seat). IsQuiet p.pair) (sym (get_or-map without_first m.seats c d d (omega (arith, l, s.clients)))) (s.quiet c d l);
-}
-
--- the world is told: nothing changes
-pub told-world : (m : MatchState) (past : List BodyLine) → StandsFor m past → StandsFor (record { head = m.head; seats = m.seats; world = m.world; done = m.done + 1 }) (script.World ∷ past)
-told-world m past s = record { head = s.head; clients = s.clients; world = s.world; done = omega (arith, s.done); seats = s.seats; quiet = s.quiet }
 
 -- ---- counts
 
--- the datagrams of a connection, and the moves that ticks took of it, are no more than the lines
-pub few-datagrams : (m : MatchState) (past : List BodyLine) (c : ℕ) (d : Seat) → c < m.head.clients → StandsFor m past → (length (get_or m.seats c d).pair.down ≤ m.done) × (length (get_or m.seats c d).pair.up ≤ m.done)
-few-datagrams m past c d l s =
-    let p = (s.seats c d l).pair in
-    (omega (arith, ap length p.down, few-down (client_terms m.head c) (journal (client_terms m.head c) c past), few-steps (client_terms m.head c) c past, s.done), omega (arith, ap length p.up, few-up (client_terms m.head c) (journal (client_terms m.head c) c past), few-steps (client_terms m.head c) c past, s.done))
+-- an own list has no more items than there were lines
+pub own_few : (head : Head) (past : List BodyLine) (n : ℕ) → length ((after head past).own n) ≤ length past
+own_few head [] n = omega arith
+own_few head (script.Tick ∷ past) n = let h = own_few head past n in omega (arith, h)
+own_few head (script.World ∷ past) n = let h = own_few head past n in omega (arith, h)
+own_few head (script.Scan d ∷ past) n = put_few (after head past).own d n _ (length past) (own_few head past n) (own_few head past d)
+own_few head (script.Post d class payload ∷ past) n = put_few (after head past).own d n _ (length past) (own_few head past n) (own_few head past d)
+own_few head (script.ClientPost d class payload ∷ past) n = put_few (after head past).own d n _ (length past) (own_few head past n) (own_few head past d)
+own_few head (script.Pack d ∷ past) n = put_few (after head past).own d n _ (length past) (own_few head past n) (own_few head past d)
+own_few head (script.ClientPack d ∷ past) n = put_few (after head past).own d n _ (length past) (own_few head past n) (own_few head past d)
+own_few head (script.Down d k ∷ past) n = put_few (after head past).own d n _ (length past) (own_few head past n) (own_few head past d)
+own_few head (script.Up d k ∷ past) n = put_few (after head past).own d n _ (length past) (own_few head past n) (own_few head past d)
+own_few head (script.Raw d bytes ∷ past) n = put_few (after head past).own d n _ (length past) (own_few head past n) (own_few head past d)
+own_few head (script.Move d m ∷ past) n = put_few (after head past).own d n _ (length past) (own_few head past n) (own_few head past d)
+own_few head (script.Show d ∷ past) n = put_few (after head past).own d n _ (length past) (own_few head past n) (own_few head past d)
 
-pub few-moves : (m : MatchState) (past : List BodyLine) → StandsFor m past → m.done < 4000000 → AreFew m.seats
-few-moves m past s done = λ k d l.
-    let taken = (s.seats k d (omega (arith, l, s.clients))).taken in
-    let few = few-taken (client_terms m.head k) k past in
-    omega (arith, taken, few, s.done, done)
+-- ---- direct lines
 
-pub may-tick : (m : MatchState) (past : List BodyLine) → StandsFor m past → m.done < 4000000 → m.world.ticks < 4294967295
-may-tick m past s done = let few = few-ticks m.head past in let same = ap (λ (w : Worlds). w.ticks) s.world in omega (arith, few, same, s.done, done)
+pub own_line : (head : Head) (line : BodyLine) (past : List BodyLine) (n : ℕ) → StandsAlone line → client_named line ≡ Some n
+    → ((after head (line ∷ past)).own n ≡ Line line ∷ (after head past).own n) × ((after head (line ∷ past)).scans n ≡ (after head past).scans n)
+own_line head script.Tick past n alone e = absurd alone
+own_line head (script.Scan d) past n alone e = absurd alone
+own_line head script.World past n alone e = absurd alone
+own_line head (script.Post d class payload) past n alone e = let same : d ≡ n = cc in rw same (put_there (after head past).own n n _ refl, refl)
+own_line head (script.ClientPost d class payload) past n alone e = let same : d ≡ n = cc in rw same (put_there (after head past).own n n _ refl, refl)
+own_line head (script.Pack d) past n alone e = let same : d ≡ n = cc in rw same (put_there (after head past).own n n _ refl, refl)
+own_line head (script.ClientPack d) past n alone e = let same : d ≡ n = cc in rw same (put_there (after head past).own n n _ refl, refl)
+own_line head (script.Down d k) past n alone e = let same : d ≡ n = cc in rw same (put_there (after head past).own n n _ refl, refl)
+own_line head (script.Up d k) past n alone e = let same : d ≡ n = cc in rw same (put_there (after head past).own n n _ refl, refl)
+own_line head (script.Raw d bytes) past n alone e = let same : d ≡ n = cc in rw same (put_there (after head past).own n n _ refl, refl)
+own_line head (script.Move d m) past n alone e = let same : d ≡ n = cc in rw same (put_there (after head past).own n n _ refl, refl)
+own_line head (script.Show d) past n alone e = let same : d ≡ n = cc in rw same (put_there (after head past).own n n _ refl, refl)
+
+direct_alone : (line : BodyLine) → IsDirect line → StandsAlone line
+direct_alone script.Tick h = absurd h
+direct_alone (script.Scan d) h = absurd h
+direct_alone (script.Pack d) h = absurd h
+direct_alone (script.Show d) h = absurd h
+direct_alone script.World h = absurd h
+direct_alone (script.Post d class payload) h = tt
+direct_alone (script.ClientPost d class payload) h = tt
+direct_alone (script.ClientPack d) h = tt
+direct_alone (script.Down d k) h = tt
+direct_alone (script.Up d k) h = tt
+direct_alone (script.Raw d bytes) h = tt
+direct_alone (script.Move d m) h = tt
+
+-- it writes and drains nothing
+same_bits : (t : Terms) (line : BodyLine) (k : Kept) → IsDirect line → (follows t (Line line) k).written ≡ k.written
+same_bits t script.Tick k h = absurd h
+same_bits t (script.Scan d) k h = absurd h
+same_bits t (script.Pack d) k h = absurd h
+same_bits t (script.Show d) k h = absurd h
+same_bits t script.World k h = absurd h
+same_bits t (script.Post d class payload) k h = refl
+same_bits t (script.ClientPost d class payload) k h = refl
+same_bits t (script.ClientPack d) k h = refl
+same_bits t (script.Down d place) k h = refl
+same_bits t (script.Up d place) k h = refl
+same_bits t (script.Raw d bytes) k h = refl
+same_bits t (script.Move d m) k h = refl
+
+pub after_direct : (head : Head) (line : BodyLine) (past : List BodyLine) (n : ℕ) (seat new : SeatState) (scope : Table) (lanes : Words) → IsDirect line → client_named line ≡ Some n
+    → ClientHolds seat scope lanes n (client_terms head n) ((after head past).scans n) (kept_by head (after head past) n)
+    → SeatStandsFor new (client_terms head n) (follows (client_terms head n) (Line line) (kept_by head (after head past) n)).course
+    → ClientHolds new scope lanes n (client_terms head n) ((after head (line ∷ past)).scans n) (kept_by head (after head (line ∷ past)) n)
+after_direct head line past n seat new scope lanes direct named h course =
+    let own = own_line head line past n (direct_alone line direct) named in
+    subst (λ (x : List (List Seen)). ClientHolds new scope lanes n (client_terms head n) x (kept_by head (after head (line ∷ past)) n)) (sym own.1)
+    (subst (λ (x : List OwnItem). ClientHolds new scope lanes n (client_terms head n) ((after head past).scans n) (kept (client_terms head n) x)) (sym own.0) (record {
+      course = course;
+      periods = h.periods;
+      marks = λ i d lt. h.marks i d lt ∙ ap (λ (f : ℕ → ℕ). f (get_or (shown ((after head past).scans n)) i d).n) (sym (same_bits (client_terms head n) line (kept_by head (after head past) n) direct));
+    }))
 
 pub map_if_ok : {T E : Type 0} (r : Result T E) (P Q : T → Type 0) → ((t : T) → P t → Q t) → IfOk r P → IfOk r Q
 map_if_ok (Ok t) P Q f p = f t p
 map_if_ok (Err e) P Q f p = tt
+
+pub map_on_ok : {T E : Type 0} (r : Result T E) (A C : Type 0) → (A → C) → OnOk r A → OnOk r C
+map_on_ok (Ok t) A C f a = f a
+map_on_ok (Err e) A C f a = tt
 
 pub both_ok : {T E : Type 0} (r : Result T E) (A B C : Type 0) → (A → B → C) → OnOk r A → OnOk r B → OnOk r C
 both_ok (Ok t) A B C f a b = f a b

@@ -1,60 +1,76 @@
--- The `pack c` lines of a report come from the lines of c alone.
-use Rattle.std.proofs.Common.{◌≡◌, ℕ, Bool, true, false, List, [], ◌∷◌, ◌++◌, if◌then◌else◌, refl, ◌∙◌, ap, arith}
+-- The `pack c` lines of a report come from the own list of c alone.
+use Rattle.std.proofs.Common.{◌≡◌, ℕ, ◌==◌, Bool, true, false, cond, List, [], ◌∷◌, ◌++◌, if◌then◌else◌}
+use Rattle.std.proofs.Common.{refl, ◌∙◌, ap, subst, arith}
+use Rattle.std.proofs.lemmas.Bool.{eqb-true}
 use Rattle.std.proofs.lemmas.Bool.Decides.{nat_tests}
 use Rattle.std.proofs.lemmas.List.{append-nil}
 use Rattle.match_script.specs.declared.types.BodyLine.{BodyLine}
-use Rattle.match_script.specs.declared.types.BodyLine.TheVariants.{Tick, Post, ClientPost, Pack, ClientPack, Down, Up, Move, Show, World}
+use Rattle.match_script.specs.declared.types.BodyLine.TheVariants as script
 use Rattle.match_script.specs.declared.types.Head.{Head}
-use Rattle.match_report.specs.Text.{report_line}
-use Rattle.match_engine.specs.Journal.{concerns, own, journal, client_terms}
-use Rattle.match_engine.specs.Report.{packed_told, told_after, line_text, told_lines}
-use Rattle.match_engine.specs.Laws.{is_pack, packs_in, pack_lines}
+use Rattle.stream_manager.specs.Limits.{Terms}
+use Rattle.world_scope.specs.Scope.{visible_list}
+use Rattle.own_lists.specs.Own.{OwnItem, Line}
+use Rattle.own_lists.specs.Kept.{put}
+use Rattle.own_lists.specs.Past.{client_terms, happens, after, scan_item}
+use Rattle.match_engine.specs.Report.{line_text, told_lines}
+use Rattle.match_engine.specs.Laws.{is_pack, packs_in, is_own_pack, pack_lines, Isolation}
+use Rattle.match_engine.proofs.Grown.{put_own}
 
-packs-append : (c : ℕ) (xs : List (BodyLine × List ℕ)) (line : BodyLine) (text : List ℕ) → packs_in c (xs ++ (line, text) ∷ []) ≡ packs_in c xs ++ (if is_pack c line then text ∷ [] else [])
+packs-append : (c : ℕ) (xs : List (BodyLine × List ℕ)) (line : BodyLine) (text : List ℕ)
+    → packs_in c (xs ++ (line, text) ∷ []) ≡ packs_in c xs ++ (if is_pack c line then text ∷ [] else [])
 packs-append c [] line text = refl
 packs-append c (x ∷ xs) line text = go (is_pack c x.0) (packs-append c xs line text)
   where
     go : (b : Bool) → packs_in c (xs ++ (line, text) ∷ []) ≡ packs_in c xs ++ (if is_pack c line then text ∷ [] else [])
-        → (if b then x.1 ∷ packs_in c (xs ++ (line, text) ∷ []) else packs_in c (xs ++ (line, text) ∷ [])) ≡ (if b then x.1 ∷ packs_in c xs else packs_in c xs) ++ (if is_pack c line then text ∷ [] else [])
+        → (if b then x.1 ∷ packs_in c (xs ++ (line, text) ∷ []) else packs_in c (xs ++ (line, text) ∷ []))
+        ≡ (if b then x.1 ∷ packs_in c xs else packs_in c xs) ++ (if is_pack c line then text ∷ [] else [])
     go true e = ap (λ l. x.1 ∷ l) e
     go false e = e
 
--- a pack of c concerns c, and tells what its connection makes
-concerned : (c : ℕ) (line : BodyLine) → is_pack c line ≡ true → concerns c line ≡ true
-concerned c Tick e = refl
-concerned c (Post d class payload) e = absurd (cc)
-concerned c (ClientPost d class payload) e = absurd (cc)
-concerned c (Pack d) e = e
-concerned c (ClientPack d) e = absurd (cc)
-concerned c (Down d k) e = absurd (cc)
-concerned c (Up d k) e = absurd (cc)
-concerned c (Move d m) e = absurd (cc)
-concerned c (Show d) e = absurd (cc)
-concerned c World e = absurd (cc)
+-- an item that is no pack adds no line
+no-pack : (t : Terms) (own : ℕ → List OwnItem) (item : OwnItem) (c d : ℕ) → is_own_pack item ≡ false
+    → pack_lines t (own c) ++ [] ≡ pack_lines t (put own d (item ∷ own d) c)
+no-pack t own item c d none =
+    put_own (λ old new. pack_lines t old ++ [] ≡ pack_lines t new) own item c d (rw none refl) (append-nil (pack_lines t (own c)))
 
-tells-pack : (head : Head) (c : ℕ) (past : List BodyLine) (line : BodyLine) → is_pack c line ≡ true → told_after head past line ≡ packed_told c (client_terms head c) (journal (client_terms head c) c past)
-tells-pack head c past Tick e = absurd (cc)
-tells-pack head c past (Post d class payload) e = absurd (cc)
-tells-pack head c past (ClientPost d class payload) e = absurd (cc)
-tells-pack head c past (Pack d) e = let same : d ≡ c = grind (arith, nat_tests) in ap (λ n. packed_told n (client_terms head n) (journal (client_terms head n) n past)) same
-tells-pack head c past (ClientPack d) e = absurd (cc)
-tells-pack head c past (Down d k) e = absurd (cc)
-tells-pack head c past (Up d k) e = absurd (cc)
-tells-pack head c past (Move d m) e = absurd (cc)
-tells-pack head c past (Show d) e = absurd (cc)
-tells-pack head c past World e = absurd (cc)
+module _ (head : Head) (c : ℕ) (past : List BodyLine) where
+  abbrev terms : Terms
+  terms = client_terms head c
 
--- the lines of the packs of c among its own lines with this one, if it concerns c
-with-own : (head : Head) (c : ℕ) (past : List BodyLine) (line : BodyLine) (packs concern : Bool) → is_pack c line ≡ packs → concerns c line ≡ concern
-    → pack_lines (client_terms head c) (own c past) ++ (if packs then line_text head past line ∷ [] else []) ≡ pack_lines (client_terms head c) (if concern then line ∷ own c past else own c past)
-with-own head c past line true true p q = rw p (ap (λ told. pack_lines (client_terms head c) (own c past) ++ report_line told ∷ []) (tells-pack head c past line p))
-with-own head c past line true false p q = absurd (let h = concerned c line p in cc)
-with-own head c past line false true p q = rw p refl
-with-own head c past line false false p q = append-nil (pack_lines (client_terms head c) (own c past))
+  abbrev own : ℕ → List OwnItem
+  own = (after head past).own
 
-pub isolated : (head : Head) (c : ℕ) (past : List BodyLine) → packs_in c (told_lines head past) ≡ pack_lines (client_terms head c) (own c past)
+  -- a pack of d adds its line of the report to those of c
+  abbrev Adds : ℕ → Type 0
+  Adds d =
+      pack_lines terms (own c) ++ line_text head past (script.Pack d) ∷ [] ≡ pack_lines terms (Line (script.Pack d) ∷ own d)
+
+  -- a pack tells what the client's own list leaves
+  with-pack : (d : ℕ)
+      → pack_lines terms (own c) ++ (if d == c then line_text head past (script.Pack d) ∷ [] else [])
+      ≡ pack_lines terms (put own d (Line (script.Pack d) ∷ own d) c)
+  with-pack d = go (c == d) refl (grind (arith, nat_tests))
+    where
+      go : (b : Bool) → (c == d) ≡ b → (d == c) ≡ b
+          → pack_lines terms (own c) ++ (if d == c then line_text head past (script.Pack d) ∷ [] else [])
+          ≡ pack_lines terms (cond b (Line (script.Pack d) ∷ own d) (own c))
+      go true e f = rw f (subst Adds (eqb-true c d e) refl)
+      go false e f = rw f (append-nil (pack_lines terms (own c)))
+
+  -- the lines of the packs of c, with this line
+  with-line : (line : BodyLine)
+      → pack_lines terms (own c) ++ (if is_pack c line then line_text head past line ∷ [] else [])
+      ≡ pack_lines terms ((happens head line (after head past)).own c)
+  with-line script.Tick = refl
+  with-line (script.Scan d) =
+      let p = after head past in no-pack terms own (scan_item p.world d (visible_list p.world d ∷ p.scans d)) c d refl
+  with-line (script.Pack d) = with-pack d
+  with-line script.World = append-nil (pack_lines terms (own c))
+  with-line line = no-pack terms own (Line line) c _ refl
+
+pub isolated : Isolation
 isolated head c [] = refl
 isolated head c (line ∷ past) =
     packs-append c (told_lines head past) line (line_text head past line)
     ∙ ap (λ l. l ++ (if is_pack c line then line_text head past line ∷ [] else [])) (isolated head c past)
-    ∙ with-own head c past line (is_pack c line) (concerns c line) refl refl
+    ∙ with-line head c past line

@@ -1,17 +1,27 @@
 //! The match: its world and the connection of each client.
 ghost use Rattle.std.specs.Prelude.{◌≡◌, ℕ, ◌<◌, ◌≤◌, List, [], ◌∷◌, IfOk, OnOk, Some, None, length};
-ghost use Rattle.match_engine.specs.Journal.{client_named};
+ghost use Rattle.std.specs.Prelude.{slice_index_or};
+ghost use Rattle.match_script.specs.Ranges.{HeadFits};
+ghost use Rattle.client_scope.specs.StandsFor.{Table, StandsFor as ScopeStandsFor};
+ghost use Rattle.own_lists.specs.Own.{client_named};
+ghost use Rattle.own_lists.specs.Course.{beginning};
+ghost use Rattle.own_lists.specs.Past.{client_terms};
+ghost use Rattle.client_seat.specs.Stands.{SeatState, StandsFor as SeatStandsFor};
 
-use crate::kinds::plain_table;
+use crate::lanes::raise_all;
 use crate::lines::line_on;
-use crate::seat::Seat;
+use crate::serving::{Room, pack_for, scan_for, show_for};
 use crate::ticking::{living_of, take_moves};
+use client_scope::Scope;
+use client_seat::Seat;
+use dirty_lanes::PlainLanes;
 use match_report::Told;
 use match_script::{BodyLine, Head};
 use std::alloc::Global;
 use std::marker::Model;
 use stream_manager::Config;
-use tn_types::{MAX_COUNTED_LINES, Move, NoMemory};
+use tn_types::{MAX_CLIENTS, MAX_COUNTED_LINES, MAX_OBJECTS, Move, NoMemory};
+use world_rules::match_kinds;
 use world_sim::World;
 
 /// A match of up to 16 clients, each with a connection of its own.
@@ -21,20 +31,29 @@ use world_sim::World;
 pub struct Match {
     head: Head,
     seats: Vec<Seat>,
+    scopes: Vec<Scope>,
     world: World,
-    // room for the moves of a tick
+    lanes: PlainLanes,
+    // room for the moves of a tick, and for what a line works in
     moves: Vec<Option<Move>>,
+    room: Room,
     done: u32,
 }
 
 impl Model for Match {
-    ghost use Rattle.match_script.specs.declared.types.BodyLine.{BodyLine};
     ghost use Rattle.std.specs.Prelude.{List};
-    ghost use Rattle.match_engine.specs.Stands.{MatchState, StandsFor};
+    ghost use Rattle.match_engine.specs.Stands.{MatchState};
 
     ghost Value = { MatchState };
 
-    ghost view = { λ m. record { head = m.head; seats = m.seats.items; world = m.world; done = m.done } };
+    ghost view = { λ m. record {
+      head = m.head;
+      seats = m.seats.items;
+      scopes = m.scopes.items;
+      world = m.world;
+      lanes = m.lanes;
+      done = m.done;
+    } };
 }
 
 /// The client that a line names, if it names one.
@@ -54,20 +73,59 @@ fn client_named(line: &BodyLine) -> Option<u8>
         } => Some(*client),
         BodyLine::Pack { client } => Some(*client),
         BodyLine::ClientPack { client } => Some(*client),
+        BodyLine::Scan { client } => Some(*client),
         BodyLine::Down { client, k: _ } => Some(*client),
         BodyLine::Up { client, k: _ } => Some(*client),
+        BodyLine::Raw { client, bytes: _ } => Some(*client),
         BodyLine::Move { client, m: _ } => Some(*client),
         BodyLine::Show { client } => Some(*client),
         BodyLine::Tick | BodyLine::World => None,
     }
 }
 
+// The connection of each client.
+fn seats_of(alloc: Global, head: &Head) -> Result<Vec<Seat>, NoMemory>
+    requires { HeadFits head.now }
+    ensures { IfOk result (λ seats. (length seats.items ≡ head.now.clients) × ((c : ℕ) (d : SeatState) → c < head.now.clients
+        → SeatStandsFor (slice_index_or seats.items c d) (client_terms head.now c) beginning)) }
+{
+    let kinds = match_kinds();
+    let mut seats = Vec::new(alloc);
+    'seats: for client in 0..head.clients {
+        let config = Config {
+            client,
+            life: head.life,
+            size: head.size,
+        };
+        let seat = Seat::new(alloc, config, &kinds, head.blocks.as_slice())?;
+        if seats.push(seat).is_err() {
+            return Err(NoMemory);
+        }
+    }
+    Ok(seats)
+}
+
+// The scope of each client.
+fn scopes_of(alloc: Global, clients: u8) -> Result<Vec<Scope>, NoMemory>
+    ensures { IfOk result (λ scopes. (length scopes.items ≡ clients) × ((c : ℕ) (e : Table) → c < clients
+        → ScopeStandsFor (slice_index_or scopes.items c e) [])) }
+{
+    let mut scopes = Vec::new(alloc);
+    'scopes: for _client in 0..clients {
+        let scope = Scope::new(alloc)?;
+        if scopes.push(scope).is_err() {
+            return Err(NoMemory);
+        }
+    }
+    Ok(scopes)
+}
+
 impl Match {
     ghost use Rattle.match_script.specs.declared.types.BodyLine.{BodyLine as OneLine};
     ghost use Rattle.match_script.specs.declared.types.BodyLine.TheVariants as script;
-    ghost use Rattle.match_script.specs.Ranges.{HeadFits, LineFits};
+    ghost use Rattle.match_script.specs.Ranges.{LineFits};
     ghost use Rattle.match_engine.specs.Report.{told_after};
-    ghost use Rattle.match_engine.specs.Stands.{StandsFor, Does, Answers};
+    ghost use Rattle.match_engine.specs.Stands.{StandsFor, Does, Answers, IsDirect};
 
     /// A match of which no line was done.
     pub fn new(alloc: Global, head: &Head) -> Result<Match, NoMemory>
@@ -78,25 +136,22 @@ impl Match {
         let Ok(own) = head.copy(alloc) else {
             return Err(NoMemory);
         };
-        let kinds = plain_table();
-        let mut seats = Vec::new(alloc);
-        'seats: for client in 0..head.clients {
-            let config = Config {
-                client,
-                life: head.life,
-                size: head.size,
-            };
-            let seat = Seat::new(alloc, config, &kinds, head.blocks.as_slice())?;
-            if seats.push(seat).is_err() {
-                return Err(NoMemory);
-            }
-        }
+        let seats = seats_of(alloc, head)?;
+        let scopes = scopes_of(alloc, head.clients)?;
         let world = World::new(alloc, head.seed, &head.setup)?;
+        let lanes = PlainLanes::new(alloc, MAX_OBJECTS as u32, u32::from(MAX_CLIENTS))?;
         Ok(Match {
             head: own,
             seats,
+            scopes,
             world,
+            lanes,
             moves: Vec::new(alloc),
+            room: Room {
+                seen: Vec::new(alloc),
+                shows: Vec::new(alloc),
+                drains: Vec::new(alloc),
+            },
             done: 0,
         })
     }
@@ -126,9 +181,92 @@ impl Match {
         ensures stands { OnOk result (Does self.old line.now self.new) }
         ensures head { self.new.head ≡ self.old.head }
     {
+        match line {
+            BodyLine::Scan { client: _ } => self.scan(alloc, client),
+            BodyLine::Pack { client: _ } => self.pack(alloc, client),
+            BodyLine::Show { client: _ } => self.show(alloc, client),
+            _ => self.direct(alloc, client, line),
+        }
+    }
+
+    // Does a line on its client's connection alone.
+    fn direct(&mut self, alloc: Global, client: u8, line: &BodyLine) -> Result<Told, NoMemory>
+        requires named { client_named line.now ≡ Some client }
+        requires direct { IsDirect line.now }
+        requires stands { (past : List OneLine) × StandsFor self.old past }
+        requires fits { LineFits self.old.head.clients line.now }
+        requires few { self.old.done < MAX_COUNTED_LINES }
+        ensures told { IfOk result (Answers self.old (λ past. told_after self.old.head past line.now)) }
+        ensures stands { OnOk result (Does self.old line.now self.new) }
+        ensures head { self.new.head ≡ self.old.head }
+    {
         self.done += 1;
-        let seat = &mut self.seats[client as usize];
-        line_on(alloc, seat, line)
+        line_on(alloc, &mut self.seats[client as usize], line)
+    }
+
+    // The scope of a client is brought up to date.
+    fn scan(&mut self, alloc: Global, client: u8) -> Result<Told, NoMemory>
+        requires client { client < self.old.head.clients }
+        requires stands { (past : List OneLine) × StandsFor self.old past }
+        requires few { self.old.done < MAX_COUNTED_LINES }
+        ensures told { IfOk result (Answers self.old (λ past. told_after self.old.head past (script.Scan client))) }
+        ensures stands { OnOk result (Does self.old (script.Scan client) self.new) }
+        ensures head { self.new.head ≡ self.old.head }
+    {
+        self.done += 1;
+        let place = client as usize;
+        scan_for(
+            alloc,
+            &mut self.seats[place],
+            &mut self.scopes[place],
+            &self.world,
+            &mut self.lanes,
+            client,
+            &mut self.room,
+        )
+    }
+
+    // The server packs for a client.
+    fn pack(&mut self, alloc: Global, client: u8) -> Result<Told, NoMemory>
+        requires client { client < self.old.head.clients }
+        requires stands { (past : List OneLine) × StandsFor self.old past }
+        requires few { self.old.done < MAX_COUNTED_LINES }
+        ensures told { IfOk result (Answers self.old (λ past. told_after self.old.head past (script.Pack client))) }
+        ensures stands { OnOk result (Does self.old (script.Pack client) self.new) }
+        ensures head { self.new.head ≡ self.old.head }
+    {
+        self.done += 1;
+        let place = client as usize;
+        pack_for(
+            alloc,
+            &mut self.seats[place],
+            &self.scopes[place],
+            &self.world,
+            &mut self.lanes,
+            client,
+            &mut self.room.drains,
+        )
+    }
+
+    // What a client has is told.
+    fn show(&mut self, alloc: Global, client: u8) -> Result<Told, NoMemory>
+        requires client { client < self.old.head.clients }
+        requires stands { (past : List OneLine) × StandsFor self.old past }
+        requires few { self.old.done < MAX_COUNTED_LINES }
+        ensures told { IfOk result (Answers self.old (λ past. told_after self.old.head past (script.Show client))) }
+        ensures stands { OnOk result (Does self.old (script.Show client) self.new) }
+        ensures head { self.new.head ≡ self.old.head }
+    {
+        self.done += 1;
+        let place = client as usize;
+        show_for(
+            alloc,
+            &self.seats[place],
+            &self.scopes[place],
+            &self.lanes,
+            client,
+            &mut self.room.drains,
+        )
     }
 
     // Does a line that names no client.
@@ -159,6 +297,7 @@ impl Match {
             return Err(NoMemory);
         };
         self.world.tick(alloc, self.moves.as_slice())?;
+        raise_all(&mut self.lanes, self.world.writes());
         self.done += 1;
         Ok(Told::Tick {
             ticks: self.world.ticks(),

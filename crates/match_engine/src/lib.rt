@@ -2,14 +2,14 @@
 #![tactic(auto)]
 
 mod game;
-mod kinds;
+mod lanes;
 mod laws;
 mod lines;
 mod output;
 mod running;
-mod seat;
+mod serving;
 mod ticking;
-mod zeros;
+mod values;
 
 pub use game::Match;
 pub use laws::{

@@ -68,15 +68,15 @@ pub fn run<K: Sink>(alloc: Global, script: &Script, sink: &mut K) -> Result<(), 
     ensures front { OnErr result (AddsFront (K.written sink.old) (K.written sink.new) (report script.now)) }
     ensures cause { result ≡ Err RunFault.WriteFault → Rose (K.faults sink.old) (K.faults sink.new) }
     ensures later { K.faults sink.old ≤ K.faults sink.new }
-    // The datagrams for each client are those of a server that serves it alone.
+    // The datagrams for each client are those of a server that is fed with its own list alone.
     ensures isolation { Isolation }
-    // In each client's journal, what is delivered is a front of what was posted.
+    // In each honest client's journal, what is delivered is a front of what was posted.
     ensures events_in_order { EventsInOrder }
     // There each accepted move was sampled, once and in order.
     ensures moves_in_order { MovesInOrder }
     // There delivered unguaranteed events are some of those that were posted, in order.
     ensures loose_events_in_order { LooseInOrder }
-    // And there no end refuses a datagram but an old one.
+    // And no line of an honest client tells a refusal of a datagram, but of an old one.
     ensures little_is_refused { LittleIsRefused }
 {
     isolation();

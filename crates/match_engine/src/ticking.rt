@@ -1,10 +1,10 @@
 //! The world of a match: its ticks, and what is told of it.
 ghost use Rattle.std.specs.Prelude.{◌≡◌, ◌<◌, ◌≤◌, ◌-◌, ◌^◌, ℕ, IfOk, OnOk, length, map, slice_get};
-ghost use Rattle.match_engine.specs.declared.seat.Seat.{Seat as OneSeat};
-ghost use Rattle.match_engine.specs.Stands.{without_first, AreFew};
+ghost use Rattle.client_seat.specs.Stands.{without_first};
+ghost use Rattle.match_engine.specs.Stands.{AreFew};
 ghost use Rattle.match_engine.specs.World.{living};
 
-use crate::seat::Seat;
+use client_seat::Seat;
 use match_report::{Living, LivingObject, ValueList};
 use std::alloc::{AllocError, Global};
 use tn_types::{Move, NoMemory};
@@ -16,7 +16,7 @@ pub(crate) fn take_moves(
     moves: &mut Vec<Option<Move>>,
 ) -> Result<(), AllocError>
     requires { AreFew seats.old.items }
-    ensures moves { OnOk result (moves.new.items ≡ map (λ s. slice_get s.waiting.items 0) seats.old.items) }
+    ensures moves { OnOk result (moves.new.items ≡ map (λ s. slice_get s.waiting 0) seats.old.items) }
     ensures seats { OnOk result (seats.new.items ≡ map without_first seats.old.items) }
 {
     moves.clear();

@@ -8,6 +8,7 @@ abbrev pub invariant-lines : goal.invariant-lines
 invariant-lines g l = record {
   stands : StandsFor l.game (reverse (take l.line-index l.line-items));
   head : l.game.head ≡ l.script.head;
-  written : Adds (g.K.Sink.written l.fn.sink) (g.K.Sink.written l.sink) (report_so_far l.script.head (reverse (take l.line-index l.line-items)));
+  written : Adds (g.K.Sink.written l.fn.sink) (g.K.Sink.written l.sink)
+      (report_so_far l.script.head (reverse (take l.line-index l.line-items)));
   later : g.K.Sink.faults l.fn.sink ≤ g.K.Sink.faults l.sink;
 }

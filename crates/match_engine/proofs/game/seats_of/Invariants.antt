@@ -1,0 +1,11 @@
+use Rattle.std.proofs.Common.{◌≡◌, ◌<◌, ℕ, length, slice_index_or}
+use Rattle.own_lists.specs.Course.{beginning}
+use Rattle.own_lists.specs.Past.{client_terms}
+use Rattle.client_seat.specs.Stands.{SeatState, StandsFor}
+use Rattle.match_engine.proofs.game.seats_of.Given as goal
+
+abbrev pub invariant-seats : goal.invariant-seats
+invariant-seats l = record {
+  count : length l.seats.items ≡ l.client;
+  stands : (c : ℕ) (d : SeatState) → c < l.client → StandsFor (slice_index_or l.seats.items c d) (client_terms l.head c) beginning;
+}
