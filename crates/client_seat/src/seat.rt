@@ -69,6 +69,13 @@ impl Seat {
         &self.pair
     }
 
+    /// How many accepted moves wait for a tick, at most 32.
+    pub fn waiting(&self) -> u32
+        ensures count { result ≡ length self.now.waiting }
+    {
+        self.waiting.len() as u32
+    }
+
     /// What a pack would make.
     pub fn pack_state(&self) -> SendState
         ensures { Answers self.now (λ t k. server_state t.config (history t k.steps).server) result }

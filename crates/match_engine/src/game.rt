@@ -17,6 +17,7 @@ use client_seat::Seat;
 use dirty_lanes::PlainLanes;
 use match_report::Told;
 use match_script::{BodyLine, Head};
+use pair_core::Pair;
 use std::alloc::Global;
 use std::marker::Model;
 use stream_manager::Config;
@@ -154,6 +155,29 @@ impl Match {
             },
             done: 0,
         })
+    }
+
+    /// The connection of a client, after what its own list leaves of its course.
+    pub fn pair(&self, client: u8) -> &Pair
+        requires { client < length self.now.seats }
+        ensures { (d : SeatState) → result.now ≡ (slice_index_or self.now.seats client d).pair }
+    {
+        self.seats[client as usize].pair()
+    }
+
+    /// How many accepted moves of a client wait for a tick, at most 32.
+    pub fn waiting(&self, client: u8) -> u32
+        requires { client < length self.now.seats }
+        ensures { (d : SeatState) → result ≡ length (slice_index_or self.now.seats client d).waiting }
+    {
+        self.seats[client as usize].waiting()
+    }
+
+    /// The world as it is.
+    pub fn world(&self) -> &World
+        ensures { result.now ≡ self.now.world }
+    {
+        &self.world
     }
 
     /// Does one line, and gives what the report tells of it.

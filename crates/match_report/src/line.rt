@@ -16,6 +16,9 @@ use stream_manager::{ArriveFault, ClientFault};
 use tn_types::{Class, NoMemory, Payload};
 use world_rules::kind_word;
 
+// Bytes for which most lines have room, so that few grow while they are made.
+const USUAL_LINE: usize = 256;
+
 fn hex_text(alloc: Global, bytes: &[u8]) -> Result<String, AllocError>
     ensures { IfOk result (λ text. string_bytes text ≡ hex_text bytes.now) }
 {
@@ -381,7 +384,9 @@ pub fn put_line(alloc: Global, told: &Told, out: &mut Vec<u8>) -> Result<(), NoM
     ensures line { OnOk result (out.new.items ≡ out.old.items ++ report_line told.now) }
     ensures unchanged { OnErr result (out.new.items ≡ out.old.items) }
 {
-    let mut text = String::new(alloc);
+    let Ok(mut text) = String::with_capacity(alloc, USUAL_LINE) else {
+        return Err(NoMemory);
+    };
     if put_told(&mut text, alloc, told).is_err() || text.push_str("\n").is_err() {
         return Err(NoMemory);
     }
