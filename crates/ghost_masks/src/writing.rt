@@ -1,16 +1,22 @@
 //! The ghosts of the next packet, written where the packet is written.
 
-ghost use Rattle.std.specs.Prelude.{◌≡◌, ◌+◌, ◌*◌, ◌≤◌, ◌++◌, length, sum_by, IsSome, List};
-ghost use Rattle.wire_format.specs.Ghosts.{spell_ghosts};
-ghost use Rattle.ghost_masks.specs.Plan.{item_bits};
-ghost use Rattle.ghost_masks.specs.StandsFor.{OfPlan, OfSomePlan, FitPlan};
-ghost use Rattle.ghost_masks.specs.Carried.{ghosts_for};
+ghost use Rattle.std.specs.Prelude.{◌≡◌, ◌+◌, ◌*◌, ◌^◌, ◌<◌, ◌≤◌, ◌++◌, length, map, sum_by, All, IsSome, IsTrue, List};
+ghost use Rattle.quantised_fields.specs.Kinds.{width_of};
+ghost use Rattle.quantised_fields.specs.Levels.{is_sound};
+ghost use Rattle.wire_format.specs.declared.ghosts.GhostItem.TheVariants as ghosts;
+ghost use Rattle.wire_format.specs.Ghosts.{levels, spell_ghost, spell_ghosts};
+ghost use Rattle.ghost_model.specs.Ghosts.{GhostEvent};
+ghost use Rattle.ghost_masks.specs.Plan.{fields_of, masked, item_bits, IsItem, IsOfPeriod};
+ghost use Rattle.ghost_masks.specs.StandsFor.{StandsFor, OfPlan, OfSomePlan, FitPlan};
+ghost use Rattle.ghost_masks.specs.Carried.{fields_carried, levels_for, ghost_for, ghosts_for, AreValues};
 
 use crate::Masks;
 use crate::packet_items::{carried, ghost_item};
+use crate::plan::UPDATE_BITS;
 use bit_stream::BitWriter;
-use tn_types::Choice;
-use wire_format::{GHOST_COUNT_WIDTH, put_ghost, put_ghost_count};
+use quantised_fields::{FieldSpec, KindTable, level};
+use tn_types::{Choice, MAX_FIELDS, Op};
+use wire_format::{GHOST_COUNT_WIDTH, put_ghost, put_ghost_count, put_update_front};
 
 // Writes a count, and then each chosen item with the levels of its values, one for each carried field in the order of the
 // choices and rising field.
@@ -28,8 +34,81 @@ pub(crate) fn write_ghosts(masks: &Masks, values: &[i64], out: &mut BitWriter)
     let mut left = values;
     'writing: for choice in chosen {
         let (own, later) = left.split_at(carried(masks, choice));
-        let item = ghost_item(masks, choice, own);
-        put_ghost(out, masks.kinds(), &item);
+        put_item(masks, choice, own, out);
+        left = later;
+    }
+}
+
+// Writes the item with the levels of these values, one for each field that it carries.
+fn put_item(masks: &Masks, choice: &Choice, values: &[i64], out: &mut BitWriter)
+    requires period { IsOfPeriod masks.now.periods choice.now }
+    requires item { (log : List GhostEvent) → StandsFor masks.now log → IsItem masks.now.kinds log choice.now }
+    requires values { (log : List GhostEvent) → StandsFor masks.now log
+        → AreValues (fields_carried masks.now.kinds log choice.now) values.now }
+    requires room { (log : List GhostEvent) × StandsFor masks.now log
+        × (length out.old.bits + item_bits masks.now.kinds log choice.now ≤ 8 * out.old.size) }
+    ensures bits { (log : List GhostEvent) → StandsFor masks.now log
+        → out.new.bits ≡ out.old.bits ++ spell_ghost masks.now.kinds (ghost_for masks.now.kinds log values.now choice.now) }
+    ensures len { (log : List GhostEvent) → StandsFor masks.now log
+        → length out.new.bits ≡ length out.old.bits + item_bits masks.now.kinds log choice.now }
+    ensures size { out.new.size ≡ out.old.size }
+{
+    match choice.op {
+        Op::Update => put_update(
+            masks.kinds(),
+            masks.kind(choice.n),
+            choice.slot,
+            choice.mask,
+            values,
+            out,
+        ),
+        _ => put_ghost(out, masks.kinds(), &ghost_item(masks, choice, values)),
+    }
+}
+
+// Writes an update of the fields in the mask, with the level of each of these values.
+fn put_update(kinds: &KindTable, kind: u8, slot: u8, mask: u32, values: &[i64], out: &mut BitWriter)
+    requires kind { kind < length kinds.now }
+    requires mask { mask < 2 ^ length (fields_of kinds.now kind) }
+    requires values { AreValues (masked mask (fields_of kinds.now kind)) values.now }
+    requires room { let fields = fields_of kinds.now kind in
+        length out.old.bits + (UPDATE_BITS + length fields + width_of (masked mask fields)) ≤ 8 * out.old.size }
+    ensures bits { out.new.bits ≡ out.old.bits
+        ++ spell_ghost kinds.now (ghosts.Update slot kind mask (levels_for (masked mask (fields_of kinds.now kind)) values.now)) }
+    ensures len { let fields = fields_of kinds.now kind in
+        length out.new.bits ≡ length out.old.bits + (UPDATE_BITS + length fields + width_of (masked mask fields)) }
+    ensures size { out.new.size ≡ out.old.size }
+{
+    match kinds.kind(kind) {
+        Some(known) => {
+            let fields = known.fields.as_slice();
+            put_update_front(out, slot, kind, mask, fields.len() as u32);
+            put_levels(fields, mask, values, out);
+        }
+        None => unreachable!(),
+    }
+}
+
+// Writes the levels of these values, one for each of the fields whose bit is set in the mask.
+fn put_levels(fields: &[FieldSpec], mask: u32, values: &[i64], out: &mut BitWriter)
+    requires sound { All (λ f. IsTrue (is_sound f)) fields.now }
+    requires values { AreValues (masked mask fields.now) values.now }
+    requires room { length out.old.bits + width_of (masked mask fields.now) ≤ 8 * out.old.size }
+    ensures bits { let chosen = masked mask fields.now in
+        out.new.bits ≡ out.old.bits ++ levels (map (λ f. f.bits) chosen) (levels_for chosen values.now) }
+    ensures len { length out.new.bits ≡ length out.old.bits + width_of (masked mask fields.now) }
+    ensures size { out.new.size ≡ out.old.size }
+{
+    let mut mask = mask;
+    let mut left = values;
+    'fields: for field in fields {
+        let bit = mask % 2;
+        mask /= 2;
+        if bit == 0 {
+            continue 'fields;
+        }
+        out.put(level(field, left[0]), field.bits);
+        let (_, later) = left.split_at(1);
         left = later;
     }
 }

@@ -32,6 +32,7 @@ pub use events::{EventItem, EventList, event_bits, put_event, put_event_count, p
 pub use fault::{BitsCause, BitsFault};
 pub use ghosts::{
     GhostItem, GhostList, Levels, ghost_bits, put_ghost, put_ghost_count, put_ghosts,
+    put_update_front,
 };
 pub use header::{Header, put_ping};
 pub use kind::PacketKind;

@@ -1,4 +1,4 @@
-use Rattle.std.proofs.Common.{◌≡◌, ◌+◌, ◌*◌, ◌≤◌, ◌++◌, [], ◌∙◌, List, Option, length, take, drop, get_or, subst, sym, ap, append_assoc, ℤ, arith}
+use Rattle.std.proofs.Common.{◌≡◌, ◌+◌, ◌*◌, ◌≤◌, ◌++◌, [], ◌∙◌, List, Option, length, take, drop, get_or, subst, refl, sym, ap, append_assoc, ℤ, arith}
 use Rattle.std.specs.Prelude.{sum_by, IfSome}
 use Rattle.std.specs.List.{flat_map}
 use Rattle.std.proofs.lemmas.List.{drop_all, append-nil}
@@ -6,9 +6,7 @@ use Rattle.bit_stream.specs.Bits.{number}
 use Rattle.std.proofs.lemmas.List.Sums.{sum_by_more, sum_by_more_le}
 use Rattle.tn_types.specs.declared.choices.Op.TheVariants.{Kill}
 use Rattle.tn_types.specs.declared.choices.Choice.{Choice}
-use Rattle.quantised_fields.specs.declared.kind.Kind.{Kind}
-use Rattle.wire_format.specs.Ghosts.{spell_ghost, spell_ghosts, ghost_size}
-use Rattle.wire_format.proofs.Levels.{length-ghost}
+use Rattle.wire_format.specs.Ghosts.{spell_ghost, spell_ghosts}
 use Rattle.ghost_masks.specs.Plan.{item_bits}
 use Rattle.ghost_masks.specs.Carried.{fields_carried, ghost_for, ghosts_for, AreValues}
 use Rattle.ghost_masks.proofs.Carried.{next_enough, next_own, next_later}
@@ -27,24 +25,23 @@ split_at-requires c =
     let stands = c.requires.room.1 in
     omega (arith, next_enough m.kinds log items c.writing.choice-index none c.writing-test.true c.writing.left.now (c.writing.invariant.left log stands), c.carried.ensures log stands)
 
-pub ghost_item-item-requires-clause-values : goal.ghost_item-item-requires-clause-values
-ghost_item-item-requires-clause-values c log stands =
+pub put_item-requires-clause-values : goal.put_item-requires-clause-values
+put_item-requires-clause-values c log stands =
     let m = c.args.masks.now in
     let items = c.chosen-chosen.result.now in
     let i = c.writing.choice-index in
     subst (λ (vs : List ℤ). AreValues (fields_carried m.kinds log (get_or items i none)) vs) (sym c.split_at.ensures.front)
     (next_own m.kinds log items i none c.writing-test.true c.writing.left.now c.carried.result (c.carried.ensures log stands) (c.writing.invariant.left log stands))
 
-pub put_ghost-requires-clause-room : goal.put_ghost-requires-clause-room
-put_ghost-requires-clause-room c =
+pub put_item-requires-clause-room : goal.put_item-requires-clause-room
+put_item-requires-clause-room c =
     let m = c.args.masks.now in
     let items = c.chosen-chosen.result.now in
     let log = c.requires.room.0 in
     let stands = c.requires.room.1 in
-    let g = c.ghost_item-item.result in
     let room : length c.args.out.now.bits + (8 + sum_by (item_bits m.kinds log) items) ≤ 8 * c.args.out.now.size =
     subst (λ (o : Option (List Choice)). IfSome o (λ cs. length c.args.out.now.bits + (8 + sum_by (item_bits m.kinds log) cs) ≤ 8 * c.args.out.now.size)) c.chosen-chosen.ensures.value c.requires.room.2 in
-    omega (arith, room, length-ghost c.kinds.result.now g, ap (λ (k : List Kind). ghost_size k g) c.kinds.ensures, c.ghost_item-item.ensures.size log stands, sum_by_more_le (item_bits m.kinds log) items c.writing.choice-index none c.writing-test.true, c.writing.invariant.len log stands, c.writing.invariant.size)
+    (log, stands, omega (arith, room, sum_by_more_le (item_bits m.kinds log) items c.writing.choice-index none c.writing-test.true, c.writing.invariant.len log stands, c.writing.invariant.size))
 
 pub writing-preserved : goal.writing-preserved
 writing-preserved c =
@@ -56,16 +53,14 @@ writing-preserved c =
     let lt = c.writing-test.true in
     let vs = s.left.now in
     let n = c.carried.result in
-    let g = c.ghost_item-item.result in
-    let put : c.put_ghost.new.out.bits ≡ s.out.bits ++ spell_ghost m.kinds g = c.put_ghost.ensures.bits ∙ ap (λ (k : List Kind). s.out.bits ++ spell_ghost k g) c.kinds.ensures in
     record {
       bits = λ log stands.
-          let is : g ≡ ghost_for m.kinds log (take n vs) item = c.ghost_item-item.ensures.item log stands ∙ ap (λ (l : List ℤ). ghost_for m.kinds log l item) c.split_at.ensures.front in
-          rw c.split_at.ensures.back (written_one m.kinds log items i none lt vs n g s.out.bits c.put_ghost.new.out.bits _ (c.carried.ensures log stands) is put (s.invariant.bits log stands));
+          let g = ghost_for m.kinds log (take n vs) item in
+          let put : c.put_item.new.out.bits ≡ s.out.bits ++ spell_ghost m.kinds g = c.put_item.ensures.bits log stands ∙ ap (λ (l : List ℤ). s.out.bits ++ spell_ghost m.kinds (ghost_for m.kinds log l item)) c.split_at.ensures.front in
+          rw c.split_at.ensures.back (written_one m.kinds log items i none lt vs n g s.out.bits c.put_item.new.out.bits _ (c.carried.ensures log stands) refl put (s.invariant.bits log stands));
       left = λ log stands. rw c.split_at.ensures.back (next_later m.kinds log items i none lt vs n (c.carried.ensures log stands) (s.invariant.left log stands));
-      len = λ log stands.
-          omega (arith, c.put_ghost.ensures.len, length-ghost c.kinds.result.now g, ap (λ (k : List Kind). ghost_size k g) c.kinds.ensures, c.ghost_item-item.ensures.size log stands, sum_by_more (item_bits m.kinds log) items i none lt, s.invariant.len log stands);
-      size = c.put_ghost.ensures.size ∙ s.invariant.size;
+      len = λ log stands. omega (arith, c.put_item.ensures.len log stands, sum_by_more (item_bits m.kinds log) items i none lt, s.invariant.len log stands);
+      size = c.put_item.ensures.size ∙ s.invariant.size;
     }
 
 pub returns-clause-bits : goal.returns-clause-bits
