@@ -2,6 +2,7 @@
 #![tactic(auto)]
 
 mod copies;
+mod draft;
 mod line;
 mod living;
 mod told;

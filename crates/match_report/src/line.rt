@@ -1,33 +1,22 @@
 //! The report's line of what was told.
-ghost use Rattle.std.specs.Prelude.{◌≡◌, ◌++◌, ◌∷◌, [], IfOk, OnOk, OnErr, string_bytes};
+ghost use Rattle.std.specs.Prelude.{◌≡◌, ◌++◌, ◌∷◌, [], OnOk, OnErr};
 ghost use Rattle.std.specs.List.{flat_map};
 ghost use Rattle.std.specs.Fmt.{decimal};
-ghost use Rattle.match_report.specs.Text.{arrival_words, came_text, class_word, control_word, copies_text, copy_text, dropped_text, end_word, event_word, field_text, hex_text, moved_text, object_text, ping_word, posted_text, report_line, settled_mark, told_text, two_numbers, value_text};
+ghost use Rattle.match_report.specs.Text.{arrival_words, came_text, class_word, control_word, copies_text, copy_text, dropped_text, end_word, event_word, field_text, moved_text, object_text, ping_word, posted_text, report_line, settled_mark, told_text, two_numbers, value_text};
 ghost use Rattle.stream_manager.specs.Said.{server_refusal, client_refusal};
 
 use crate::copies::{CopyTold, FieldTold};
+use crate::draft::Draft;
 use crate::living::LivingObject;
 use crate::told::{EventTold, Told, Way};
 use event_manager::PostFault;
 use move_manager::MoveFault;
 use std::alloc::{AllocError, Global};
 use std::fmt::Write;
+use std::mem;
 use stream_manager::{ArriveFault, ClientFault};
 use tn_types::{Class, NoMemory, Payload};
 use world_rules::kind_word;
-
-// Bytes for which most lines have room, so that few grow while they are made.
-const USUAL_LINE: usize = 256;
-
-fn hex_text(alloc: Global, bytes: &[u8]) -> Result<String, AllocError>
-    ensures { IfOk result (λ text. string_bytes text ≡ hex_text bytes.now) }
-{
-    if bytes.len() == 0 {
-        String::from_str(alloc, "-")
-    } else {
-        hex::encode(alloc, bytes)
-    }
-}
 
 fn end_word(up: bool) -> &'static str
     ensures { result.now ≡ end_word up }
@@ -51,48 +40,46 @@ fn class_word(class: Class) -> &'static str
 }
 
 // Appends a word and a number.
-fn put(text: &mut String, word: &str, number: u32) -> Result<(), AllocError>
-    ensures { OnOk result (string_bytes text.new ≡ string_bytes text.old ++ word.now ++ decimal number) }
+fn put(text: &mut Draft, word: &str, number: u32) -> Result<(), AllocError>
+    ensures line { OnOk result (text.new.line ≡ text.old.line ++ word.now ++ decimal number) }
+    ensures before { text.new.before ≡ text.old.before }
 {
     text.push_str(word)?;
-    write!(text, "{number}")
+    text.push_number(u64::from(number))
 }
 
 // Appends a word and a count.
-fn put_count(text: &mut String, word: &str, count: usize) -> Result<(), AllocError>
-    ensures { OnOk result (string_bytes text.new ≡ string_bytes text.old ++ word.now ++ decimal count) }
+fn put_count(text: &mut Draft, word: &str, count: usize) -> Result<(), AllocError>
+    ensures line { OnOk result (text.new.line ≡ text.old.line ++ word.now ++ decimal count) }
+    ensures before { text.new.before ≡ text.old.before }
 {
     text.push_str(word)?;
-    write!(text, "{count}")
+    text.push_number(count as u64)
 }
 
-fn put_hex(text: &mut String, alloc: Global, bytes: &[u8]) -> Result<(), AllocError>
-    ensures { OnOk result (string_bytes text.new ≡ string_bytes text.old ++ hex_text bytes.now) }
-{
-    let hex = hex_text(alloc, bytes)?;
-    text.push_str(hex.as_str())
-}
-
-fn put_event(text: &mut String, alloc: Global, event: &EventTold) -> Result<(), AllocError>
-    ensures { OnOk result (string_bytes text.new ≡ string_bytes text.old ++ event_word event.now) }
+fn put_event(text: &mut Draft, event: &EventTold) -> Result<(), AllocError>
+    ensures line { OnOk result (text.new.line ≡ text.old.line ++ event_word event.now) }
+    ensures before { text.new.before ≡ text.old.before }
 {
     text.push_str(" ")?;
     text.push_str(class_word(event.class))?;
     text.push_str(":")?;
-    put_hex(text, alloc, event.payload.as_slice())
+    text.push_hex(event.payload.as_slice())
 }
 
-fn put_events(text: &mut String, alloc: Global, events: &[EventTold]) -> Result<(), AllocError>
-    ensures { OnOk result (string_bytes text.new ≡ string_bytes text.old ++ flat_map event_word events.now) }
+fn put_events(text: &mut Draft, events: &[EventTold]) -> Result<(), AllocError>
+    ensures line { OnOk result (text.new.line ≡ text.old.line ++ flat_map event_word events.now) }
+    ensures before { text.new.before ≡ text.old.before }
 {
     for event in events {
-        put_event(text, alloc, event)?;
+        put_event(text, event)?;
     }
     Ok(())
 }
 
-fn put_control(text: &mut String, control: Option<u8>) -> Result<(), AllocError>
-    ensures { OnOk result (string_bytes text.new ≡ string_bytes text.old ++ control_word control) }
+fn put_control(text: &mut Draft, control: Option<u8>) -> Result<(), AllocError>
+    ensures line { OnOk result (text.new.line ≡ text.old.line ++ control_word control) }
+    ensures before { text.new.before ≡ text.old.before }
 {
     match control {
         None => text.push_str("-"),
@@ -100,61 +87,78 @@ fn put_control(text: &mut String, control: Option<u8>) -> Result<(), AllocError>
     }
 }
 
-fn put_posted(text: &mut String, number: &Result<u32, PostFault>) -> Result<(), AllocError>
-    ensures { OnOk result (string_bytes text.new ≡ string_bytes text.old ++ posted_text number.now) }
+fn put_posted(text: &mut Draft, number: &Result<u32, PostFault>) -> Result<(), AllocError>
+    ensures line { OnOk result (text.new.line ≡ text.old.line ++ posted_text number.now) }
+    ensures before { text.new.before ≡ text.old.before }
 {
     match number {
         Ok(number) => put(text, "g ", *number),
-        Err(fault) => write!(text, "{}", *fault),
+        Err(PostFault::Worn { life }) => put(text, "worn ", *life),
+        Err(PostFault::Full { first, last }) => put_two(text, "full ", *first, *last),
     }
 }
 
-fn put_moved(text: &mut String, number: &Result<u32, MoveFault>) -> Result<(), AllocError>
-    ensures { OnOk result (string_bytes text.new ≡ string_bytes text.old ++ moved_text number.now) }
+fn put_moved(text: &mut Draft, number: &Result<u32, MoveFault>) -> Result<(), AllocError>
+    ensures line { OnOk result (text.new.line ≡ text.old.line ++ moved_text number.now) }
+    ensures before { text.new.before ≡ text.old.before }
 {
     match number {
         Ok(number) => put(text, "", *number),
-        Err(fault) => write!(text, "{}", *fault),
+        Err(MoveFault::Worn { life }) => put(text, "worn ", *life),
+        Err(MoveFault::Full { first, last }) => put_two(text, "full ", *first, *last),
     }
 }
 
-fn put_dropped(
-    text: &mut String,
-    alloc: Global,
-    dropped: &Option<Payload>,
-) -> Result<(), AllocError>
-    ensures { OnOk result (string_bytes text.new ≡ string_bytes text.old ++ dropped_text dropped.now) }
+fn put_dropped(text: &mut Draft, dropped: &Option<Payload>) -> Result<(), AllocError>
+    ensures line { OnOk result (text.new.line ≡ text.old.line ++ dropped_text dropped.now) }
+    ensures before { text.new.before ≡ text.old.before }
 {
     match dropped {
         None => text.push_str("u"),
         Some(payload) => {
             text.push_str("u dropped ")?;
-            put_hex(text, alloc, payload.as_slice())
+            text.push_hex(payload.as_slice())
         }
     }
 }
 
-fn put_two(text: &mut String, word: &str, first: u32, second: u32) -> Result<(), AllocError>
-    ensures { OnOk result (string_bytes text.new ≡ string_bytes text.old ++ two_numbers word.now first second) }
+fn put_two(text: &mut Draft, word: &str, first: u32, second: u32) -> Result<(), AllocError>
+    ensures line { OnOk result (text.new.line ≡ text.old.line ++ two_numbers word.now first second) }
+    ensures before { text.new.before ≡ text.old.before }
 {
     put(text, word, first)?;
     put(text, " ", second)
 }
 
-fn put_server_refusal(text: &mut String, fault: ArriveFault) -> Result<(), AllocError>
-    ensures { OnOk result (string_bytes text.new ≡ string_bytes text.old ++ server_refusal fault) }
+// What comes often is not written through the formatter.
+fn put_server_refusal(text: &mut Draft, alloc: Global, fault: ArriveFault) -> Result<(), AllocError>
+    ensures line { OnOk result (text.new.line ≡ text.old.line ++ server_refusal fault) }
+    ensures before { text.new.before ≡ text.old.before }
 {
-    write!(text, "{fault}")
+    if let ArriveFault::Old { seq, horizon } = fault {
+        return put_two(text, "old ", seq, horizon);
+    }
+    let mut said = String::new(alloc);
+    write!(said, "{fault}")?;
+    text.push_str(said.as_str())
 }
 
-fn put_client_refusal(text: &mut String, fault: ClientFault) -> Result<(), AllocError>
-    ensures { OnOk result (string_bytes text.new ≡ string_bytes text.old ++ client_refusal fault) }
+// What comes often is not written through the formatter.
+fn put_client_refusal(text: &mut Draft, alloc: Global, fault: ClientFault) -> Result<(), AllocError>
+    ensures line { OnOk result (text.new.line ≡ text.old.line ++ client_refusal fault) }
+    ensures before { text.new.before ≡ text.old.before }
 {
-    write!(text, "{fault}")
+    if let ClientFault::Old { seq, horizon } = fault {
+        return put_two(text, "old ", seq, horizon);
+    }
+    let mut said = String::new(alloc);
+    write!(said, "{fault}")?;
+    text.push_str(said.as_str())
 }
 
-fn put_arrival(text: &mut String, way: Way, client: u8, k: u32) -> Result<(), AllocError>
-    ensures { OnOk result (string_bytes text.new ≡ string_bytes text.old ++ arrival_words way client k) }
+fn put_arrival(text: &mut Draft, way: Way, client: u8, k: u32) -> Result<(), AllocError>
+    ensures line { OnOk result (text.new.line ≡ text.old.line ++ arrival_words way client k) }
+    ensures before { text.new.before ≡ text.old.before }
 {
     let client = u32::from(client);
     match way {
@@ -165,31 +169,28 @@ fn put_arrival(text: &mut String, way: Way, client: u8, k: u32) -> Result<(), Al
     text.push_str(" ")
 }
 
-fn put_came(
-    text: &mut String,
-    alloc: Global,
-    way: Way,
-    moves: u32,
-    events: &[EventTold],
-) -> Result<(), AllocError>
-    ensures { OnOk result (string_bytes text.new ≡ string_bytes text.old ++ came_text way moves events.now) }
+fn put_came(text: &mut Draft, way: Way, moves: u32, events: &[EventTold]) -> Result<(), AllocError>
+    ensures line { OnOk result (text.new.line ≡ text.old.line ++ came_text way moves events.now) }
+    ensures before { text.new.before ≡ text.old.before }
 {
     match way {
         Way::Down => {}
         Way::Up | Way::Raw => put(text, " ", moves)?,
     }
-    put_events(text, alloc, events)
+    put_events(text, events)
 }
 
-fn put_value(text: &mut String, value: i64) -> Result<(), AllocError>
-    ensures { OnOk result (string_bytes text.new ≡ string_bytes text.old ++ value_text value) }
+fn put_value(text: &mut Draft, value: i64) -> Result<(), AllocError>
+    ensures line { OnOk result (text.new.line ≡ text.old.line ++ value_text value) }
+    ensures before { text.new.before ≡ text.old.before }
 {
     text.push_str(" ")?;
-    write!(text, "{value}")
+    text.push_signed(value)
 }
 
-fn put_values(text: &mut String, values: &[i64]) -> Result<(), AllocError>
-    ensures { OnOk result (string_bytes text.new ≡ string_bytes text.old ++ flat_map value_text values.now) }
+fn put_values(text: &mut Draft, values: &[i64]) -> Result<(), AllocError>
+    ensures line { OnOk result (text.new.line ≡ text.old.line ++ flat_map value_text values.now) }
+    ensures before { text.new.before ≡ text.old.before }
 {
     for value in values {
         put_value(text, *value)?;
@@ -197,8 +198,9 @@ fn put_values(text: &mut String, values: &[i64]) -> Result<(), AllocError>
     Ok(())
 }
 
-fn put_object(text: &mut String, object: &LivingObject) -> Result<(), AllocError>
-    ensures { OnOk result (string_bytes text.new ≡ string_bytes text.old ++ object_text object.now) }
+fn put_object(text: &mut Draft, object: &LivingObject) -> Result<(), AllocError>
+    ensures line { OnOk result (text.new.line ≡ text.old.line ++ object_text object.now) }
+    ensures before { text.new.before ≡ text.old.before }
 {
     put(text, " | ", object.number)?;
     text.push_str(" ")?;
@@ -206,8 +208,9 @@ fn put_object(text: &mut String, object: &LivingObject) -> Result<(), AllocError
     put_values(text, object.values.as_slice())
 }
 
-fn put_objects(text: &mut String, objects: &[LivingObject]) -> Result<(), AllocError>
-    ensures { OnOk result (string_bytes text.new ≡ string_bytes text.old ++ flat_map object_text objects.now) }
+fn put_objects(text: &mut Draft, objects: &[LivingObject]) -> Result<(), AllocError>
+    ensures line { OnOk result (text.new.line ≡ text.old.line ++ flat_map object_text objects.now) }
+    ensures before { text.new.before ≡ text.old.before }
 {
     for object in objects {
         put_object(text, object)?;
@@ -221,15 +224,17 @@ fn settled_mark(settled: bool) -> &'static str
     if settled { "s" } else { "" }
 }
 
-fn put_field(text: &mut String, field: &FieldTold) -> Result<(), AllocError>
-    ensures { OnOk result (string_bytes text.new ≡ string_bytes text.old ++ field_text field.now) }
+fn put_field(text: &mut Draft, field: &FieldTold) -> Result<(), AllocError>
+    ensures line { OnOk result (text.new.line ≡ text.old.line ++ field_text field.now) }
+    ensures before { text.new.before ≡ text.old.before }
 {
     put_value(text, field.value)?;
     text.push_str(settled_mark(field.settled))
 }
 
-fn put_fields(text: &mut String, fields: &[FieldTold]) -> Result<(), AllocError>
-    ensures { OnOk result (string_bytes text.new ≡ string_bytes text.old ++ flat_map field_text fields.now) }
+fn put_fields(text: &mut Draft, fields: &[FieldTold]) -> Result<(), AllocError>
+    ensures line { OnOk result (text.new.line ≡ text.old.line ++ flat_map field_text fields.now) }
+    ensures before { text.new.before ≡ text.old.before }
 {
     for field in fields {
         put_field(text, field)?;
@@ -237,8 +242,9 @@ fn put_fields(text: &mut String, fields: &[FieldTold]) -> Result<(), AllocError>
     Ok(())
 }
 
-fn put_copy(text: &mut String, copy: &CopyTold) -> Result<(), AllocError>
-    ensures { OnOk result (string_bytes text.new ≡ string_bytes text.old ++ copy_text copy.now) }
+fn put_copy(text: &mut Draft, copy: &CopyTold) -> Result<(), AllocError>
+    ensures line { OnOk result (text.new.line ≡ text.old.line ++ copy_text copy.now) }
+    ensures before { text.new.before ≡ text.old.before }
 {
     put(text, " | ", u32::from(copy.slot))?;
     text.push_str(" ")?;
@@ -247,8 +253,9 @@ fn put_copy(text: &mut String, copy: &CopyTold) -> Result<(), AllocError>
     put_fields(text, copy.fields.as_slice())
 }
 
-fn put_each_copy(text: &mut String, copies: &[CopyTold]) -> Result<(), AllocError>
-    ensures { OnOk result (string_bytes text.new ≡ string_bytes text.old ++ flat_map copy_text copies.now) }
+fn put_each_copy(text: &mut Draft, copies: &[CopyTold]) -> Result<(), AllocError>
+    ensures line { OnOk result (text.new.line ≡ text.old.line ++ flat_map copy_text copies.now) }
+    ensures before { text.new.before ≡ text.old.before }
 {
     for copy in copies {
         put_copy(text, copy)?;
@@ -256,15 +263,17 @@ fn put_each_copy(text: &mut String, copies: &[CopyTold]) -> Result<(), AllocErro
     Ok(())
 }
 
-fn put_copies(text: &mut String, copies: &[CopyTold]) -> Result<(), AllocError>
-    ensures { OnOk result (string_bytes text.new ≡ string_bytes text.old ++ copies_text copies.now) }
+fn put_copies(text: &mut Draft, copies: &[CopyTold]) -> Result<(), AllocError>
+    ensures line { OnOk result (text.new.line ≡ text.old.line ++ copies_text copies.now) }
+    ensures before { text.new.before ≡ text.old.before }
 {
     put_count(text, " ghosts ", copies.len())?;
     put_each_copy(text, copies)
 }
 
-fn put_told(text: &mut String, alloc: Global, told: &Told) -> Result<(), AllocError>
-    ensures { OnOk result (string_bytes text.new ≡ string_bytes text.old ++ told_text told.now) }
+fn put_told(text: &mut Draft, alloc: Global, told: &Told) -> Result<(), AllocError>
+    ensures line { OnOk result (text.new.line ≡ text.old.line ++ told_text told.now) }
+    ensures before { text.new.before ≡ text.old.before }
 {
     match told {
         Told::Post { up, client, number } => {
@@ -281,7 +290,7 @@ fn put_told(text: &mut String, alloc: Global, told: &Told) -> Result<(), AllocEr
             text.push_str(end_word(*up))?;
             put(text, "post ", u32::from(*client))?;
             text.push_str(" ")?;
-            put_dropped(text, alloc, dropped)
+            put_dropped(text, dropped)
         }
         Told::Packed {
             up,
@@ -293,7 +302,7 @@ fn put_told(text: &mut String, alloc: Global, told: &Told) -> Result<(), AllocEr
             text.push_str(end_word(*up))?;
             put_two(text, "pack ", u32::from(*client), *place)?;
             text.push_str(ping_word(*ping))?;
-            put_hex(text, alloc, bytes.as_slice())
+            text.push_hex(bytes.as_slice())
         }
         Told::PackWorn { up, client, life } => {
             text.push_str(end_word(*up))?;
@@ -314,7 +323,7 @@ fn put_told(text: &mut String, alloc: Global, told: &Told) -> Result<(), AllocEr
         } => {
             put_arrival(text, *way, *client, *k)?;
             text.push_str("ok")?;
-            put_came(text, alloc, *way, *moves, events.as_slice())
+            put_came(text, *way, *moves, events.as_slice())
         }
         Told::NotSent {
             way,
@@ -332,11 +341,11 @@ fn put_told(text: &mut String, alloc: Global, told: &Told) -> Result<(), AllocEr
             fault,
         } => {
             put_arrival(text, *way, *client, *k)?;
-            put_server_refusal(text, *fault)
+            put_server_refusal(text, alloc, *fault)
         }
         Told::ClientRefused { client, k, fault } => {
             put_arrival(text, Way::Down, *client, *k)?;
-            put_client_refusal(text, *fault)
+            put_client_refusal(text, alloc, *fault)
         }
         Told::Show {
             client,
@@ -378,20 +387,30 @@ fn put_told(text: &mut String, alloc: Global, told: &Told) -> Result<(), AllocEr
     }
 }
 
+// Appends a whole line, with its newline.
+fn put_whole(text: &mut Draft, alloc: Global, told: &Told) -> Result<(), AllocError>
+    ensures line { OnOk result (text.new.line ≡ text.old.line ++ report_line told.now) }
+    ensures before { text.new.before ≡ text.old.before }
+{
+    put_told(text, alloc, told)?;
+    text.push_str("\n")
+}
+
 /// Appends the report's line of `told`, with its newline (docs/formats.md, "The report"). After an error `out` is
 /// unchanged.
 pub fn put_line(alloc: Global, told: &Told, out: &mut Vec<u8>) -> Result<(), NoMemory>
     ensures line { OnOk result (out.new.items ≡ out.old.items ++ report_line told.now) }
     ensures unchanged { OnErr result (out.new.items ≡ out.old.items) }
 {
-    let Ok(mut text) = String::with_capacity(alloc, USUAL_LINE) else {
-        return Err(NoMemory);
-    };
-    if put_told(&mut text, alloc, told).is_err() || text.push_str("\n").is_err() {
-        return Err(NoMemory);
-    }
-    match out.extend_from_slice(text.as_bytes()) {
-        Ok(()) => Ok(()),
-        Err(_) => Err(NoMemory),
+    let mut text = Draft::behind(mem::replace(out, Vec::new(alloc)));
+    match put_whole(&mut text, alloc, told) {
+        Ok(()) => {
+            *out = text.whole();
+            Ok(())
+        }
+        Err(_) => {
+            *out = text.taken_back();
+            Err(NoMemory)
+        }
     }
 }

@@ -1,4 +1,5 @@
 pub mod Cutting
+pub mod Pieces
 pub mod Numbers
 pub mod Steps
 pub mod MoveLines

@@ -1,13 +1,14 @@
 //! The lines of the body, one function each.
 ghost use Rattle.std.specs.Prelude.{◌≡◌, ◌∷◌, [], true, List, ℕ, IfOk};
-ghost use Rattle.match_script.specs.Text.{words_of};
 ghost use Rattle.match_script.specs.Lines.{GivesLine, body_line, scan_line, post_line, client_post_line, pack_line, client_pack_line, down_line, up_line, raw_line, move_line, show_line};
 ghost use Rattle.tn_types.specs.Steps.{is_step};
 ghost use Rattle.match_script.specs.Ranges.{LineFits};
+ghost use Rattle.match_script.specs.Shape.{words_line};
 
 use crate::types::{BodyLine, ScriptFault};
 use crate::word;
-use crate::words::{Words, parted};
+use crate::word::is_name;
+use crate::words::Words;
 use std::alloc::Global;
 use tn_types::{Bytes, MAX_DATAGRAM_BYTES, Move, NoMemory, RawBytes};
 
@@ -178,9 +179,9 @@ fn one_word(clients: u8, kind: &[u8]) -> Result<BodyLine, ScriptFault>
     ensures value { result ≡ body_line clients (kind.now ∷ []) }
     ensures fits { IfOk result (LineFits clients) }
 {
-    if kind == b"tick".as_slice() {
+    if is_name(kind, b"tick") {
         Ok(BodyLine::Tick)
-    } else if kind == b"world".as_slice() {
+    } else if is_name(kind, b"world") {
         Ok(BodyLine::World)
     } else {
         Err(ScriptFault::UnknownWord)
@@ -193,13 +194,13 @@ fn two_words(clients: u8, kind: &[u8], c: &[u8]) -> Result<BodyLine, ScriptFault
     ensures value { result ≡ body_line clients (kind.now ∷ c.now ∷ []) }
     ensures fits { IfOk result (LineFits clients) }
 {
-    if kind == b"pack".as_slice() {
+    if is_name(kind, b"pack") {
         pack(clients, c)
-    } else if kind == b"cpack".as_slice() {
+    } else if is_name(kind, b"cpack") {
         client_pack(clients, c)
-    } else if kind == b"scan".as_slice() {
+    } else if is_name(kind, b"scan") {
         scan(clients, c)
-    } else if kind == b"show".as_slice() {
+    } else if is_name(kind, b"show") {
         show(clients, c)
     } else {
         Err(ScriptFault::UnknownWord)
@@ -218,11 +219,11 @@ fn three_words(
     ensures value { GivesLine result (body_line clients (kind.now ∷ c.now ∷ what.now ∷ [])) }
     ensures fits { IfOk result (LineFits clients) }
 {
-    if kind == b"down".as_slice() {
+    if is_name(kind, b"down") {
         Ok(down(clients, c, what)?)
-    } else if kind == b"up".as_slice() {
+    } else if is_name(kind, b"up") {
         Ok(up(clients, c, what)?)
-    } else if kind == b"raw".as_slice() {
+    } else if is_name(kind, b"raw") {
         raw(alloc, clients, c, what)
     } else {
         Err(LineFault::Faulty(ScriptFault::UnknownWord))
@@ -241,28 +242,28 @@ fn four_words(
     ensures value { result ≡ body_line clients (kind.now ∷ c.now ∷ class.now ∷ bytes.now ∷ []) }
     ensures fits { IfOk result (LineFits clients) }
 {
-    if kind == b"post".as_slice() {
+    if is_name(kind, b"post") {
         post(clients, c, class, bytes)
-    } else if kind == b"cpost".as_slice() {
+    } else if is_name(kind, b"cpost") {
         client_post(clients, c, class, bytes)
     } else {
         Err(ScriptFault::UnknownWord)
     }
 }
 
-// What a line of the body says, by its words.
+// What the words of a line of the body say.
 #[tactic(auto, unfolding(crate::specs::Lines::body_line))]
-pub fn body_line(alloc: Global, clients: u8, line: &[u8]) -> Result<BodyLine, LineFault>
-    ensures value { GivesLine result (body_line clients (words_of line.now)) }
+pub fn words_line(alloc: Global, clients: u8, words: Words<'_>) -> Result<BodyLine, LineFault>
+    ensures value { GivesLine result (words_line clients words.entry) }
     ensures fits { IfOk result (LineFits clients) }
 {
-    match parted(line) {
+    match words {
         Words::One(kind) => Ok(one_word(clients, kind)?),
         Words::Two(kind, c) => Ok(two_words(clients, kind, c)?),
         Words::Three(kind, c, what) => three_words(alloc, clients, kind, c, what),
         Words::Four(kind, c, class, bytes) => Ok(four_words(clients, kind, c, class, bytes)?),
         Words::Six(kind, c, dx, dy, fire, act) => {
-            if kind == b"move".as_slice() {
+            if is_name(kind, b"move") {
                 Ok(sampled(clients, c, dx, dy, fire, act)?)
             } else {
                 Err(LineFault::Faulty(ScriptFault::UnknownWord))

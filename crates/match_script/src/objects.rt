@@ -43,8 +43,8 @@ fn may_follow(place: &Place, owner: Option<u8>) -> bool
 #[tactic(auto, using(crate::proofs::ObjectLines::follows_player, crate::proofs::ObjectLines::follows_other))]
 fn behind(place: &Place, owner: Option<u8>) -> Place
     requires { IfSome owner (λ client. client < MAX_CLIENTS) }
-    ensures { (before : List OneSpawn) (s : OneSpawn) → s.owner ≡ owner → may_follow before owner ≡ true → Follows place.now before
-        → Follows result (before ++ s ∷ []) }
+    ensures { (before : List OneSpawn) (s : OneSpawn) → s.owner ≡ owner → may_follow before owner ≡ true
+        → Follows place.now before → Follows result (before ++ s ∷ []) }
 {
     match owner {
         None => Place {

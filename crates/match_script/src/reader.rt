@@ -1,15 +1,17 @@
 //! From a text to its script.
-ghost use Rattle.std.specs.Prelude.{◌≡◌, ◌≤◌, ◌+◌, List, ℕ, IfOk, length};
+ghost use Rattle.std.specs.Prelude.{◌≡◌, ◌<◌, ◌≤◌, ◌+◌, ◌∷◌, List, ℕ, IfOk, length};
 ghost use Rattle.std.specs.List.{All};
 ghost use Rattle.match_script.specs.Text.{lines_of};
 ghost use Rattle.match_script.specs.Lines.{GivesLine};
 ghost use Rattle.match_script.specs.Script.{Gives, line_at, header_length, body_of, script_of};
 ghost use Rattle.match_script.specs.Ranges.{LineFits, HasRanges};
+ghost use Rattle.match_script.specs.Shape.{first_line, words_at};
 
 use crate::cut::{cut_line, is_text};
 use crate::head::header;
-use crate::line::{LineFault, body_line};
+use crate::line::{LineFault, words_line};
 use crate::types::{Body, BodyLine, Head, ParseFault, Script, ScriptFault};
+use crate::words::{Words, first_words, parted};
 use std::alloc::Global;
 use tn_types::{MAX_BLOCKS, MAX_BODY_LINES, MAX_OBJECTS};
 
@@ -26,6 +28,18 @@ fn header_length(head: &Head) -> u32
     BARE_HEADER_LINES + head.blocks.len() as u32 + head.setup.spawns.as_slice().len() as u32
 }
 
+// Line k of the body, counted from 0, by its words.
+#[tactic(auto, unfolding(crate::specs::Shape::words_at))]
+fn words_at(alloc: Global, clients: u8, k: u32, words: Words<'_>) -> Result<BodyLine, LineFault>
+    ensures value { GivesLine result (words_at clients k words.entry) }
+    ensures fits { IfOk result (LineFits clients) }
+{
+    if k >= MAX_BODY_LINES {
+        return Err(LineFault::Faulty(ScriptFault::TooManyLines));
+    }
+    words_line(alloc, clients, words)
+}
+
 // Line k of the body, counted from 0.
 #[tactic(auto, unfolding(crate::specs::Script::line_at))]
 fn line_at(alloc: Global, clients: u8, k: u32, line: &[u8]) -> Result<BodyLine, LineFault>
@@ -35,10 +49,29 @@ fn line_at(alloc: Global, clients: u8, k: u32, line: &[u8]) -> Result<BodyLine, 
     if !is_text(line) {
         return Err(LineFault::Faulty(ScriptFault::NotText));
     }
-    if k >= MAX_BODY_LINES {
-        return Err(LineFault::Faulty(ScriptFault::TooManyLines));
+    words_at(alloc, clients, k, parted(line))
+}
+
+// The first line of a text, which is line k of the body, and what comes after it.
+fn next_line(
+    alloc: Global,
+    clients: u8,
+    k: u32,
+    text: &[u8],
+) -> (Result<BodyLine, LineFault>, &[u8])
+    requires { 0 < length text.now }
+    ensures lines { lines_of text.now ≡ first_line text.now ∷ lines_of result.1.now }
+    ensures shorter { length result.1.now < length text.now }
+    ensures value { GivesLine result.0 (line_at clients k (first_line text.now)) }
+    ensures fits { IfOk result.0 (LineFits clients) }
+{
+    match first_words(text) {
+        Some((words, after)) => (words_at(alloc, clients, k, words), after),
+        None => {
+            let (line, after) = cut_line(text);
+            (line_at(alloc, clients, k, line), after)
+        }
     }
-    body_line(alloc, clients, line)
 }
 
 // The body behind line n of a text.
@@ -49,12 +82,13 @@ fn body_of(alloc: Global, clients: u8, n: u32, text: &[u8]) -> Result<Body, Pars
     ensures few { IfOk result (λ b. length b ≤ MAX_BODY_LINES) }
     ensures fits { IfOk result (All (LineFits clients)) }
 {
-    let mut lines = Vec::new(alloc);
+    // A line has eight bytes or so: few have less, and room for a line more costs little.
+    let mut lines = Vec::with_capacity(alloc, (text.len() / 8).min(MAX_BODY_LINES as usize))?;
     let mut rest = text;
     let mut k = 0u32;
     while rest.len() > 0 {
-        let (line, after) = cut_line(rest);
-        match line_at(alloc, clients, k, line) {
+        let (read, after) = next_line(alloc, clients, k, rest);
+        match read {
             Ok(line) => lines.push(line)?,
             Err(LineFault::NoMemory) => return Err(ParseFault::NoMemory),
             Err(LineFault::Faulty(fault)) => {

@@ -1,7 +1,8 @@
 //! What a word says: a number in a range, a step, a flag, a class, or bytes.
-ghost use Rattle.std.specs.Prelude.{◌≡◌, ◌^◌, ◌-◌, ◌<◌, ◌≤◌, min, IsTrue, IfOk, pos, negsuc};
+ghost use Rattle.std.specs.Prelude.{◌≡◌, ◌^◌, ◌-◌, ◌<◌, ◌≤◌, true, false, min, IfOk, MatchOption, pos, negsuc};
 ghost use Rattle.std.specs.List.{list_all};
 ghost use Rattle.hex.specs.Hex.{is_hex_digit};
+ghost use Rattle.std.specs.Str.{bytes_eq};
 ghost use Rattle.std.specs.Str.Parse.{digits_value};
 ghost use Rattle.match_script.specs.Words.{is_digit, is_number, is_hex, number, number_from, flag, class_named, hex};
 ghost use Rattle.match_script.specs.Steps.{GivesStride, ahead, back, as_stride, step};
@@ -15,20 +16,20 @@ const MAX_AHEAD: u64 = MAX_STEP as u64;
 
 const MAX_BACK: u64 = -(MIN_STEP as i64) as u64;
 
-// Decimal digits with no leading zero.
-fn is_number(word: &[u8]) -> bool
-    ensures { result ≡ is_number word.now }
+// Whether a word is this name: a few comparisons, where the name is known.
+#[inline(always)]
+pub fn is_name(word: &[u8], name: &[u8]) -> bool
+    ensures { result ≡ bytes_eq word.now name.now }
 {
-    match word.split_first() {
-        None => false,
-        Some((first, rest)) => {
-            if *first == b'0' {
-                rest.len() == 0
-            } else {
-                is_digit(*first) && are_digits(rest)
-            }
+    if word.len() != name.len() {
+        return false;
+    }
+    'bytes: for i in 0..name.len() {
+        if word[i] != name[i] {
+            return false;
         }
     }
+    true
 }
 
 fn is_digit(b: u8) -> bool
@@ -37,23 +38,31 @@ fn is_digit(b: u8) -> bool
     48 <= b && b <= 57
 }
 
-fn are_digits(word: &[u8]) -> bool
-    ensures { result ≡ list_all is_digit word.now }
-{
-    word.iter().all(|b| is_digit(*b))
-}
-
-// The number that the digits say, or the greatest.
-#[tactic(auto, using(crate::proofs::Numbers::value_step))]
-fn value(word: &[u8]) -> u64
-    requires { IsTrue (is_number word.now) }
-    ensures { result ≡ min (digits_value 10 word.now) (2 ^ 64 - 1) }
+// The number that digits say, or the greatest; None where a byte is no digit.
+#[tactic(auto, using(crate::proofs::Numbers::value_step, crate::proofs::Numbers::digit_more))]
+fn value(word: &[u8]) -> Option<u64>
+    ensures { MatchOption result (list_all is_digit word.now ≡ false) (λ n. (list_all is_digit word.now ≡ true)
+        × (n ≡ min (digits_value 10 word.now) (2 ^ 64 - 1))) }
 {
     let mut value = 0u64;
     for b in word {
+        if !is_digit(*b) {
+            return None;
+        }
         value = value.saturating_mul(10).saturating_add(digit(*b));
     }
-    value
+    Some(value)
+}
+
+// The same of decimal digits with no leading zero.
+fn numeral(word: &[u8]) -> Option<u64>
+    ensures { MatchOption result (is_number word.now ≡ false) (λ n. (is_number word.now ≡ true)
+        × (n ≡ min (digits_value 10 word.now) (2 ^ 64 - 1))) }
+{
+    if word.len() == 0 || (word.len() > 1 && word[0] == b'0') {
+        return None;
+    }
+    value(word)
 }
 
 // The value of a digit.
@@ -69,10 +78,9 @@ pub fn number(limit: u64, word: &[u8]) -> Result<u64, ScriptFault>
     requires { limit < 2 ^ 64 }
     ensures { result ≡ number limit word.now }
 {
-    if !is_number(word) {
+    let Some(n) = numeral(word) else {
         return Err(ScriptFault::BadNumber);
-    }
-    let n = value(word);
+    };
     if n < limit {
         Ok(n)
     } else {
@@ -200,9 +208,9 @@ pub fn flag(word: &[u8]) -> Result<bool, ScriptFault>
 pub fn class(word: &[u8]) -> Result<Class, ScriptFault>
     ensures { result ≡ class_named word.now }
 {
-    if word == b"g".as_slice() {
+    if is_name(word, b"g") {
         Ok(Class::Guaranteed)
-    } else if word == b"u".as_slice() {
+    } else if is_name(word, b"u") {
         Ok(Class::Loose)
     } else {
         Err(ScriptFault::UnknownWord)
@@ -215,7 +223,7 @@ pub fn bytes<const N: usize>(word: &[u8]) -> Result<Bytes<N>, ScriptFault>
     ensures value { result ≡ hex N word.now }
     ensures fits { IfOk result (BytesFit N) }
 {
-    if word == b"-".as_slice() {
+    if is_name(word, b"-") {
         return Ok(Bytes::new());
     }
     if word.len() == 0 || !is_hex(word) {
