@@ -1,0 +1,17 @@
+pub mod Grown
+pub mod Isolated
+pub mod InOrder
+pub mod Refused
+pub mod ValuesDue
+pub mod ValuesNewest
+pub mod ValuesTold
+pub mod ValuesRead
+pub mod ValuesHad
+pub mod ValuesShown
+pub mod Applied
+pub mod WordsBytes
+pub mod WordsCut
+pub mod WordsSteps
+pub mod WordsTold
+pub mod WordsLines
+pub mod WordsInOrder

@@ -1,0 +1,12 @@
+//! What a match tells, line by line, and what that promises: definitions and laws.
+#![tactic(auto)]
+
+mod laws;
+mod values;
+mod words;
+
+pub use laws::{
+    events_in_order, isolation, little_is_refused, loose_events_in_order, moves_in_order,
+};
+pub use values::{changes_recover, copies_show_values, settled_is_newest};
+pub use words::{applied_in_order, printed_in_order};
