@@ -18,7 +18,7 @@ use Rattle.own_lists.specs.Kept.{Kept, kept, follows, put}
 use Rattle.own_lists.specs.Past.{Past, client_terms, kept_by, after}
 use Rattle.own_lists.specs.Agreement.{AreLines}
 use Rattle.client_seat.specs.Stands.{SeatState, StandsFor as SeatStandsFor}
-use Rattle.match_engine.specs.Stands.{MatchState, ClientHolds, StandsFor, IsDirect}
+use Rattle.match_engine.specs.Stands.{GameState, ClientHolds, StandsFor, IsDirect}
 use Rattle.match_engine.specs.Serving.{Serves, OthersStay}
 
 -- ---- a list with another entry at one place
@@ -110,7 +110,7 @@ more_lines head line past s fits few = record {
 
 -- ---- one client's line
 
-pub fed : (m : MatchState) (past : List BodyLine) (line : BodyLine) (n : ℕ) (seats : List SeatState) (seat : SeatState) (scopes : List Table) (scope : Table) (lanes : Words)
+pub fed : (m : GameState) (past : List BodyLine) (line : BodyLine) (n : ℕ) (seats : List SeatState) (seat : SeatState) (scopes : List Table) (scope : Table) (lanes : Words)
     → client_named line ≡ Some n → LineFits m.head.clients line → m.done < 4000000 → StandsFor m past
     → IsPut n m.seats seats seat → IsPut n m.scopes scopes scope → OthersStay n m.lanes lanes
     → ClientHolds seat scope lanes n (client_terms m.head n) ((after m.head (line ∷ past)).scans n) (kept_by m.head (after m.head (line ∷ past)) n)
@@ -145,7 +145,7 @@ fed m past line n seats seat scopes scope lanes named fits few s put_seat put_sc
     }
 
 -- what a client's line finds
-pub serves : (m : MatchState) (past : List BodyLine) (n : ℕ) (seat d : SeatState) (scope e : Table) → n < m.head.clients → StandsFor m past → seat ≡ get_or m.seats n d → scope ≡ get_or m.scopes n e
+pub serves : (m : GameState) (past : List BodyLine) (n : ℕ) (seat d : SeatState) (scope e : Table) → n < m.head.clients → StandsFor m past → seat ≡ get_or m.seats n d → scope ≡ get_or m.scopes n e
     → Serves seat scope m.world m.lanes n m.head past
 serves m past n seat d scope e lt s is_seat is_scope = record {
   lines = s.lines;

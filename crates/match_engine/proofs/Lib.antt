@@ -4,13 +4,10 @@ pub mod Scanning
 pub mod Packing
 pub mod Taking
 pub mod Living
-pub mod Grown
-pub mod Isolated
-pub mod InOrder
-pub mod Refused
 pub mod Written
 pub mod Draining
 pub mod Drains
 pub mod Growing
 pub mod Newest
 pub mod Ticked
+pub mod Continued

@@ -6,7 +6,7 @@ use Rattle.world_rules.specs.declared.object.Object.{Object}
 use Rattle.world_rules.specs.Kinds.{kind_of}
 use Rattle.world_sim.specs.Rows.{values_of}
 use Rattle.match_report.specs.declared.living.LivingObject.{LivingObject}
-use Rattle.match_engine.specs.World.{living_one}
+use Rattle.match_laws.specs.World.{living_one}
 
 module _ (all sofar : List LivingObject) (os : List Object) (n : ℕ) (d : Object) (lt : n < length os) (is : all ≡ sofar ++ filter_map living_one (enumerate_from n (drop n os))) where
   abbrev rest : List LivingObject

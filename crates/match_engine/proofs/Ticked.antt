@@ -32,7 +32,7 @@ use Rattle.own_lists.proofs.KeptValues.{wrote_course}
 use Rattle.own_lists.proofs.ScanFacts.{numbers, different_rising, shown_are_shown}
 use Rattle.own_lists.proofs.WorldFacts.{IsFieldWrite, world_after, scans_are_sights, tick_writes_fit}
 use Rattle.client_seat.specs.Stands.{SeatState, StandsFor as SeatStandsFor, without_first}
-use Rattle.match_engine.specs.Stands.{MatchState, StandsFor, IsMarked, AreFew}
+use Rattle.match_engine.specs.Stands.{GameState, StandsFor, IsMarked, AreFew}
 use Rattle.match_engine.specs.Serving.{raised_by}
 use Rattle.match_engine.proofs.Fed.{more_lines, own_few}
 use Rattle.match_engine.proofs.Marks.{marks_after_tick}
@@ -124,7 +124,7 @@ few_taken t (Tick writes taken ∷ items) own =
 some_scope : Table
 some_scope = record { count = 0; shown = []; hides = []; nears = []; shows = []; marks = [] }
 
-pub few_moves : (m : MatchState) (past : List BodyLine) → StandsFor m past → m.done < 4000000 → AreFew m.seats
+pub few_moves : (m : GameState) (past : List BodyLine) → StandsFor m past → m.done < 4000000 → AreFew m.seats
 few_moves m past s done = λ c d l.
     let below : c < m.head.clients = omega (arith, l, s.seat_count) in
     let own = own_lists_agree m.head past c s.lines below in
@@ -132,17 +132,17 @@ few_moves m past s done = λ c d l.
     let few = few_taken (client_terms m.head c) ((after m.head past).own c) own.0 in
     omega (arith, taken, few, own_few m.head past c, s.counted, done)
 
-pub may_tick : (m : MatchState) (past : List BodyLine) → StandsFor m past → m.done < 4000000 → m.world.ticks < 4294967295
+pub may_tick : (m : GameState) (past : List BodyLine) → StandsFor m past → m.done < 4000000 → m.world.ticks < 4294967295
 may_tick m past s done = let few = few_ticks m.head past in let same = ap (λ (w : Worlds). w.ticks) s.same_world in omega (arith, few, same, s.counted, done)
 
-world_is : (m : MatchState) (past : List BodyLine) → StandsFor m past → IsWorld m.world
+world_is : (m : GameState) (past : List BodyLine) → StandsFor m past → IsWorld m.world
 world_is m past s = subst IsWorld (sym s.same_world) (world_after m.head past s.lines.fits)
 
 each_below : (w : Worlds) (most : ℕ) → length w.objects ≤ most → (writes : List Write) → AllByRecursion (IsWriteOf w) writes → AllByRecursion (λ (x : Write). x.object < most) writes
 each_below w most few [] h = tt
 each_below w most few (x ∷ writes) h = (omega (arith, few, h.0.object), each_below w most few writes h.1)
 
-pub objects_there : (m : MatchState) (past : List BodyLine) (writes : List Write) → StandsFor m past → AllByRecursion (IsWriteOf m.world) writes → All (λ (x : Write). x.object < m.lanes.objects) writes
+pub objects_there : (m : GameState) (past : List BodyLine) (writes : List Write) → StandsFor m past → AllByRecursion (IsWriteOf m.world) writes → All (λ (x : Write). x.object < m.lanes.objects) writes
 objects_there m past writes s h =
     let few = (world_is m past s).few in
     let objects = s.objects in
@@ -171,7 +171,7 @@ each_field w (x ∷ writes) h f =
     let within = slice_get_within (fields_of match_kinds (kind_of o.0.state)) x.field is.spec is.field in
     (omega (arith, within, few_fields o.0.state), each_field w writes h.1 f.1)
 
-pub fields_there : (m : MatchState) (past : List BodyLine) (moves : List (Option Move)) → StandsFor m past → AllByRecursion (IsWriteOf m.world) (next m.world moves).writes
+pub fields_there : (m : GameState) (past : List BodyLine) (moves : List (Option Move)) → StandsFor m past → AllByRecursion (IsWriteOf m.world) (next m.world moves).writes
     → All (λ (x : Write). x.field < 16) (next m.world moves).writes
 fields_there m past moves s h =
     let writes = (next m.world moves).writes in
@@ -179,17 +179,17 @@ fields_there m past moves s h =
 
 -- ---- after it
 
-pub moves_taken : (m : MatchState) (past : List BodyLine) → StandsFor m past → map (λ (s : SeatState). slice_get s.waiting 0) m.seats ≡ moves_of m.head (after m.head past)
+pub moves_taken : (m : GameState) (past : List BodyLine) → StandsFor m past → map (λ (s : SeatState). slice_get s.waiting 0) m.seats ≡ moves_of m.head (after m.head past)
 moves_taken m past s =
     moves_agree (λ c. next_move (client_terms m.head c) (kept_by m.head (after m.head past) c).course) 0 m.seats
     (λ k d l. let z : 0 + k ≡ k = omega arith in rw z (ap (λ (ws : List Move). slice_get ws 0) (s.client k d some_scope (omega (arith, l, s.seat_count))).course.holds.waiting))
     ∙ ap (λ n. map (λ c. next_move (client_terms m.head c) (kept_by m.head (after m.head past) c).course) (range_with_len 0 n)) s.seat_count
 
-pub next_world : (m : MatchState) (past : List BodyLine) (moves : List (Option Move)) → moves ≡ map (λ (s : SeatState). slice_get s.waiting 0) m.seats → StandsFor m past
+pub next_world : (m : GameState) (past : List BodyLine) (moves : List (Option Move)) → moves ≡ map (λ (s : SeatState). slice_get s.waiting 0) m.seats → StandsFor m past
     → next m.world moves ≡ (after m.head (script.Tick ∷ past)).world
 next_world m past moves are s = ap (next m.world) (are ∙ moves_taken m past s) ∙ ap (λ (w : Worlds). next w (moves_of m.head (after m.head past))) s.same_world
 
-pub ticked_match : (m : MatchState) (past : List BodyLine) (moves : List (Option Move)) (lanes : Words) → moves ≡ map (λ (s : SeatState). slice_get s.waiting 0) m.seats → m.done < 4000000
+pub ticked_match : (m : GameState) (past : List BodyLine) (moves : List (Option Move)) (lanes : Words) → moves ≡ map (λ (s : SeatState). slice_get s.waiting 0) m.seats → m.done < 4000000
     → ((d o : ℕ) → d < 16 → mask_at lanes d o ≡ raised_by (next m.world moves).writes o (mask_at m.lanes d o)) → SizesStay m.lanes lanes → StandsFor m past
     → StandsFor (record { head = m.head; seats = map without_first m.seats; scopes = m.scopes; world = next m.world moves; lanes = lanes; done = m.done + 1 }) (script.Tick ∷ past)
 ticked_match m past moves lanes are done masks sizes s =

@@ -5,7 +5,7 @@ use Rattle.std.proofs.lemmas.List.{take_more, reverse-append, append-nil, take-a
 use Rattle.std.proofs.lemmas.List.Concat.{flat_map-append}
 use Rattle.match_script.specs.declared.types.BodyLine.{BodyLine}
 use Rattle.match_script.specs.declared.types.Head.{Head}
-use Rattle.match_engine.specs.Report.{line_text, told_lines, text_behind, report_so_far}
+use Rattle.match_laws.specs.Report.{line_text, told_lines, text_behind, report_so_far}
 
 pub reverse_next : {X : Type 0} (xs : List X) (i : ℕ) (d : X) → i < length xs
     → reverse (take (i + 1) xs) ≡ get_or xs i d ∷ reverse (take i xs)

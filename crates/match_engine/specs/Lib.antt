@@ -1,7 +1,5 @@
-pub mod World
-pub mod Report
-pub mod Laws
 pub mod Stands
 pub mod Values
 pub mod Serving
+pub mod Match
 pub mod Telling

@@ -18,7 +18,7 @@ use Rattle.own_lists.specs.Past.{client_terms, kept_by, after}
 use Rattle.own_lists.specs.Agreement.{AreLines}
 use Rattle.client_seat.specs.Stands.{SeatState, StandsFor as SeatStandsFor}
 
-pub record MatchState : Type 0 where
+pub record GameState : Type 0 where
   pub head : Head
   pub seats : List SeatState
   pub scopes : List Table
@@ -36,7 +36,7 @@ pub record ClientHolds (seat : SeatState) (scope : Table) (lanes : Words) (c : �
   pub periods : ScopeStandsFor scope scans
   pub marks : All (IsMarked lanes c k) (shown scans)
 
-pub record StandsFor (m : MatchState) (past : List BodyLine) : Type 0 where
+pub record StandsFor (m : GameState) (past : List BodyLine) : Type 0 where
   pub lines : AreLines m.head past
   pub seat_count : length m.seats ≡ m.head.clients
   pub scope_count : length m.scopes ≡ m.head.clients
@@ -49,11 +49,11 @@ pub record StandsFor (m : MatchState) (past : List BodyLine) : Type 0 where
       ((after m.head past).scans c) (kept_by m.head (after m.head past) c)
 
 -- for every list of lines that the old match stood for, the new one stands for it with the line
-abbrev pub Does : MatchState → BodyLine → MatchState → Type 0
+abbrev pub Does : GameState → BodyLine → GameState → Type 0
 Does old line new = histories.Does StandsFor old line new
 
 -- for every such list the result is what f says of it
-abbrev pub Answers : {R : Type 0} → MatchState → (List BodyLine → R) → R → Type 0
+abbrev pub Answers : {R : Type 0} → GameState → (List BodyLine → R) → R → Type 0
 Answers {R} old f result = histories.Answers StandsFor old f result
 
 -- a line that is done on its client's connection alone

@@ -1,4 +1,4 @@
-//! The match: its world and the connection of each client.
+//! What a match holds: its world, and the connection and the scope of each client.
 ghost use Rattle.std.specs.Prelude.{◌≡◌, ℕ, ◌<◌, ◌≤◌, List, [], ◌∷◌, IfOk, OnOk, Some, None, length};
 ghost use Rattle.std.specs.Prelude.{slice_index_or};
 ghost use Rattle.match_script.specs.Ranges.{HeadFits};
@@ -25,12 +25,12 @@ use tn_types::{MAX_CLIENTS, MAX_COUNTED_LINES, MAX_OBJECTS, Move, NoMemory};
 use world_rules::match_kinds;
 use world_sim::World;
 
-/// A match of up to 16 clients, each with a connection of its own.
+/// The world of a match, and for each of its clients, at most 16, a connection and a scope.
 ///
-/// A clause sees `MatchState`, and what it means by the lines that were done.
+/// A clause sees `GameState`, and what it means by the lines that were done.
 #[derive(Drop)]
-pub struct Match {
-    head: Head,
+pub(crate) struct Game<'a> {
+    head: &'a Head,
     seats: Vec<Seat>,
     scopes: Vec<Scope>,
     world: World,
@@ -41,14 +41,14 @@ pub struct Match {
     done: u32,
 }
 
-impl Model for Match {
+impl<'a> Model for Game<'a> {
     ghost use Rattle.std.specs.Prelude.{List};
-    ghost use Rattle.match_engine.specs.Stands.{MatchState};
+    ghost use Rattle.match_engine.specs.Stands.{GameState};
 
-    ghost Value = { MatchState };
+    ghost Value = { GameState };
 
     ghost view = { λ m. record {
-      head = m.head;
+      head = m.head.now;
       seats = m.seats.items;
       scopes = m.scopes.items;
       world = m.world;
@@ -121,28 +121,25 @@ fn scopes_of(alloc: Global, clients: u8) -> Result<Vec<Scope>, NoMemory>
     Ok(scopes)
 }
 
-impl Match {
+impl<'a> Game<'a> {
     ghost use Rattle.match_script.specs.declared.types.BodyLine.{BodyLine as OneLine};
     ghost use Rattle.match_script.specs.declared.types.BodyLine.TheVariants as script;
     ghost use Rattle.match_script.specs.Ranges.{LineFits};
-    ghost use Rattle.match_engine.specs.Report.{told_after};
+    ghost use Rattle.match_laws.specs.Report.{told_after};
     ghost use Rattle.match_engine.specs.Stands.{StandsFor, Does, Answers, IsDirect};
 
-    /// A match of which no line was done.
-    pub fn new(alloc: Global, head: &Head) -> Result<Match, NoMemory>
+    /// A match of this header, of which no line was done.
+    pub(crate) fn new(alloc: Global, head: &'a Head) -> Result<Game<'a>, NoMemory>
         requires { HeadFits head.now }
         ensures stands { IfOk result (λ m. StandsFor m []) }
         ensures head { IfOk result (λ m. m.head ≡ head.now) }
     {
-        let Ok(own) = head.copy(alloc) else {
-            return Err(NoMemory);
-        };
         let seats = seats_of(alloc, head)?;
         let scopes = scopes_of(alloc, head.clients)?;
         let world = World::new(alloc, head.seed, &head.setup)?;
         let lanes = PlainLanes::new(alloc, MAX_OBJECTS as u32, u32::from(MAX_CLIENTS))?;
-        Ok(Match {
-            head: own,
+        Ok(Game {
+            head,
             seats,
             scopes,
             world,
@@ -158,7 +155,7 @@ impl Match {
     }
 
     /// The connection of a client, after what its own list leaves of its course.
-    pub fn pair(&self, client: u8) -> &Pair
+    pub(crate) fn pair(&self, client: u8) -> &Pair
         requires { client < length self.now.seats }
         ensures { (d : SeatState) → result.now ≡ (slice_index_or self.now.seats client d).pair }
     {
@@ -166,22 +163,30 @@ impl Match {
     }
 
     /// How many accepted moves of a client wait for a tick, at most 32.
-    pub fn waiting(&self, client: u8) -> u32
+    pub(crate) fn waiting(&self, client: u8) -> u32
         requires { client < length self.now.seats }
         ensures { (d : SeatState) → result ≡ length (slice_index_or self.now.seats client d).waiting }
     {
         self.seats[client as usize].waiting()
     }
 
+    /// The scope of a client.
+    pub(crate) fn scope(&self, client: u8) -> &Scope
+        requires { client < length self.now.scopes }
+        ensures { (e : Table) → result.now ≡ slice_index_or self.now.scopes client e }
+    {
+        &self.scopes[client as usize]
+    }
+
     /// The world as it is.
-    pub fn world(&self) -> &World
+    pub(crate) fn world(&self) -> &World
         ensures { result.now ≡ self.now.world }
     {
         &self.world
     }
 
     /// Does one line, and gives what the report tells of it.
-    pub fn feed(&mut self, alloc: Global, line: &BodyLine) -> Result<Told, NoMemory>
+    pub(crate) fn feed(&mut self, alloc: Global, line: &BodyLine) -> Result<Told, NoMemory>
         requires stands { (past : List OneLine) × StandsFor self.old past }
         requires fits { LineFits self.old.head.clients line.now }
         requires few { self.old.done < MAX_COUNTED_LINES }

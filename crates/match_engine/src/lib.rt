@@ -3,16 +3,14 @@
 
 mod game;
 mod lanes;
-mod laws;
 mod lines;
 mod output;
+mod played;
 mod running;
 mod serving;
 mod ticking;
 mod values;
 
-pub use game::Match;
-pub use laws::{
-    events_in_order, isolation, little_is_refused, loose_events_in_order, moves_in_order,
-};
+pub use output::write_all;
+pub use played::Match;
 pub use running::{RunFault, run};

@@ -5,7 +5,7 @@ ghost use Rattle.own_lists.specs.Own.{client_named, Line};
 ghost use Rattle.own_lists.specs.Kept.{follows};
 ghost use Rattle.own_lists.specs.Past.{Past, client_terms, kept_by};
 ghost use Rattle.client_seat.specs.Stands.{Stands, StandsFor};
-ghost use Rattle.match_engine.specs.Report.{told};
+ghost use Rattle.match_laws.specs.Report.{told};
 ghost use Rattle.match_engine.specs.Stands.{IsDirect};
 
 use client_seat::Seat;

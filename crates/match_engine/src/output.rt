@@ -5,8 +5,9 @@ ghost use Rattle.tn_outside.specs.Totals.{Adds, AddsFront};
 
 use tn_outside::{Failed, Sink};
 
-/// Writes a whole piece. After an error a front of it was written.
-pub(crate) fn write_all<K: Sink>(sink: &mut K, piece: &[u8]) -> Result<(), Failed>
+/// Writes a whole piece to a sink, in as many writes as it wants. `Failed` comes where a write failed; a front of the piece was
+/// written then (docs/formats.md, "The command line").
+pub fn write_all<K: Sink>(sink: &mut K, piece: &[u8]) -> Result<(), Failed>
     ensures ok { OnOk result (Adds (K.written sink.old) (K.written sink.new) piece.now) }
     ensures err { OnErr result (AddsFront (K.written sink.old) (K.written sink.new) piece.now) }
     ensures cause { HasCause (K.faults sink.old) (K.faults sink.new) result }

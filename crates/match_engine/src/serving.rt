@@ -8,7 +8,7 @@ ghost use Rattle.world_sim.specs.Worlds.{Worlds};
 ghost use Rattle.match_engine.specs.Stands.{IsMarked};
 ghost use Rattle.own_lists.specs.Past.{client_terms, kept_by, after, showing_of};
 ghost use Rattle.match_script.specs.declared.types.BodyLine.TheVariants as script;
-ghost use Rattle.match_engine.specs.Report.{told_after};
+ghost use Rattle.match_laws.specs.Report.{told_after};
 ghost use Rattle.match_engine.specs.Serving.{Serves, OthersStay};
 
 use crate::lanes::{clear_all, drain_all, written_of};

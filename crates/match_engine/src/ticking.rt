@@ -2,7 +2,7 @@
 ghost use Rattle.std.specs.Prelude.{◌≡◌, ◌<◌, ◌≤◌, ◌-◌, ◌^◌, ℕ, IfOk, OnOk, length, map, slice_get};
 ghost use Rattle.client_seat.specs.Stands.{without_first};
 ghost use Rattle.match_engine.specs.Stands.{AreFew};
-ghost use Rattle.match_engine.specs.World.{living};
+ghost use Rattle.match_laws.specs.World.{living};
 
 use client_seat::Seat;
 use match_report::{Living, LivingObject, ValueList};

@@ -6,7 +6,7 @@ use Rattle.std.specs.List.{filter_map, enumerate_from}
 use Rattle.world_rules.specs.declared.object.Object.{Object}
 use Rattle.world_sim.specs.Rows.{values_of}
 use Rattle.match_report.specs.declared.living.LivingObject.{LivingObject}
-use Rattle.match_engine.specs.World.{living, living_one}
+use Rattle.match_laws.specs.World.{living, living_one}
 use Rattle.match_engine.proofs.Living.{lives, is_dead}
 use Rattle.match_engine.proofs.ticking.living_of.Goals as goal
 use Rattle.match_engine.proofs.ticking.living_of.Goals.{then-object+in_ok-push, else-object}

@@ -1,6 +1,6 @@
 use Rattle.std.proofs.Common.{◌≡◌, ◌++◌, drop}
 use Rattle.std.specs.List.{filter_map, enumerate_from}
-use Rattle.match_engine.specs.World.{living, living_one}
+use Rattle.match_laws.specs.World.{living, living_one}
 use Rattle.match_engine.proofs.ticking.living_of.Given as goal
 
 abbrev pub invariant-loop-n : goal.invariant-loop-n

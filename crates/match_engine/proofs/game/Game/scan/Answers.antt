@@ -6,13 +6,13 @@ use Rattle.match_report.specs.declared.told.Told.{Told}
 use Rattle.client_scope.specs.StandsFor.{Table}
 use Rattle.dirty_lanes.specs.Words.{Words}
 use Rattle.client_seat.specs.Stands.{SeatState}
-use Rattle.match_engine.specs.Report.{told_after}
-use Rattle.match_engine.specs.Stands.{MatchState, StandsFor}
+use Rattle.match_laws.specs.Report.{told_after}
+use Rattle.match_engine.specs.Stands.{GameState, StandsFor}
 use Rattle.match_engine.specs.Serving.{Serves, OthersStay}
 use Rattle.match_engine.proofs.Fed.{fed, serves, put_set, map_if_ok, both_ok}
-use Rattle.match_engine.proofs.game.Match.scan.Goals as goal
+use Rattle.match_engine.proofs.game.Game.scan.Goals as goal
 
-module _ (m : MatchState) (d : SeatState) (e : Table) (n : ℕ) (past : List BodyLine) (lt : n < m.head.clients) (is : d ≡ get_or m.seats n d) (is_scope : e ≡ get_or m.scopes n e) (s : StandsFor m past) where
+module _ (m : GameState) (d : SeatState) (e : Table) (n : ℕ) (past : List BodyLine) (lt : n < m.head.clients) (is : d ≡ get_or m.seats n d) (is_scope : e ≡ get_or m.scopes n e) (s : StandsFor m past) where
   finds : Serves d e m.world m.lanes n m.head past
   finds = serves m past n d d e e lt s is is_scope
 
@@ -27,28 +27,28 @@ module _ (m : MatchState) (d : SeatState) (e : Table) (n : ℕ) (past : List Bod
 
 pub scan_for-requires : goal.scan_for-requires
 scan_for-requires c =
-    let m : MatchState = record { head = c.self.inside.head; seats = c.self.inside.seats.items; scopes = c.self.inside.scopes.items; world = c.self.inside.world; lanes = c.self.inside.lanes; done = c.self.inside.done } in
-    let s : StandsFor m c.requires.stands.0 = subst (λ (x : MatchState). StandsFor x c.requires.stands.0) (sym c.self.view_is) c.requires.stands.1 in
-    let lt : c.args.client < m.head.clients = subst (λ (x : MatchState). c.args.client < x.head.clients) (sym c.self.view_is) c.requires.client in
-    let done : m.done < 4000000 = subst (λ (x : MatchState). x.done < 4000000) (sym c.self.view_is) c.requires.few in
+    let m : GameState = record { head = c.self.inside.head.now; seats = c.self.inside.seats.items; scopes = c.self.inside.scopes.items; world = c.self.inside.world; lanes = c.self.inside.lanes; done = c.self.inside.done } in
+    let s : StandsFor m c.requires.stands.0 = subst (λ (x : GameState). StandsFor x c.requires.stands.0) (sym c.self.view_is) c.requires.stands.1 in
+    let lt : c.args.client < m.head.clients = subst (λ (x : GameState). c.args.client < x.head.clients) (sym c.self.view_is) c.requires.client in
+    let done : m.done < 4000000 = subst (λ (x : GameState). x.done < 4000000) (sym c.self.view_is) c.requires.few in
     record { serves = (m.head, c.requires.stands.0, finds m c.index_mut.result.now c.index_mut-2.result.now c.args.client c.requires.stands.0 lt c.index_mut.ensures.value c.index_mut-2.ensures.value s, omega (arith, done, s.counted)) }
 
 pub returns-clause-told : goal.returns-clause-told
 returns-clause-told c =
-    let m : MatchState = record { head = c.self.inside.head; seats = c.self.inside.seats.items; scopes = c.self.inside.scopes.items; world = c.self.inside.world; lanes = c.self.inside.lanes; done = c.self.inside.done } in
-    let lt : c.args.client < m.head.clients = subst (λ (x : MatchState). c.args.client < x.head.clients) (sym c.self.view_is) c.requires.client in
-    subst (λ (x : MatchState). IfOk c.scan_for.result (λ t. (past : List BodyLine) → StandsFor x past → t ≡ told_after x.head past (script.Scan c.args.client))) c.self.view_is
+    let m : GameState = record { head = c.self.inside.head.now; seats = c.self.inside.seats.items; scopes = c.self.inside.scopes.items; world = c.self.inside.world; lanes = c.self.inside.lanes; done = c.self.inside.done } in
+    let lt : c.args.client < m.head.clients = subst (λ (x : GameState). c.args.client < x.head.clients) (sym c.self.view_is) c.requires.client in
+    subst (λ (x : GameState). IfOk c.scan_for.result (λ t. (past : List BodyLine) → StandsFor x past → t ≡ told_after x.head past (script.Scan c.args.client))) c.self.view_is
     (map_if_ok c.scan_for.result _ (λ (t : Told). (past : List BodyLine) → StandsFor m past → t ≡ told_after m.head past (script.Scan c.args.client))
     (λ t f past s. f m.head past (finds m c.index_mut.result.now c.index_mut-2.result.now c.args.client past lt c.index_mut.ensures.value c.index_mut-2.ensures.value s))
     c.scan_for.ensures.told)
 
 pub returns-clause-stands : goal.returns-clause-stands
 returns-clause-stands c =
-    let m : MatchState = record { head = c.self.inside.head; seats = c.self.inside.seats.items; scopes = c.self.inside.scopes.items; world = c.self.inside.world; lanes = c.self.inside.lanes; done = c.self.inside.done } in
-    let lt : c.args.client < m.head.clients = subst (λ (x : MatchState). c.args.client < x.head.clients) (sym c.self.view_is) c.requires.client in
-    let done : m.done < 4000000 = subst (λ (x : MatchState). x.done < 4000000) (sym c.self.view_is) c.requires.few in
-    let new : MatchState = record { head = m.head; seats = set m.seats c.args.client c.scan_for.new.seat; scopes = set m.scopes c.args.client c.scan_for.new.scope; world = m.world; lanes = c.scan_for.new.lanes; done = m.done + 1 } in
-    subst (λ (x : MatchState). OnOk c.scan_for.result ((past : List BodyLine) → StandsFor x past → StandsFor new (script.Scan c.args.client ∷ past))) c.self.view_is
+    let m : GameState = record { head = c.self.inside.head.now; seats = c.self.inside.seats.items; scopes = c.self.inside.scopes.items; world = c.self.inside.world; lanes = c.self.inside.lanes; done = c.self.inside.done } in
+    let lt : c.args.client < m.head.clients = subst (λ (x : GameState). c.args.client < x.head.clients) (sym c.self.view_is) c.requires.client in
+    let done : m.done < 4000000 = subst (λ (x : GameState). x.done < 4000000) (sym c.self.view_is) c.requires.few in
+    let new : GameState = record { head = m.head; seats = set m.seats c.args.client c.scan_for.new.seat; scopes = set m.scopes c.args.client c.scan_for.new.scope; world = m.world; lanes = c.scan_for.new.lanes; done = m.done + 1 } in
+    subst (λ (x : GameState). OnOk c.scan_for.result ((past : List BodyLine) → StandsFor x past → StandsFor new (script.Scan c.args.client ∷ past))) c.self.view_is
     (both_ok c.scan_for.result _ _ ((past : List BodyLine) → StandsFor m past → StandsFor new (script.Scan c.args.client ∷ past))
     (λ f others past s.
     let found = finds m c.index_mut.result.now c.index_mut-2.result.now c.args.client past lt c.index_mut.ensures.value c.index_mut-2.ensures.value s in

@@ -8,13 +8,13 @@ use Rattle.own_lists.specs.Own.{OwnItem}
 use Rattle.own_lists.specs.Kept.{kept}
 use Rattle.own_lists.specs.Past.{client_terms, after}
 use Rattle.client_seat.specs.Stands.{SeatState}
-use Rattle.match_engine.specs.Report.{told_after}
-use Rattle.match_engine.specs.Stands.{MatchState, ClientHolds, StandsFor}
+use Rattle.match_laws.specs.Report.{told_after}
+use Rattle.match_engine.specs.Stands.{GameState, ClientHolds, StandsFor}
 use Rattle.match_engine.proofs.Fed.{fed, serves, put_none, own_line, map_if_ok}
-use Rattle.match_engine.proofs.game.Match.show.Goals as goal
+use Rattle.match_engine.proofs.game.Game.show.Goals as goal
 
 -- nothing changes
-next : (m : MatchState) (past : List BodyLine) (n : ℕ) (d : SeatState) (e : Table) → n < m.head.clients → m.done < 4000000 → d ≡ get_or m.seats n d → e ≡ get_or m.scopes n e → StandsFor m past
+next : (m : GameState) (past : List BodyLine) (n : ℕ) (d : SeatState) (e : Table) → n < m.head.clients → m.done < 4000000 → d ≡ get_or m.seats n d → e ≡ get_or m.scopes n e → StandsFor m past
     → StandsFor (record { head = m.head; seats = m.seats; scopes = m.scopes; world = m.world; lanes = m.lanes; done = m.done + 1 }) (script.Show n ∷ past)
 next m past n d e lt done is_seat is_scope s =
     let own = own_line m.head (script.Show n) past n tt refl in
@@ -27,16 +27,16 @@ next m past n d e lt done is_seat is_scope s =
 
 pub show_for-requires : goal.show_for-requires
 show_for-requires c =
-    let m : MatchState = record { head = c.self.inside.head; seats = c.self.inside.seats.items; scopes = c.self.inside.scopes.items; world = c.self.inside.world; lanes = c.self.inside.lanes; done = c.self.inside.done } in
-    let lt : c.args.client < m.head.clients = subst (λ (x : MatchState). c.args.client < x.head.clients) (sym c.self.view_is) c.requires.client in
-    let s : StandsFor m c.requires.stands.0 = subst (λ (x : MatchState). StandsFor x c.requires.stands.0) (sym c.self.view_is) c.requires.stands.1 in
+    let m : GameState = record { head = c.self.inside.head.now; seats = c.self.inside.seats.items; scopes = c.self.inside.scopes.items; world = c.self.inside.world; lanes = c.self.inside.lanes; done = c.self.inside.done } in
+    let lt : c.args.client < m.head.clients = subst (λ (x : GameState). c.args.client < x.head.clients) (sym c.self.view_is) c.requires.client in
+    let s : StandsFor m c.requires.stands.0 = subst (λ (x : GameState). StandsFor x c.requires.stands.0) (sym c.self.view_is) c.requires.stands.1 in
     record { serves = (m.world, m.head, c.requires.stands.0, serves m c.requires.stands.0 c.args.client c.index.result.now c.index.result.now c.index-2.result.now c.index-2.result.now lt s c.index.ensures c.index-2.ensures) }
 
 pub returns-clause-told : goal.returns-clause-told
 returns-clause-told c =
-    let m : MatchState = record { head = c.self.inside.head; seats = c.self.inside.seats.items; scopes = c.self.inside.scopes.items; world = c.self.inside.world; lanes = c.self.inside.lanes; done = c.self.inside.done } in
-    let lt : c.args.client < m.head.clients = subst (λ (x : MatchState). c.args.client < x.head.clients) (sym c.self.view_is) c.requires.client in
-    subst (λ (x : MatchState). IfOk c.show_for.result (λ t. (past : List BodyLine) → StandsFor x past → t ≡ told_after x.head past (script.Show c.args.client))) c.self.view_is
+    let m : GameState = record { head = c.self.inside.head.now; seats = c.self.inside.seats.items; scopes = c.self.inside.scopes.items; world = c.self.inside.world; lanes = c.self.inside.lanes; done = c.self.inside.done } in
+    let lt : c.args.client < m.head.clients = subst (λ (x : GameState). c.args.client < x.head.clients) (sym c.self.view_is) c.requires.client in
+    subst (λ (x : GameState). IfOk c.show_for.result (λ t. (past : List BodyLine) → StandsFor x past → t ≡ told_after x.head past (script.Show c.args.client))) c.self.view_is
     (map_if_ok c.show_for.result _ (λ (t : Told). (past : List BodyLine) → StandsFor m past → t ≡ told_after m.head past (script.Show c.args.client))
     (λ t f past s. f m.world m.head past (serves m past c.args.client c.index.result.now c.index.result.now c.index-2.result.now c.index-2.result.now lt s c.index.ensures c.index-2.ensures))
     c.show_for.ensures)
@@ -47,10 +47,10 @@ on_ok (Err e) A a = tt
 
 pub returns-clause-stands : goal.returns-clause-stands
 returns-clause-stands c =
-    let m : MatchState = record { head = c.self.inside.head; seats = c.self.inside.seats.items; scopes = c.self.inside.scopes.items; world = c.self.inside.world; lanes = c.self.inside.lanes; done = c.self.inside.done } in
-    let lt : c.args.client < m.head.clients = subst (λ (x : MatchState). c.args.client < x.head.clients) (sym c.self.view_is) c.requires.client in
-    let done : m.done < 4000000 = subst (λ (x : MatchState). x.done < 4000000) (sym c.self.view_is) c.requires.few in
-    let new : MatchState = record { head = m.head; seats = m.seats; scopes = m.scopes; world = m.world; lanes = m.lanes; done = m.done + 1 } in
-    subst (λ (x : MatchState). OnOk c.show_for.result ((past : List BodyLine) → StandsFor x past → StandsFor new (script.Show c.args.client ∷ past))) c.self.view_is
+    let m : GameState = record { head = c.self.inside.head.now; seats = c.self.inside.seats.items; scopes = c.self.inside.scopes.items; world = c.self.inside.world; lanes = c.self.inside.lanes; done = c.self.inside.done } in
+    let lt : c.args.client < m.head.clients = subst (λ (x : GameState). c.args.client < x.head.clients) (sym c.self.view_is) c.requires.client in
+    let done : m.done < 4000000 = subst (λ (x : GameState). x.done < 4000000) (sym c.self.view_is) c.requires.few in
+    let new : GameState = record { head = m.head; seats = m.seats; scopes = m.scopes; world = m.world; lanes = m.lanes; done = m.done + 1 } in
+    subst (λ (x : GameState). OnOk c.show_for.result ((past : List BodyLine) → StandsFor x past → StandsFor new (script.Show c.args.client ∷ past))) c.self.view_is
     (on_ok c.show_for.result ((past : List BodyLine) → StandsFor m past → StandsFor new (script.Show c.args.client ∷ past))
     (λ past s. next m past c.args.client c.index.result.now c.index-2.result.now lt done c.index.ensures c.index-2.ensures s))

@@ -3,9 +3,9 @@ use Rattle.std.specs.Prelude.{IfOk}
 use Rattle.match_script.specs.declared.types.BodyLine.{BodyLine}
 use Rattle.match_script.specs.declared.types.BodyLine.TheVariants as script
 use Rattle.own_lists.specs.Own.{client_named}
-use Rattle.match_engine.specs.Report.{told_after}
+use Rattle.match_laws.specs.Report.{told_after}
 use Rattle.match_engine.specs.Stands.{StandsFor}
-use Rattle.match_engine.proofs.game.Match.serve.Goals as goal
+use Rattle.match_engine.proofs.game.Game.serve.Goals as goal
 
 pub returns-in-Pack-clause-told : goal.returns-in-Pack-clause-told
 returns-in-Pack-clause-told c =

@@ -10,15 +10,15 @@ use Rattle.own_lists.specs.Kept.{follows}
 use Rattle.own_lists.specs.Past.{Past, client_terms, kept_by, after}
 use Rattle.own_lists.proofs.Counting.{few_up}
 use Rattle.client_seat.specs.Stands.{SeatState, StandsFor as SeatStandsFor}
-use Rattle.match_engine.specs.Report.{told, told_after}
-use Rattle.match_engine.specs.Stands.{MatchState, StandsFor, IsDirect}
+use Rattle.match_laws.specs.Report.{told, told_after}
+use Rattle.match_engine.specs.Stands.{GameState, StandsFor, IsDirect}
 use Rattle.match_engine.proofs.Fed.{names_client, fed, after_direct, put_set, put_none, own_few, map_if_ok, map_on_ok}
-use Rattle.match_engine.proofs.game.Match.direct.Goals as goal
+use Rattle.match_engine.proofs.game.Game.direct.Goals as goal
 
-abbrev before : goal.After-index_mut → MatchState
-before c = record { head = c.self.inside.head; seats = c.self.inside.seats.items; scopes = c.self.inside.scopes.items; world = c.self.inside.world; lanes = c.self.inside.lanes; done = c.self.inside.done }
+abbrev before : goal.After-index_mut → GameState
+before c = record { head = c.self.inside.head.now; seats = c.self.inside.seats.items; scopes = c.self.inside.scopes.items; world = c.self.inside.world; lanes = c.self.inside.lanes; done = c.self.inside.done }
 
-module _ (m : MatchState) (d : SeatState) (n : ℕ) (line : BodyLine) (past : List BodyLine) (named : client_named line ≡ Some n) (is : d ≡ get_or m.seats n d) (s : StandsFor m past) (fits : LineFits m.head.clients line) where
+module _ (m : GameState) (d : SeatState) (n : ℕ) (line : BodyLine) (past : List BodyLine) (named : client_named line ≡ Some n) (is : d ≡ get_or m.seats n d) (s : StandsFor m past) (fits : LineFits m.head.clients line) where
   lt : n < m.head.clients
   lt = names_client m.head.clients line n named fits
 
@@ -47,13 +47,13 @@ module _ (m : MatchState) (d : SeatState) (n : ℕ) (line : BodyLine) (past : Li
       (after_direct m.head line past n (get_or m.seats n d) new scope m.lanes direct named (s.client n d some_scope lt) (f m.head (after m.head past) n course))
 
 stands : (c : goal.After-index_mut) → StandsFor (before c) c.requires.stands.0
-stands c = subst (λ (x : MatchState). StandsFor x c.requires.stands.0) (sym c.self.view_is) c.requires.stands.1
+stands c = subst (λ (x : GameState). StandsFor x c.requires.stands.0) (sym c.self.view_is) c.requires.stands.1
 
 line_fits : (c : goal.After-index_mut) → LineFits (before c).head.clients c.args.line.now
-line_fits c = subst (λ (x : MatchState). LineFits x.head.clients c.args.line.now) (sym c.self.view_is) c.requires.fits
+line_fits c = subst (λ (x : GameState). LineFits x.head.clients c.args.line.now) (sym c.self.view_is) c.requires.fits
 
 is_few : (c : goal.After-index_mut) → (before c).done < 4000000
-is_few c = subst (λ (x : MatchState). x.done < 4000000) (sym c.self.view_is) c.requires.few
+is_few c = subst (λ (x : GameState). x.done < 4000000) (sym c.self.view_is) c.requires.few
 
 pub line_on-requires-clause-stands : goal.line_on-requires-clause-stands
 line_on-requires-clause-stands c = record {
@@ -67,20 +67,20 @@ line_on-requires-clause-few c = few (before c) c.index_mut.result.now c.args.cli
 
 pub returns-clause-told : goal.returns-clause-told
 returns-clause-told c =
-    let m : MatchState = record { head = c.self.inside.head; seats = c.self.inside.seats.items; scopes = c.self.inside.scopes.items; world = c.self.inside.world; lanes = c.self.inside.lanes; done = c.self.inside.done } in
-    let fits : LineFits m.head.clients c.args.line.now = subst (λ (x : MatchState). LineFits x.head.clients c.args.line.now) (sym c.self.view_is) c.requires.fits in
-    subst (λ (x : MatchState). IfOk c.line_on.result (λ t. (past : List BodyLine) → StandsFor x past → t ≡ told_after x.head past c.args.line.now)) c.self.view_is
+    let m : GameState = record { head = c.self.inside.head.now; seats = c.self.inside.seats.items; scopes = c.self.inside.scopes.items; world = c.self.inside.world; lanes = c.self.inside.lanes; done = c.self.inside.done } in
+    let fits : LineFits m.head.clients c.args.line.now = subst (λ (x : GameState). LineFits x.head.clients c.args.line.now) (sym c.self.view_is) c.requires.fits in
+    subst (λ (x : GameState). IfOk c.line_on.result (λ t. (past : List BodyLine) → StandsFor x past → t ≡ told_after x.head past c.args.line.now)) c.self.view_is
     (map_if_ok c.line_on.result _ (λ (t : Told). (past : List BodyLine) → StandsFor m past → t ≡ told_after m.head past c.args.line.now)
     (λ t f past s. tells m c.index_mut.result.now c.args.client c.args.line.now past c.requires.named c.index_mut.ensures.value s fits t f)
     c.line_on.ensures.told)
 
 pub returns-clause-stands : goal.returns-clause-stands
 returns-clause-stands c =
-    let m : MatchState = record { head = c.self.inside.head; seats = c.self.inside.seats.items; scopes = c.self.inside.scopes.items; world = c.self.inside.world; lanes = c.self.inside.lanes; done = c.self.inside.done } in
-    let fits : LineFits m.head.clients c.args.line.now = subst (λ (x : MatchState). LineFits x.head.clients c.args.line.now) (sym c.self.view_is) c.requires.fits in
-    let done : m.done < 4000000 = subst (λ (x : MatchState). x.done < 4000000) (sym c.self.view_is) c.requires.few in
-    let new : MatchState = record { head = m.head; seats = set m.seats c.args.client c.line_on.new.seat; scopes = m.scopes; world = m.world; lanes = m.lanes; done = m.done + 1 } in
-    subst (λ (x : MatchState). OnOk c.line_on.result ((past : List BodyLine) → StandsFor x past → StandsFor new (c.args.line.now ∷ past))) c.self.view_is
+    let m : GameState = record { head = c.self.inside.head.now; seats = c.self.inside.seats.items; scopes = c.self.inside.scopes.items; world = c.self.inside.world; lanes = c.self.inside.lanes; done = c.self.inside.done } in
+    let fits : LineFits m.head.clients c.args.line.now = subst (λ (x : GameState). LineFits x.head.clients c.args.line.now) (sym c.self.view_is) c.requires.fits in
+    let done : m.done < 4000000 = subst (λ (x : GameState). x.done < 4000000) (sym c.self.view_is) c.requires.few in
+    let new : GameState = record { head = m.head; seats = set m.seats c.args.client c.line_on.new.seat; scopes = m.scopes; world = m.world; lanes = m.lanes; done = m.done + 1 } in
+    subst (λ (x : GameState). OnOk c.line_on.result ((past : List BodyLine) → StandsFor x past → StandsFor new (c.args.line.now ∷ past))) c.self.view_is
     (map_on_ok c.line_on.result _ ((past : List BodyLine) → StandsFor m past → StandsFor new (c.args.line.now ∷ past))
     (λ f past s. next m c.index_mut.result.now c.args.client c.args.line.now past c.requires.named c.index_mut.ensures.value s fits c.requires.direct done c.line_on.new.seat f)
     c.line_on.ensures.stands)

@@ -7,11 +7,11 @@ use Rattle.client_scope.specs.StandsFor.{Table}
 use Rattle.dirty_lanes.specs.Words.{Words}
 use Rattle.client_seat.specs.Stands.{SeatState}
 use Rattle.match_engine.specs.Serving.{Serves, OthersStay}
-use Rattle.match_engine.specs.Stands.{MatchState, StandsFor}
+use Rattle.match_engine.specs.Stands.{GameState, StandsFor}
 use Rattle.match_engine.proofs.Fed.{fed, serves, put_set, put_none, both_ok}
-use Rattle.match_engine.proofs.game.Match.pack.Goals as goal
+use Rattle.match_engine.proofs.game.Game.pack.Goals as goal
 
-next : (m : MatchState) (past : List BodyLine) (n : ℕ) (d : SeatState) (e : Table) → n < m.head.clients → m.done < 4000000 → d ≡ get_or m.seats n d → e ≡ get_or m.scopes n e
+next : (m : GameState) (past : List BodyLine) (n : ℕ) (d : SeatState) (e : Table) → n < m.head.clients → m.done < 4000000 → d ≡ get_or m.seats n d → e ≡ get_or m.scopes n e
     → (new : SeatState) (lanes : Words) → StandsFor m past → OthersStay n m.lanes lanes
     → ((h : Head) (p : List BodyLine) → Serves d e m.world m.lanes n h p → length p < 4000000 → Serves new e m.world lanes n h (script.Pack n ∷ p))
     → StandsFor (record { head = m.head; seats = set m.seats n new; scopes = m.scopes; world = m.world; lanes = lanes; done = m.done + 1 }) (script.Pack n ∷ past)
@@ -22,11 +22,11 @@ next m past n d e lt done is_seat is_scope new lanes s others f =
 
 pub returns-clause-stands : goal.returns-clause-stands
 returns-clause-stands c =
-    let m : MatchState = record { head = c.self.inside.head; seats = c.self.inside.seats.items; scopes = c.self.inside.scopes.items; world = c.self.inside.world; lanes = c.self.inside.lanes; done = c.self.inside.done } in
-    let lt : c.args.client < m.head.clients = subst (λ (x : MatchState). c.args.client < x.head.clients) (sym c.self.view_is) c.requires.client in
-    let done : m.done < 4000000 = subst (λ (x : MatchState). x.done < 4000000) (sym c.self.view_is) c.requires.few in
-    let new : MatchState = record { head = m.head; seats = set m.seats c.args.client c.pack_for.new.seat; scopes = m.scopes; world = m.world; lanes = c.pack_for.new.lanes; done = m.done + 1 } in
-    subst (λ (x : MatchState). OnOk c.pack_for.result ((past : List BodyLine) → StandsFor x past → StandsFor new (script.Pack c.args.client ∷ past))) c.self.view_is
+    let m : GameState = record { head = c.self.inside.head.now; seats = c.self.inside.seats.items; scopes = c.self.inside.scopes.items; world = c.self.inside.world; lanes = c.self.inside.lanes; done = c.self.inside.done } in
+    let lt : c.args.client < m.head.clients = subst (λ (x : GameState). c.args.client < x.head.clients) (sym c.self.view_is) c.requires.client in
+    let done : m.done < 4000000 = subst (λ (x : GameState). x.done < 4000000) (sym c.self.view_is) c.requires.few in
+    let new : GameState = record { head = m.head; seats = set m.seats c.args.client c.pack_for.new.seat; scopes = m.scopes; world = m.world; lanes = c.pack_for.new.lanes; done = m.done + 1 } in
+    subst (λ (x : GameState). OnOk c.pack_for.result ((past : List BodyLine) → StandsFor x past → StandsFor new (script.Pack c.args.client ∷ past))) c.self.view_is
     (both_ok c.pack_for.result _ _ ((past : List BodyLine) → StandsFor m past → StandsFor new (script.Pack c.args.client ∷ past))
     (λ f others past s. next m past c.args.client c.index_mut.result.now c.index.result.now lt done c.index_mut.ensures.value c.index.ensures c.pack_for.new.seat c.pack_for.new.lanes s others f)
     c.pack_for.ensures.serves c.pack_for.ensures.others)

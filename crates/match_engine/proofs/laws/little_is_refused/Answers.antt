@@ -1,6 +1,0 @@
-use Rattle.own_lists.proofs.Agreeing.{own_lists_agree}
-use Rattle.match_engine.proofs.Refused.{little_refused}
-use Rattle.match_engine.proofs.laws.little_is_refused.Goals as goal
-
-pub returns : goal.returns
-returns c = little_refused own_lists_agree

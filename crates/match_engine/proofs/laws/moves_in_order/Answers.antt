@@ -1,6 +1,0 @@
-use Rattle.own_lists.proofs.Agreeing.{own_lists_agree}
-use Rattle.match_engine.proofs.InOrder.{moves_in_order}
-use Rattle.match_engine.proofs.laws.moves_in_order.Goals as goal
-
-pub returns : goal.returns
-returns c = moves_in_order own_lists_agree
