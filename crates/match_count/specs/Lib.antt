@@ -1,0 +1,3 @@
+pub mod Counting
+pub mod Summary
+pub mod Bounds

@@ -1,0 +1,5 @@
+pub mod Draws
+pub mod Header
+pub mod Lines
+pub mod Made
+pub mod Adding

@@ -1,0 +1,12 @@
+//! A large match from a number: `make` draws a script of any length. The rules stand in docs/maker.md.
+#![tactic(auto)]
+
+mod draws;
+mod header;
+mod lines;
+mod making;
+mod numbers;
+#[cfg(test)]
+mod tests;
+
+pub use making::make;

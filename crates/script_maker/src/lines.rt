@@ -1,0 +1,165 @@
+//! The rounds of a made script.
+ghost use Rattle.std.specs.Prelude.{◌≡◌, ◌++◌, ◌∷◌, [], ◌<◌, true, IfOk, OnOk, length};
+ghost use Rattle.tn_types.specs.Steps.{is_step};
+ghost use Rattle.match_script.specs.declared.types.BodyLine.TheVariants as script;
+ghost use Rattle.script_maker.specs.Adding.{Adds};
+ghost use Rattle.script_maker.specs.Draws.{each_below};
+ghost use Rattle.script_maker.specs.Lines.{step_drawn, move_drawn, sample, way_line, brought, delivery, event, post, client_lines, round};
+
+use crate::draws::draw;
+use crate::numbers::{ACTS_ONCE_IN, CHANCES, PAYLOADS, POSTS_ONCE_IN, STEPS};
+use match_script::BodyLine;
+use rand_pcg::Lcg64Xsh32;
+use tn_types::{Class, MIN_STEP, Move, NoMemory, Payload};
+
+fn put(lines: &mut Vec<BodyLine>, line: BodyLine) -> Result<(), NoMemory>
+    ensures { OnOk result (lines.new.items ≡ lines.old.items ++ line ∷ []) }
+{
+    match lines.push(line) {
+        Ok(()) => Ok(()),
+        Err(_) => Err(NoMemory),
+    }
+}
+
+// The step of a number.
+fn step_drawn(d: u32) -> i8
+    requires { d < STEPS }
+    ensures { result ≡ step_drawn d }
+{
+    d as i8 + MIN_STEP
+}
+
+// The move of four draws.
+fn move_drawn(dx: u32, dy: u32, fire: u32, act: u32) -> Move
+    requires dx { dx < STEPS }
+    requires dy { dy < STEPS }
+    ensures { result ≡ move_drawn dx dy fire act }
+{
+    Move {
+        dx: step_drawn(dx),
+        dy: step_drawn(dy),
+        fire: fire == 0,
+        act: act == 0,
+    }
+}
+
+// A client samples a move.
+#[tactic(auto, unfolding(crate::specs::Lines::sample))]
+fn sample(rng: &mut Lcg64Xsh32, client: u8) -> BodyLine
+    ensures { (result, rng.new) ≡ sample client rng.old }
+{
+    let dx = draw(rng, STEPS);
+    let dy = draw(rng, STEPS);
+    let fire = draw(rng, ACTS_ONCE_IN);
+    let act = draw(rng, ACTS_ONCE_IN);
+    let m = move_drawn(dx, dy, fire, act);
+    BodyLine::Move { client, m }
+}
+
+// The line that brings a client's datagram k, up or down.
+fn way_line(up: bool, client: u8, k: u32) -> BodyLine
+    ensures { result ≡ way_line up client k }
+{
+    if up {
+        BodyLine::Up { client, k }
+    } else {
+        BodyLine::Down { client, k }
+    }
+}
+
+// The lines that bring datagram k, by what was drawn.
+fn bring(lines: &mut Vec<BodyLine>, up: bool, client: u8, k: u32, d: u32) -> Result<(), NoMemory>
+    ensures { OnOk result (lines.new.items ≡ lines.old.items ++ brought (way_line up client) k d) }
+{
+    if d == 0 {
+        return Ok(());
+    }
+    put(lines, way_line(up, client, k))?;
+    if d == 1 {
+        put(lines, way_line(up, client, k))
+    } else if d == 2 && k > 0 {
+        put(lines, way_line(up, client, k - 1))
+    } else {
+        Ok(())
+    }
+}
+
+// A delivery, up or down, after so many datagrams and one.
+#[tactic(auto, unfolding(crate::specs::Lines::delivery))]
+fn deliver(
+    lines: &mut Vec<BodyLine>,
+    rng: &mut Lcg64Xsh32,
+    up: bool,
+    client: u8,
+    k: u32,
+) -> Result<(), NoMemory>
+    ensures { OnOk result (Adds (delivery (way_line up client) k) lines.old.items rng.old lines.new.items rng.new) }
+{
+    let d = draw(rng, CHANCES);
+    bring(lines, up, client, k, d)
+}
+
+// The event of a post.
+#[tactic(auto, unfolding(crate::specs::Lines::event))]
+fn event(rng: &mut Lcg64Xsh32, client: u8) -> BodyLine
+    ensures { (result ∷ [], rng.new) ≡ event client rng.old }
+{
+    let v = draw(rng, PAYLOADS);
+    let mut payload = Payload::new();
+    payload.push((v / 256) as u8);
+    payload.push((v % 256) as u8);
+    BodyLine::Post {
+        client,
+        class: Class::Guaranteed,
+        payload,
+    }
+}
+
+// A post to a client, now and then.
+#[tactic(auto, unfolding(crate::specs::Lines::post))]
+fn post(lines: &mut Vec<BodyLine>, rng: &mut Lcg64Xsh32, client: u8) -> Result<(), NoMemory>
+    ensures { OnOk result (Adds (post client) lines.old.items rng.old lines.new.items rng.new) }
+{
+    if draw(rng, POSTS_ONCE_IN) == 0 {
+        put(lines, event(rng, client))
+    } else {
+        Ok(())
+    }
+}
+
+// What a client and the server do for each other in round k.
+#[tactic(auto, unfolding(crate::specs::Lines::client_lines))]
+fn put_client(
+    lines: &mut Vec<BodyLine>,
+    rng: &mut Lcg64Xsh32,
+    k: u32,
+    client: u8,
+) -> Result<(), NoMemory>
+    ensures { OnOk result (Adds (client_lines k client) lines.old.items rng.old lines.new.items rng.new) }
+{
+    let sampled = sample(rng, client);
+    put(lines, sampled)?;
+    put(lines, BodyLine::ClientPack { client })?;
+    deliver(lines, rng, true, client, k)?;
+    put(lines, BodyLine::Scan { client })?;
+    post(lines, rng, client)?;
+    put(lines, BodyLine::Pack { client })?;
+    deliver(lines, rng, false, client, k)
+}
+
+// Round k.
+#[tactic(auto, unfolding(crate::specs::Lines::round))]
+pub(crate) fn put_round(
+    lines: &mut Vec<BodyLine>,
+    rng: &mut Lcg64Xsh32,
+    clients: u8,
+    k: u32,
+) -> Result<(), NoMemory>
+    ensures { OnOk result (Adds (round clients k) lines.old.items rng.old lines.new.items rng.new) }
+{
+    put(lines, BodyLine::Tick)?;
+    'clients: for client in 0..clients {
+        put_client(lines, rng, k, client)?;
+    }
+    Ok(())
+}
