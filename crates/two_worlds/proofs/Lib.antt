@@ -1,0 +1,11 @@
+pub mod Numbers
+pub mod Holding
+pub mod Sending
+pub mod Packing
+pub mod Mapped
+pub mod Feeding
+pub mod Texts
+pub mod MadeItems
+pub mod Stepping
+pub mod Feeds
+pub mod WholeText

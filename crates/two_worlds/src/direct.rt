@@ -1,0 +1,55 @@
+//! A line that is done on the client's connection alone.
+ghost use Rattle.std.specs.Prelude.{◌<◌, OnOk, length};
+ghost use Rattle.stream_manager.specs.Limits.{Terms};
+ghost use Rattle.own_lists.specs.Kept.{Kept, after_line};
+ghost use Rattle.client_seat.specs.Stands.{Stands, StandsFor};
+ghost use Rattle.match_engine.specs.Stands.{IsDirect};
+
+use client_seat::Seat;
+use match_script::BodyLine;
+use std::alloc::Global;
+use tn_types::{MAX_DATAGRAMS, NoMemory};
+
+/// Does a line on the client's connection. Nothing is told of it.
+pub(crate) fn line_on(alloc: Global, seat: &mut Seat, line: &BodyLine) -> Result<(), NoMemory>
+    requires direct { IsDirect line.now }
+    requires stands { Stands seat.old }
+    requires few { length seat.old.pair.up < MAX_DATAGRAMS }
+    ensures { OnOk result ((t : Terms) (k : Kept) → StandsFor seat.old t k.course
+        → StandsFor seat.new t (after_line t line.now k).course) }
+{
+    match line {
+        BodyLine::Post {
+            client,
+            class,
+            payload,
+        } => {
+            let _told = seat.post(*client, *class, payload.copy());
+        }
+        BodyLine::ClientPost {
+            client,
+            class,
+            payload,
+        } => {
+            let _told = seat.client_post(*client, *class, payload.copy());
+        }
+        BodyLine::ClientPack { client } => {
+            let _told = seat.client_pack(alloc, *client)?;
+        }
+        BodyLine::Down { client, k } => {
+            let _told = seat.down(alloc, *client, *k)?;
+        }
+        BodyLine::Up { client, k } => {
+            let _told = seat.up(alloc, *client, *k)?;
+        }
+        BodyLine::Raw { client, bytes } => {
+            let bytes = bytes.copy(alloc)?;
+            let _told = seat.raw(alloc, *client, bytes)?;
+        }
+        BodyLine::Move { client, m } => {
+            let _told = seat.sample(*client, *m);
+        }
+        _ => unreachable!(),
+    }
+    Ok(())
+}
