@@ -1,5 +1,5 @@
 -- Each end of a command has its outcome.
-use Rattle.std.proofs.Common.{◌≡◌, ℕ, ◌+◌, ◌≤◌, inl, inr, List, ◌++◌, length, take, Option, Ok, refl, arith, length-append, length-take, sym, subst}
+use Rattle.std.proofs.Common.{ℕ, ◌+◌, ◌≤◌, inr, List, ◌++◌, length, take, Option, Ok, refl, arith, length-append, length-take, sym, subst}
 use Rattle.std.proofs.lemmas.List.{take_all}
 use Rattle.tn_outside.specs.Causes.{Rose}
 use Rattle.tn_outside.specs.Streams.{ReadTakes}
@@ -7,14 +7,8 @@ use Rattle.tn_outside.specs.Totals.{GaveFront, Adds, AddsFront}
 use Rattle.tn_outside.proofs.Totals.{gave_more}
 use Rattle.match_script.specs.declared.types.Script.{Script as OneScript}
 use Rattle.match_cli.specs.declared.command.Command.{Command}
-use Rattle.match_cli.specs.declared.command.Command.TheVariants.{Run}
-use Rattle.match_cli.specs.declared.status.Status.{Status}
-use Rattle.match_cli.specs.declared.status.Status.TheVariants.{Done, Usage, Script, TooLong, ReadFault, WriteFault, NoMemory}
-use Rattle.match_cli.specs.Outcome.{Seen, seen, ReadAs, GaveAtMost, NotRead, Cause, Outcome, text_of, HasFailed}
-
--- there is one command so far
-pub only_run : (c : Command) → c ≡ Run
-only_run Run = refl
+use Rattle.match_cli.specs.declared.status.Status.TheVariants.{Done, WriteFault}
+use Rattle.match_cli.specs.Outcome.{Seen, seen, HasScript, LeavesSource, GaveAtMost, Outcome, text_of, HasFailed}
 
 -- a fault that comes later in a call is one of the call
 pub rose_later : (a b n : ℕ) → a ≤ b → Rose b n → Rose a n
@@ -25,6 +19,7 @@ pub took_more : (old mid new : Option (List ℕ)) (k n : ℕ) (bytes buf : List 
 took_more old mid new k n bytes buf g r few =
     (length (bytes ++ take k buf), omega (arith, length-append bytes (take k buf), length-take k buf, few), (bytes ++ take k buf, refl, gave_more old mid new k bytes buf g r))
 
+-- what a source and a sink were told to be, before a call and after it
 module _ (c : Command) (held held' : Option (List ℕ)) (faults faults' : ℕ) (written written' : Option (List ℕ)) (sink_faults sink_faults' : ℕ) where
   abbrev source : Seen
   source = seen held held' faults faults'
@@ -32,44 +27,25 @@ module _ (c : Command) (held held' : Option (List ℕ)) (faults faults' : ℕ) (
   abbrev sink : Seen
   sink = seen written written' sink_faults sink_faults'
 
-  pub not_read : (s : Status) → NotRead source s → GaveAtMost 1048577 held held' → faults ≤ faults' → Outcome (Ok c) source (seen written written sink_faults sink_faults) s
-  not_read s why taken later = record { answer = cause s why; taken = taken; written = inl refl; reads = later; writes = omega arith }
-    where
-      cause : (s : Status) → NotRead source s → Cause c source (seen written written sink_faults sink_faults) s
-      cause Done why = absurd why
-      cause (Usage i) why = absurd why
-      cause (Script line fault) why = (why, (refl, refl))
-      cause TooLong why = (why, (refl, refl))
-      cause ReadFault why = (why, (refl, refl))
-      cause WriteFault why = absurd why
-      cause NoMemory why = tt
-
   pub whole : (bytes : List ℕ) → Adds written written' bytes → AddsFront written written' bytes
   whole bytes a = (length bytes, omega arith, subst (λ (b : List ℕ). Adds written written' b) (sym (take_all (length bytes) bytes (omega arith))) a)
 
-  pub done : (script : OneScript) → ReadAs held held' (Ok script) → GaveAtMost 1048577 held held' → faults ≤ faults' → Adds written written' (text_of c script) → sink_faults ≤ sink_faults' → Outcome (Ok c) source sink Done
-  done script read taken later adds sink_later = record {
-    answer = (script, read, adds);
+  pub done : (script : OneScript) → HasScript c source script → LeavesSource (Ok c) source → GaveAtMost 1048577 held held' → faults ≤ faults' → Adds written written' (text_of c script) → sink_faults ≤ sink_faults' → Outcome (Ok c) source sink Done
+  done script has left taken later adds sink_later = record {
+    answer = (script, has, adds);
+    left = left;
     taken = taken;
-    written = inr (script, read, whole (text_of c script) adds);
+    written = inr (script, has, whole (text_of c script) adds);
     reads = later;
     writes = sink_later;
   }
 
-  pub write_fault : (script : OneScript) → ReadAs held held' (Ok script) → GaveAtMost 1048577 held held' → faults ≤ faults' → AddsFront written written' (text_of c script) → sink_faults ≤ sink_faults' → HasFailed sink → Outcome (Ok c) source sink WriteFault
-  write_fault script read taken later front sink_later failed = record {
-    answer = (failed, (script, read, front));
+  pub write_fault : (script : OneScript) → HasScript c source script → LeavesSource (Ok c) source → GaveAtMost 1048577 held held' → faults ≤ faults' → AddsFront written written' (text_of c script) → sink_faults ≤ sink_faults' → HasFailed sink → Outcome (Ok c) source sink WriteFault
+  write_fault script has left taken later front sink_later failed = record {
+    answer = (failed, (script, has, front));
+    left = left;
     taken = taken;
-    written = inr (script, read, front);
-    reads = later;
-    writes = sink_later;
-  }
-
-  pub no_memory : (script : OneScript) → ReadAs held held' (Ok script) → GaveAtMost 1048577 held held' → faults ≤ faults' → AddsFront written written' (text_of c script) → sink_faults ≤ sink_faults' → Outcome (Ok c) source sink NoMemory
-  no_memory script read taken later front sink_later = record {
-    answer = tt;
-    taken = taken;
-    written = inr (script, read, front);
+    written = inr (script, has, front);
     reads = later;
     writes = sink_later;
   }

@@ -1,1 +1,5 @@
 pub mod Ends
+pub mod Numbers
+pub mod Words
+pub mod Rule
+pub mod Isolated

@@ -1,10 +1,14 @@
-//! A match, from its script on standard input to its report on standard output.
+//! The program: what its words ask for, over standard input, standard output and standard error.
 #![tactic(auto)]
 
 mod command;
 #[cfg(test)]
 mod examples;
 mod input;
+#[cfg(test)]
+mod outside;
+#[cfg(test)]
+mod raw_rows;
 #[cfg(test)]
 mod rows;
 mod status;

@@ -1,6 +1,7 @@
 //! Whole calls: scripts with the reports that were worked out for them, and what is left behind by each fault.
 ghost use Rattle.std.specs.Prelude.{◌<◌};
 
+use crate::raw_rows::RAW_ROWS;
 use crate::rows::ROWS;
 use crate::status::{Status, exit_of};
 use crate::top::top;
@@ -84,6 +85,22 @@ up 0 1 ok 0
 pack 0 2 data c00000800000c0000000000000000000
 ";
 
+/// What the `pack 0` lines of both scripts of two clients print, whatever the other client does.
+const PACKS_OF_CLIENT_0: &str = "pack 0 0 data 40000000000000000000000000800082300000
+pack 0 1 data 800000400000400000000000000000010001803e803ef0ff00
+";
+
+/// The counts of a match of 8 clients, 60 objects and 5,000 lines, made of the number 7.
+const LARGE_MATCH: &str = "big 7 8 5000
+data 768
+ping 0
+down 668
+old 273
+events 207
+moves 765
+bytes 79075
+";
+
 /// What a call with these words answers, and what it writes. The source gives and the sink takes at most `most` bytes a
 /// call, and the calls with these numbers fail.
 fn served<'a>(
@@ -151,6 +168,16 @@ fn with_lines(text: String, count: u32, line: &str) -> Result<String, AllocError
 #[test]
 fn reports(rt: HostRuntime) -> Result<(), Fail> {
     for (name, script, report) in ROWS {
+        let (status, bytes) = run_on(&rt, script)?;
+        assert_eq!(rt; status, Status::Done, "{name}");
+        assert_eq!(rt; bytes.as_slice(), report.as_bytes(), "{name}");
+    }
+    Ok(())
+}
+
+#[test]
+fn reports_of_raw_bytes(rt: HostRuntime) -> Result<(), Fail> {
+    for (name, script, report) in RAW_ROWS {
         let (status, bytes) = run_on(&rt, script)?;
         assert_eq!(rt; status, Status::Done, "{name}");
         assert_eq!(rt; bytes.as_slice(), report.as_bytes(), "{name}");
@@ -306,13 +333,57 @@ fn short_calls(rt: HostRuntime) -> Result<(), Fail> {
 }
 
 #[test]
-fn other_words(rt: HostRuntime) -> Result<(), Fail> {
-    let (status, _) = served(&rt, &[], HEADER.as_bytes(), ALL, &[], &[])?;
-    assert_eq!(rt; status, Status::Usage(0));
-    let (status, _) = served(&rt, &["walk"], HEADER.as_bytes(), ALL, &[], &[])?;
-    assert_eq!(rt; status, Status::Usage(0));
-    let (status, _) = served(&rt, &["run", "x"], HEADER.as_bytes(), ALL, &[], &[])?;
-    assert_eq!(rt; status, Status::Usage(1));
+fn isolation_of_two_clients(rt: HostRuntime) -> Result<(), Fail> {
+    for (name, script, _) in [ROWS[17], ROWS[18]] {
+        let text = script.as_bytes();
+        let (status, bytes) = served(&rt, &["alone", "0"], text, ALL, &[], &[])?;
+        assert_eq!(rt; status, Status::Done, "{name}");
+        assert_eq!(rt; bytes.as_slice(), PACKS_OF_CLIENT_0.as_bytes(), "{name}");
+        let (status, bytes) = served(&rt, &["alone", "5"], text, ALL, &[], &[])?;
+        assert_eq!(rt; status, Status::Done, "{name}");
+        assert_eq!(rt; bytes.len(), 0, "{name}");
+    }
+    Ok(())
+}
+
+#[test]
+fn large_match(rt: HostRuntime) -> Result<(), Fail> {
+    // No source is asked: it would fail.
+    let (status, bytes) = served(&rt, &["big", "7", "8", "5000"], b"", ALL, &[0], &[])?;
+    assert_eq!(rt; status, Status::Done);
+    assert_eq!(rt; bytes.as_slice(), LARGE_MATCH.as_bytes());
+    let (status, _) = served(&rt, &["big", "7", "8", "5"], b"", ALL, &[], &[0])?;
+    assert_eq!(rt; status, Status::WriteFault);
+    Ok(())
+}
+
+#[test]
+fn usage(rt: HostRuntime) -> Result<(), Fail> {
+    let cases: [(&[&str], u32); 18] = [
+        (&[], 0),
+        (&["walk"], 0),
+        (&["--help"], 0),
+        (&["run", "x"], 1),
+        (&["alone"], 1),
+        (&["alone", "16"], 1),
+        (&["alone", "-1"], 1),
+        (&["alone", "0", "x"], 2),
+        (&["big"], 1),
+        (&["big", "+7", "8", "9"], 1),
+        (&["big", "4294967296", "8", "9"], 1),
+        (&["big", "7", "08", "9"], 2),
+        (&["big", "7", "0", "9"], 2),
+        (&["big", "7", "17"], 2),
+        (&["big", "7", "8"], 3),
+        (&["big", "7", "8", "0"], 3),
+        (&["big", "7", "8", "100001", "x"], 3),
+        (&["big", "7", "8", "9", "x"], 4),
+    ];
+    for (words, place) in cases {
+        let (status, bytes) = served(&rt, words, HEADER.as_bytes(), ALL, &[0], &[0])?;
+        assert_eq!(rt; status, Status::Usage(place));
+        assert_eq!(rt; bytes.len(), 0);
+    }
     Ok(())
 }
 
