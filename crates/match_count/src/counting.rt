@@ -22,7 +22,8 @@ fn count_next(alloc: Global, game: &mut Match<'_>, counts: &mut Counts) -> Resul
     requires played { IsPlayed game.old }
     requires ranges { HasRanges game.old.script }
     requires counted { AreCounts game.old.script game.old.place counts.old }
-    ensures end { result ≡ Ok false → (length game.old.script.body ≤ game.old.place) × (game.new ≡ game.old) × (counts.new ≡ counts.old) }
+    ensures end { result ≡ Ok false → (length game.old.script.body ≤ game.old.place)
+        × (game.new ≡ game.old) × (counts.new ≡ counts.old) }
     ensures played { result ≡ Ok true → IsPlayed game.new }
     ensures script { game.new.script ≡ game.old.script }
     ensures place { result ≡ Ok true → game.new.place ≡ game.old.place + 1 }

@@ -41,7 +41,8 @@ fn shows_of(
 /// Puts a write to a period's object behind the others.
 #[tactic(auto, using(crate::proofs::MadeItems::no_write, crate::proofs::MadeItems::one_write))]
 fn put_write(period: &ShownPeriod, w: &Write, out: &mut Vec<OwnWrite>) -> Result<(), AllocError>
-    ensures { OnOk result (map write_of out.new.items ≡ map write_of out.old.items ++ filter_map (past.write_of period.now) (w.now ∷ [])) }
+    ensures { OnOk result (map write_of out.new.items
+        ≡ map write_of out.old.items ++ filter_map (past.write_of period.now) (w.now ∷ [])) }
 {
     let same = w.object == period.object;
     if same {
@@ -61,7 +62,8 @@ fn put_writes(
     writes: &[Write],
     out: &mut Vec<OwnWrite>,
 ) -> Result<(), AllocError>
-    ensures { OnOk result (map write_of out.new.items ≡ map write_of out.old.items ++ filter_map (past.write_of period.now) writes.now) }
+    ensures { OnOk result (map write_of out.new.items
+        ≡ map write_of out.old.items ++ filter_map (past.write_of period.now) writes.now) }
 {
     for w in writes {
         put_write(period, w, out)?;
