@@ -25,11 +25,11 @@ fn mark_slot(periods: &mut Periods, kinds: &KindTable, rows: &Rows, slot: u8)
     ensures marked { (log : List GhostEvent) → StandsFor periods.old (scope_log log) → HaveRows log rows.now
         → IsLegal (sizes kinds.now) log → AreMarkedIn log (λ s. slot == s) periods.old.work periods.new.work }
 {
-    let Some(n) = periods.holder(slot) else {
+    let Some(period) = periods.held(slot) else {
         return;
     };
-    if periods.phase(n).is_live() {
-        let mask = rows.due(slot) & whole(kinds, periods.kind(n));
+    if period.phase.is_live() {
+        let mask = rows.due(slot) & whole(kinds, period.kind);
         periods.mark(slot, mask != 0);
     }
 }

@@ -54,6 +54,10 @@ fn nearest_level(distance: u64, range: u64, greatest: u64) -> u32
     ensures value { result ≡ level_in distance range greatest }
     ensures fits { result ≤ greatest }
 {
+    if range == greatest {
+        // each value has a level of its own
+        return distance as u32;
+    }
     ((2 * distance * greatest + range) / (2 * range)) as u32
 }
 
