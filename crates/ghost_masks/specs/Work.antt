@@ -6,7 +6,9 @@ use Rattle.ghost_model.specs.declared.phase.Phase.{Phase}
 use Rattle.ghost_model.specs.declared.phase.Phase.TheVariants.{Wanted, Live, KillDue}
 use Rattle.ghost_model.specs.Words.{upto}
 use Rattle.ghost_model.specs.Scope.{shows}
-use Rattle.ghost_model.specs.Ghosts.{GhostEvent, Show, Grant, scope_log, phase, slot}
+use Rattle.ghost_model.specs.Ghosts.{GhostEvent, Show, Absorb, Grant, Sent, Judged, scope_log, phase, slot}
+use Rattle.tn_types.specs.declared.choices.Op.TheVariants.{Create}
+use Rattle.tn_types.specs.declared.choices.Verdict.TheVariants.{Received}
 use Rattle.ghost_model.specs.Candidates.{due_mask}
 use Rattle.work_list.specs.Work.{has}
 
@@ -41,3 +43,14 @@ AreMarkedIn log these old new =
 two_wanted : work_count (Grant ∷ Show 0 0 0 false ∷ Show 0 0 0 false ∷ []) ≡ 2
 unfolding upto
 two_wanted = refl
+
+-- of three that are Live one owes a field
+three_live : List GhostEvent
+three_live =
+    Absorb 1 1 ∷ Judged Received
+    ∷ Sent (record { n = 0; slot = 0; op = Create; mask = 7 } ∷ record { n = 1; slot = 1; op = Create; mask = 7 } ∷ record { n = 2; slot = 2; op = Create; mask = 7 } ∷ [])
+    ∷ Grant ∷ Show 5 0 0 false ∷ Show 5 0 0 false ∷ Show 5 0 0 false ∷ []
+
+one_due : work_count (Grant ∷ three_live) ≡ 1
+unfolding upto three_live
+one_due = refl

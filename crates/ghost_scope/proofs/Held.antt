@@ -1,13 +1,13 @@
 -- What is known of the entry of a period that holds a slot.
 use Rattle.std.proofs.Common.{◌≡◌, ℕ, ◌<◌, Bool, true, false, cond, ◌∙◌, Some, None, Option, sym, ap, arith}
-use Rattle.std.specs.Prelude.{IfSome, ◌↔◌}
+use Rattle.std.specs.Prelude.{IfSome}
 use Rattle.std.specs.Option.{option_map, option_copied}
 use denote.Bor.{Bor}
 use Rattle.ghost_model.specs.Phases.{is_waiting, is_gone}
 use Rattle.ghost_model.specs.Scope.{phase, traits}
 use Rattle.ghost_scope.specs.declared.period.Period.{Period}
 use Rattle.ghost_scope.specs.Table.{Table, entry_of, phase_of, slot_of, slot_in, phase_or_gone, IsOrdered, IsInRange}
-use Rattle.ghost_scope.specs.StandsFor.{StandsFor, Answers, traits_in}
+use Rattle.ghost_scope.specs.StandsFor.{Answers, traits_in}
 use Rattle.ghost_scope.proofs.Calls.{entry_where}
 use Rattle.ghost_scope.proofs.Told.{phase_shown, found_alive, found_in_range, traits_told}
 

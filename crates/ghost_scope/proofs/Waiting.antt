@@ -5,7 +5,7 @@ use Rattle.ghost_model.specs.Phases.{is_waiting, is_gone}
 use Rattle.ghost_model.specs.Scope.{ScopeEvent, Grant, shows, phase}
 use Rattle.ghost_model.proofs.Granted.{is_found, not_below, unfound_given, unfound_phase}
 use Rattle.ghost_scope.specs.declared.period.Period.{Period}
-use Rattle.ghost_scope.specs.Table.{Table, number_at, entry_at, entry_of, phase_of, phase_or_gone, IsOrdered}
+use Rattle.ghost_scope.specs.Table.{Table, number_at, entry_of, phase_or_gone, IsOrdered}
 use Rattle.ghost_scope.specs.Sound.{IsSound}
 use Rattle.ghost_scope.specs.Shown.{NoneWaits}
 use Rattle.ghost_scope.specs.StandsFor.{StandsFor}

@@ -1,4 +1,4 @@
-use Rattle.std.proofs.Common.{◌≡◌, ◌<◌, ◌≤◌, ◌∙◌, false, length, subst, inl, inr, arith, ltb}
+use Rattle.std.proofs.Common.{◌≡◌, ◌≤◌, ◌∙◌, false, length, subst, inl, inr, arith, ltb}
 use Rattle.std.proofs.lemmas.Bool.{cases_lt}
 use Rattle.std.proofs.lemmas.Bool.Decides.{nat_tests}
 use Rattle.ghost_model.proofs.Granted.{not_below}
