@@ -8,8 +8,6 @@
 mod accumulator;
 mod laws;
 mod reader;
-#[cfg(test)]
-mod tests;
 mod writer;
 
 pub use laws::{bit_of_bytes, bits_come_back, number_comes_back};

@@ -14,6 +14,3 @@ pub use field::{FieldList, FieldSpec};
 pub use kind::Kind;
 pub use levels::{level, shown};
 pub use table::{KindFault, KindTable};
-
-#[cfg(test)]
-mod tests;

@@ -8,8 +8,6 @@ mod limits;
 mod moves;
 mod raw_bytes;
 mod steps;
-#[cfg(test)]
-mod tests;
 mod values;
 mod words;
 

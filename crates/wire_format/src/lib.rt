@@ -19,8 +19,6 @@ mod moves;
 mod parts;
 mod said;
 mod server;
-#[cfg(test)]
-mod tests;
 mod widths;
 
 pub use blocks::{BlockItem, BlockList, block_bits, put_block, put_block_count, put_blocks};

@@ -1,12 +1,13 @@
-use crate::{
+//! Of `wire_format`: whole datagrams with known bytes, written and read, and those that are refused, each with its reason.
+use bit_stream::BitWriter;
+use std::test::Fail;
+use tn_types::{Move, Payload};
+use wire_format::{
     BitsCause, BitsFault, BlockList, ClientBody, ClientPacket, EventItem, EventList, GhostItem,
     GhostList, Header, MoveList, PacketKind, ServerBody, ServerPacket, client_bits, decode_client,
     decode_client_into, decode_server, encode_client, encode_server, server_bits,
 };
-use bit_stream::BitWriter;
-use quantised_fields::{FieldSpec, Kind, KindTable};
-use std::test::Fail;
-use tn_types::{Move, Payload};
+use world_rules::match_kinds;
 
 /// A first packet of the server with the guaranteed event 0 of the bytes "hi".
 const FIRST_EVENT: [u8; 22] = [
@@ -40,34 +41,9 @@ const FIRST: Header = Header {
     mask: 0,
 };
 
-/// The six kinds of a match.
-fn six_kinds() -> Option<KindTable> {
-    let widths: [&[(i64, u32)]; 6] = [
-        &[(65535, 16), (65535, 16), (100, 7), (20, 5), (255, 8)],
-        &[(65535, 16), (65535, 16)],
-        &[(65535, 16), (65535, 16), (1, 1)],
-        &[(65535, 12), (65535, 12), (100, 5)],
-        &[(65535, 16), (65535, 16), (16, 5)],
-        &[(16_777_215, 24), (255, 8), (255, 8)],
-    ];
-    let mut kinds: [Kind; 6] = Default::default();
-    for (kind, fields) in kinds.iter_mut().zip(widths) {
-        for (hi, bits) in fields {
-            if !kind.fields.is_full() {
-                kind.fields.push(FieldSpec {
-                    lo: 0,
-                    hi: *hi,
-                    bits: *bits,
-                });
-            }
-        }
-    }
-    KindTable::new(&kinds).ok()
-}
-
 #[test]
 fn first_event(rt: HostRuntime) -> Result<(), Fail> {
-    let kinds = six_kinds().ok_or("no table")?;
+    let kinds = match_kinds();
     let mut events = EventList::new();
     events.push(EventItem {
         number: Some(0),
@@ -187,7 +163,7 @@ fn told(item: &GhostItem) -> (u8, u8, u8, u32, &[u32]) {
 
 #[test]
 fn ghosts_are_read(rt: HostRuntime) -> Result<(), Fail> {
-    let kinds = six_kinds().ok_or("no table")?;
+    let kinds = match_kinds();
     let cases: [(&[u8], u32, (u8, u8, u8, u32, &[u32])); 2] = [
         (&CREATE, 200, (1, 0, 0, 0, &[1000, 1000, 127, 31, 0])),
         (&UPDATE, 169, (2, 0, 5, 1, &[1])),
@@ -206,7 +182,7 @@ fn ghosts_are_read(rt: HostRuntime) -> Result<(), Fail> {
 
 #[test]
 fn malformed_datagrams(rt: HostRuntime) -> Result<(), Fail> {
-    let kinds = six_kinds().ok_or("no table")?;
+    let kinds = match_kinds();
     // The client's: no byte, a cut number, kind 2, packet 0, a set bit behind the last part, 33 moves.
     let clients: [(&[u8], u32, BitsCause); 6] = [
         (&[], 0, BitsCause::Short),
