@@ -13,10 +13,6 @@ mod laws;
 mod plain;
 mod rule;
 mod seats;
-#[cfg(test)]
-mod tests;
-#[cfg(test)]
-mod thread_tests;
 pub mod view;
 mod words;
 

@@ -1,4 +1,4 @@
-use Rattle.dirty_lanes.proofs.thread_tests.writes_alone_and_close.Given as goal
+use Rattle.lane_tests.proofs.threads.writes_alone_and_close.Given as goal
 
 abbrev pub ghosts-alone : goal.ghosts-alone
 ghosts-alone g a = record { table = a.fresh.table; objects = a.fresh.objects }

@@ -1,4 +1,4 @@
-use Rattle.dirty_lanes.proofs.thread_tests.packer_follows_simulation.Given as goal
+use Rattle.lane_tests.proofs.threads.packer_follows_simulation.Given as goal
 
 abbrev pub ghosts-race : goal.ghosts-race
 ghosts-race g a = record { table = a.fresh.table; objects = a.fresh.objects }

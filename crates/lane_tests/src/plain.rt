@@ -1,4 +1,5 @@
-use crate::PlainLanes;
+//! Lanes for one thread.
+use dirty_lanes::PlainLanes;
 use std::test::Fail;
 
 #[test]

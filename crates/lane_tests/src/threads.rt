@@ -1,7 +1,8 @@
+//! Lanes that a simulation and a packer share, each on a thread of its own.
 ghost use Rattle.std.specs.Prelude.{◌≡◌, ◌<◌, false, [], IfOk};
 ghost use Rattle.dirty_lanes.specs.Views.{newest, pending};
 
-use crate::{FinalWords, FreshLanes, LaneName, Lanes, PackSeat, SimSeat, close};
+use dirty_lanes::{FinalWords, FreshLanes, LaneName, Lanes, PackSeat, SimSeat, close};
 use std::alloc::{AllocError, Global};
 use std::marker::Brand;
 use std::process::Abort;
