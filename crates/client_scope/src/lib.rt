@@ -5,8 +5,6 @@
 mod marks;
 mod period;
 mod scope;
-#[cfg(test)]
-mod tests;
 mod walks;
 
 pub use period::{Near, ShownPeriod};

@@ -11,8 +11,6 @@ pub mod object;
 pub mod places;
 pub mod setup;
 mod sight;
-#[cfg(test)]
-mod tests;
 
 pub use kinds::{kind_word, match_kinds};
 pub use object::{Clock, Disc, Drone, Flag, Mine, Object, Place, Player, State};

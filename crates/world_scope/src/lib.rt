@@ -4,8 +4,6 @@
 mod mark_table;
 mod marks;
 mod scope;
-#[cfg(test)]
-mod tests;
 mod viewer;
 
 pub use scope::{visible, visible_counted};

@@ -8,8 +8,6 @@ pub mod laws;
 mod near;
 mod rows;
 mod step;
-#[cfg(test)]
-mod tests;
 mod watch;
 mod world;
 

@@ -1,7 +1,7 @@
-//! One client's scans, one after the other.
+//! Of `client_scope`: one client's scans, one after the other.
 ghost use Rattle.std.specs.Prelude.{◌≡◌};
 
-use crate::{Near, Scope, ShownPeriod};
+use client_scope::{Near, Scope, ShownPeriod};
 use std::alloc::Global;
 use std::test::Fail;
 use tn_types::NoMemory;

@@ -1,13 +1,13 @@
-//! Small worlds, tick by tick.
+//! Of `world_sim`: small worlds, tick by tick.
 ghost use Rattle.std.specs.Prelude.{◌∷◌, [], Some, ◌≤ℤ◌, pos, negsuc};
 ghost use Rattle.world_rules.specs.Identity.{OwnersRise};
 ghost use Rattle.world_rules.specs.Spawning.{SpawnFits};
 
-use crate::World;
 use std::alloc::Global;
 use std::test::Fail;
 use tn_types::{Move, NoMemory};
 use world_rules::{Setup, Spawn, Spawns};
+use world_sim::World;
 
 const PLAYER: Spawn = Spawn {
     kind: 0,

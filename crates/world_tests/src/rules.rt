@@ -1,9 +1,9 @@
-//! Rules at their edges, and chances as they were computed elsewhere.
-use crate::fire::fired;
-use crate::movers::{disc_next, drawn, drone_next};
-use crate::places::is_within;
-use crate::{Disc, Drone, Object, Place, Player, State, match_kinds, step_player};
+//! Of `world_rules`: rules at their edges, and chances as they were computed elsewhere.
 use tn_types::Move;
+use world_rules::fire::fired;
+use world_rules::movers::{disc_next, drawn, drone_next};
+use world_rules::places::is_within;
+use world_rules::{Disc, Drone, Object, Place, Player, State, match_kinds, step_player};
 
 const HOME: Place = Place { x: 1000, y: 1000 };
 

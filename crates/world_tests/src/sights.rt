@@ -1,13 +1,13 @@
-//! What clients see of small worlds.
+//! Of `world_scope`: what clients see of small worlds.
 ghost use Rattle.std.specs.Prelude.{◌∷◌, [], IfOk};
 ghost use Rattle.world_rules.specs.Identity.{OwnersRise};
 ghost use Rattle.world_rules.specs.Spawning.{SetupFits, SpawnFits};
 
-use crate::{Seen, visible};
 use std::alloc::Global;
 use std::test::Fail;
 use tn_types::NoMemory;
 use world_rules::{Setup, Spawn, Spawns};
+use world_scope::{Seen, visible};
 use world_sim::World;
 
 // A match of two clients with these four objects, whose players see so far.
