@@ -4,7 +4,7 @@ use Rattle.std.specs.List.{All}
 use Rattle.std.proofs.lemmas.Bool.Decides.{nat_tests}
 use Rattle.std.proofs.lemmas.Bool.{cases_eq}
 use Rattle.std.proofs.lemmas.List.{take_more, drop_all, get_or-set_same, get_or-set_other, length-set}
-use Rattle.std.proofs.lemmas.List.Elements.{All-take, All-get_or, All-nil, All-push}
+use Rattle.std.proofs.lemmas.List.Elements.{All-take, All-get_or}
 use Rattle.wire_format.specs.declared.blocks.BlockItem.{BlockItem}
 use Rattle.datablocks.specs.declared.receiver.BlockFault.TheVariants.{BlockDiffers}
 use Rattle.std.specs.Int.{bit_at}
@@ -76,9 +76,3 @@ none_more [] h zero = refl
 none_more [] h (suc b) = refl
 none_more (place ∷ places) h zero = h 0
 none_more (place ∷ places) h (suc b) = none_more places (λ k. h (suc k)) b
-
-pub numbered_none : All (λ (x : BlockItem). x.number < 64) []
-numbered_none = All-nil IsNumbered
-
-pub numbered_more : (items : List BlockItem) (item : BlockItem) → All (λ (x : BlockItem). x.number < 64) items → item.number < 64 → All (λ (x : BlockItem). x.number < 64) (items ++ item ∷ [])
-numbered_more items item h l = All-push IsNumbered items item h l

@@ -6,8 +6,6 @@ mod progress;
 mod receiver;
 mod said;
 mod sender;
-#[cfg(test)]
-mod tests;
 mod words;
 
 pub use receiver::{BlockFault, BlockReceiver};

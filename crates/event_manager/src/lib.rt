@@ -12,8 +12,6 @@ mod receiver;
 mod said;
 mod sender;
 mod shares;
-#[cfg(test)]
-mod tests;
 
 pub use laws::{delivered_in_order, due_was_posted};
 pub use receiver::{EventAhead, EventReceiver};

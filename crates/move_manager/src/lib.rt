@@ -9,8 +9,6 @@ mod faults;
 mod receiver;
 mod said;
 mod sender;
-#[cfg(test)]
-mod tests;
 
 pub use faults::{MoveAhead, MoveFault, MoveGap};
 pub use receiver::MoveReceiver;

@@ -8,8 +8,6 @@ mod laws;
 mod masks;
 mod progress;
 mod said;
-#[cfg(test)]
-mod tests;
 mod window;
 
 pub use laws::{horizon_is_final, verdict_is_final};

@@ -1,7 +1,8 @@
+//! Of `event_manager`: events through both ends, where a packet is lost or comes twice, and counters that are full.
 ghost use Rattle.std.specs.Prelude.{◌≡◌, All};
 ghost use Rattle.wire_format.specs.Events.{IsEventInRange};
 
-use crate::{EventReceiver, EventSender, PostFault};
+use event_manager::{EventReceiver, EventSender, PostFault};
 use std::test::Fail;
 use tn_types::{Class, MAX_PACKET_EVENTS, MAX_UNACKNOWLEDGED_EVENTS, Payload, Verdict};
 use wire_format::EventList;
