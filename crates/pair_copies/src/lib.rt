@@ -1,11 +1,8 @@
 //! The ghosts of a pair from end to end, over all its steps: what the server's end knows of them, and what its client has.
 //!
-//! It has no code but its tests. Its laws speak of every list of steps that meets its conditions and brings no raw bytes; the network may
+//! It has no code. Its laws speak of every list of steps that meets its conditions and brings no raw bytes; the network may
 //! lose, repeat and delay what it likes.
 #![tactic(auto)]
-
-#[cfg(test)]
-mod tests;
 
 ghost use Rattle.std.specs.Prelude.{◌≡◌, ℕ, Some};
 ghost use Rattle.ghost_client.specs.declared.copy.GhostCopy.{GhostCopy};

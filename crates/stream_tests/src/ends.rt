@@ -2,19 +2,17 @@
 ghost use Rattle.std.specs.Prelude.{◌≡◌, ◌<◌, ◌≤◌, length};
 ghost use Rattle.notify_window.specs.State.{send_state};
 
-mod updates;
-
-use self::updates::{RAISED, SHARED, SUPERSEDED};
-use crate::{ArriveFault, Client, ClientFault, ClientOut, Config, Conn};
 use ghost_client::GhostFault;
 use notify_window::SendState;
-use quantised_fields::{FieldSpec, Kind, KindTable};
+use quantised_fields::KindTable;
 use std::alloc::Global;
 use std::marker::Brand;
 use std::sync::ledger::{Blank, Ledger};
 use std::test::Fail;
-use tn_types::{BlockBytes, MAX_FIELDS, MAX_READ_BYTES, MAX_SHOWS, Move, Steps};
+use stream_manager::{ArriveFault, Client, ClientFault, ClientOut, Config, Conn};
+use tn_types::{BlockBytes, MAX_READ_BYTES, MAX_SHOWS, Steps};
 use wire_format::{BitsCause, BitsFault};
+use world_rules::match_kinds;
 
 const CONFIG: Config = Config {
     client: 0,
@@ -22,49 +20,11 @@ const CONFIG: Config = Config {
     size: 128,
 };
 
-/// A kind of this weight with fields from 0 to these levels, in so many bits.
-fn kind_of(weight: u8, levels: &[(i64, u32)]) -> Kind {
-    let mut kind = Kind {
-        weight,
-        ..Kind::default()
-    };
-    for (hi, bits) in levels {
-        if !kind.fields.is_full() {
-            kind.fields.push(FieldSpec {
-                lo: 0,
-                hi: *hi,
-                bits: *bits,
-            });
-        }
-    }
-    kind
-}
-
-/// The six kinds of a match: player, disc, mine, drone, flag and clock.
-fn six_kinds() -> Option<KindTable> {
-    let kinds = [
-        kind_of(8, &[(65535, 16), (65535, 16), (100, 7), (20, 5), (255, 8)]),
-        kind_of(6, &[(65535, 16), (65535, 16)]),
-        kind_of(3, &[(65535, 16), (65535, 16), (1, 1)]),
-        kind_of(4, &[(65535, 12), (65535, 12), (100, 5)]),
-        kind_of(5, &[(65535, 16), (65535, 16), (16, 5)]),
-        kind_of(1, &[(16_777_215, 24), (255, 8), (255, 8)]),
-    ];
-    KindTable::new(&kinds).ok()
-}
-
 /// The server's end of a new connection of client 0, in a match with one block, the byte `a`.
 fn new_conn(alloc: Global, kinds: &KindTable) -> Result<Conn, Fail> {
     let blocks = [BlockBytes::from_slice(b"a").ok_or("too long")?];
     Ok(Conn::new(alloc, CONFIG, kinds, &blocks)?)
 }
-
-const WEST: Move = Move {
-    dx: -1,
-    dy: 0,
-    fire: false,
-    act: false,
-};
 
 /// What is done at an end, and what it has to give.
 #[derive(Drop)]
@@ -73,12 +33,6 @@ enum Step {
     Show(u8, bool),
     /// The server hides this period.
     Hide(u32),
-    /// These fields of the period changed.
-    Absorb(u32, u32),
-    /// These fields of the period are due.
-    Due(u32, u32),
-    /// Whether this field of the period is settled.
-    Settled(u32, u8, bool),
     /// This period holds this slot.
     Slot(u32, Option<u8>),
     /// The server sends this data packet, whose ghosts have these values.
@@ -89,8 +43,6 @@ enum Step {
     Up(&'static [u8]),
     /// The server takes this datagram, with so many new moves, or refuses it.
     Went(&'static [u8], Result<u32, ArriveFault>),
-    /// The client takes up the move (-1, 0).
-    West,
     /// The client's control slot is this.
     Control(Option<u8>),
     /// The copy of this slot is of this kind, if there is one.
@@ -116,24 +68,6 @@ fn hides(conn: &mut Conn, n: u32) -> bool {
     }
     conn.hide(n);
     true
-}
-
-/// Absorbs fields of a period; whether it was shown and has them.
-fn absorbs(conn: &mut Conn, n: u32, bits: u32) -> bool {
-    if !conn.is_alive(n) || !conn.is_up(n) || !conn.has_fields(n, bits) {
-        return false;
-    }
-    conn.absorb(n, bits);
-    true
-}
-
-/// Whether the field is settled; `None` where there is none.
-fn is_settled(conn: &Conn, n: u32, field: u8) -> Option<bool> {
-    if n < conn.shows() && usize::from(field) < MAX_FIELDS {
-        Some(conn.settled(n, field))
-    } else {
-        None
-    }
 }
 
 /// Whether the period was shown and holds this slot.
@@ -198,15 +132,11 @@ fn does(conn: &mut Conn, client: &mut Client, step: &Step) -> bool {
     match step {
         Step::Show(kind, control) => shows(conn, *kind, *control),
         Step::Hide(n) => hides(conn, *n),
-        Step::Absorb(n, bits) => absorbs(conn, *n, *bits),
-        Step::Due(n, bits) => conn.is_alive(*n) && conn.due_bits(*n) == *bits,
-        Step::Settled(n, field, settled) => is_settled(conn, *n, *field) == Some(*settled),
         Step::Slot(n, slot) => holds(conn, *n, *slot),
         Step::Down(values, bytes) => sends(conn, values, bytes),
         Step::Came(bytes, answer) => at_client(client, bytes) == Some(*answer),
         Step::Up(bytes) => answers(client, bytes),
         Step::Went(bytes, answer) => at_server(conn, bytes) == Some(*answer),
-        Step::West => client.sample(WEST).is_ok(),
         Step::Control(slot) => client.control() == *slot,
         Step::Copy(slot, kind) => copies(client, *slot, *kind),
     }
@@ -224,7 +154,7 @@ fn first_wrong(conn: &mut Conn, client: &mut Client, steps: &[Step]) -> Option<u
 
 /// The same for the steps of a new connection.
 fn first_wrong_of_new(alloc: Global, steps: &[Step]) -> Result<Option<usize>, Fail> {
-    let kinds = six_kinds().ok_or("no table")?;
+    let kinds = match_kinds();
     let mut conn = new_conn(alloc, &kinds)?;
     let mut client = Client::new(alloc, CONFIG, &kinds)?;
     Ok(first_wrong(&mut conn, &mut client, steps))
@@ -259,57 +189,6 @@ const CREATED: [Step; 12] = [
     Step::Copy(0, Some(5)),
     Step::Copy(1, None),
     Step::Up(SECOND_CAME),
-];
-
-/// A player at (1000, 1000) in slot 0 and a mine beside it in slot 1; a move comes, and the mine is hidden. The packet with
-/// both is lost: the mine is over and its slot free, and the player comes again.
-const HIDDEN: [Step; 18] = [
-    Step::Down(&[], BLOCK),
-    Step::Came(BLOCK, Ok(())),
-    Step::Up(BLOCK_CAME),
-    Step::Went(BLOCK_CAME, Ok(0)),
-    Step::Show(0, true),
-    Step::Show(2, false),
-    Step::Down(
-        &[1000, 1000, 100, 20, 0, 1100, 1000, 0],
-        &[
-            0x80, 0, 0, 0x40, 0, 0, 0x40, 0, 0, 0, 0, 0, 0, 0, 0, 2, 0, 1, 0x80, 0x3e, 0x80, 0x3e,
-            0xf0, 0xff, 0, 1, 9, 0xc0, 0x44, 0x80, 0x3e, 0,
-        ],
-    ),
-    Step::West,
-    Step::Up(&[
-        0x80, 0, 0, 0x40, 0, 0, 0x40, 0, 0, 0, 0, 0, 0, 0x40, 0x70, 8, 0,
-    ]),
-    Step::Went(
-        &[
-            0x80, 0, 0, 0x40, 0, 0, 0x40, 0, 0, 0, 0, 0, 0, 0x40, 0x70, 8, 0,
-        ],
-        Ok(1),
-    ),
-    Step::Hide(1),
-    Step::Slot(1, Some(1)),
-    Step::Down(
-        &[],
-        &[0xc0, 0, 0, 0x80, 0, 0, 0xc0, 0, 0, 0, 0x40, 0, 0, 0, 0, 0],
-    ),
-    Step::Came(
-        &[0xc0, 0, 0, 0x80, 0, 0, 0xc0, 0, 0, 0, 0x40, 0, 0, 0, 0, 0],
-        Ok(()),
-    ),
-    Step::Up(&[0xc0, 0, 0, 0xc0, 0, 0, 0x40, 1, 0, 0, 0x40, 0, 0, 0, 0, 0]),
-    Step::Went(
-        &[0xc0, 0, 0, 0xc0, 0, 0, 0x40, 1, 0, 0, 0x40, 0, 0, 0, 0, 0],
-        Ok(0),
-    ),
-    Step::Slot(1, None),
-    Step::Down(
-        &[975, 1000, 100, 20, 0],
-        &[
-            0, 1, 0, 0xc0, 0, 0, 0xc0, 1, 0, 0, 0x40, 0, 0, 0, 0, 1, 0, 1, 0xf0, 0x3c, 0x80, 0x3e,
-            0xf0, 0xff, 0,
-        ],
-    ),
 ];
 
 /// A player at (1000, 1000) in slot 0.
@@ -351,43 +230,9 @@ const CONTROLLED: [Step; 19] = [
     Step::Copy(0, None),
 ];
 
-/// Datagrams that a new end refuses, each with its reason.
-const MALFORMED: [Step; 18] = [
-    Step::Went(
-        &[],
-        Err(ArriveFault::Bits(BitsFault {
-            place: 0,
-            cause: BitsCause::Short,
-        })),
-    ),
-    Step::Went(
-        &[0x40],
-        Err(ArriveFault::Bits(BitsFault {
-            place: 6,
-            cause: BitsCause::Short,
-        })),
-    ),
-    Step::Went(
-        &[2],
-        Err(ArriveFault::Bits(BitsFault {
-            place: 0,
-            cause: BitsCause::KindBits,
-        })),
-    ),
-    Step::Went(
-        &[0, 0, 0, 0, 0, 0, 0, 0, 0, 0, 0, 0, 0, 0, 0, 0],
-        Err(ArriveFault::Bits(BitsFault {
-            place: 6,
-            cause: BitsCause::ZeroSeq,
-        })),
-    ),
-    Step::Went(
-        &[0x40, 0, 0, 0, 0, 0, 0, 0, 0, 0, 0, 0, 0, 0, 0, 0x80],
-        Err(ArriveFault::Bits(BitsFault {
-            place: 121,
-            cause: BitsCause::Padding,
-        })),
-    ),
+/// Datagrams that a new end refuses, each with its reason. Of faulty bits there is one for each end: the others are those of
+/// `wire_format`.
+const MALFORMED: [Step; 10] = [
     Step::Went(
         &[0x40, 0, 0, 0, 0, 0, 0, 0, 0, 0, 0, 0, 0, 0x40, 8, 0],
         Err(ArriveFault::Bits(BitsFault {
@@ -423,27 +268,6 @@ const MALFORMED: [Step; 18] = [
         }),
     ),
     Step::Came(
-        &[0x40, 0, 0, 0, 0, 0, 0, 0, 0, 0, 0, 0, 0, 0x80, 0, 0x52],
-        Err(ClientFault::Bits(BitsFault {
-            place: 121,
-            cause: BitsCause::LengthBits,
-        })),
-    ),
-    Step::Came(
-        &[0x40, 0, 0, 0, 0, 0, 0, 0, 0, 0, 0, 0, 0, 0, 8, 0x32],
-        Err(ClientFault::Bits(BitsFault {
-            place: 121,
-            cause: BitsCause::LengthBits,
-        })),
-    ),
-    Step::Came(
-        &[0x40, 0, 0, 0, 0, 0, 0, 0, 0, 0, 0, 0, 0, 0, 0, 0x81],
-        Err(ClientFault::Bits(BitsFault {
-            place: 120,
-            cause: BitsCause::CountBits,
-        })),
-    ),
-    Step::Came(
         &[0x40, 0, 0, 0, 0, 0, 0, 0, 0, 0, 0, 0, 0, 0, 0, 1, 0, 0x19],
         Err(ClientFault::Bits(BitsFault {
             place: 138,
@@ -473,14 +297,10 @@ const MALFORMED: [Step; 18] = [
     ),
 ];
 
-const ROWS: [(&str, &[Step]); 7] = [
+const ROWS: [(&str, &[Step]); 3] = [
     ("object_is_created_once_its_block_came", &CREATED),
-    ("hidden_before_create_received", &HIDDEN),
     ("control_slot_is_sent_once_it_is_live", &CONTROLLED),
     ("malformed_datagrams", &MALFORMED),
-    ("lost_update_superseded", &SUPERSEDED),
-    ("lost_update_raised_again", &RAISED),
-    ("priority_and_share", &SHARED),
 ];
 
 #[test]

@@ -5,7 +5,7 @@ use Rattle.stream_manager.specs.Server.{ghost_log}
 use Rattle.stream_manager.specs.Stands.{ConnState, ConnStandsFor}
 use Rattle.pair_core.specs.History.{history}
 use Rattle.pair_core.proofs.Scoped.{ups-told, control-told}
-use Rattle.pair_copies.proofs.tests.shows.Goals as goal
+use Rattle.stream_tests.proofs.pairs.shows.Goals as goal
 
 pub step-requires-clause-meets : goal.step-requires-clause-meets
 step-requires-clause-meets c =

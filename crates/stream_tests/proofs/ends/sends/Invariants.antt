@@ -1,4 +1,4 @@
-use Rattle.stream_manager.proofs.tests.sends.Given as goal
+use Rattle.stream_tests.proofs.ends.sends.Given as goal
 
 abbrev pub ghosts-plan : goal.ghosts-plan
 ghosts-plan a = record { name = a.blank.name; parts = a.blank.parts }

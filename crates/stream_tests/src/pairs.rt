@@ -14,48 +14,18 @@ mod worked;
 use self::worked::{HIDDEN, RAISED, SHARED, SUPERSEDED, TAKEN};
 use notify_window::SendState;
 use pair_core::{Answer, Pair, PairStep};
-use quantised_fields::{FieldSpec, Kind, KindTable};
+use quantised_fields::{FieldSpec, KindTable};
 use std::alloc::Global;
 use std::test::Fail;
 use stream_manager::{Config, Conn};
 use tn_types::{BlockBytes, Drain, MAX_DATAGRAMS, MAX_FIELDS, MAX_SHOWS, Move, Read, Values};
+use world_rules::match_kinds;
 
 const CONFIG: Config = Config {
     client: 0,
     life: 100,
     size: 128,
 };
-
-/// A kind of this weight with fields from 0 to these levels, in so many bits.
-fn kind_with(weight: u8, levels: &[(i64, u32)]) -> Kind {
-    let mut kind = Kind {
-        weight,
-        ..Kind::default()
-    };
-    for (hi, bits) in levels {
-        if !kind.fields.is_full() {
-            kind.fields.push(FieldSpec {
-                lo: 0,
-                hi: *hi,
-                bits: *bits,
-            });
-        }
-    }
-    kind
-}
-
-/// The six kinds of a match: player, disc, mine, drone, flag and clock.
-fn six_kinds() -> Option<KindTable> {
-    let kinds = [
-        kind_with(8, &[(65535, 16), (65535, 16), (100, 7), (20, 5), (255, 8)]),
-        kind_with(6, &[(65535, 16), (65535, 16)]),
-        kind_with(3, &[(65535, 16), (65535, 16), (1, 1)]),
-        kind_with(4, &[(65535, 12), (65535, 12), (100, 5)]),
-        kind_with(5, &[(65535, 16), (65535, 16), (16, 5)]),
-        kind_with(1, &[(16_777_215, 24), (255, 8), (255, 8)]),
-    ];
-    KindTable::new(&kinds).ok()
-}
 
 /// The values of a packet in the order in which they are asked for, of periods that were shown with these kinds.
 #[derive(Drop)]
@@ -399,7 +369,7 @@ fn first_wrong(alloc: Global, pair: &mut Pair, shown: &[u8], steps: &[Step]) -> 
 
 /// The same for the steps of a new pair, in a match with one block, the byte `a`.
 fn first_wrong_of_new(alloc: Global, shown: &[u8], steps: &[Step]) -> Result<Option<usize>, Fail> {
-    let kinds = six_kinds().ok_or("no table")?;
+    let kinds = match_kinds();
     let blocks = [BlockBytes::from_slice(b"a").ok_or("too long")?];
     let mut pair = Pair::new(alloc, CONFIG, &kinds, &blocks)?;
     Ok(first_wrong(alloc, &mut pair, shown, steps))

@@ -4,7 +4,7 @@ use Rattle.std.specs.Prelude.{Some, slice_get}
 use Rattle.ghost_masks.specs.Plan.{kind_of}
 use Rattle.ghost_model.specs.Legal.{IsUp}
 use Rattle.stream_manager.specs.Server.{ghost_log}
-use Rattle.pair_copies.proofs.tests.are_listed.Goals as goal
+use Rattle.stream_tests.proofs.pairs.are_listed.Goals as goal
 
 -- what holds below k and of k holds below k + 1
 one-more : (P : ℕ → Type 0) (k : ℕ) → ((m : ℕ) → m < k → P m) → P k → (m : ℕ) → m < k + 1 → P m

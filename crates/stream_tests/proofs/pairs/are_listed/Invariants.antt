@@ -3,7 +3,7 @@ use Rattle.ghost_masks.specs.Plan.{kind_of}
 use Rattle.ghost_model.specs.Legal.{IsUp}
 use Rattle.stream_manager.specs.Server.{ServerEvent, ghost_log}
 use Rattle.stream_manager.specs.Stands.{ConnStandsFor}
-use Rattle.pair_copies.proofs.tests.are_listed.Given as goal
+use Rattle.stream_tests.proofs.pairs.are_listed.Given as goal
 
 abbrev pub invariant-periods : goal.invariant-periods
 invariant-periods l = record {

@@ -1,0 +1,8 @@
+//! What no clause says of the two ends of a connection and of a pair, `stream_manager` and `pair_copies`: rows that were worked
+//! out beforehand, byte for byte. It has no code but its tests, and nothing stands on it.
+#![tactic(auto)]
+
+#[cfg(test)]
+mod ends;
+#[cfg(test)]
+mod pairs;
