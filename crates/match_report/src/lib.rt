@@ -11,6 +11,3 @@ pub use copies::{CopyList, CopyTold, FieldList, FieldTold};
 pub use line::put_line;
 pub use living::{Living, LivingObject, ValueList};
 pub use told::{EventTold, Events, Told, Way};
-
-#[cfg(test)]
-mod tests;

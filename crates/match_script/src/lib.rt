@@ -10,8 +10,6 @@ mod objects;
 mod printer;
 mod reader;
 mod said;
-#[cfg(test)]
-mod tests;
 mod types;
 mod word;
 mod words;

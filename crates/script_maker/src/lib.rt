@@ -6,7 +6,5 @@ mod header;
 mod lines;
 mod making;
 mod numbers;
-#[cfg(test)]
-mod tests;
 
 pub use making::make;

@@ -1,6 +1,6 @@
-//! Made scripts against those of a plain program, as texts.
-use crate::make;
+//! Of `script_maker`: made scripts against those of a plain program, as texts.
 use match_script::print;
+use script_maker::make;
 use std::alloc::Global;
 use std::test::Fail;
 

@@ -1,6 +1,6 @@
-//! Lines as the format has them: refusals that no script brings about, what a client has, and a scan.
-use crate::{CopyList, CopyTold, FieldList, FieldTold, Told, Way, put_line};
+//! Of `match_report`: lines as the format has them: refusals that no script brings about, what a client has, and a scan.
 use ghost_client::GhostFault;
+use match_report::{CopyList, CopyTold, FieldList, FieldTold, Told, Way, put_line};
 use std::alloc::Global;
 use std::test::Fail;
 use stream_manager::{ArriveFault, ClientFault};

@@ -1,5 +1,5 @@
-//! Texts and their scripts or first faults, by the tables of docs/formats.md.
-use crate::{ParseFault, ScriptFault, parse, print};
+//! Of `match_script`: texts and their scripts or first faults, by the tables of docs/formats.md.
+use match_script::{ParseFault, ScriptFault, parse, print};
 use std::alloc::Global;
 use std::test::Fail;
 
