@@ -1,5 +1,5 @@
 //! A client's look at one object.
-ghost use Rattle.std.specs.Prelude.{◌≡◌, ℕ, ◌≤◌, ◌+◌, ◌*◌, ◌/◌, ◌||◌, Some, None, find, if◌then◌else◌};
+ghost use Rattle.std.specs.Prelude.{◌≡◌, ℕ, ◌≤◌, ◌+◌, ◌*◌, ◌/◌, ◌||◌, Some, None, find, nat_le, if◌then◌else◌};
 ghost use Rattle.std.specs.Option.{option_copied};
 ghost use Rattle.world_rules.specs.Flags.{is_player};
 ghost use Rattle.world_sim.specs.Grid.{is_always};
@@ -38,8 +38,10 @@ fn distance(a: &Place, b: &Place) -> u32
 fn is_hidden(team: u8, o: &Object) -> bool
     ensures { result ≡ is_hidden team o.now }
 {
-    match &o.state {
-        State::Mine(mine) => mine.armed && o.team != team,
+    let state = o.state;
+    let other = o.team != team;
+    match state {
+        State::Mine(mine) => mine.armed & other,
         _ => false,
     }
 }
@@ -51,24 +53,21 @@ fn is_always(o: &Object) -> bool
     matches!(o.state, State::Flag(_) | State::Clock(_))
 }
 
-// The quarter of the radius that lies so far away.
-#[tactic(auto, using(crate::proofs::SeenList::quarter_is, crate::proofs::SeenList::quarter_few))]
+// 1 where the number is at least that, and else 0.
+fn reached(least: u64, number: u64) -> u8
+    ensures { result ≡ if nat_le least number then 1 else 0 }
+{
+    u8::from(least <= number)
+}
+
+// The quarter of the radius that lies so far away, with no branch: that of one object says little of the next.
 fn quarter(radius: u32, away: u32) -> u8
-    requires { away ≤ radius }
-    ensures value { result ≡ 4 * away / (radius + 1) }
+    ensures value { away ≤ radius → result ≡ 4 * away / (radius + 1) }
     ensures few { result ≤ 3 }
 {
     let whole = u64::from(radius) + 1;
     let four = 4 * u64::from(away);
-    if four < whole {
-        0
-    } else if four < 2 * whole {
-        1
-    } else if four < 3 * whole {
-        2
-    } else {
-        3
-    }
+    reached(whole, four) + reached(2 * whole, four) + reached(3 * whole, four)
 }
 
 // The client's player.
@@ -111,10 +110,9 @@ impl Viewer {
             None => 0,
             Some(player) => {
                 let away = distance(&player.place, &o.place);
-                if is_hidden(player.team, o) || away > self.radius {
-                    return 0;
-                }
-                quarter(self.radius, away) + 1
+                let sees = !is_hidden(player.team, o) & (away <= self.radius);
+                let level = quarter(self.radius, away);
+                if sees { level + 1 } else { 0 }
             }
         }
     }
