@@ -131,25 +131,29 @@ pub fn drawn(seed: u32, number: u32, tick: u32) -> u32
 }
 
 /// A drone after the tick: `r` is its chance, `harm` what it loses.
-#[tactic(auto, unfolding(crate::specs::Drones::drone_next))]
 pub fn drone_next(r: u32, harm: u32, o: &Object, d: &Drone) -> Object
     ensures { result ≡ drone_next r harm o.now d.now }
 {
+    let mut now = *o;
+    turn_drone(r, harm, &mut now, d);
+    now
+}
+
+/// The same in place.
+#[tactic(auto, unfolding(crate::specs::Drones::drone_next))]
+pub fn turn_drone(r: u32, harm: u32, o: &mut Object, d: &Drone)
+    ensures { o.new ≡ drone_next r harm o.old d.now }
+{
     if !o.alive {
-        return *o;
+        return;
     }
-    Object {
-        alive: harm < d.hp,
-        place: Place {
-            x: drifted(o.place.x, r % DRONE_WAYS),
-            y: drifted(o.place.y, r / DRONE_WAYS % DRONE_WAYS),
-        },
-        state: State::Drone(Drone {
-            hp: d.hp.saturating_sub(harm),
-            ..*d
-        }),
-        ..*o
-    }
+    o.alive = harm < d.hp;
+    o.place.x = drifted(o.place.x, r % DRONE_WAYS);
+    o.place.y = drifted(o.place.y, r / DRONE_WAYS % DRONE_WAYS);
+    o.state = State::Drone(Drone {
+        hp: d.hp.saturating_sub(harm),
+        ..*d
+    });
 }
 
 // A coordinate after a drift to either side.

@@ -1,5 +1,5 @@
 -- What is counted or sought among all objects is counted or sought among those that pass a first test.
-use Rattle.std.proofs.Common.{◌≡◌, ℕ, suc, ◌≤◌, ◌<◌, arith, ◌+◌, ◌-◌, ◌*◌, Bool, true, false, not, cond, ◌&&◌, ◌||◌, nat_lt, nat_eq, List, [], ◌∷◌, ◌++◌, length, take, get_or, filter, map, count_by, Option, Some, None, refl, sym, ap, ◌∙◌}
+use Rattle.std.proofs.Common.{◌≡◌, ℕ, suc, ◌≤◌, ◌<◌, arith, ◌+◌, ◌-◌, ◌*◌, Bool, true, false, not, cond, ◌&&◌, ◌||◌, nat_lt, nat_eq, List, [], ◌∷◌, ◌++◌, length, take, get_or, set, replicate, zero, add-one, filter, map, count_by, Option, Some, None, refl, sym, ap, ◌∙◌}
 use Rattle.std.specs.Prelude.{slice_get}
 use Rattle.std.specs.List.{list_any, filter_map, cons_option}
 use Rattle.std.proofs.Math.Bool.{and-false, or-false}
@@ -227,3 +227,37 @@ disc_same os o d ending e f = ap (λ b. disc_next b o d) (f ∙ rw (no_mine os o
 
 pub mine_same : (os : List Object) (o : Object) (m : MinePart) (ending : Bool) → o.state ≡ Mine m → ending ≡ is_ending os o → mine_next ending o m ≡ mine_next (is_triggered os o) o m
 mine_same os o m ending e f = ap (λ b. mine_next b o m) (f ∙ rw (no_disc os o m e) refl)
+
+-- ---- marks
+
+abbrev pub ending_now : List Object → List Object → Object → Bool
+ending_now os standing o = is_hitting os o || is_triggered_by standing o
+
+pub ends_by : (os standing : List Object) (o : Object) (a b : Bool) → a ≡ is_hitting os o → b ≡ is_triggered_by standing o → (a || b) ≡ ending_now os standing o
+ends_by os standing o a b e f = rw (e, f) refl
+
+-- the first objects are marked by a test, the others not at all
+abbrev pub marked : ℕ → (Object → Bool) → List Object → List Bool
+marked zero p os = replicate (length os) false
+marked (suc n) p [] = []
+marked (suc n) p (o ∷ os) = p o ∷ marked n p os
+
+pub marked_length : (n : ℕ) (p : Object → Bool) (os : List Object) → length (marked n p os) ≡ length os
+marked_length zero p [] = refl
+marked_length zero p (o ∷ os) = ap suc (marked_length zero p os)
+marked_length (suc n) p [] = refl
+marked_length (suc n) p (o ∷ os) = ap suc (marked_length n p os)
+
+pub marked_all : (p : Object → Bool) (os : List Object) → marked (length os) p os ≡ map p os
+marked_all p [] = refl
+marked_all p (o ∷ os) = ap (λ (bs : List Bool). p o ∷ bs) (marked_all p os)
+
+marked_by : (b : Bool) (n : ℕ) (p : Object → Bool) (os : List Object) (o : Object) → n < length os → b ≡ p (get_or os n o) → cond b (set (marked n p os) n true) (marked n p os) ≡ marked (suc n) p os
+marked_by b n p [] o l e = absurd (omega arith)
+marked_by true zero p (x ∷ os) o l e = ap (λ (c : Bool). c ∷ replicate (length os) false) e
+marked_by false zero p (x ∷ os) o l e = ap (λ (c : Bool). c ∷ replicate (length os) false) e
+marked_by true (suc n) p (x ∷ os) o l e = ap (λ (bs : List Bool). p x ∷ bs) (marked_by true n p os o (omega arith) e)
+marked_by false (suc n) p (x ∷ os) o l e = ap (λ (bs : List Bool). p x ∷ bs) (marked_by false n p os o (omega arith) e)
+
+pub marked_more : (b : Bool) (n : ℕ) (p : Object → Bool) (os : List Object) (o : Object) (now next : List Bool) → now ≡ marked n p os → n < length os → b ≡ p (get_or os n o) → next ≡ cond b (set now n true) now → next ≡ marked (n + 1) p os
+marked_more b n p os o now next e l f g = rw (g, e, add-one) (marked_by b n p os o l f)

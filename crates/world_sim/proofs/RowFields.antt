@@ -176,3 +176,53 @@ pub refilled : (xs ws : List ℕ) → length ws ≡ length xs → refill (length
 refilled xs ws e =
     let none : drop (length ws) xs ≡ [] = drop_all (length ws) xs (omega (arith, e)) in
     rw (none, append-nil) (take_all (length xs) ws (omega (arith, e)))
+
+-- ---- three fields in place
+
+abbrev after_one : List ℤ → List ℕ → ℕ → ℤ → List ℕ
+after_one xs vs f x = set vs f (version_next (get_or xs f (pos 0)) x (get_or vs f 0))
+
+abbrev pub three_values : List ℤ → ℤ → ℤ → ℤ → List ℤ
+three_values xs a b c = set (set (set xs 0 a) 1 b) 2 c
+
+-- the values, versions and writes after one field and the next
+pub three_are : (xs : List ℤ) (a b c : ℤ) → length xs ≡ 3 → three_values xs a b c ≡ a ∷ b ∷ c ∷ []
+three_are [] a b c e = absurd (omega (arith, e))
+three_are (x ∷ []) a b c e = absurd (omega (arith, e))
+three_are (x ∷ y ∷ []) a b c e = absurd (omega (arith, e))
+three_are (x ∷ y ∷ z ∷ []) a b c e = refl
+three_are (x ∷ y ∷ z ∷ u ∷ xs) a b c e = absurd (omega (arith, e))
+
+pub three_counted : (xs : List ℤ) (vs : List ℕ) (a b c : ℤ) → length xs ≡ 3 → length vs ≡ 3 → after_one (set (set xs 0 a) 1 b) (after_one (set xs 0 a) (after_one xs vs 0 a) 1 b) 2 c ≡ row_versions xs (a ∷ b ∷ c ∷ []) vs
+unfolding row_versions
+three_counted [] vs a b c e f = absurd (omega (arith, e))
+three_counted (x ∷ []) vs a b c e f = absurd (omega (arith, e))
+three_counted (x ∷ y ∷ []) vs a b c e f = absurd (omega (arith, e))
+three_counted (x ∷ y ∷ z ∷ u ∷ xs) vs a b c e f = absurd (omega (arith, e))
+three_counted (x ∷ y ∷ z ∷ []) [] a b c e f = absurd (omega (arith, f))
+three_counted (x ∷ y ∷ z ∷ []) (v ∷ []) a b c e f = absurd (omega (arith, f))
+three_counted (x ∷ y ∷ z ∷ []) (v ∷ w ∷ []) a b c e f = absurd (omega (arith, f))
+three_counted (x ∷ y ∷ z ∷ []) (v ∷ w ∷ k ∷ []) a b c e f = refl
+three_counted (x ∷ y ∷ z ∷ []) (v ∷ w ∷ k ∷ j ∷ vs) a b c e f = absurd (omega (arith, f))
+
+abbrev field_at : ℕ → ℕ → ℤ → List ℤ → List ℕ → List Write
+field_at o f x xs vs = field_writes o f (get_or xs f (pos 0)) x (get_or vs f 0)
+
+told_in_turn : (ws first second third : List Write) → ((ws ++ first) ++ second) ++ third ≡ ws ++ (first ++ (second ++ (third ++ [])))
+told_in_turn ws first second third =
+    append_assoc (ws ++ first) second third
+    ∙ append_assoc ws first (second ++ third)
+    ∙ ap (λ (zs : List Write). ws ++ (first ++ (second ++ zs))) (sym (append-nil third))
+
+pub three_written : (ws : List Write) (o : ℕ) (xs : List ℤ) (vs : List ℕ) (a b c : ℤ) → length xs ≡ 3 → length vs ≡ 3 → ((ws ++ field_at o 0 a xs vs) ++ field_at o 1 b (set xs 0 a) (after_one xs vs 0 a)) ++ field_at o 2 c (set (set xs 0 a) 1 b) (after_one (set xs 0 a) (after_one xs vs 0 a) 1 b) ≡ ws ++ row_writes o 0 xs (a ∷ b ∷ c ∷ []) vs
+unfolding row_writes
+three_written ws o [] vs a b c e f = absurd (omega (arith, e))
+three_written ws o (x ∷ []) vs a b c e f = absurd (omega (arith, e))
+three_written ws o (x ∷ y ∷ []) vs a b c e f = absurd (omega (arith, e))
+three_written ws o (x ∷ y ∷ z ∷ u ∷ xs) vs a b c e f = absurd (omega (arith, e))
+three_written ws o (x ∷ y ∷ z ∷ []) [] a b c e f = absurd (omega (arith, f))
+three_written ws o (x ∷ y ∷ z ∷ []) (v ∷ []) a b c e f = absurd (omega (arith, f))
+three_written ws o (x ∷ y ∷ z ∷ []) (v ∷ w ∷ []) a b c e f = absurd (omega (arith, f))
+three_written ws o (x ∷ y ∷ z ∷ []) (v ∷ w ∷ k ∷ []) a b c e f =
+    told_in_turn ws (field_writes o 0 x a v) (field_writes o 1 y b w) (field_writes o 2 z c k)
+three_written ws o (x ∷ y ∷ z ∷ []) (v ∷ w ∷ k ∷ j ∷ vs) a b c e f = absurd (omega (arith, f))

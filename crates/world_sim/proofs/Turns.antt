@@ -1,6 +1,6 @@
 -- One object's tick by what was found, and the ticks of all objects one after the other, in place.
 use Rattle.std.proofs.Common.{◌≡◌, ℕ, zero, suc, ◌+◌, ◌<◌, Bool, true, false, not, cond, ◌&&◌, ◌||◌, nat_le, nat_eq, min, List, [], ◌∷◌, ◌++◌, length, filter, map, take, drop, get_or, set, Option, Some, None, refl, sym, ap, ◌∙◌, arith, add-one, inl, inr}
-use Rattle.std.specs.Prelude.{find}
+use Rattle.std.specs.Prelude.{find, ℤ, pos, ◌-◌}
 use Rattle.std.specs.Option.{option_or}
 use Rattle.std.proofs.lemmas.List.{length-take}
 use Rattle.std.proofs.lemmas.Bool.{and_parts}
@@ -25,8 +25,8 @@ use Rattle.world_sim.specs.Found.{AreFound, is_ending, is_players, is_players_pa
 use Rattle.world_sim.specs.Turns.{is_quiet, is_quiet_part, stepped_to}
 use Rattle.world_sim.specs.Cells.{IsGrid}
 use Rattle.world_sim.specs.declared.rows.Row.{Row}
-use Rattle.world_sim.specs.Rows.{values_of}
-use Rattle.world_sim.specs.RowsNext.{row_values, rows_updated}
+use Rattle.world_sim.specs.Rows.{values_of, row_versions}
+use Rattle.world_sim.specs.RowsNext.{row_values, row_next, rows_updated}
 use Rattle.world_sim.proofs.RowLoops.{updated_at}
 use Rattle.world_sim.proofs.Gathered.{filter_filter, filter_same, player_same, drone_same, mine_same}
 
@@ -217,3 +217,29 @@ row_of_old n f os objects rows now r o e l m is was =
     let a : get_or now n r ≡ get_or rows n r = ap (λ (xs : List Row). get_or xs n r) was ∙ updated_at n rows (map f os) r m in
     let b : get_or objects n o ≡ get_or os n o = ap (λ (xs : List Object). get_or xs n o) is ∙ stepped_at n f os o l in
     ap row_values a ∙ same_values row_values values_of rows os n r o e m ∙ sym (ap values_of b)
+
+-- ---- a drone in place
+
+pub three_of_drone : (o : Object) (d : DronePart) (xs : List ℤ) → xs ≡ values_of o → o.state ≡ Drone d → length xs ≡ 3
+three_of_drone o d xs e f = rw (e, f) refl
+
+pub values_of_drone : (r lost : ℕ) (o : Object) (d : DronePart) → o.alive ≡ true → values_of (drone_next r lost o d) ≡ pos (drone_next r lost o d).place.x ∷ pos (drone_next r lost o d).place.y ∷ pos (d.hp - lost) ∷ []
+unfolding drone_next
+values_of_drone r lost o d e = rw e refl
+
+abbrev row_of : List ℤ → List ℕ → Row
+row_of xs vs = record { values = record { items = xs }; versions = record { items = vs } }
+
+pub drone_told : (r lost hp : ℕ) (o now : Object) (d : DronePart) → o.alive ≡ true → now ≡ drone_next r lost o d → hp ≡ d.hp - lost → values_of now ≡ pos now.place.x ∷ pos now.place.y ∷ pos hp ∷ []
+drone_told r lost hp o now d a e h = rw (e, h) (values_of_drone r lost o d a)
+
+-- the row with these values is that of the object that has them
+pub row_told : (row next : Row) (now : Object) (told : List ℤ) → values_of now ≡ told → next.values.items ≡ told → next.versions.items ≡ row_versions row.values.items told row.versions.items → next ≡ row_next row now
+row_told row next now told e f g =
+    let values : next.values.items ≡ values_of now = f ∙ sym e in
+    let versions : next.versions.items ≡ row_versions row.values.items (values_of now) row.versions.items = g ∙ ap (λ (xs : List ℤ). row_versions row.values.items xs row.versions.items) (sym e) in
+    let a : next ≡ row_of (values_of now) next.versions.items = ap (λ (xs : List ℤ). row_of xs next.versions.items) values in
+    a ∙ ap (row_of (values_of now)) versions
+
+pub dead_drone : (o : Object) (d : DronePart) (ending : Bool) → o.state ≡ Drone d → o.alive ≡ false → is_quiet ending o ≡ true
+dead_drone o d ending e f = rw (e, f) refl

@@ -54,7 +54,7 @@ pub(crate) fn cell_of(place: &Place) -> u8
 }
 
 // The cell that an object lies in, if any.
-fn spot(o: &Object) -> Option<u8>
+pub(crate) fn spot(o: &Object) -> Option<u8>
     ensures { result ≡ spot o.now }
 {
     if o.alive && has_place(o) {
@@ -134,18 +134,25 @@ impl Cells {
         self.arrive(number, to);
     }
 
-    /// An object of this number became another. Most stay in their cells.
+    // The same, where most stay in their cells.
+    pub(crate) fn shift(&mut self, number: u32, from: Option<u8>, to: Option<u8>)
+        requires { number < MAX_OBJECTS }
+        ensures { (before behind : List Object) (old now : Object) → length before ≡ number → spot old ≡ from → spot now ≡ to
+            → IsGrid self.old (before ++ old ∷ behind) → IsGrid self.new (before ++ now ∷ behind) }
+    {
+        if is_same(from, to) {
+            return;
+        }
+        self.move_to(number, from, to);
+    }
+
+    /// An object of this number became another.
     pub(crate) fn resettle(&mut self, number: u32, old: &Object, now: &Object)
         requires { number < MAX_OBJECTS }
         ensures { (before behind : List Object) → length before ≡ number → IsGrid self.old (before ++ old.now ∷ behind)
             → IsGrid self.new (before ++ now.now ∷ behind) }
     {
-        let from = spot(old);
-        let to = spot(now);
-        if is_same(from, to) {
-            return;
-        }
-        self.move_to(number, from, to);
+        self.shift(number, spot(old), spot(now));
     }
 
     /// An object more, behind all others.

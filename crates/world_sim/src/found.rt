@@ -1,5 +1,5 @@
 //! What a tick finds of the objects before anything moves, so that each rule looks through a short list only.
-ghost use Rattle.std.specs.Prelude.{◌≡◌, ◌≤◌, ◌+◌, ◌*◌, ◌&&◌, ◌||◌, ◌++◌, ◌∷◌, [], OnOk, filter, map, length, count_by, List, if◌then◌else◌};
+ghost use Rattle.std.specs.Prelude.{◌≡◌, ◌≤◌, ◌+◌, ◌*◌, ◌&&◌, ◌||◌, ◌++◌, ◌∷◌, ◌<◌, [], true, slice_set, OnOk, filter, map, length, count_by, List, if◌then◌else◌};
 ghost use Rattle.std.specs.List.{list_any, AllByRecursion};
 ghost use Rattle.world_rules.specs.Near.{is_standing, is_other_near};
 ghost use Rattle.world_rules.specs.Discs.{is_of, is_hitting};
@@ -135,6 +135,16 @@ fn gather(
     Ok(())
 }
 
+// Marks the object of this number, if it ends.
+fn mark(hits: bool, triggers: bool, number: usize, marks: &mut Vec<bool>)
+    requires { number < length marks.old.items }
+    ensures { marks.new.items ≡ (if hits || triggers then slice_set marks.old.items number true else marks.old.items) }
+{
+    if hits || triggers {
+        marks[number] = true;
+    }
+}
+
 // The discs that hit and the mines that are triggered, with a mark for each object.
 #[tactic(auto, using(crate::proofs::Gathered::filter_more, crate::proofs::Watching::place_fits))]
 fn gather_ending(
@@ -159,12 +169,13 @@ fn gather_ending(
     hitting.clear();
     triggered.clear();
     marks.clear();
-    for o in objects {
+    marks.resize(objects.len(), false)?;
+    for (i, o) in objects.iter().enumerate() {
         let hits = is_hitting(cells, objects, o);
         let triggers = is_triggered_by(watched, standing, o);
         keep(hits, o, hitting)?;
         keep(triggers, o, triggered)?;
-        marks.push(hits || triggers)?;
+        mark(hits, triggers, i, marks);
     }
     Ok(())
 }

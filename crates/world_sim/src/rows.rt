@@ -1,5 +1,5 @@
 //! The values of all objects, their versions, and what a tick writes.
-ghost use Rattle.std.specs.Prelude.{vec_capacity, take, drop, ◌≡◌, ◌<◌, ◌≤◌, ◌+◌, ◌-◌, ◌^◌, ◌++◌, ℤ, ℕ, List, length, [], ◌∷◌, slice_index, slice_index_or, pos, ◌⊎◌, replicate};
+ghost use Rattle.std.specs.Prelude.{vec_capacity, take, drop, ◌≡◌, ◌<◌, ◌≤◌, ◌+◌, ◌-◌, ◌^◌, ◌++◌, ℤ, ℕ, List, length, [], ◌∷◌, slice_index, slice_index_or, slice_set, pos, ◌⊎◌, replicate};
 ghost use Rattle.std.specs.List.{AllByRecursion};
 ghost use Rattle.world_sim.specs.RowsNext.{row_next, fresh_row, IsSoundRow};
 ghost use Rattle.world_sim.specs.Rows.{values_of, differs, version_next, field_writes, row_versions, row_writes, as_number, holder_number};
@@ -206,6 +206,93 @@ pub fn change_row(object: u32, row: &mut Row, now: &Object, writes: &mut Vec<Wri
     );
     count_row(before, values.as_slice(), &mut row.versions);
     row.values = values;
+}
+
+// The value of a field in place, with its version and its write if it is another one than before.
+fn change_field(
+    object: u32,
+    f: usize,
+    value: u32,
+    values: &mut [i64],
+    versions: &mut [u32],
+    writes: &mut Vec<Write>,
+)
+    requires values { f < length values.old }
+    requires versions { f < length versions.old }
+    requires few { f < 5 }
+    requires small { slice_index versions.old f < 2 ^ 32 - 1 }
+    requires room { length writes.old.items < vec_capacity writes.old }
+    ensures values { values.new ≡ slice_set values.old f (pos value) }
+    ensures versions { versions.new ≡ slice_set versions.old f
+        (version_next (slice_index_or values.old f (pos 0)) (pos value) (slice_index_or versions.old f 0)) }
+    ensures writes { writes.new.items ≡ writes.old.items
+        ++ field_writes object f (slice_index_or values.old f (pos 0)) (pos value) (slice_index_or versions.old f 0) }
+    ensures few { length writes.new.items ≤ length writes.old.items + 1 }
+    ensures kept { vec_capacity writes.old ≤ vec_capacity writes.new }
+{
+    let before = values[f];
+    let now = i64::from(value);
+    let version = versions[f];
+    note(object, f as u8, before, now, version, writes);
+    versions[f] = version_next(before, now, version);
+    values[f] = now;
+}
+
+// The three values of a row in place.
+fn change_slices(
+    object: u32,
+    first: u32,
+    second: u32,
+    third: u32,
+    values: &mut [i64],
+    versions: &mut [u32],
+    writes: &mut Vec<Write>,
+)
+    requires values { length values.old ≡ 3 }
+    requires versions { length versions.old ≡ 3 }
+    requires small { AllByRecursion (λ v. v < 2 ^ 32 - 1) versions.old }
+    requires room { length writes.old.items + 5 ≤ vec_capacity writes.old }
+    ensures values { values.new ≡ pos first ∷ pos second ∷ pos third ∷ [] }
+    ensures versions { versions.new ≡ row_versions values.old (pos first ∷ pos second ∷ pos third ∷ []) versions.old }
+    ensures writes { writes.new.items ≡ writes.old.items
+        ++ row_writes object 0 values.old (pos first ∷ pos second ∷ pos third ∷ []) versions.old }
+    ensures few { length writes.new.items ≤ length writes.old.items + 5 }
+    ensures kept { vec_capacity writes.old ≤ vec_capacity writes.new }
+{
+    change_field(object, 0, first, values, versions, writes);
+    change_field(object, 1, second, values, versions, writes);
+    change_field(object, 2, third, values, versions, writes);
+}
+
+/// The row of an object with three fields after a tick that gave them these values, with its writes.
+pub fn change_three(
+    object: u32,
+    row: &mut Row,
+    first: u32,
+    second: u32,
+    third: u32,
+    writes: &mut Vec<Write>,
+)
+    requires sound { IsSoundRow row.old }
+    requires three { length row.old.values.items ≡ 3 }
+    requires room { length writes.old.items + 5 ≤ vec_capacity writes.old }
+    ensures values { row.new.values.items ≡ pos first ∷ pos second ∷ pos third ∷ [] }
+    ensures versions { row.new.versions.items
+        ≡ row_versions row.old.values.items (pos first ∷ pos second ∷ pos third ∷ []) row.old.versions.items }
+    ensures writes { writes.new.items ≡ writes.old.items
+        ++ row_writes object 0 row.old.values.items (pos first ∷ pos second ∷ pos third ∷ []) row.old.versions.items }
+    ensures few { length writes.new.items ≤ length writes.old.items + 5 }
+    ensures kept { vec_capacity writes.old ≤ vec_capacity writes.new }
+{
+    change_slices(
+        object,
+        first,
+        second,
+        third,
+        row.values.as_mut_slice(),
+        row.versions.as_mut_slice(),
+        writes,
+    );
 }
 
 fn zeros(n: usize) -> ArrayVec<u32, 5>

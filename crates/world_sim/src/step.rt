@@ -2,6 +2,7 @@
 ghost use Rattle.std.specs.Prelude.{◌≡◌, ℕ, ◌<◌, ◌≤◌, ◌-◌, ◌+◌, ◌*◌, ◌++◌, ◌∷◌, [], List, map, length, filter, slice_get, Some, true, vec_capacity};
 ghost use Rattle.std.specs.List.{AllByRecursion};
 ghost use Rattle.world_rules.specs.declared.object.Object.{Object};
+ghost use Rattle.world_rules.specs.declared.object.State.TheVariants.{Drone as drone_of};
 ghost use Rattle.world_rules.specs.Near.{is_target, is_standing};
 ghost use Rattle.world_rules.specs.Discs.{harm, hits};
 ghost use Rattle.world_rules.specs.Players.{damage};
@@ -12,16 +13,16 @@ ghost use Rattle.world_sim.specs.Cells.{IsGrid};
 ghost use Rattle.world_sim.specs.Found.{AreFound, is_ending};
 ghost use Rattle.world_sim.specs.Turns.{IsOld, is_quiet, moment};
 
-use crate::cells::Cells;
+use crate::cells::{Cells, spot};
 use crate::found::{Found, count_near, count_of};
-use crate::rows::{Row, Write, change_row};
+use crate::rows::{Row, Write, change_row, change_three};
 use tn_types::{MAX_OBJECTS, Move};
 use world_rules::fire::move_of;
 use world_rules::flags::{clock_next, flag_next};
 use world_rules::measures::{DISC_HARM, DISC_REACH, MINE_HARM, MINE_REACH};
-use world_rules::movers::{disc_next, drawn, drone_next, mine_next, player_next};
+use world_rules::movers::{disc_next, drawn, drone_next, mine_next, player_next, turn_drone};
 use world_rules::object::MAX_AGE;
-use world_rules::{Object, State};
+use world_rules::{Drone, Object, State};
 
 /// What the rules read of the world before the tick.
 #[derive(Clone, Copy)]
@@ -91,12 +92,50 @@ fn object_next(old: &Old<'_, '_>, ending: bool, o: &Object) -> Object
 fn is_quiet(ending: bool, o: &Object) -> bool
     ensures { result ≡ is_quiet ending o.now }
 {
+    if let State::Mine(m) = &o.state {
+        return !o.alive || !ending && m.armed && m.age == MAX_AGE;
+    }
     match &o.state {
         State::Disc(_) => !o.alive,
         State::Drone(_) => !o.alive,
-        State::Mine(m) => !o.alive || !ending && m.armed && m.age == MAX_AGE,
         _ => false,
     }
+}
+
+// A drone's tick. Most of what moves in a field are drones, so each field of one is written where it lies.
+fn step_drone(
+    old: &Old<'_, '_>,
+    number: u32,
+    d: Drone,
+    object: &mut Object,
+    row: &mut Row,
+    cells: &mut Cells,
+    writes: &mut Vec<Write>,
+)
+    requires discs { length old.now.found.now.hitting.items ≤ MAX_OBJECTS }
+    requires number { number < MAX_OBJECTS }
+    requires drone { object.old.state ≡ drone_of d }
+    requires alive { object.old.alive ≡ true }
+    requires sound { IsSoundRow row.old }
+    requires values { row.old.values.items ≡ values_of object.old }
+    requires room { length writes.old.items + 5 ≤ vec_capacity writes.old }
+    ensures object { (os : List Object) (i : ℕ) → IsOld os old.now → slice_get os i ≡ Some object.old
+        → object.new ≡ object_next os old.now.moves.now (moment old.now) object.old }
+    ensures row { row.new ≡ row_next row.old object.new }
+    ensures writes { writes.new.items ≡ writes.old.items
+        ++ row_writes number 0 row.old.values.items (values_of object.new) row.old.versions.items }
+    ensures grid { (before behind : List Object) → length before ≡ number → IsGrid cells.old (before ++ object.old ∷ behind)
+        → IsGrid cells.new (before ++ object.new ∷ behind) }
+    ensures few { length writes.new.items ≤ length writes.old.items + 5 }
+    ensures kept { vec_capacity writes.old ≤ vec_capacity writes.new }
+{
+    let r = drawn(old.seed, d.number, old.tick);
+    let harm = harm(old, object);
+    let from = spot(object);
+    turn_drone(r, harm, object, &d);
+    let hp = d.hp.saturating_sub(harm);
+    change_three(number, row, object.place.x, object.place.y, hp, writes);
+    cells.shift(number, from, spot(object));
 }
 
 // One object's tick, in its row and in the cells.
@@ -126,6 +165,12 @@ fn turn(
     ensures few { length writes.new.items ≤ length writes.old.items + 5 }
     ensures kept { vec_capacity writes.old ≤ vec_capacity writes.new }
 {
+    if let State::Drone(d) = object.state {
+        if object.alive {
+            step_drone(old, number, d, object, row, cells, writes);
+        }
+        return;
+    }
     if is_quiet(ending, object) {
         return;
     }

@@ -1,0 +1,12 @@
+use Rattle.std.proofs.Common.{◌≡◌, ◌∙◌, sym}
+use Rattle.world_sim.proofs.Changes.{IsGrid-moved, IsGrid-same}
+use Rattle.world_sim.proofs.cells.Cells.shift.Goals as goal
+
+pub returns : goal.returns
+returns c = λ before behind old now many from to grid.
+    rw c.move_to.ensures (IsGrid-moved c.args.number c.args.from c.args.to c.args.self.now before behind old now many from to grid)
+
+pub returns-then-is_same : goal.returns-then-is_same
+returns-then-is_same c = λ before behind old now many from to grid.
+    let same : c.args.from ≡ c.args.to = c.is_same.ensures c.if-is_same.true in
+    IsGrid-same c.args.self.now before behind old now (from ∙ same ∙ sym to) grid
