@@ -1,10 +1,11 @@
 //! Players, discs, mines and drones, each after one tick.
-ghost use Rattle.std.specs.Prelude.{◌≡◌, ◌<◌, ◌+ℤ◌, ◌-ℤ◌, pos};
+ghost use Rattle.std.specs.Prelude.{◌≡◌, true, ◌<◌, ◌+ℤ◌, ◌-ℤ◌, pos};
 ghost use Rattle.world_rules.specs.Places.{clamp};
 ghost use Rattle.world_rules.specs.Discs.{disc_next, flown, aged, is_leaving};
 ghost use Rattle.world_rules.specs.Mines.{mine_next};
 ghost use Rattle.world_rules.specs.Players.{player_next};
 ghost use Rattle.world_rules.specs.Drones.{drawn, drone_next};
+ghost use Rattle.world_rules.specs.declared.object.State.TheVariants.{Drone as drone_of};
 
 use crate::measures::{
     ARMING_AGE, CHANCE_BY_NUMBER, CHANCE_BY_TICK, CHANCE_SPREAD, DRONE_DRIFT, DRONE_WAYS,
@@ -101,22 +102,29 @@ pub fn disc_next(hitting: bool, o: &Object, d: &Disc) -> Object
 }
 
 /// A mine after the tick.
-#[tactic(auto, unfolding(crate::specs::Mines::mine_next))]
 pub fn mine_next(triggered: bool, o: &Object, m: &Mine) -> Object
     ensures { result ≡ mine_next triggered o.now m.now }
 {
+    let mut now = *o;
+    turn_mine(triggered, &mut now, m);
+    now
+}
+
+/// The same in place.
+#[tactic(auto, unfolding(crate::specs::Mines::mine_next))]
+pub fn turn_mine(triggered: bool, o: &mut Object, m: &Mine)
+    ensures { o.new ≡ mine_next triggered o.old m.now }
+{
     if !o.alive {
-        *o
-    } else if triggered {
-        Object { alive: false, ..*o }
-    } else {
-        let age = aged(m.age);
-        let armed = m.armed || age >= ARMING_AGE;
-        Object {
-            state: State::Mine(Mine { armed, age }),
-            ..*o
-        }
+        return;
     }
+    if triggered {
+        o.alive = false;
+        return;
+    }
+    let age = aged(m.age);
+    let armed = m.armed || age >= ARMING_AGE;
+    o.state = State::Mine(Mine { armed, age });
 }
 
 /// The chance of a drone in a tick: a number below 65,536.
@@ -131,29 +139,43 @@ pub fn drawn(seed: u32, number: u32, tick: u32) -> u32
 }
 
 /// A drone after the tick: `r` is its chance, `harm` what it loses.
+#[tactic(auto, unfolding(crate::specs::Drones::drone_next))]
 pub fn drone_next(r: u32, harm: u32, o: &Object, d: &Drone) -> Object
     ensures { result ≡ drone_next r harm o.now d.now }
 {
-    let mut now = *o;
-    turn_drone(r, harm, &mut now, d);
-    now
+    if !o.alive {
+        return *o;
+    }
+    Object {
+        alive: harm < d.hp,
+        place: Place {
+            x: drifted(o.place.x, r % DRONE_WAYS),
+            y: drifted(o.place.y, r / DRONE_WAYS % DRONE_WAYS),
+        },
+        state: State::Drone(Drone {
+            hp: d.hp.saturating_sub(harm),
+            ..*d
+        }),
+        ..*o
+    }
 }
 
-/// The same in place.
+/// A living drone's tick, where it lies.
 #[tactic(auto, unfolding(crate::specs::Drones::drone_next))]
 pub fn turn_drone(r: u32, harm: u32, o: &mut Object, d: &Drone)
+    requires alive { o.old.alive ≡ true }
+    requires drone { o.old.state ≡ drone_of d.now }
     ensures { o.new ≡ drone_next r harm o.old d.now }
 {
-    if !o.alive {
-        return;
-    }
-    o.alive = harm < d.hp;
     o.place.x = drifted(o.place.x, r % DRONE_WAYS);
     o.place.y = drifted(o.place.y, r / DRONE_WAYS % DRONE_WAYS);
-    o.state = State::Drone(Drone {
-        hp: d.hp.saturating_sub(harm),
-        ..*d
-    });
+    if harm > 0 || d.hp == 0 {
+        o.alive = harm < d.hp;
+        o.state = State::Drone(Drone {
+            hp: d.hp.saturating_sub(harm),
+            ..*d
+        });
+    }
 }
 
 // A coordinate after a drift to either side.

@@ -15,7 +15,7 @@ use Rattle.world_rules.specs.declared.object.Drone.{Drone as DronePart}
 use Rattle.world_rules.specs.Moves.{move_of}
 use Rattle.world_rules.specs.Near.{is_standing, is_standing_part, is_target}
 use Rattle.world_rules.specs.Discs.{harm, hits, disc_next}
-use Rattle.world_rules.specs.Mines.{mine_next}
+use Rattle.world_rules.specs.Mines.{mine_next, is_armed_part}
 use Rattle.world_rules.specs.Players.{damage, player_next}
 use Rattle.world_rules.specs.Drones.{drawn, drone_next}
 use Rattle.world_rules.specs.Flags.{is_player, is_player_part, taker, taking, flag_next}
@@ -25,7 +25,7 @@ use Rattle.world_sim.specs.Found.{AreFound, is_ending, is_players, is_players_pa
 use Rattle.world_sim.specs.Turns.{is_quiet, is_quiet_part, stepped_to}
 use Rattle.world_sim.specs.Cells.{IsGrid}
 use Rattle.world_sim.specs.declared.rows.Row.{Row}
-use Rattle.world_sim.specs.Rows.{values_of, row_versions}
+use Rattle.world_sim.specs.Rows.{values_of, row_versions, as_number}
 use Rattle.world_sim.specs.RowsNext.{row_values, row_next, rows_updated}
 use Rattle.world_sim.proofs.RowLoops.{updated_at}
 use Rattle.world_sim.proofs.Gathered.{filter_filter, filter_same, player_same, drone_same, mine_same}
@@ -243,3 +243,26 @@ row_told row next now told e f g =
 
 pub dead_drone : (o : Object) (d : DronePart) (ending : Bool) → o.state ≡ Drone d → o.alive ≡ false → is_quiet ending o ≡ true
 dead_drone o d ending e f = rw (e, f) refl
+
+-- ---- a mine in place
+
+pub three_of_mine : (o : Object) (m : MinePart) (xs : List ℤ) → xs ≡ values_of o → o.state ≡ Mine m → length xs ≡ 3
+three_of_mine o m xs e f = rw (e, f) refl
+
+abbrev mine_values : Object → List ℤ
+mine_values o = pos o.place.x ∷ pos o.place.y ∷ pos (as_number (is_armed_part o.state)) ∷ []
+
+still_a_mine : (alive ending : Bool) (o : Object) (m : MinePart) → o.state ≡ Mine m → values_of (cond (not alive) o (cond ending (record o { alive = false }) (record o { state = Mine (mine_of (m.armed || nat_le 10 (min 20 (m.age + 1))) (min 20 (m.age + 1))) }))) ≡ mine_values (cond (not alive) o (cond ending (record o { alive = false }) (record o { state = Mine (mine_of (m.armed || nat_le 10 (min 20 (m.age + 1))) (min 20 (m.age + 1))) })))
+still_a_mine false ending o m e = rw e refl
+still_a_mine true true o m e = rw e refl
+still_a_mine true false o m e = refl
+
+values_of_mine : (ending : Bool) (o : Object) (m : MinePart) → o.state ≡ Mine m → values_of (mine_next ending o m) ≡ mine_values (mine_next ending o m)
+unfolding mine_next
+values_of_mine ending o m e = still_a_mine o.alive ending o m e
+
+pub mine_told : (ending : Bool) (o now : Object) (m : MinePart) (armed : ℕ) → o.state ≡ Mine m → now ≡ mine_next ending o m → armed ≡ as_number (is_armed_part now.state) → values_of now ≡ pos now.place.x ∷ pos now.place.y ∷ pos armed ∷ []
+mine_told ending o now m armed e f h = rw (h, f) (values_of_mine ending o m e)
+
+pub mine_turn : (os : List Object) (moves : List (Option Move)) (t : Moment) (o : Object) (m : MinePart) (ending : Bool) → o.state ≡ Mine m → ending ≡ is_ending os o → mine_next ending o m ≡ object_next os moves t o
+mine_turn os moves t o m ending e f = mine_same os o m ending e f ∙ by_state os moves t o _ e

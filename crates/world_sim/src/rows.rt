@@ -232,10 +232,17 @@ fn change_field(
 {
     let before = values[f];
     let now = i64::from(value);
-    let version = versions[f];
-    note(object, f as u8, before, now, version, writes);
-    versions[f] = version_next(before, now, version);
-    values[f] = now;
+    if differs(before, now) {
+        let version = versions[f] + 1;
+        versions[f] = version;
+        values[f] = now;
+        writes.push_reserved(Write {
+            object,
+            field: f as u8,
+            version,
+            value: now,
+        });
+    }
 }
 
 // The three values of a row in place.

@@ -2,12 +2,13 @@
 ghost use Rattle.std.specs.Prelude.{◌≡◌, ℕ, ◌<◌, ◌≤◌, ◌-◌, ◌+◌, ◌*◌, ◌++◌, ◌∷◌, [], List, map, length, filter, slice_get, Some, true, vec_capacity};
 ghost use Rattle.std.specs.List.{AllByRecursion};
 ghost use Rattle.world_rules.specs.declared.object.Object.{Object};
-ghost use Rattle.world_rules.specs.declared.object.State.TheVariants.{Drone as drone_of};
+ghost use Rattle.world_rules.specs.declared.object.State.TheVariants.{Drone as drone_of, Mine as mine_of};
 ghost use Rattle.world_rules.specs.Near.{is_target, is_standing};
 ghost use Rattle.world_rules.specs.Discs.{harm, hits};
 ghost use Rattle.world_rules.specs.Players.{damage};
 ghost use Rattle.world_rules.specs.Next.{object_next};
-ghost use Rattle.world_sim.specs.Rows.{values_of, row_writes};
+ghost use Rattle.world_rules.specs.Mines.{is_armed_part, mine_next};
+ghost use Rattle.world_sim.specs.Rows.{values_of, row_writes, as_number};
 ghost use Rattle.world_sim.specs.RowsNext.{row_values, row_next, rows_updated, rows_writes, IsSoundRow};
 ghost use Rattle.world_sim.specs.Cells.{IsGrid};
 ghost use Rattle.world_sim.specs.Found.{AreFound, is_ending};
@@ -20,9 +21,11 @@ use tn_types::{MAX_OBJECTS, Move};
 use world_rules::fire::move_of;
 use world_rules::flags::{clock_next, flag_next};
 use world_rules::measures::{DISC_HARM, DISC_REACH, MINE_HARM, MINE_REACH};
-use world_rules::movers::{disc_next, drawn, drone_next, mine_next, player_next, turn_drone};
+use world_rules::movers::{
+    disc_next, drawn, drone_next, mine_next, player_next, turn_drone, turn_mine,
+};
 use world_rules::object::MAX_AGE;
-use world_rules::{Drone, Object, State};
+use world_rules::{Drone, Mine, Object, State};
 
 /// What the rules read of the world before the tick.
 #[derive(Clone, Copy)]
@@ -138,6 +141,80 @@ fn step_drone(
     cells.shift(number, from, spot(object));
 }
 
+// Whether a mine is armed.
+fn armed_number(o: &Object) -> u32
+    ensures { result ≡ as_number (is_armed_part o.now.state) }
+{
+    match &o.state {
+        State::Mine(m) => u32::from(m.armed),
+        _ => 0,
+    }
+}
+
+// A mine's tick, where it lies.
+fn step_mine(
+    number: u32,
+    ending: bool,
+    m: Mine,
+    object: &mut Object,
+    row: &mut Row,
+    cells: &mut Cells,
+    writes: &mut Vec<Write>,
+)
+    requires number { number < MAX_OBJECTS }
+    requires mine { object.old.state ≡ mine_of m }
+    requires sound { IsSoundRow row.old }
+    requires values { row.old.values.items ≡ values_of object.old }
+    requires room { length writes.old.items + 5 ≤ vec_capacity writes.old }
+    ensures object { object.new ≡ mine_next ending object.old m }
+    ensures row { row.new ≡ row_next row.old object.new }
+    ensures writes { writes.new.items ≡ writes.old.items
+        ++ row_writes number 0 row.old.values.items (values_of object.new) row.old.versions.items }
+    ensures grid { (before behind : List Object) → length before ≡ number → IsGrid cells.old (before ++ object.old ∷ behind)
+        → IsGrid cells.new (before ++ object.new ∷ behind) }
+    ensures few { length writes.new.items ≤ length writes.old.items + 5 }
+    ensures kept { vec_capacity writes.old ≤ vec_capacity writes.new }
+{
+    let from = spot(object);
+    turn_mine(ending, object, &m);
+    let armed = armed_number(object);
+    change_three(number, row, object.place.x, object.place.y, armed, writes);
+    cells.shift(number, from, spot(object));
+}
+
+// The tick of an object of any kind.
+fn step_any(
+    old: &Old<'_, '_>,
+    number: u32,
+    ending: bool,
+    object: &mut Object,
+    row: &mut Row,
+    cells: &mut Cells,
+    writes: &mut Vec<Write>,
+)
+    requires discs { length old.now.found.now.hitting.items ≤ MAX_OBJECTS }
+    requires mines { length old.now.found.now.triggered.items ≤ MAX_OBJECTS }
+    requires standing { old.now.found.now.standing.items ≡ filter is_standing old.now.found.now.players.items }
+    requires number { number < MAX_OBJECTS }
+    requires sound { IsSoundRow row.old }
+    requires values { row.old.values.items ≡ values_of object.old }
+    requires room { length writes.old.items + 5 ≤ vec_capacity writes.old }
+    ensures object { (os : List Object) (i : ℕ) → IsOld os old.now → slice_get os i ≡ Some object.old
+        → ending ≡ is_ending os object.old → object.new ≡ object_next os old.now.moves.now (moment old.now) object.old }
+    ensures row { row.new ≡ row_next row.old object.new }
+    ensures writes { writes.new.items ≡ writes.old.items
+        ++ row_writes number 0 row.old.values.items (values_of object.new) row.old.versions.items }
+    ensures grid { (before behind : List Object) → length before ≡ number → IsGrid cells.old (before ++ object.old ∷ behind)
+        → IsGrid cells.new (before ++ object.new ∷ behind) }
+    ensures few { length writes.new.items ≤ length writes.old.items + 5 }
+    ensures kept { vec_capacity writes.old ≤ vec_capacity writes.new }
+{
+    let now = object_next(old, ending, object);
+    change_row(number, row, &now, writes);
+    cells.resettle(number, object, &now);
+    *object = now;
+}
+
 // One object's tick, in its row and in the cells.
 fn turn(
     old: &Old<'_, '_>,
@@ -174,10 +251,11 @@ fn turn(
     if is_quiet(ending, object) {
         return;
     }
-    let now = object_next(old, ending, object);
-    change_row(number, row, &now, writes);
-    cells.resettle(number, object, &now);
-    *object = now;
+    if let State::Mine(m) = object.state {
+        step_mine(number, ending, m, object, row, cells, writes);
+        return;
+    }
+    step_any(old, number, ending, object, row, cells, writes);
 }
 
 /// Each object after the tick, with its row, its cell and the writes.
