@@ -11,6 +11,7 @@ pub mod Good
 pub mod Scoped
 mod GhostItems
 pub mod LegalLogs
+mod Halves
 mod Spelled
 mod Heads
 pub mod Carried

@@ -2,7 +2,6 @@
 use Rattle.std.specs.Prelude.{◌≡◌, ℕ, ℤ, ◌≤ℤ◌, Bool, Option, IfSome, List, ◌++◌, map}
 use Rattle.std.specs.List.{AllByRecursion}
 use Rattle.tn_types.specs.declared.choices.Read.{Read}
-use Rattle.pair_core.specs.History.{values_of}
 use Rattle.stream_manager.specs.Server.{ServerEvent}
 use Rattle.stream_manager.specs.Stands.{ConnState, ConnStandsFor, terms_of}
 use Rattle.pair_core.specs.Conditions.{field_of, AreReads}
@@ -11,19 +10,17 @@ use Rattle.pair_core.specs.Calls.{Asks}
 abbrev pub IsInRange : (ℕ → ℕ → Option (ℤ × ℤ)) → Read → Type 0
 IsInRange ranges r = IfSome (ranges r.n r.field) (λ x. (x.0 ≤ℤ r.value) × (r.value ≤ℤ x.1))
 
--- these fields were asked for in their order, and the values stand behind those that stood there before
+-- these fields were asked for in their order, and the reads stand behind those that were noted before
 pub record AreAsked {V : Type 0} (ranges : V → ℕ → ℕ → Option (ℤ × ℤ)) (stands : V → Read → Type 0)
-    (owes : V → ℕ → ℕ → Bool) (same : V → V → Type 0) (before after : V) (fields : List (ℕ × ℕ)) (old new : List ℤ) : Type 0 where
+    (owes : V → ℕ → ℕ → Bool) (same : V → V → Type 0) (before after : V) (fields : List (ℕ × ℕ)) (old new : List Read) : Type 0 where
   pub reads : List Read
   pub of_fields : map field_of reads ≡ fields
-  pub behind : new ≡ old ++ values_of reads
+  pub behind : new ≡ old ++ reads
   pub fit : AllByRecursion (IsInRange (ranges before)) reads
   pub asks : Asks ranges stands owes same before after reads
 
 -- the values of the next data packet of a server's end were asked for, whatever list it stands for
 pub record IsReadForNext {V : Type 0} (ranges : V → ℕ → ℕ → Option (ℤ × ℤ)) (stands : V → Read → Type 0)
-    (owes : V → ℕ → ℕ → Bool) (same : V → V → Type 0) (before after : V) (conn : ConnState) (values : List ℤ) : Type 0 where
-  pub reads : List Read
-  pub of_reads : values ≡ values_of reads
+    (owes : V → ℕ → ℕ → Bool) (same : V → V → Type 0) (before after : V) (conn : ConnState) (reads : List Read) : Type 0 where
   pub fit : (log : List ServerEvent) → ConnStandsFor conn log → AreReads (terms_of conn) log reads
   pub asks : Asks ranges stands owes same before after reads

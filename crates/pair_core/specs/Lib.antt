@@ -10,3 +10,4 @@ pub mod Stands
 pub mod Calls
 pub mod Verdicts
 pub mod Refusals
+pub mod Packing

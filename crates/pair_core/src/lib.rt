@@ -16,6 +16,7 @@ mod step;
 mod steps;
 mod verdicts;
 
+pub use asking::MAX_PACKET_VALUES;
 pub use held_blocks::{held_blocks_are_as_given, received_blocks_are_held};
 pub use laws::{accepts_in_order, delivers_in_order};
 pub use loose_events::loose_events_in_order;

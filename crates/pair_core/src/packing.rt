@@ -1,21 +1,24 @@
 //! The server's next datagram, with the values of what it carries.
-ghost use Rattle.std.specs.Prelude.{◌≡◌, true, ◌<◌, List, [], length};
+ghost use Rattle.std.specs.Prelude.{◌≡◌, true, ◌<◌, ◌≤◌, ℕ, List, [], length, vec_capacity};
 ghost use Rattle.std.specs.List.{AllByRecursion};
 ghost use Rattle.stream_manager.specs.ConnCalls.{Becomes, Keeps as KeepsConn};
 ghost use Rattle.stream_manager.specs.Server.{ServerEvent, ghost_log};
 ghost use Rattle.stream_manager.specs.Stands.{ConnStandsFor, terms_of};
 ghost use Rattle.tn_types.specs.declared.choices.Read.{Read};
-ghost use Rattle.pair_core.specs.History.{absorbing};
+ghost use Rattle.pair_core.specs.History.{absorbing, values_of};
 ghost use Rattle.pair_core.specs.Conditions.{MayBeDrained};
+ghost use Rattle.pair_core.specs.Calls.{Asks};
+ghost use Rattle.pair_core.specs.Packing.{MayPackEnd, AnswersPack, PacksEnd};
 
-use crate::asking::plan_and_ask;
+use crate::asking::{MAX_PACKET_VALUES, plan_and_ask};
+use crate::datagrams::Datagrams;
 use crate::pair::Pair;
 use crate::step::Answer;
 use notify_window::SendState;
 use std::marker::Brand;
 use std::sync::ledger::Blank;
 use stream_manager::Conn;
-use tn_types::{Drain, MAX_DATAGRAMS, Values};
+use tn_types::{Drain, MAX_DATAGRAMS, Read, Values};
 
 /// What was drained is due from now on.
 fn absorb_all(conn: &mut Conn, drains: &[Drain])
@@ -26,6 +29,63 @@ fn absorb_all(conn: &mut Conn, drains: &[Drain])
 {
     'drains: for drain in drains {
         conn.absorb(drain.n, drain.bits);
+    }
+}
+
+/// The values of these reads.
+fn list_values(noted: &[Read], values: &mut Vec<i64>)
+    requires room { length noted.now ≤ vec_capacity values.old }
+    ensures values { values.new.items ≡ values_of noted.now }
+    ensures room { vec_capacity values.new ≡ vec_capacity values.old }
+{
+    values.clear();
+    'reads: for read in noted {
+        values.push_reserved(read.value);
+    }
+}
+
+/// The server's end makes its next datagram, behind those that it sent. What was read for it is noted in place of what was
+/// noted before; the values that it carries are listed beside.
+fn pack_end<V: Values>(
+    conn: &mut Conn,
+    down: &mut Datagrams,
+    listed: &mut Vec<i64>,
+    noted: &mut Vec<Read>,
+    drains: &[Drain],
+    values: &mut V,
+) -> Answer
+    requires prepared { down.old.has_room ≡ true }
+    requires few { length down.old.list < MAX_DATAGRAMS }
+    requires may { MayPackEnd conn.old down.old.list drains.now (V.ranges values.old) }
+    requires list_room { MAX_PACKET_VALUES ≤ vec_capacity listed.old }
+    requires note_room { MAX_PACKET_VALUES ≤ vec_capacity noted.old }
+    ensures answer { AnswersPack conn.old down.old.list drains.now result }
+    ensures packs { PacksEnd conn.old down.old.list drains.now noted.new.items conn.new down.new.list }
+    ensures asks { Asks V.ranges V.stands V.owes V.same values.old values.new noted.new.items }
+    ensures keeps { KeepsConn conn.old conn.new }
+    ensures few { length noted.new.items ≤ MAX_PACKET_VALUES }
+    ensures list_room { vec_capacity listed.new ≡ vec_capacity listed.old }
+    ensures note_room { vec_capacity noted.new ≡ vec_capacity noted.old }
+{
+    let place = down.len();
+    let life = conn.config().life;
+    noted.clear();
+    absorb_all(conn, drains);
+    match conn.pack_state() {
+        SendState::Held => {
+            let bytes = conn.ping();
+            down.push(bytes);
+            Answer::Packed { ping: true, place }
+        }
+        SendState::Worn => Answer::Worn { life },
+        SendState::Room => {
+            let blank = Blank::new(1);
+            plan_and_ask::<Brand, V>(conn, blank, values, noted);
+            list_values(noted.as_slice(), listed);
+            let bytes = conn.seal(listed.as_slice());
+            down.push(bytes);
+            Answer::Packed { ping: false, place }
+        }
     }
 }
 
@@ -47,24 +107,42 @@ impl Pair {
             × Asks V.ranges V.stands V.owes V.same values.old values.new reads }
         ensures keeps { KeepsAtServer self.old self.new }
     {
-        let place = self.down.len();
-        let life = self.conn.config().life;
-        absorb_all(&mut self.conn, drains);
-        match self.conn.pack_state() {
-            SendState::Held => {
-                let bytes = self.conn.ping();
-                self.down.push(bytes);
-                Answer::Packed { ping: true, place }
-            }
-            SendState::Worn => Answer::Worn { life },
-            SendState::Room => {
-                self.values.clear();
-                let blank = Blank::new(1);
-                plan_and_ask::<Brand, V>(&mut self.conn, blank, values, &mut self.values);
-                let bytes = self.conn.seal(self.values.as_slice());
-                self.down.push(bytes);
-                Answer::Packed { ping: false, place }
-            }
-        }
+        pack_end(
+            &mut self.conn,
+            &mut self.down,
+            &mut self.values,
+            &mut self.noted,
+            drains,
+            values,
+        )
+    }
+
+    /// The same, and it notes what was read, in the order in which it was asked for and in place of what was noted before. A
+    /// caller gets here what it needs to keep the step with its reads.
+    pub fn pack_noting<V: Values>(
+        &mut self,
+        drains: &[Drain],
+        values: &mut V,
+        noted: &mut Vec<Read>,
+    ) -> Answer
+        requires prepared { self.old.prepared ≡ true }
+        requires few { length self.old.down < MAX_DATAGRAMS }
+        requires may { MayPack self.old drains.now (V.ranges values.old) }
+        requires room { MAX_PACKET_VALUES ≤ vec_capacity noted.old }
+        ensures answer { Answers self.old (λ t steps. answer t steps (Pack drains.now [])) result }
+        ensures packs { Packs self.old drains.now noted.new.items self.new }
+        ensures asks { Asks V.ranges V.stands V.owes V.same values.old values.new noted.new.items }
+        ensures keeps { KeepsAtServer self.old self.new }
+        ensures few { length noted.new.items ≤ MAX_PACKET_VALUES }
+        ensures room { vec_capacity noted.new ≡ vec_capacity noted.old }
+    {
+        pack_end(
+            &mut self.conn,
+            &mut self.down,
+            &mut self.values,
+            noted,
+            drains,
+            values,
+        )
     }
 }

@@ -2,6 +2,7 @@
 ghost use Rattle.std.specs.Prelude.{◌≡◌, true, ◌≤◌, [], IfOk, IfSome, OnOk, OnErr, IsTrue, ◌↔◌, if◌then◌else◌, length, slice_get};
 ghost use Rattle.std.specs.Option.{option_copied};
 
+use crate::asking::MAX_PACKET_VALUES;
 use crate::datagrams::Datagrams;
 use crate::step::{Answer, PairStep};
 use event_manager::MAX_READY_EVENTS;
@@ -9,7 +10,7 @@ use quantised_fields::KindTable;
 use std::alloc::Global;
 use std::marker::Model;
 use stream_manager::{Client, Config, Conn};
-use tn_types::{BlockBytes, Class, MAX_BLOCKS, MAX_DATAGRAM_BYTES, NoMemory, Payload};
+use tn_types::{BlockBytes, Class, MAX_BLOCKS, MAX_DATAGRAM_BYTES, NoMemory, Payload, Read};
 
 /// The server's end, the client's end, and the datagrams that each sent.
 ///
@@ -22,6 +23,8 @@ pub struct Pair {
     pub(crate) up: Datagrams,
     // the values that the last pack was given
     pub(crate) values: Vec<i64>,
+    // and its reads, if nobody else notes them
+    pub(crate) noted: Vec<Read>,
 }
 
 impl Model for Pair {
@@ -39,7 +42,7 @@ impl Model for Pair {
       prepared = p.down.has_room && p.up.has_room;
     } };
 
-    ghost invariant = { λ p. MAX_PACKET_VALUES ≤ vec_capacity p.values };
+    ghost invariant = { λ p. (MAX_PACKET_VALUES ≤ vec_capacity p.values) × (MAX_PACKET_VALUES ≤ vec_capacity p.noted) };
 }
 
 impl Pair {
@@ -65,7 +68,10 @@ impl Pair {
     {
         let conn = Conn::new(alloc, config, kinds, blocks)?;
         let client = Client::new(alloc, config, kinds)?;
-        let Ok(values) = Vec::with_capacity(alloc, crate::asking::MAX_PACKET_VALUES) else {
+        let Ok(values) = Vec::with_capacity(alloc, MAX_PACKET_VALUES) else {
+            return Err(NoMemory);
+        };
+        let Ok(noted) = Vec::with_capacity(alloc, MAX_PACKET_VALUES) else {
             return Err(NoMemory);
         };
         Ok(Pair {
@@ -74,6 +80,7 @@ impl Pair {
             down: Datagrams::new(alloc),
             up: Datagrams::new(alloc),
             values,
+            noted,
         })
     }
 

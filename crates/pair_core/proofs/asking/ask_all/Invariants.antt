@@ -6,7 +6,7 @@ use Rattle.pair_core.proofs.asking.ask_all.Given as goal
 
 abbrev pub invariant-items : goal.invariant-items
 invariant-items g l = record {
-  told : AreAsked g.V.Values.ranges g.V.Values.stands g.V.Values.owes g.V.Values.same l.initial.values l.values (asked_by_all (take l.choice-index l.choices)) l.initial.asked.items l.asked.items;
-  few : vec_len l.asked ≤ vec_len l.initial.asked + 16 * l.choice-index;
-  room : vec_capacity l.asked ≡ vec_capacity l.initial.asked;
+  told : AreAsked g.V.Values.ranges g.V.Values.stands g.V.Values.owes g.V.Values.same l.initial.values l.values (asked_by_all (take l.choice-index l.choices)) l.initial.noted.items l.noted.items;
+  few : vec_len l.noted ≤ vec_len l.initial.noted + 16 * l.choice-index;
+  room : vec_capacity l.noted ≡ vec_capacity l.initial.noted;
 }

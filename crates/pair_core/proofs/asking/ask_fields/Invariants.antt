@@ -7,7 +7,7 @@ use Rattle.pair_core.proofs.asking.ask_fields.Given as goal
 
 abbrev pub invariant-fields : goal.invariant-fields
 invariant-fields g l = record {
-  told : AreAsked g.V.Values.ranges g.V.Values.stands g.V.Values.owes g.V.Values.same l.initial.values l.values (map (λ f. (l.choice.n, f)) (filter (has_bit l.choice.mask) (upto l.field))) l.initial.asked.items l.asked.items;
-  few : vec_len l.asked ≤ vec_len l.initial.asked + l.field;
-  room : vec_capacity l.asked ≡ vec_capacity l.initial.asked;
+  told : AreAsked g.V.Values.ranges g.V.Values.stands g.V.Values.owes g.V.Values.same l.initial.values l.values (map (λ f. (l.choice.n, f)) (filter (has_bit l.choice.mask) (upto l.field))) l.initial.noted.items l.noted.items;
+  few : vec_len l.noted ≤ vec_len l.initial.noted + l.field;
+  room : vec_capacity l.noted ≡ vec_capacity l.initial.noted;
 }

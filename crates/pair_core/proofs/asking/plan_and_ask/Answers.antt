@@ -1,8 +1,9 @@
 use Rattle.std.proofs.Common.{◌≡◌, ◌∙◌, ℕ, ◌<◌, ◌++◌, List, ◌∷◌, length, true, sym, ap, subst, arith}
-use Rattle.std.specs.Prelude.{ℤ, All, IsSome}
+use Rattle.std.specs.Prelude.{All, IsSome}
 use Rattle.std.proofs.lemmas.List.Elements.{All-from_recursion}
 use Rattle.tn_types.specs.BitWords.{has_bit}
 use Rattle.tn_types.specs.declared.choices.Choice.{Choice}
+use Rattle.tn_types.specs.declared.choices.Read.{Read}
 use Rattle.ghost_model.specs.Ghosts.{Grant}
 use Rattle.ghost_masks.specs.Carried.{all_carried, AreValues}
 use Rattle.ghost_masks.proofs.Items.{plan_short}
@@ -10,6 +11,7 @@ use Rattle.stream_manager.specs.Server.{ghost_log, choices_at, received_at, ghos
 use Rattle.stream_manager.specs.Stands.{terms_of}
 use Rattle.pair_core.specs.History.{values_of}
 use Rattle.pair_core.specs.Conditions.{asked_by_all}
+use Rattle.pair_core.specs.Asking.{IsReadForNext}
 use Rattle.pair_core.proofs.ReadValues.{supplies, all-may-be-asked, reads-values, same-carried}
 use Rattle.pair_core.proofs.Packed.{planned-items}
 use Rattle.pair_core.proofs.asking.plan_and_ask.Goals as goal
@@ -31,8 +33,8 @@ ask_all-requires-clause-room g c =
     let s = c.requires.ranged.1 in
     let short = plan_short c.args.conn.now.masks.kinds (received_at log) (Grant ∷ ghost_log log) (tt, s.masks.legal) s.masks.table (ghost_room (terms_of c.args.conn.now) log) in
     let count = ap (λ (l : List Choice). length l) (c.plan-choices.ensures.choices log s) in
-    let none = ap (λ (l : List ℤ). length l) c.requires.empty in
-    let ok = c.args.asked.now.ok in
+    let none = ap (λ (l : List Read). length l) c.requires.empty in
+    let ok = c.args.noted.now.ok in
     let room = c.requires.room in
     omega arith
 
@@ -47,9 +49,8 @@ returns-clause-told g c =
     reads-values c.args.conn.now.masks.kinds s.masks.table (Grant ∷ ghost_log log) (g.V.Values.ranges c.args.values.now) (choices_at (terms_of c.args.conn.now) log) told.reads items has
     (told.of_fields ∙ ap asked_by_all (c.plan-choices.ensures.choices log s)) told.fit in
     let plan = c.plan-choices.follows.holds-at-none in
-    record {
-      reads = told.reads;
-      of_reads = told.behind ∙ ap (λ (l : List ℤ). l ++ values_of told.reads) c.requires.empty;
+    subst (IsReadForNext g.V.Values.ranges g.V.Values.stands g.V.Values.owes g.V.Values.same c.args.values.now c.ask_all.new.values c.args.conn.now) (sym (told.behind ∙ ap (λ (l : List Read). l ++ told.reads) c.requires.empty))
+    (record {
       fit = λ other so. record {
         asked = told.of_fields ∙ ap asked_by_all (c.plan-choices.ensures.choices other so);
         fit = subst (λ (cs : List Choice). AreValues (all_carried c.args.conn.now.masks.kinds (Grant ∷ ghost_log other) cs) (values_of told.reads)) (sym (c.plan-choices.ensures.choices log s) ∙ c.plan-choices.ensures.choices other so)
@@ -57,4 +58,15 @@ returns-clause-told g c =
             (same-carried c.plan-choices.follows.lender-at-none.masks.periods (plan.stands log s).masks.ordered c.args.conn.now.masks.kinds (Grant ∷ ghost_log log) (Grant ∷ ghost_log other) (plan.stands log s).masks.periods (plan.stands other so).masks.periods (choices_at (terms_of c.args.conn.now) log) items) values);
       };
       asks = told.asks;
-    }
+    })
+
+pub returns-clause-few : goal.returns-clause-few
+returns-clause-few g c =
+    let log = c.requires.ranged.0 in
+    let s = c.requires.ranged.1 in
+    let short = plan_short c.args.conn.now.masks.kinds (received_at log) (Grant ∷ ghost_log log) (tt, s.masks.legal) s.masks.table (ghost_room (terms_of c.args.conn.now) log) in
+    let count = ap (λ (l : List Choice). length l) (c.plan-choices.ensures.choices log s) in
+    let none = ap (λ (l : List Read). length l) c.requires.empty in
+    let few = c.ask_all.ensures.few in
+    let ok = c.args.noted.now.ok in
+    omega arith

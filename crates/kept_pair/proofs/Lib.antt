@@ -1,0 +1,3 @@
+mod Cutting
+pub mod Counts
+pub mod Replaying

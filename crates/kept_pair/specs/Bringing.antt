@@ -1,0 +1,15 @@
+-- Which steps may bring moves to the server: those that bring it a datagram, where it takes that datagram.
+use Rattle.std.specs.Prelude.{ℕ, Bool, true, false}
+use Rattle.pair_core.specs.declared.step.PairStep.{PairStep as GivenStep}
+use Rattle.pair_core.specs.declared.step.PairStep.TheVariants as given
+use Rattle.pair_core.specs.declared.step.Answer.{Answer}
+use Rattle.pair_core.specs.declared.step.Answer.TheVariants as says
+
+abbrev pub has_come : Answer → Bool
+has_come (says.Came moves) = true
+has_come other = false
+
+abbrev pub brings : GivenStep → Answer → Bool
+brings (given.Up k room) a = has_come a
+brings (given.Raw bytes room) a = has_come a
+brings other a = false

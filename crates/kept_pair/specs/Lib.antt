@@ -1,0 +1,3 @@
+pub mod StepLists
+pub mod Kept
+pub mod Bringing

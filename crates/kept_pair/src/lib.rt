@@ -1,0 +1,15 @@
+//! A connection that keeps its steps, so that what was done can be told, and compared, when it has ended.
+//!
+//! It makes the steps of a pair, and lists each as it was made: a pack with what was drained and read.
+#![tactic(auto)]
+
+mod entry;
+mod fault;
+mod given;
+mod pair;
+mod step_list;
+
+pub use entry::MAX_KEPT_STEPS;
+pub use fault::KeepFault;
+pub use pair::KeptPair;
+pub use step_list::StepList;

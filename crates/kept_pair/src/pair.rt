@@ -1,0 +1,213 @@
+//! A pair, and the steps that were made on it.
+ghost use Rattle.std.specs.Prelude.{◌≡◌, true, ◌≤◌, ◌<◌, List, [], ◌∷◌, ◌++◌, OnOk, OnErr, length, take, slice_get};
+ghost use Rattle.tn_types.specs.declared.choices.Read.{Read};
+
+use crate::entry::MAX_KEPT_STEPS;
+use crate::fault::KeepFault;
+use crate::given::{brought_moves, learn_payload};
+use crate::step_list::StepList;
+use pair_core::{Answer, MAX_PACKET_VALUES, Pair, PairStep};
+use std::alloc::Global;
+use std::marker::Model;
+use tn_types::{Class, Drain, MAX_PACKET_MOVES, MAX_SHOWN_PERIODS, Move, NoMemory, Payload, Read, Values};
+
+/// A pair that keeps the steps that are made on it.
+///
+/// A clause sees the pair, the steps and whether there is room for one more. The pair is what these steps make of a new one.
+#[derive(Drop)]
+pub struct KeptPair {
+    pair: Pair,
+    steps: StepList,
+    // the moves that the server accepted, and how many there were before each step
+    moves: Vec<Move>,
+    befores: Vec<u32>,
+    // what the last pack read
+    noted: Vec<Read>,
+}
+
+impl Model for KeptPair {
+    ghost use Rattle.std.specs.Prelude.{◌+◌, ◌≤◌, nat_le, nat_lt, ◌&&◌, vec_len, vec_capacity};
+    ghost use Rattle.tn_types.specs.declared.limits.TheConstants.{MAX_PACKET_MOVES};
+    ghost use Rattle.pair_core.specs.declared.asking.TheConstants.{MAX_PACKET_VALUES};
+    ghost use Rattle.kept_pair.specs.Kept.{KeptState, AreKept};
+
+    ghost Value = { KeptState };
+
+    ghost view = { λ k. record {
+      pair = k.pair;
+      steps = k.steps.list;
+      prepared = k.pair.prepared && (k.steps.has_room && (nat_lt (vec_len k.befores) (vec_capacity k.befores)
+          && (nat_le (vec_len k.moves + MAX_PACKET_MOVES) (vec_capacity k.moves) && nat_le MAX_PACKET_VALUES (vec_capacity k.noted))));
+    } };
+
+    ghost invariant = { λ k. AreKept k.pair k.steps.list k.moves.items k.befores.items };
+}
+
+impl KeptPair {
+    ghost use Rattle.stream_manager.specs.EndCalls.{popped};
+    ghost use Rattle.pair_core.specs.History.{Pack};
+    ghost use Rattle.pair_core.specs.Calls.{step_of, Hands, Accepts, Keeps, KeepsAtServer, Unchanged, Asks};
+    ghost use Rattle.kept_pair.specs.Kept.{KeptState, IsFresh, Replays, MayStep, IsReady, MayPack, HasCause, answer_after, accepted_by};
+
+    /// A pair that keeps its steps from now on. None was made before.
+    pub fn new(alloc: Global, pair: Pair) -> KeptPair
+        requires fresh { IsFresh pair }
+        ensures pair { result.pair ≡ pair }
+        ensures none { result.steps ≡ [] }
+    {
+        KeptPair {
+            pair,
+            steps: StepList::new(alloc),
+            moves: Vec::new(alloc),
+            befores: Vec::new(alloc),
+            noted: Vec::new(alloc),
+        }
+    }
+
+    /// Makes room for one more step, whatever it sends, drains, reads and accepts. There is none exactly where
+    /// `MAX_KEPT_STEPS` are kept. After a fault nothing has changed.
+    pub fn prepare(&mut self, alloc: Global) -> Result<(), KeepFault>
+        ensures cause { HasCause (length self.old.steps) result }
+        ensures prepared { OnOk result (self.new ≡ record self.old { pair = record self.old.pair { prepared = true }; prepared = true }) }
+        ensures unchanged { OnErr result (self.new ≡ self.old) }
+    {
+        let kept = self.steps.len();
+        if kept == MAX_KEPT_STEPS {
+            return Err(KeepFault::NoRoom { kept });
+        }
+        if self.reserve(alloc).is_err() {
+            return Err(KeepFault::NoMemory);
+        }
+        Ok(())
+    }
+
+    /// Makes that room.
+    fn reserve(&mut self, alloc: Global) -> Result<(), NoMemory>
+        requires few { length self.old.steps < MAX_KEPT_STEPS }
+        ensures prepared { OnOk result (self.new ≡ record self.old { pair = record self.old.pair { prepared = true }; prepared = true }) }
+        ensures unchanged { OnErr result (self.new ≡ self.old) }
+    {
+        self.steps.prepare()?;
+        if self.befores.reserve(1).is_err() {
+            return Err(NoMemory);
+        }
+        if self.moves.reserve(MAX_PACKET_MOVES).is_err() {
+            return Err(NoMemory);
+        }
+        self.noted.clear();
+        if self.noted.reserve(MAX_PACKET_VALUES).is_err() {
+            return Err(NoMemory);
+        }
+        if !self.pair.is_prepared() {
+            self.pair.prepare(alloc)?;
+        }
+        Ok(())
+    }
+
+    /// Whether there is room for one more step.
+    pub fn is_prepared(&self) -> bool
+        ensures { result ≡ self.now.prepared }
+    {
+        self.pair.is_prepared()
+            && self.steps.has_room()
+            && self.befores.len() < self.befores.capacity()
+            && self.moves.capacity() - self.moves.len() >= MAX_PACKET_MOVES
+            && self.noted.capacity() >= MAX_PACKET_VALUES
+    }
+
+    /// Makes one step, keeps it and gives its answer; a step that is refused is kept like any other. It takes no memory, since
+    /// the caller gives the step away. It has the condition of the call of an end that the step names.
+    pub fn step(&mut self, step: PairStep) -> Answer
+        requires prepared { self.old.prepared ≡ true }
+        requires may { MayStep self.old (step_of step) }
+        requires ready { IsReady self.old.pair step }
+        ensures answer { result ≡ answer_after self.old (step_of step) }
+        ensures kept { self.new.steps ≡ self.old.steps ++ step_of step ∷ [] }
+        ensures handed { Hands self.old.pair (step_of step) self.new.pair }
+        ensures moves { Accepts self.old.pair (step_of step) result self.new.pair }
+        ensures keeps { Keeps self.old.pair (step_of step) self.new.pair }
+        ensures unchanged { Unchanged self.old.pair result self.new.pair }
+    {
+        learn_payload(&step);
+        self.befores.push_reserved(self.moves.len() as u32);
+        let answer = self.pair.step(&step);
+        if brought_moves(&step, &answer) {
+            let taken = self.pair.conn().taken_moves();
+            if self.moves.extend_from_slice(taken).is_err() {
+                unreachable!()
+            }
+        }
+        self.steps.push(step, &[], &[]);
+        answer
+    }
+
+    /// The server makes its next datagram, as `Pair::pack` does. The step is kept with these drains, no more than one for each
+    /// period that can be shown, and with what was read.
+    pub fn pack<V: Values>(&mut self, drains: &[Drain], values: &mut V) -> Answer
+        requires prepared { self.old.prepared ≡ true }
+        requires few { length drains.now ≤ MAX_SHOWN_PERIODS }
+        requires may { MayPack self.old drains.now (V.ranges values.old) }
+        ensures answer { result ≡ answer_after self.old (Pack drains.now []) }
+        ensures told { (reads : List Read) × (self.new.steps ≡ self.old.steps ++ Pack drains.now reads ∷ [])
+            × Asks V.ranges V.stands V.owes V.same values.old values.new reads }
+        ensures keeps { KeepsAtServer self.old.pair self.new.pair }
+    {
+        self.befores.push_reserved(self.moves.len() as u32);
+        let answer = self.pair.pack_noting(drains, values, &mut self.noted);
+        self.steps
+            .push(PairStep::Pack, drains, self.noted.as_slice());
+        answer
+    }
+
+    /// The pair.
+    pub fn pair(&self) -> &Pair
+        ensures { result.now ≡ self.now.pair }
+    {
+        &self.pair
+    }
+
+    /// The kept steps. The pair is what they make of a new one, and each might be made after those before it.
+    pub fn steps(&self) -> &StepList
+        ensures steps { result.now.list ≡ self.now.steps }
+        ensures replays { Replays self.now.pair self.now.steps }
+    {
+        &self.steps
+    }
+
+    /// The moves that the server accepted in these steps, in order.
+    pub fn accepted_moves(&self) -> &[Move]
+        ensures { result.now ≡ accepted_by self.now self.now.steps }
+    {
+        self.moves.as_slice()
+    }
+
+    /// How many of them were accepted before the step of place `i`, or in all steps where there is none.
+    pub fn accepted_before(&self, i: u32) -> u32
+        requires { i ≤ length self.now.steps }
+        ensures { result ≡ length (accepted_by self.now (take i self.now.steps)) }
+    {
+        let i = i as usize;
+        if i == self.befores.len() {
+            return self.moves.len() as u32;
+        }
+        self.befores[i]
+    }
+
+    /// Hands out the oldest event that waits at the client; `None` exactly where none does.
+    pub fn pop_client_event(&mut self) -> Option<(Class, Payload)>
+        ensures first { result ≡ slice_get self.old.pair.client.common.receiver.ready 0 }
+        ensures rest { self.new ≡ record self.old { pair = record self.old.pair {
+            client = record self.old.pair.client { common = popped self.old.pair.client.common } } } }
+    {
+        self.pair.pop_client_event()
+    }
+
+    /// Hands out the oldest event that waits at the server; `None` exactly where none does.
+    pub fn pop_server_event(&mut self) -> Option<(Class, Payload)>
+        ensures first { result ≡ slice_get self.old.pair.conn.common.receiver.ready 0 }
+        ensures rest { self.new ≡ record self.old { pair = record self.old.pair {
+            conn = record self.old.pair.conn { common = popped self.old.pair.conn.common } } } }
+    {
+        self.pair.pop_server_event()
+    }
+}
