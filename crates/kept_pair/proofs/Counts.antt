@@ -1,5 +1,5 @@
 -- A step sends one datagram at most each way, and brings 32 moves at most: as many as a packet has.
-use Rattle.std.proofs.Common.{◌≡◌, ℕ, suc, ◌+◌, ◌-◌, ◌≤◌, Bool, true, false, List, [], ◌∷◌, ◌++◌, length, min, take, drop, nat_le, cond, Option, Some, None, Result, Ok, Err, refl, sym, ap, ◌∙◌, subst, arith, length-append}
+use Rattle.std.proofs.Common.{◌≡◌, ℕ, suc, ◌+◌, ◌-◌, ◌≤◌, Bool, true, false, List, [], ◌∷◌, ◌++◌, length, take, drop, nat_le, cond, Option, Some, None, Result, Ok, Err, refl, sym, ap, ◌∙◌, subst, arith, length-append, append-nil}
 use Rattle.std.specs.Prelude.{slice_get, if◌then◌else◌}
 use Rattle.std.specs.Result.{is_ok}
 use Rattle.std.proofs.lemmas.List.{length-take, length-drop}
@@ -7,7 +7,6 @@ use Rattle.bit_stream.specs.Bits.{bits_of}
 use Rattle.bit_stream.specs.Reading.{end_at}
 use Rattle.bit_stream.specs.declared.reader.PaddingFault.{PaddingFault}
 use Rattle.tn_types.specs.Checks.{Checked}
-use Rattle.tn_types.specs.declared.choices.Class.{Class}
 use Rattle.tn_types.specs.declared.choices.Class.TheVariants.{Guaranteed, Loose}
 use Rattle.tn_types.specs.declared.choices.Drain.{Drain}
 use Rattle.tn_types.specs.declared.choices.Read.{Read}
@@ -18,14 +17,13 @@ use Rattle.wire_format.specs.declared.fault.BitsFault.{BitsFault}
 use Rattle.wire_format.specs.declared.client.ClientPacket.{ClientPacket}
 use Rattle.wire_format.specs.declared.client.ClientPacket.TheVariants as up
 use Rattle.wire_format.specs.Reading.{padding_as_fault}
-use Rattle.wire_format.specs.Client.{client_at, read_client, spell_client, IsClient}
+use Rattle.wire_format.specs.Client.{client_at, read_client, IsClient}
 use Rattle.wire_format.proofs.Formats.{bind_ok}
 use Rattle.wire_format.proofs.ClientFormat.{a_client}
 use Rattle.move_manager.specs.Sending.{Packet}
 use Rattle.move_manager.specs.Accepting.{new_count, accept}
 use Rattle.stream_manager.specs.declared.config.Config.{Config}
 use Rattle.stream_manager.specs.declared.fault.ArriveFault.{ArriveFault}
-use Rattle.stream_manager.specs.declared.fault.ClientFault.{ClientFault}
 use Rattle.stream_manager.specs.Limits.{Terms}
 use Rattle.stream_manager.specs.Faults.{checked_packet}
 use Rattle.stream_manager.specs.End.{with_event}
@@ -37,23 +35,23 @@ use Rattle.pair_core.specs.declared.step.Answer.{Answer}
 use Rattle.pair_core.specs.declared.step.Answer.TheVariants as says
 use Rattle.pair_core.specs.declared.step.PairStep.{PairStep as GivenStep}
 use Rattle.pair_core.specs.declared.step.PairStep.TheVariants as given
-use Rattle.pair_core.specs.History.{PairStep, Show, Hide, Near, Post, ClientPost, Sample, Pack, ClientPack, Down, Up, Raw, History, history, absorbing, values_of, server_gets, client_gets}
+use Rattle.pair_core.specs.History.{PairStep, Post, ClientPost, Sample, Pack, ClientPack, Down, Up, Raw, history, absorbing, values_of, server_gets, client_gets}
 use Rattle.pair_core.specs.Answers.{answer, accepted_in, came_up, brought_up}
 use Rattle.pair_core.specs.Calls.{step_of, Accepts, LendsMoves}
-use Rattle.pair_core.specs.Stands.{PairState}
+use Rattle.pair_core.specs.Stands.{PairState, StandsFor}
 use Rattle.pair_core.proofs.Good.{absorbed-sends}
-use Rattle.kept_pair.specs.Bringing.{brings}
+use Rattle.kept_pair.specs.Bringing.{brings, brought}
 
 -- ---- datagrams
 
-at-end : (xs : List (List ℕ)) (x : List ℕ) → length (xs ++ x ∷ []) ≤ suc (length xs)
-at-end xs x = omega (arith, length-append xs (x ∷ []))
+one-more : (xs : List (List ℕ)) (x : List ℕ) (n : ℕ) → length xs ≤ n → length (xs ++ x ∷ []) ≤ suc n
+one-more xs x n le = omega (arith, length-append xs (x ∷ []))
 
 packed-down : (t : Terms) (log : List ServerEvent) (drains : List Drain) (reads : List Read) (state : SendState)
     → length (server_datagrams t (server.packed_onto t (absorbing drains log) (values_of reads) state)) ≤ suc (length (server_datagrams t log))
-packed-down t log drains reads Held = let a = at-end (server_datagrams t (absorbing drains log)) _ in let b = ap (λ (l : List (List ℕ)). length l) (absorbed-sends t drains log) in omega (arith, a, b)
-packed-down t log drains reads Worn = let b = ap (λ (l : List (List ℕ)). length l) (absorbed-sends t drains log) in omega (arith, b)
-packed-down t log drains reads Room = let a = at-end (server_datagrams t (absorbing drains log)) _ in let b = ap (λ (l : List (List ℕ)). length l) (absorbed-sends t drains log) in omega (arith, a, b)
+packed-down t log drains reads Held = one-more (server_datagrams t (absorbing drains log)) _ (length (server_datagrams t log)) (omega (arith, ap (λ (l : List (List ℕ)). length l) (absorbed-sends t drains log)))
+packed-down t log drains reads Worn = omega (arith, ap (λ (l : List (List ℕ)). length l) (absorbed-sends t drains log))
+packed-down t log drains reads Room = one-more (server_datagrams t (absorbing drains log)) _ (length (server_datagrams t log)) (omega (arith, ap (λ (l : List (List ℕ)). length l) (absorbed-sends t drains log)))
 
 posted-down : (t : Terms) (log : List ServerEvent) (v : List ℕ) (b : Bool) → server_datagrams t (if b then server.Posted Guaranteed v ∷ log else log) ≡ server_datagrams t log
 posted-down t log v true = refl
@@ -79,9 +77,9 @@ one-down t steps (Raw bytes room) = no-more _ _ (got-down t (history t steps).se
 one-down t steps other = no-more _ _ refl
 
 packed-up : (c : Config) (log : List ClientEvent) (state : SendState) → length (client_datagrams c (with_event (client.pack_event c log state) log)) ≤ suc (length (client_datagrams c log))
-packed-up c log Held = at-end (client_datagrams c log) _
+packed-up c log Held = one-more (client_datagrams c log) _ (length (client_datagrams c log)) (omega arith)
 packed-up c log Worn = omega arith
-packed-up c log Room = at-end (client_datagrams c log) _
+packed-up c log Room = one-more (client_datagrams c log) _ (length (client_datagrams c log)) (omega arith)
 
 posted-up : (c : Config) (log : List ClientEvent) (v : List ℕ) (b : Bool) → client_datagrams c (if b then client.Posted Guaranteed v ∷ log else log) ≡ client_datagrams c log
 posted-up c log v true = refl
@@ -199,3 +197,16 @@ pub lent-new : (old new : PairState) (g : GivenStep) (a : Answer) → brings g a
 lent-new old new (given.Up k room) (says.Came moves) some h = h
 lent-new old new (given.Raw bytes room) (says.Came moves) some h = h
 lent-new old new g a some h = absurd cc
+
+-- the moves that it brought, behind those before
+pub brought-new : (t : Terms) (steps : List PairStep) (old new : PairState) (g : GivenStep) (a : Answer) → StandsFor old t steps → a ≡ answer t steps (step_of g) → Accepts old (step_of g) a new
+    → accepted_in t (step_of g ∷ steps) ≡ accepted_in t steps ++ brought g a new.conn.taken
+brought-new t steps old new g a s is accepts = by (brings g a) refl
+  where
+    by : (b : Bool) → brings g a ≡ b → accepted_in t (step_of g ∷ steps) ≡ accepted_in t steps ++ (if b then new.conn.taken else [])
+    by true e = lent-new old new g a e accepts t steps s
+    by false e = none-new t steps g a is e ∙ sym (append-nil (accepted_in t steps))
+
+-- no more than have room
+pub brought-few : (t : Terms) (steps : List PairStep) (step : PairStep) (more : List Move) → accepted_in t (step ∷ steps) ≡ accepted_in t steps ++ more → length more ≤ 32
+brought-few t steps step more is = omega (arith, few-more t steps step, ap (λ (l : List Move). length l) is, length-append (accepted_in t steps) more)

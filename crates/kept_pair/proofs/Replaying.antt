@@ -1,15 +1,13 @@
 -- One more step of a pair that keeps them.
-use Rattle.std.proofs.Common.{◌≡◌, ℕ, suc, ◌+◌, ◌*◌, ◌<◌, ◌≤◌, Bool, true, false, List, [], ◌∷◌, ◌++◌, length, take, get_or, reverse, refl, sym, ap, ◌∙◌, subst, arith, length-append}
+use Rattle.std.proofs.Common.{◌≡◌, ℕ, suc, ◌<◌, ◌≤◌, Bool, true, false, List, [], ◌∷◌, ◌++◌, length, take, get_or, refl, sym, ap, ◌∙◌, subst, arith, length-append}
 use Rattle.std.specs.Prelude.{nat_lt}
 use Rattle.std.specs.List.{AllByRecursion}
-use Rattle.std.proofs.lemmas.List.{reverse-append, take-append-le, take_all, get_or_append_left}
+use Rattle.std.proofs.lemmas.Bool.{ltb-true, ltb-false}
+use Rattle.std.proofs.lemmas.List.{reverse-append, take-append-le, get_or_append_left}
 use Rattle.std.proofs.Math.Seq.{get_or-append_seam, take-append_seam}
 use Rattle.tn_types.specs.declared.moves.Move.{Move}
-use Rattle.stream_manager.specs.Limits.{Terms}
 use Rattle.stream_manager.specs.Stands.{terms_of}
-use Rattle.stream_manager.specs.Server.{server_datagrams}
-use Rattle.stream_manager.specs.Client.{client_datagrams}
-use Rattle.pair_core.specs.History.{PairStep, history}
+use Rattle.pair_core.specs.History.{PairStep}
 use Rattle.pair_core.specs.Conditions.{IsMet, AreMet}
 use Rattle.pair_core.specs.Answers.{accepted_in}
 use Rattle.pair_core.specs.Laws.{StepFits}
@@ -38,7 +36,7 @@ fresh-kept p fresh =
 -- ---- one more step
 
 module _ (old new : PairState) (steps : List PairStep) (moves more : List Move) (befores : List ℕ) (step : PairStep) (k : AreKept old steps moves befores)
-    (room : length steps < 65536) (met : IsMet (terms_of old.conn) (newest_first steps) step) (fits : StepFits step)
+    (few : length (steps ++ step ∷ []) ≤ 65536) (met : IsMet (terms_of old.conn) (newest_first steps) step) (fits : StepFits step)
     (stands : StandsFor new (terms_of old.conn) (step ∷ newest_first steps))
     (are : more ≡ accepted_in (terms_of old.conn) (step ∷ newest_first steps)) where
   longer : length (steps ++ step ∷ []) ≡ suc (length steps)
@@ -49,7 +47,7 @@ module _ (old new : PairState) (steps : List PairStep) (moves more : List Move) 
     stands = subst (λ t. StandsFor new t (newest_first (steps ++ step ∷ []))) (sym stands.terms) (subst (StandsFor new (terms_of old.conn)) (sym (newest-more steps step)) stands);
     met = subst (λ t. AreMet t (newest_first (steps ++ step ∷ []))) (sym stands.terms) (subst (AreMet (terms_of old.conn)) (sym (newest-more steps step)) (met, k.replays.met));
     fit = subst (AllByRecursion StepFits) (sym (newest-more steps step)) (fits, k.replays.fit);
-    few = let l = longer in omega arith;
+    few = few;
   }
 
   each-more : (i : ℕ) → i < length (steps ++ step ∷ []) → get_or (befores ++ length moves ∷ []) i 0 ≡ length (accepted_in (terms_of old.conn) (newest_first (take i (steps ++ step ∷ []))))
@@ -57,11 +55,12 @@ module _ (old new : PairState) (steps : List PairStep) (moves more : List Move) 
     where
       by : (b : Bool) → nat_lt i (length steps) ≡ b → get_or (befores ++ length moves ∷ []) i 0 ≡ length (accepted_in (terms_of old.conn) (newest_first (take i (steps ++ step ∷ []))))
       by true e =
-          let here : i < length steps = omega (arith, e) in
+          let here : i < length steps = ltb-true i (length steps) e in
           let there : i < length befores = omega (arith, k.long) in
           get_or_append_left befores (length moves ∷ []) 0 i there ∙ k.each i here ∙ ap (λ l. length (accepted_in (terms_of old.conn) (newest_first l))) (sym (take-append-le i steps (step ∷ []) (omega arith)))
       by false e =
-          let last : length steps ≡ i = omega (arith, e, lt, longer) in
+          let least : length steps ≤ i = ltb-false i (length steps) e in
+          let last : length steps ≡ i = omega (arith, least, lt, longer) in
           let end : length befores ≡ i = omega (arith, k.long) in
           subst (λ n. get_or (befores ++ length moves ∷ []) n 0 ≡ length (accepted_in (terms_of old.conn) (newest_first (take i (steps ++ step ∷ []))))) end
           (get_or-append_seam befores (length moves) [] 0 ∙ ap (λ (l : List Move). length l) k.moves_are

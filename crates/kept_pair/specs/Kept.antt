@@ -1,8 +1,8 @@
 -- A pair that keeps its steps. It stands for one list, the kept steps, so its clauses speak of that list: what a call asks of the
 -- steps before it, what it answers of them, and what all of them together mean.
-use Rattle.std.specs.Prelude.{◌≡◌, ℕ, ℤ, ◌+◌, ◌*◌, ◌<◌, ◌≤◌, Bool, Option, Result, Ok, Err, List, [], reverse, length, take, slice_index}
+use Rattle.std.specs.Prelude.{◌≡◌, ℕ, ℤ, ◌*◌, ◌<◌, ◌≤◌, Bool, Option, Result, Ok, Err, List, [], reverse, length, take, slice_index}
 use Rattle.std.specs.List.{AllByRecursion}
-use Rattle.tn_types.specs.declared.limits.TheConstants.{MAX_PACKET_MOVES, MAX_SHOWN_PERIODS}
+use Rattle.tn_types.specs.declared.limits.TheConstants.{MAX_PACKET_MOVES}
 use Rattle.tn_types.specs.declared.choices.Drain.{Drain}
 use Rattle.tn_types.specs.declared.moves.Move.{Move}
 use Rattle.stream_manager.specs.Limits.{Terms}

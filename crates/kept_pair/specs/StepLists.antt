@@ -1,6 +1,6 @@
 -- A list of steps that were made, the oldest first. A step that was given says of a pack no more than that it is one; what it
 -- drained and read is kept beside it, behind that of all steps before.
-use Rattle.std.specs.Prelude.{◌≡◌, refl, pos, ℕ, ◌-◌, ◌≤◌, Bool, true, false, Option, Some, None, List, [], ◌∷◌, take, drop, slice_get}
+use Rattle.std.specs.Prelude.{◌≡◌, refl, pos, ℕ, zero, suc, ◌-◌, ◌≤◌, Bool, true, false, Option, Some, List, [], ◌∷◌, take, drop, slice_get}
 use Rattle.tn_types.specs.declared.choices.Drain.{Drain}
 use Rattle.tn_types.specs.declared.choices.Read.{Read}
 use Rattle.pair_core.specs.declared.step.PairStep.{PairStep as GivenStep}
@@ -50,6 +50,17 @@ cut d r [] drains reads = []
 cut d r (e ∷ es) drains reads =
     kept_of e.step (part d e.drains_end drains) (part r e.reads_end reads) ∷ cut e.drains_end e.reads_end es drains reads
 
+-- where the drains and the reads of a place begin
+abbrev pub drains_start : ℕ → List Entry → ℕ → ℕ
+drains_start d es zero = d
+drains_start d [] (suc i) = d
+drains_start d (e ∷ es) (suc i) = drains_start e.drains_end es i
+
+abbrev pub reads_start : ℕ → List Entry → ℕ → ℕ
+reads_start r es zero = r
+reads_start r [] (suc i) = r
+reads_start r (e ∷ es) (suc i) = reads_start e.reads_end es i
+
 -- ends rise, from the starts to the numbers of all drains and reads
 abbrev pub Rise : ℕ → ℕ → List Entry → ℕ → ℕ → Type 0
 Rise d r [] drains reads = (d ≡ drains) × (r ≡ reads)
@@ -67,7 +78,7 @@ two_reads : List Read
 two_reads = record { n = 7; field = 1; version = 3; value = pos 5 } ∷ record { n = 7; field = 2; version = 1; value = pos 0 } ∷ []
 
 two_steps : cut 0 0 hide_and_pack one_drain two_reads ≡ Hide 4 ∷ Pack one_drain two_reads ∷ []
-unfolding hide_and_pack, one_drain, two_reads
+unfolding hide_and_pack one_drain two_reads
 two_steps = refl
 
 hide_reads_nothing : reads_at (Hide 4 ∷ Pack one_drain two_reads ∷ []) 0 ≡ []

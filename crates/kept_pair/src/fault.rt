@@ -4,9 +4,7 @@
 #[derive(Clone, Copy, Debug, PartialEq, Eq)]
 pub enum KeepFault {
     /// So many steps are kept, and no more can be.
-    NoRoom {
-        kept: u32,
-    },
+    NoRoom { kept: u32 },
     /// Memory was not to be had.
     NoMemory,
 }

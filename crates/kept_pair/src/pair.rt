@@ -4,12 +4,14 @@ ghost use Rattle.tn_types.specs.declared.choices.Read.{Read};
 
 use crate::entry::MAX_KEPT_STEPS;
 use crate::fault::KeepFault;
-use crate::given::{brought_moves, learn_payload};
+use crate::given::{add_moves, brought, learn_payload};
 use crate::step_list::StepList;
 use pair_core::{Answer, MAX_PACKET_VALUES, Pair, PairStep};
 use std::alloc::Global;
 use std::marker::Model;
-use tn_types::{Class, Drain, MAX_PACKET_MOVES, MAX_SHOWN_PERIODS, Move, NoMemory, Payload, Read, Values};
+use tn_types::{
+    Class, Drain, MAX_PACKET_MOVES, MAX_SHOWN_PERIODS, Move, NoMemory, Payload, Read, Values,
+};
 
 /// A pair that keeps the steps that are made on it.
 ///
@@ -131,12 +133,7 @@ impl KeptPair {
         learn_payload(&step);
         self.befores.push_reserved(self.moves.len() as u32);
         let answer = self.pair.step(&step);
-        if brought_moves(&step, &answer) {
-            let taken = self.pair.conn().taken_moves();
-            if self.moves.extend_from_slice(taken).is_err() {
-                unreachable!()
-            }
-        }
+        add_moves(&mut self.moves, brought(&step, &answer, self.pair.conn()));
         self.steps.push(step, &[], &[]);
         answer
     }
@@ -196,8 +193,11 @@ impl KeptPair {
     /// Hands out the oldest event that waits at the client; `None` exactly where none does.
     pub fn pop_client_event(&mut self) -> Option<(Class, Payload)>
         ensures first { result ≡ slice_get self.old.pair.client.common.receiver.ready 0 }
-        ensures rest { self.new ≡ record self.old { pair = record self.old.pair {
-            client = record self.old.pair.client { common = popped self.old.pair.client.common } } } }
+        ensures rest { self.new ≡ record self.old {
+          pair = record self.old.pair {
+            client = record self.old.pair.client { common = popped self.old.pair.client.common };
+          };
+        } }
     {
         self.pair.pop_client_event()
     }
@@ -205,8 +205,11 @@ impl KeptPair {
     /// Hands out the oldest event that waits at the server; `None` exactly where none does.
     pub fn pop_server_event(&mut self) -> Option<(Class, Payload)>
         ensures first { result ≡ slice_get self.old.pair.conn.common.receiver.ready 0 }
-        ensures rest { self.new ≡ record self.old { pair = record self.old.pair {
-            conn = record self.old.pair.conn { common = popped self.old.pair.conn.common } } } }
+        ensures rest { self.new ≡ record self.old {
+          pair = record self.old.pair {
+            conn = record self.old.pair.conn { common = popped self.old.pair.conn.common };
+          };
+        } }
     {
         self.pair.pop_server_event()
     }

@@ -1,7 +1,7 @@
 //! The steps that were made, in order.
 ghost use Rattle.std.specs.Prelude.{◌≡◌, true, ◌<◌, ◌≤◌, [], ◌∷◌, ◌++◌, OnOk, OnErr, IfSome, IsNone, ◌↔◌, Some, length, slice_get, take, drop};
 ghost use Rattle.pair_core.specs.declared.step.PairStep.TheVariants as given;
-ghost use Rattle.kept_pair.specs.StepLists.{kept_of, drains_at, reads_at};
+ghost use Rattle.kept_pair.specs.StepLists.{kept_of, is_pack, drains_at, reads_at, drains_start, reads_start, part};
 
 use crate::entry::{Entry, MAX_KEPT_STEPS};
 use pair_core::{MAX_PACKET_VALUES, PairStep};
@@ -47,6 +47,37 @@ fn is_pack(step: &PairStep) -> bool
     matches!(step, PairStep::Pack)
 }
 
+/// Where the drains and the reads of this place begin.
+fn starts(entries: &[Entry], i: usize) -> (usize, usize)
+    requires { i < length entries.now }
+    ensures drains { result.0 ≡ drains_start 0 entries.now i }
+    ensures reads { result.1 ≡ reads_start 0 entries.now i }
+{
+    if i == 0 {
+        return (0, 0);
+    }
+    let before = &entries[i - 1];
+    (before.drains_end, before.reads_end)
+}
+
+/// The drains from one place to another.
+fn drains_between(drains: &[Drain], start: usize, end: usize) -> &[Drain]
+    requires rise { start ≤ end }
+    requires there { end ≤ length drains.now }
+    ensures { result.now ≡ part start end drains.now }
+{
+    &drains[start..end]
+}
+
+/// The reads from one place to another.
+fn reads_between(reads: &[Read], start: usize, end: usize) -> &[Read]
+    requires rise { start ≤ end }
+    requires there { end ≤ length reads.now }
+    ensures { result.now ≡ part start end reads.now }
+{
+    &reads[start..end]
+}
+
 impl StepList {
     /// No step.
     pub(crate) fn new(alloc: Global) -> StepList
@@ -87,11 +118,11 @@ impl StepList {
     {
         let i = i as usize;
         let entry = &self.entries[i];
-        if !is_pack(&entry.step) {
-            return &[];
+        if is_pack(&entry.step) {
+            let start = starts(self.entries.as_slice(), i).0;
+            return drains_between(self.drains.as_slice(), start, entry.drains_end);
         }
-        let start = if i == 0 { 0 } else { self.entries[i - 1].drains_end };
-        &self.drains[start..entry.drains_end]
+        &[]
     }
 
     /// What the step of this place read: nothing where it is no pack.
@@ -101,11 +132,11 @@ impl StepList {
     {
         let i = i as usize;
         let entry = &self.entries[i];
-        if !is_pack(&entry.step) {
-            return &[];
+        if is_pack(&entry.step) {
+            let start = starts(self.entries.as_slice(), i).1;
+            return reads_between(self.reads.as_slice(), start, entry.reads_end);
         }
-        let start = if i == 0 { 0 } else { self.entries[i - 1].reads_end };
-        &self.reads[start..entry.reads_end]
+        &[]
     }
 
     /// Whether there is room for one more step, whatever it drains and reads.
@@ -142,7 +173,8 @@ impl StepList {
         requires room { self.old.has_room ≡ true }
         requires few_drains { length drains.now ≤ MAX_SHOWN_PERIODS }
         requires few_reads { length reads.now ≤ MAX_PACKET_VALUES }
-        ensures { self.new.list ≡ self.old.list ++ kept_of step drains.now reads.now ∷ [] }
+        ensures list { self.new.list ≡ self.old.list ++ kept_of step drains.now reads.now ∷ [] }
+        ensures few { length self.new.list ≤ MAX_KEPT_STEPS }
     {
         if self.drains.extend_from_slice(drains).is_err() {
             unreachable!()
