@@ -1,6 +1,5 @@
 //! The steps that were made, in order.
-ghost use Rattle.std.specs.Prelude.{◌≡◌, true, ◌<◌, ◌≤◌, [], ◌∷◌, ◌++◌, OnOk, OnErr, IfSome, IsNone, ◌↔◌, Some, length, slice_get, take, drop};
-ghost use Rattle.pair_core.specs.declared.step.PairStep.TheVariants as given;
+ghost use Rattle.std.specs.Prelude.{◌≡◌, true, ◌<◌, ◌≤◌, [], ◌∷◌, ◌++◌, OnOk, OnErr, IfSome, IsNone, ◌↔◌, Some, length, slice_get};
 ghost use Rattle.kept_pair.specs.StepLists.{kept_of, is_pack, drains_at, reads_at, drains_start, reads_start, part};
 
 use crate::entry::{Entry, MAX_KEPT_STEPS};
