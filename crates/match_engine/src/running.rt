@@ -87,6 +87,22 @@ fn step<K: Sink>(
     Ok(true)
 }
 
+/// Writes the report of a script, line by line.
+fn write_report<K: Sink>(alloc: Global, script: &Script, sink: &mut K) -> Result<(), RunFault>
+    requires { HasRanges script.now }
+    ensures report { OnOk result (Adds (K.written sink.old) (K.written sink.new) (report script.now)) }
+    ensures front { OnErr result (AddsFront (K.written sink.old) (K.written sink.new) (report script.now)) }
+    ensures cause { result ≡ Err RunFault.WriteFault → Rose (K.faults sink.old) (K.faults sink.new) }
+    ensures later { K.faults sink.old ≤ K.faults sink.new }
+{
+    let Ok(mut game) = Match::new(alloc, script) else {
+        return Err(RunFault::NoMemory);
+    };
+    let mut text = Vec::new(alloc);
+    'lines: while step(alloc, &mut game, &mut text, sink)? {}
+    Ok(())
+}
+
 /// Writes the report of a script, one line a write. After an error a front of the report was written.
 pub fn run<K: Sink>(alloc: Global, script: &Script, sink: &mut K) -> Result<(), RunFault>
     requires { HasRanges script.now }
@@ -125,10 +141,5 @@ pub fn run<K: Sink>(alloc: Global, script: &Script, sink: &mut K) -> Result<(), 
     little_is_refused();
     applied_in_order();
     printed_in_order();
-    let Ok(mut game) = Match::new(alloc, script) else {
-        return Err(RunFault::NoMemory);
-    };
-    let mut text = Vec::new(alloc);
-    'lines: while step(alloc, &mut game, &mut text, sink)? {}
-    Ok(())
+    write_report(alloc, script, sink)
 }

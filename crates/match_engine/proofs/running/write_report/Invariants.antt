@@ -2,7 +2,7 @@ use Rattle.std.proofs.Common.{◌≡◌, ◌≤◌, ◌-◌, length, reverse, ta
 use Rattle.tn_outside.specs.Totals.{Adds}
 use Rattle.match_laws.specs.Report.{report_so_far}
 use Rattle.match_engine.specs.Match.{IsPlayed}
-use Rattle.match_engine.proofs.running.run.Given as goal
+use Rattle.match_engine.proofs.running.write_report.Given as goal
 
 abbrev pub invariant-lines : goal.invariant-lines
 invariant-lines g l = record {
