@@ -11,3 +11,4 @@ pub mod Growing
 pub mod Newest
 pub mod Ticked
 pub mod Continued
+pub mod Rising

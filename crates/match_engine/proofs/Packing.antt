@@ -50,8 +50,9 @@ use Rattle.world_sim.specs.Rows.{values_of}
 use Rattle.own_lists.proofs.Counting.{few_down}
 use Rattle.match_engine.specs.Stands.{ClientHolds, IsMarked}
 use Rattle.match_engine.specs.Serving.{Serves, OthersStay, AreApart, marked}
-use Rattle.match_engine.specs.Values.{period_of, range_in, range_at, ranges, IsNewest}
+use Rattle.match_engine.specs.Values.{period_of, Rise, range_in, range_at, ranges, IsNewest}
 use Rattle.match_engine.proofs.Marks.{marked_is}
+use Rattle.match_engine.proofs.Rising.{in_turn}
 use Rattle.match_engine.proofs.Fed.{own_few, own_line, more_lines}
 
 -- different objects, one by one
@@ -128,6 +129,9 @@ module _ (seat : SeatState) (scope : Table) (w : Worlds) (lanes : Words) (c : â„
 
   pub are_shown : AreShown (length (periods ((after head past).scans c))) ps
   are_shown = shown_are_shown ((after head past).scans c) (scans_are_sights head past c s.lines.fits)
+
+  pub shown_rises : Rise scope.shown
+  shown_rises = subst Rise (sym s.holds.periods.shown) (in_turn 0 (length (periods ((after head past).scans c))) ps are_shown.rising)
 
   -- what the masks tell is what was written and not drained
   pub written_is : marked lanes c scope.shown â‰¡ undrained k

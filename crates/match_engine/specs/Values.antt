@@ -1,5 +1,6 @@
 -- The values that packs ask a world for: the newest of the objects of a client's shown periods.
-use Rattle.std.specs.Prelude.{◌≡◌, ℕ, ℤ, ◌==◌, List, find, slice_get, option_map, option_and_then, Option, Some}
+use Rattle.std.specs.Prelude.{◌≡◌, ℕ, ℤ, ◌<◌, ◌==◌, List, find, slice_get, option_map, option_and_then, Option, Some}
+use Rattle.std.specs.List.{AllPairs}
 use Rattle.tn_types.specs.declared.choices.Read.{Read}
 use Rattle.quantised_fields.specs.declared.kind.Kind.{Kind}
 use Rattle.world_rules.specs.Kinds.{match_kinds}
@@ -9,6 +10,16 @@ use Rattle.client_scope.specs.declared.period.ShownPeriod.{ShownPeriod}
 -- the shown period of this number, if there is one
 abbrev pub period_of : List ShownPeriod → ℕ → Option ShownPeriod
 period_of periods n = find (λ p. p.n == n) periods
+
+-- they stand by rising number
+abbrev pub Rise : List ShownPeriod → Type 0
+Rise periods = AllPairs (λ p q. p.n < q.n) periods
+
+-- the shown period of this number stands at this place
+pub record IsAt (periods : List ShownPeriod) (n i : ℕ) : Type 0 where
+  pub period : ShownPeriod
+  pub there : slice_get periods i ≡ Some period
+  pub number : period.n ≡ n
 
 abbrev pub range_in : ℕ → Kind → Option (ℤ × ℤ)
 range_in field kind = option_map (λ spec. (spec.lo, spec.hi)) (slice_get kind.fields field)

@@ -71,6 +71,7 @@ pub(crate) fn pack_for(
     let mut values = WorldValues {
         world,
         shown: scope.shown(),
+        last: 0,
     };
     seat.pack(alloc, client, drains, &mut values)
 }

@@ -1,7 +1,7 @@
 //! The values of a world as packs ask for them.
-ghost use Rattle.std.specs.Prelude.{◌≡◌};
+ghost use Rattle.std.specs.Prelude.{◌≡◌, IfSome, None};
 ghost use Rattle.std.specs.Option.{option_copied};
-ghost use Rattle.match_engine.specs.Values.{period_of};
+ghost use Rattle.match_engine.specs.Values.{period_of, Rise, IsAt};
 
 use client_scope::ShownPeriod;
 use tn_types::{Read, Values};
@@ -13,13 +13,43 @@ use world_sim::World;
 pub(crate) struct WorldValues<'a> {
     pub(crate) world: &'a World,
     pub(crate) shown: &'a [ShownPeriod],
+    // where the period stands that was asked for last
+    pub(crate) last: usize,
+    ghost rising: { Rise shown.now },
 }
 
-/// The shown period of this number.
-fn period_of(shown: &[ShownPeriod], n: u32) -> Option<&ShownPeriod>
+// Where the shown period of this number stands.
+fn place(shown: &[ShownPeriod], n: u32) -> Option<usize>
+    requires rising { Rise shown.now }
+    ensures found { IfSome result (IsAt shown.now n) }
+    ensures absent { result ≡ None → period_of shown.now n ≡ None }
+{
+    shown.binary_search_by_key(&n, |p| p.n).ok()
+}
+
+// The same. It is looked for at this place first.
+fn place_from(shown: &[ShownPeriod], last: usize, n: u32) -> Option<usize>
+    requires rising { Rise shown.now }
+    ensures found { IfSome result (IsAt shown.now n) }
+    ensures absent { result ≡ None → period_of shown.now n ≡ None }
+{
+    if last < shown.len() && shown[last].n == n {
+        return Some(last);
+    }
+    place(shown, n)
+}
+
+/// The shown period of this number, which stands at this place.
+fn period_of(shown: &[ShownPeriod], place: Option<usize>, n: u32) -> Option<&ShownPeriod>
+    requires rising { Rise shown.now }
+    requires found { IfSome place (IsAt shown.now n) }
+    requires absent { place ≡ None → period_of shown.now n ≡ None }
     ensures { option_copied result ≡ period_of shown.now n }
 {
-    shown.iter().find(|p| p.n == n)
+    match place {
+        Some(at) => Some(&shown[at]),
+        None => None,
+    }
 }
 
 impl<'a> Values for WorldValues<'a> {
@@ -36,7 +66,9 @@ impl<'a> Values for WorldValues<'a> {
     ghost same = { λ a b. (b.world.now ≡ a.world.now) × (b.shown.now ≡ a.shown.now) };
 
     fn value(&mut self, n: u32, field: u8) -> Read {
-        let Some(period) = period_of(self.shown, n) else {
+        let place = place_from(self.shown, self.last, n);
+        self.last = place.unwrap_or(0);
+        let Some(period) = period_of(self.shown, place, n) else {
             unreachable!()
         };
         let values = self.world.values(period.object);

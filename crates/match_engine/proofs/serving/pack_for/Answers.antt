@@ -8,10 +8,15 @@ use Rattle.client_scope.specs.declared.period.ShownPeriod.{ShownPeriod}
 use Rattle.own_lists.specs.Kept.{drains_of}
 use Rattle.own_lists.specs.Past.{client_terms, kept_by, after}
 use Rattle.pair_core.specs.Calls.{MayPack}
-use Rattle.match_engine.specs.Values.{ranges, IsNewest}
+use Rattle.match_engine.specs.Values.{Rise, ranges, IsNewest}
 use Rattle.match_engine.proofs.Fed.{map_if_ok}
-use Rattle.match_engine.proofs.Packing.{may_pack, few_sent, reads_are, packed_tells, packed_serves}
+use Rattle.match_engine.proofs.Packing.{shown_rises, may_pack, few_sent, reads_are, packed_tells, packed_serves}
 use Rattle.match_engine.proofs.serving.pack_for.Goals as goal
+
+pub invariant_of-values : goal.invariant_of-values
+invariant_of-values c =
+    let h = c.requires.serves in
+    record { rising = subst Rise (sym c.shown.ensures) (shown_rises c.args.seat.now c.args.scope.now c.args.world.now c.args.lanes.now c.args.client h.0 h.1 h.2) }
 
 pub pack-requires-clause-few : goal.pack-requires-clause-few
 pack-requires-clause-few c =
