@@ -28,8 +28,8 @@ use Rattle.own_lists.proofs.Meeting.{scan_journal, values_kept, taken_kept}
 use Rattle.own_lists.proofs.Standing.{shows_hides, shows_nears}
 use Rattle.client_seat.specs.Stands.{SeatState, StandsFor as SeatStandsFor, without_first}
 use Rattle.client_seat.proofs.Making.{meet_rest}
-use Rattle.two_worlds.specs.declared.items.OwnShow.{OwnShow as GivenShow}
-use Rattle.two_worlds.specs.Items.{show_of}
+use Rattle.own_items.specs.declared.items.OwnShow.{OwnShow as GivenShow}
+use Rattle.own_items.specs.Items.{show_of}
 use Rattle.two_worlds.specs.Periods.{Table, Holds, MayWrite}
 use Rattle.match_engine.specs.Stands.{IsDirect}
 use Rattle.two_worlds.specs.Stands.{Serves, is_counted, counted_in}

@@ -1,5 +1,5 @@
 -- A server is fed with the items that the maker of its own list makes: the condition of each, and the text that grows by it.
-use Rattle.std.proofs.Common.{◌≡◌, ◌∙◌, ◌≤◌, ◌==◌, ℕ, Bool, true, false, cond, List, [], ◌∷◌, ◌++◌, length, take, drop, reverse, filter, refl, sym, ap, subst, arith, append_assoc, Option}
+use Rattle.std.proofs.Common.{◌≡◌, ◌∙◌, ◌<◌, ◌≤◌, ◌==◌, ℕ, Bool, true, false, cond, List, [], ◌∷◌, ◌++◌, length, take, drop, reverse, filter, refl, sym, ap, subst, arith, append_assoc, Option}
 use Rattle.std.proofs.lemmas.Bool.Decides.{nat_tests}
 use Rattle.std.proofs.lemmas.List.{append-nil, reverse-append, take-append-drop}
 use Rattle.tn_outside.specs.Totals.{Adds, AddsFront}
@@ -18,8 +18,8 @@ use Rattle.match_engine.proofs.Fed.{own_few}
 use Rattle.two_worlds.specs.declared.alone.Alone.{Alone}
 use Rattle.two_worlds.specs.Laws.{text_of}
 use Rattle.two_worlds.specs.Stands.{StandsFor, MayFeed, Feeds, Tells, is_counted, item_text}
-use Rattle.two_worlds.specs.Source.{SourceState, Stands, first_lines, made, whole_own}
-use Rattle.two_worlds.specs.Fed.{IsFed, terms_in, text_made, whole_text, Continues, Breaks}
+use Rattle.own_items.specs.Source.{SourceState, Stands, first_lines, made, whole_own}
+use Rattle.two_worlds.specs.Fed.{IsFed, terms_in, text_made, whole_text, Continues, Moves, Breaks}
 
 -- ---- the text of a list stands in front of that of a longer one
 
@@ -112,6 +112,16 @@ module _ (s n : SourceState) (a : Alone) (item : OwnItem) (fed : IsFed s a) (sta
   pub continues : (written written' : Option (List ℕ)) → Tells Adds a item written written' → Continues s n written written'
   continues written written' tells first so_far =
       adds_then first written written' (text_made s) (item_text (terms_in s) (made s) item) _ so_far (tells (terms_in s) (made s) fed.server.serves) text_more
+
+  pub moves : (b : Alone) → Feeds a item b → s.place < n.place → (written written' : Option (List ℕ)) → Tells Adds a item written written' → Moves s n b written written'
+  moves b feeds place written written' tells = record {
+    fed = fed_more b feeds;
+    script = same;
+    client = client;
+    more = (let within = stands.within in let long = ap (λ x. length x.body) same in omega (arith, within, long, place));
+    place = place;
+    written = continues written written' tells;
+  }
 
   whole_same : whole_text n ≡ whole_text s
   whole_same = (λ j. text_of (terms_same j) (whole_own (same j) (client j)))

@@ -5,7 +5,5 @@ pub mod Packing
 pub mod Mapped
 pub mod Feeding
 pub mod Texts
-pub mod MadeItems
-pub mod Stepping
 pub mod Feeds
 pub mod WholeText

@@ -9,7 +9,7 @@ use Rattle.match_script.specs.declared.types.Script.{Script}
 use Rattle.own_lists.specs.Past.{client_terms}
 use Rattle.match_laws.specs.Laws.{pack_lines}
 use Rattle.two_worlds.specs.Laws.{text_of, whole_line}
-use Rattle.two_worlds.specs.Source.{SourceState, Stands, made, whole_own}
+use Rattle.own_items.specs.Source.{SourceState, Stands, made, whole_own}
 use Rattle.two_worlds.specs.Fed.{terms_in, text_made, whole_text}
 use Rattle.two_worlds.specs.Text.{alone_text}
 use Rattle.two_worlds.proofs.Texts.{text_is}

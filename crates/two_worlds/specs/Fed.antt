@@ -1,11 +1,11 @@
 -- A client's server that is fed by the maker of its own list: the two agree on the items, and the text is that of these.
-use Rattle.std.specs.Prelude.{ℕ, List, Option}
+use Rattle.std.specs.Prelude.{◌≡◌, ℕ, ◌<◌, List, Option, length}
 use Rattle.tn_outside.specs.Totals.{Adds, AddsFront}
 use Rattle.stream_manager.specs.Limits.{Terms}
 use Rattle.own_lists.specs.Past.{client_terms}
 use Rattle.two_worlds.specs.declared.alone.Alone.{Alone}
 use Rattle.two_worlds.specs.Laws.{text_of}
-use Rattle.two_worlds.specs.Source.{SourceState, Stands, made, whole_own}
+use Rattle.own_items.specs.Source.{SourceState, Stands, made, whole_own}
 use Rattle.two_worlds.specs.Stands.{StandsFor}
 
 abbrev pub terms_in : SourceState → Terms
@@ -30,3 +30,12 @@ Continues s n written written' = (first : Option (List ℕ)) → Adds first writ
 -- it has a front of the whole list's text
 abbrev pub Breaks : SourceState → Option (List ℕ) → Option (List ℕ) → Type 0
 Breaks s written written' = (first : Option (List ℕ)) → Adds first written (text_made s) → AddsFront first written' (whole_text s)
+
+-- one more item was made and fed: at least one more line of the script was done, and its text was added
+pub record Moves (s n : SourceState) (b : Alone) (before later : Option (List ℕ)) : Type 0 where
+  pub fed : IsFed n b
+  pub script : n.script ≡ s.script
+  pub client : n.client ≡ s.client
+  pub more : s.place < length s.script.body
+  pub place : s.place < n.place
+  pub written : Continues s n before later

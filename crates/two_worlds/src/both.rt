@@ -1,19 +1,18 @@
 //! A client's server over a script, fed with the client's own list alone.
-ghost use Rattle.std.specs.Prelude.{◌≡◌, ◌≤◌, ◌<◌, OnOk, OnErr, Ok, Err, true, false, length};
+ghost use Rattle.std.specs.Prelude.{◌≡◌, ◌≤◌, ◌<◌, OnOk, OnErr, Ok, Err, true, false};
 ghost use Rattle.tn_outside.specs.Causes.{Rose};
 ghost use Rattle.tn_outside.specs.Totals.{Adds, AddsFront};
 ghost use Rattle.match_script.specs.Ranges.{HasRanges};
-ghost use Rattle.two_worlds.specs.Source.{made, whole_own};
-ghost use Rattle.two_worlds.specs.Fed.{IsFed, Continues, Breaks};
+ghost use Rattle.own_items.specs.Source.{made, whole_own};
+ghost use Rattle.two_worlds.specs.Fed.{IsFed, Moves, Breaks};
 ghost use Rattle.two_worlds.specs.Laws.{WritesThePacks, SameListsSameLines};
 ghost use Rattle.two_worlds.specs.Text.{alone_text};
 
 use crate::alone::{Alone, AloneHeader};
-use crate::items::{OwnItem, OwnWrites};
 use crate::laws::{same_lists_same_lines, writes_the_packs};
-use crate::source::OwnSource;
 use match_engine::RunFault;
 use match_script::Script;
+use own_items::{OwnItem, OwnSource, OwnWrites};
 use std::alloc::Global;
 use tn_outside::Sink;
 
@@ -28,12 +27,7 @@ fn feed_next<K: Sink>(
     requires { IsFed source.old server.old }
     ensures end { result ≡ Ok false → (made source.old ≡ whole_own source.old.script source.old.client)
         × (K.written sink.new ≡ K.written sink.old) }
-    ensures fed { result ≡ Ok true → IsFed source.new server.new }
-    ensures script { source.new.script ≡ source.old.script }
-    ensures client { source.new.client ≡ source.old.client }
-    ensures more { result ≡ Ok true → source.old.place < length source.old.script.body }
-    ensures place { result ≡ Ok true → source.old.place < source.new.place }
-    ensures written { result ≡ Ok true → Continues source.old source.new (K.written sink.old) (K.written sink.new) }
+    ensures fed { result ≡ Ok true → Moves source.old source.new server.new (K.written sink.old) (K.written sink.new) }
     ensures front { OnErr result (Breaks source.old (K.written sink.old) (K.written sink.new)) }
     ensures cause { result ≡ Err RunFault.WriteFault → Rose (K.faults sink.old) (K.faults sink.new) }
     ensures later { K.faults sink.old ≤ K.faults sink.new }
@@ -45,6 +39,43 @@ fn feed_next<K: Sink>(
     }
     server.feed(alloc, item, sink)?;
     Ok(true)
+}
+
+/// Writes what a server writes that is fed the whole own list of a client of the match.
+fn feed_all<K: Sink>(
+    alloc: Global,
+    script: &Script,
+    client: u8,
+    sink: &mut K,
+) -> Result<(), RunFault>
+    requires ranges { HasRanges script.now }
+    requires client { client < script.now.head.clients }
+    ensures lines { OnOk result (Adds (K.written sink.old) (K.written sink.new) (alone_text script.now client)) }
+    ensures front { OnErr result (AddsFront (K.written sink.old) (K.written sink.new) (alone_text script.now client)) }
+    ensures cause { result ≡ Err RunFault.WriteFault → Rose (K.faults sink.old) (K.faults sink.new) }
+    ensures later { K.faults sink.old ≤ K.faults sink.new }
+{
+    let Ok(blocks) = script.head.blocks.copy(alloc) else {
+        return Err(RunFault::NoMemory);
+    };
+    let header = AloneHeader {
+        client,
+        life: script.head.life,
+        size: script.head.size,
+        blocks,
+    };
+    let Ok(mut server) = Alone::new(alloc, &header) else {
+        return Err(RunFault::NoMemory);
+    };
+    let Ok(mut source) = OwnSource::new(alloc, script, client) else {
+        return Err(RunFault::NoMemory);
+    };
+    let mut item = OwnItem::Tick {
+        writes: OwnWrites::from_vec(Vec::new(alloc)),
+        taken: 0,
+    };
+    'items: while feed_next(alloc, &mut source, &mut server, &mut item, sink)? {}
+    Ok(())
 }
 
 /// Writes what a server writes that serves one client alone: the report's lines of this client's packs, though it is fed with
@@ -72,25 +103,5 @@ pub fn run_alone<K: Sink>(
     if client >= script.head.clients {
         return Ok(());
     }
-    let Ok(blocks) = script.head.blocks.copy(alloc) else {
-        return Err(RunFault::NoMemory);
-    };
-    let header = AloneHeader {
-        client,
-        life: script.head.life,
-        size: script.head.size,
-        blocks,
-    };
-    let Ok(mut server) = Alone::new(alloc, &header) else {
-        return Err(RunFault::NoMemory);
-    };
-    let Ok(mut source) = OwnSource::new(alloc, script, client) else {
-        return Err(RunFault::NoMemory);
-    };
-    let mut item = OwnItem::Tick {
-        writes: OwnWrites::from_vec(Vec::new(alloc)),
-        taken: 0,
-    };
-    'items: while feed_next(alloc, &mut source, &mut server, &mut item, sink)? {}
-    Ok(())
+    feed_all(alloc, script, client, sink)
 }

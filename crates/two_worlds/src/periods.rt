@@ -4,12 +4,12 @@ ghost use Rattle.std.specs.Prelude.{◌≡◌, ℕ, ◌<◌, ◌≤◌, ◌+◌,
 ghost use Rattle.std.specs.Option.{option_copied};
 ghost use Rattle.std.specs.List.{AllByRecursion};
 ghost use Rattle.own_lists.specs.Kept.{Kept, wrote, wrote_all, all_begin, has_bits, drained};
-ghost use Rattle.two_worlds.specs.Items.{show_of, write_of};
+ghost use Rattle.own_items.specs.Items.{show_of, write_of};
 ghost use Rattle.two_worlds.specs.Periods.{Rise, period_in, IsAt, HasField, Table, Holds, MayWrite, is_among, drain_of, unwritten, left_by};
 
-use crate::items::{OwnShow, OwnWrite};
 use arrayvec::ArrayVec;
 use notify_window::SendState;
+use own_items::{OwnShow, OwnWrite};
 use std::alloc::AllocError;
 use tn_types::{Drain, MAX_FIELDS};
 

@@ -1,5 +1,5 @@
 use Rattle.std.proofs.Common.{◌≡◌, map, take}
-use Rattle.two_worlds.specs.Items.{show_of}
+use Rattle.own_items.specs.Items.{show_of}
 use Rattle.two_worlds.proofs.alone.showings.Given as goal
 
 abbrev pub invariant-loop-show : goal.invariant-loop-show

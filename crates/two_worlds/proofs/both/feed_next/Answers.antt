@@ -2,8 +2,8 @@ use Rattle.std.proofs.Common.{◌≡◌, ◌∙◌, Ok, Bool, true, ap}
 use Rattle.std.specs.Prelude.{Result}
 use Rattle.std.proofs.lemmas.Result.{err_from_is_err_and}
 use Rattle.tn_types.specs.declared.choices.NoMemory.{NoMemory}
-use Rattle.two_worlds.specs.Items.{item_of}
-use Rattle.two_worlds.proofs.Feeds.{may_feed, fed_more, continues, breaks, breaks_here}
+use Rattle.own_items.specs.Items.{item_of}
+use Rattle.two_worlds.proofs.Feeds.{may_feed, moves, breaks, breaks_here}
 use Rattle.two_worlds.proofs.both.feed_next.Goals as goal
 
 of_true : (b : Bool) → b ≡ true → ◌≡◌ {A = Result Bool NoMemory} (Ok b) (Ok true)
@@ -26,9 +26,4 @@ returns-in_err-feed-clause-front g c =
 pub returns-clause-fed : goal.returns-clause-fed
 returns-clause-fed g c =
     let ok = c.in-Ok-true.is ∙ of_true c.in-Ok-true.field-0 c.in-Ok-true.field-0-test in
-    λ e. fed_more c.args.source.now c.next.new.self c.args.server.now (item_of c.next.new.item) c.requires c.in-Ok-true.ensures.stands c.next.ensures.script c.next.ensures.client (c.next.ensures.item ok) c.feed.new.self c.in_ok-feed.ensures.stands
-
-pub returns-clause-written : goal.returns-clause-written
-returns-clause-written g c =
-    let ok = c.in-Ok-true.is ∙ of_true c.in-Ok-true.field-0 c.in-Ok-true.field-0-test in
-    λ e. continues c.args.source.now c.next.new.self c.args.server.now (item_of c.next.new.item) c.requires c.in-Ok-true.ensures.stands c.next.ensures.script c.next.ensures.client (c.next.ensures.item ok) (g.K.Sink.written c.args.sink.now) (g.K.Sink.written c.feed.new.sink) c.in_ok-feed.ensures.lines
+    λ e. moves c.args.source.now c.next.new.self c.args.server.now (item_of c.next.new.item) c.requires c.in-Ok-true.ensures.stands c.next.ensures.script c.next.ensures.client (c.next.ensures.item ok) c.feed.new.self c.in_ok-feed.ensures.stands (c.next.ensures.place ok) (g.K.Sink.written c.args.sink.now) (g.K.Sink.written c.feed.new.sink) c.in_ok-feed.ensures.lines

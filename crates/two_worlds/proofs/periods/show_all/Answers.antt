@@ -3,7 +3,7 @@ use Rattle.std.proofs.lemmas.List.{map_more}
 use Rattle.own_lists.specs.Own.{OwnShow as Told}
 use Rattle.own_lists.specs.Kept.{Kept, all_begin, begins}
 use Rattle.two_worlds.specs.declared.periods.OwnPeriod.{OwnPeriod}
-use Rattle.two_worlds.specs.Items.{show_of}
+use Rattle.own_items.specs.Items.{show_of}
 use Rattle.two_worlds.specs.Periods.{Holds}
 use Rattle.two_worlds.proofs.Holding.{begin_on, holds_begun}
 use Rattle.two_worlds.proofs.periods.show_all.Goals as goal

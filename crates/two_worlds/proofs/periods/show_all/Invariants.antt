@@ -1,6 +1,6 @@
 use Rattle.std.proofs.Common.{◌≡◌, ◌+◌, map, take}
 use Rattle.own_lists.specs.Kept.{Kept, all_begin}
-use Rattle.two_worlds.specs.Items.{show_of}
+use Rattle.own_items.specs.Items.{show_of}
 use Rattle.two_worlds.specs.Periods.{Holds}
 use Rattle.two_worlds.proofs.periods.show_all.Given as goal
 

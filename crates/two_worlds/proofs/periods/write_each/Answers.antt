@@ -2,8 +2,8 @@ use Rattle.std.proofs.Common.{◌∙◌, List, map, take, get_or, pos, sym, ap, 
 use Rattle.std.proofs.lemmas.List.{map_more, take_all, get_or-map, length-map}
 use Rattle.own_lists.specs.Own.{OwnWrite as Told}
 use Rattle.own_lists.specs.Kept.{Kept, wrote_all}
-use Rattle.two_worlds.specs.declared.items.OwnWrite.{OwnWrite}
-use Rattle.two_worlds.specs.Items.{write_of}
+use Rattle.own_items.specs.declared.items.OwnWrite.{OwnWrite}
+use Rattle.own_items.specs.Items.{write_of}
 use Rattle.two_worlds.specs.Periods.{Holds, MayWrite}
 use Rattle.two_worlds.proofs.Holding.{holds_rising, wrote_on, each_of, may_later, has_field}
 use Rattle.two_worlds.proofs.periods.write_each.Goals as goal

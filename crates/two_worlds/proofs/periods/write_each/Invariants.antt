@@ -1,6 +1,6 @@
 use Rattle.std.proofs.Common.{ℕ, map, take}
 use Rattle.own_lists.specs.Kept.{Kept, wrote_all}
-use Rattle.two_worlds.specs.Items.{write_of}
+use Rattle.own_items.specs.Items.{write_of}
 use Rattle.two_worlds.specs.Periods.{Holds}
 use Rattle.two_worlds.proofs.periods.write_each.Given as goal
 

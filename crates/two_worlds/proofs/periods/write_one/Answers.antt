@@ -4,7 +4,7 @@ use Rattle.std.proofs.lemmas.Int.{to_z-of_z}
 use mir.Syntax.{w64}
 use mir.Val.{to_z, of_z, SFits}
 use Rattle.two_worlds.specs.declared.periods.OwnPeriod.{OwnPeriod}
-use Rattle.two_worlds.specs.Items.{write_of}
+use Rattle.own_items.specs.Items.{write_of}
 use Rattle.two_worlds.proofs.Numbers.{here, number_is, found_same}
 use Rattle.two_worlds.proofs.Holding.{holds_wrote}
 use Rattle.two_worlds.proofs.periods.write_one.Goals as goal

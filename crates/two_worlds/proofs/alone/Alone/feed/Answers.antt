@@ -1,6 +1,6 @@
 use Rattle.std.proofs.Common.{◌∙◌, ◌+◌, if◌then◌else◌, sym, ap, arith}
 use Rattle.std.specs.Prelude.{Result, Ok, Err, OnOk}
-use Rattle.two_worlds.specs.Items.{item_of}
+use Rattle.own_items.specs.Items.{item_of}
 use Rattle.two_worlds.specs.Stands.{is_counted}
 use Rattle.two_worlds.proofs.Feeding.{counted_more}
 use Rattle.two_worlds.proofs.alone.Alone.feed.Goals as goal

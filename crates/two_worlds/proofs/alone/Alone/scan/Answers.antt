@@ -7,7 +7,7 @@ use Rattle.own_lists.specs.Conditions.{MeetEach}
 use Rattle.own_lists.specs.Course.{scan_steps, with_steps}
 use Rattle.own_lists.specs.Kept.{kept, with_course, after_scan}
 use Rattle.two_worlds.specs.declared.periods.OwnPeriod.{OwnPeriod}
-use Rattle.two_worlds.specs.Items.{show_of}
+use Rattle.own_items.specs.Items.{show_of}
 use Rattle.two_worlds.specs.Periods.{Holds}
 use Rattle.two_worlds.specs.Stands.{table_of}
 use Rattle.two_worlds.proofs.Holding.{holds_changed}

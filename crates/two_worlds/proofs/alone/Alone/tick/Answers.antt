@@ -4,7 +4,7 @@ use Rattle.own_lists.specs.Course.{ticked}
 use Rattle.own_lists.specs.Own.{Tick}
 use Rattle.own_lists.specs.Kept.{kept}
 use Rattle.two_worlds.specs.declared.periods.OwnPeriod.{OwnPeriod}
-use Rattle.two_worlds.specs.Items.{write_of}
+use Rattle.own_items.specs.Items.{write_of}
 use Rattle.two_worlds.specs.Periods.{Holds}
 use Rattle.two_worlds.specs.Stands.{Serves, table_of}
 use Rattle.two_worlds.proofs.Mapped.{refilled}

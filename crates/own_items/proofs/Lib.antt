@@ -1,0 +1,2 @@
+pub mod MadeItems
+pub mod Stepping

@@ -1,0 +1,10 @@
+//! The items of a client's own list, and the list of a match, made item by item.
+#![tactic(auto)]
+
+mod again;
+mod items;
+mod making;
+mod source;
+
+pub use items::{Hides, Nears, OwnItem, OwnShow, OwnWrite, OwnWrites, Shows};
+pub use source::OwnSource;
