@@ -29,17 +29,17 @@ pub(crate) fn line_on(alloc: Global, seat: &mut Seat, line: &BodyLine) -> Result
             client,
             class,
             payload,
-        } => Ok(seat.post(*client, *class, payload.copy())),
+        } => Ok(seat.post(*client, *class, payload.payload())),
         BodyLine::ClientPost {
             client,
             class,
             payload,
-        } => Ok(seat.client_post(*client, *class, payload.copy())),
+        } => Ok(seat.client_post(*client, *class, payload.payload())),
         BodyLine::ClientPack { client } => seat.client_pack(alloc, *client),
         BodyLine::Down { client, k } => seat.down(alloc, *client, *k),
         BodyLine::Up { client, k } => seat.up(alloc, *client, *k),
         BodyLine::Raw { client, bytes } => {
-            let bytes = bytes.copy(alloc)?;
+            let bytes = bytes.raw_bytes(alloc)?;
             seat.raw(alloc, *client, bytes)
         }
         BodyLine::Move { client, m } => Ok(seat.sample(*client, *m)),

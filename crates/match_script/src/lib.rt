@@ -4,6 +4,7 @@
 
 mod cut;
 mod head;
+mod held;
 mod limits;
 mod line;
 mod objects;
@@ -14,6 +15,7 @@ mod types;
 mod word;
 mod words;
 
+pub use held::{LineDatagram, LinePayload};
 pub use limits::VERSION;
 pub use printer::print;
 pub use reader::parse;

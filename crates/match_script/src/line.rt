@@ -5,12 +5,13 @@ ghost use Rattle.tn_types.specs.Steps.{is_step};
 ghost use Rattle.match_script.specs.Ranges.{LineFits};
 ghost use Rattle.match_script.specs.Shape.{words_line};
 
+use crate::held::{LineDatagram, LinePayload};
 use crate::types::{BodyLine, ScriptFault};
 use crate::word;
 use crate::word::is_name;
 use crate::words::Words;
 use std::alloc::Global;
-use tn_types::{Bytes, MAX_DATAGRAM_BYTES, Move, NoMemory, RawBytes};
+use tn_types::{Bytes, MAX_DATAGRAM_BYTES, Move, NoMemory};
 
 // Why a line of the body was not read.
 #[derive(Clone, Copy, Debug, PartialEq, Eq)]
@@ -53,13 +54,19 @@ fn scan(clients: u8, c: &[u8]) -> Result<BodyLine, ScriptFault>
 }
 
 #[tactic(auto, unfolding(crate::specs::Lines::post_line))]
-fn post(clients: u8, c: &[u8], class: &[u8], bytes: &[u8]) -> Result<BodyLine, ScriptFault>
-    ensures value { result ≡ post_line clients c.now class.now bytes.now }
+fn post(
+    alloc: Global,
+    clients: u8,
+    c: &[u8],
+    class: &[u8],
+    bytes: &[u8],
+) -> Result<BodyLine, LineFault>
+    ensures value { GivesLine result (post_line clients c.now class.now bytes.now) }
     ensures fits { IfOk result (LineFits clients) }
 {
     let class = word::class(class)?;
     let client = word::client(clients, c)?;
-    let payload = word::bytes(bytes)?;
+    let payload = LinePayload::new(alloc, word::bytes(bytes)?)?;
     Ok(BodyLine::Post {
         client,
         class,
@@ -68,13 +75,19 @@ fn post(clients: u8, c: &[u8], class: &[u8], bytes: &[u8]) -> Result<BodyLine, S
 }
 
 #[tactic(auto, unfolding(crate::specs::Lines::client_post_line))]
-fn client_post(clients: u8, c: &[u8], class: &[u8], bytes: &[u8]) -> Result<BodyLine, ScriptFault>
-    ensures value { result ≡ client_post_line clients c.now class.now bytes.now }
+fn client_post(
+    alloc: Global,
+    clients: u8,
+    c: &[u8],
+    class: &[u8],
+    bytes: &[u8],
+) -> Result<BodyLine, LineFault>
+    ensures value { GivesLine result (client_post_line clients c.now class.now bytes.now) }
     ensures fits { IfOk result (LineFits clients) }
 {
     let class = word::class(class)?;
     let client = word::client(clients, c)?;
-    let payload = word::bytes(bytes)?;
+    let payload = LinePayload::new(alloc, word::bytes(bytes)?)?;
     Ok(BodyLine::ClientPost {
         client,
         class,
@@ -127,7 +140,7 @@ fn raw(alloc: Global, clients: u8, c: &[u8], bytes: &[u8]) -> Result<BodyLine, L
 {
     let client = word::client(clients, c)?;
     let read: Bytes<MAX_DATAGRAM_BYTES> = word::bytes(bytes)?;
-    let bytes = RawBytes::from_slice(alloc, read.as_slice())?;
+    let bytes = LineDatagram::from_slice(alloc, read.as_slice())?;
     Ok(BodyLine::Raw { client, bytes })
 }
 
@@ -233,21 +246,22 @@ fn three_words(
 // What a line of four words says.
 #[tactic(auto, unfolding(crate::specs::Lines::body_line))]
 fn four_words(
+    alloc: Global,
     clients: u8,
     kind: &[u8],
     c: &[u8],
     class: &[u8],
     bytes: &[u8],
-) -> Result<BodyLine, ScriptFault>
-    ensures value { result ≡ body_line clients (kind.now ∷ c.now ∷ class.now ∷ bytes.now ∷ []) }
+) -> Result<BodyLine, LineFault>
+    ensures value { GivesLine result (body_line clients (kind.now ∷ c.now ∷ class.now ∷ bytes.now ∷ [])) }
     ensures fits { IfOk result (LineFits clients) }
 {
     if is_name(kind, b"post") {
-        post(clients, c, class, bytes)
+        post(alloc, clients, c, class, bytes)
     } else if is_name(kind, b"cpost") {
-        client_post(clients, c, class, bytes)
+        client_post(alloc, clients, c, class, bytes)
     } else {
-        Err(ScriptFault::UnknownWord)
+        Err(LineFault::Faulty(ScriptFault::UnknownWord))
     }
 }
 
@@ -261,7 +275,7 @@ pub fn words_line(alloc: Global, clients: u8, words: Words<'_>) -> Result<BodyLi
         Words::One(kind) => Ok(one_word(clients, kind)?),
         Words::Two(kind, c) => Ok(two_words(clients, kind, c)?),
         Words::Three(kind, c, what) => three_words(alloc, clients, kind, c, what),
-        Words::Four(kind, c, class, bytes) => Ok(four_words(clients, kind, c, class, bytes)?),
+        Words::Four(kind, c, class, bytes) => four_words(alloc, clients, kind, c, class, bytes),
         Words::Six(kind, c, dx, dy, fire, act) => {
             if is_name(kind, b"move") {
                 Ok(sampled(clients, c, dx, dy, fire, act)?)

@@ -1,9 +1,10 @@
 //! A script, and why a text has none.
 ghost use Rattle.std.specs.Prelude.{◌≡◌, ◌++◌, ◌∷◌, [], OnOk, OnErr, IfOk, length};
 
+use crate::held::{LineDatagram, LinePayload};
 use std::alloc::{AllocError, AllocFailed, Global};
 use std::marker::Model;
-use tn_types::{BlockBytes, Class, Move, NoMemory, Payload, RawBytes};
+use tn_types::{BlockBytes, Class, Move, NoMemory};
 use world_rules::Setup;
 
 /// One line of a script's body. Each client is below the number of clients in the header.
@@ -19,13 +20,13 @@ pub enum BodyLine {
     Post {
         client: u8,
         class: Class,
-        payload: Payload,
+        payload: LinePayload,
     },
     /// `cpost C g HEX` or `cpost C u HEX`: a client posts an event to the server.
     ClientPost {
         client: u8,
         class: Class,
-        payload: Payload,
+        payload: LinePayload,
     },
     /// `pack C`: the server makes a datagram for a client.
     Pack {
@@ -48,7 +49,7 @@ pub enum BodyLine {
     /// `raw C HEX`: the server gets these bytes, which nobody need have made, on a client's connection.
     Raw {
         client: u8,
-        bytes: RawBytes,
+        bytes: LineDatagram,
     },
     /// `move C DX DY FIRE USE`: a client samples a move.
     Move {

@@ -47,7 +47,7 @@ fn again(alloc: Global, line: &BodyLine) -> Result<BodyLine, NoMemory>
         } => BodyLine::Post {
             client: *client,
             class: *class,
-            payload: payload.copy(),
+            payload: payload.copy(alloc)?,
         },
         BodyLine::ClientPost {
             client,
@@ -56,7 +56,7 @@ fn again(alloc: Global, line: &BodyLine) -> Result<BodyLine, NoMemory>
         } => BodyLine::ClientPost {
             client: *client,
             class: *class,
-            payload: payload.copy(),
+            payload: payload.copy(alloc)?,
         },
         BodyLine::Pack { client } => BodyLine::Pack { client: *client },
         BodyLine::ClientPack { client } => BodyLine::ClientPack { client: *client },

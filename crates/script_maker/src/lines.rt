@@ -8,8 +8,9 @@ ghost use Rattle.script_maker.specs.Lines.{step_drawn, move_drawn, sample, way_l
 
 use crate::draws::draw;
 use crate::numbers::{ACTS_ONCE_IN, CHANCES, PAYLOADS, POSTS_ONCE_IN, STEPS};
-use match_script::BodyLine;
+use match_script::{BodyLine, LinePayload};
 use rand_pcg::Lcg64Xsh32;
+use std::alloc::Global;
 use tn_types::{Class, MIN_STEP, Move, NoMemory, Payload};
 
 fn put(lines: &mut Vec<BodyLine>, line: BodyLine) -> Result<(), NoMemory>
@@ -101,27 +102,34 @@ fn deliver(
 
 // The event of a post.
 #[tactic(auto, unfolding(crate::specs::Lines::event))]
-fn event(rng: &mut Lcg64Xsh32, client: u8) -> BodyLine
-    ensures { (result ∷ [], rng.new) ≡ event client rng.old }
+fn event(alloc: Global, rng: &mut Lcg64Xsh32, client: u8) -> Result<BodyLine, NoMemory>
+    ensures { IfOk result (λ line. (line ∷ [], rng.new) ≡ event client rng.old) }
 {
     let v = draw(rng, PAYLOADS);
     let mut payload = Payload::new();
     payload.push((v / 256) as u8);
     payload.push((v % 256) as u8);
-    BodyLine::Post {
+    let payload = LinePayload::new(alloc, payload)?;
+    Ok(BodyLine::Post {
         client,
         class: Class::Guaranteed,
         payload,
-    }
+    })
 }
 
 // A post to a client, now and then.
 #[tactic(auto, unfolding(crate::specs::Lines::post))]
-fn post(lines: &mut Vec<BodyLine>, rng: &mut Lcg64Xsh32, client: u8) -> Result<(), NoMemory>
+fn post(
+    alloc: Global,
+    lines: &mut Vec<BodyLine>,
+    rng: &mut Lcg64Xsh32,
+    client: u8,
+) -> Result<(), NoMemory>
     ensures { OnOk result (Adds (post client) lines.old.items rng.old lines.new.items rng.new) }
 {
     if draw(rng, POSTS_ONCE_IN) == 0 {
-        put(lines, event(rng, client))
+        let posted = event(alloc, rng, client)?;
+        put(lines, posted)
     } else {
         Ok(())
     }
@@ -130,6 +138,7 @@ fn post(lines: &mut Vec<BodyLine>, rng: &mut Lcg64Xsh32, client: u8) -> Result<(
 // What a client and the server do for each other in round k.
 #[tactic(auto, unfolding(crate::specs::Lines::client_lines))]
 fn put_client(
+    alloc: Global,
     lines: &mut Vec<BodyLine>,
     rng: &mut Lcg64Xsh32,
     k: u32,
@@ -142,7 +151,7 @@ fn put_client(
     put(lines, BodyLine::ClientPack { client })?;
     deliver(lines, rng, true, client, k)?;
     put(lines, BodyLine::Scan { client })?;
-    post(lines, rng, client)?;
+    post(alloc, lines, rng, client)?;
     put(lines, BodyLine::Pack { client })?;
     deliver(lines, rng, false, client, k)
 }
@@ -150,6 +159,7 @@ fn put_client(
 // Round k.
 #[tactic(auto, unfolding(crate::specs::Lines::round))]
 pub(crate) fn put_round(
+    alloc: Global,
     lines: &mut Vec<BodyLine>,
     rng: &mut Lcg64Xsh32,
     clients: u8,
@@ -159,7 +169,7 @@ pub(crate) fn put_round(
 {
     put(lines, BodyLine::Tick)?;
     'clients: for client in 0..clients {
-        put_client(lines, rng, k, client)?;
+        put_client(alloc, lines, rng, k, client)?;
     }
     Ok(())
 }

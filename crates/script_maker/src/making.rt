@@ -24,7 +24,7 @@ fn first_lines(
     let mut lines = Vec::new(alloc);
     let mut k = 0u32;
     'rounds: while lines.len() < steps as usize {
-        put_round(&mut lines, rng, clients, k)?;
+        put_round(alloc, &mut lines, rng, clients, k)?;
         k += 1;
     }
     lines.truncate(steps as usize);

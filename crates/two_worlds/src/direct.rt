@@ -24,14 +24,14 @@ pub(crate) fn line_on(alloc: Global, seat: &mut Seat, line: &BodyLine) -> Result
             class,
             payload,
         } => {
-            let _told = seat.post(*client, *class, payload.copy());
+            let _told = seat.post(*client, *class, payload.payload());
         }
         BodyLine::ClientPost {
             client,
             class,
             payload,
         } => {
-            let _told = seat.client_post(*client, *class, payload.copy());
+            let _told = seat.client_post(*client, *class, payload.payload());
         }
         BodyLine::ClientPack { client } => {
             let _told = seat.client_pack(alloc, *client)?;
@@ -43,7 +43,7 @@ pub(crate) fn line_on(alloc: Global, seat: &mut Seat, line: &BodyLine) -> Result
             let _told = seat.up(alloc, *client, *k)?;
         }
         BodyLine::Raw { client, bytes } => {
-            let bytes = bytes.copy(alloc)?;
+            let bytes = bytes.raw_bytes(alloc)?;
             let _told = seat.raw(alloc, *client, bytes)?;
         }
         BodyLine::Move { client, m } => {
