@@ -1,29 +1,63 @@
-use Rattle.std.proofs.Common.{◌≡◌, ◌∙◌, Ok, Bool, true, ap}
+use Rattle.std.proofs.Common.{◌≡◌, ◌∙◌, Ok, Err, Bool, true, false, refl, sym, ap, arith}
 use Rattle.std.specs.Prelude.{Result}
 use Rattle.std.proofs.lemmas.Result.{err_from_is_err_and}
 use Rattle.tn_types.specs.declared.choices.NoMemory.{NoMemory}
+use Rattle.match_engine.specs.declared.running.RunFault.{RunFault}
 use Rattle.own_items.specs.Items.{item_of}
 use Rattle.two_worlds.proofs.Feeds.{may_feed, moves, breaks, breaks_here}
 use Rattle.two_worlds.proofs.both.feed_next.Goals as goal
 
-of_true : (b : Bool) → b ≡ true → ◌≡◌ {A = Result Bool NoMemory} (Ok b) (Ok true)
-of_true b e = ap (λ (x : Bool). Ok x) e
+of_bool : (b d : Bool) → b ≡ d → ◌≡◌ {A = Result Bool NoMemory} (Ok b) (Ok d)
+of_bool b d e = ap (λ (x : Bool). Ok x) e
 
-pub returns-in-Err-clause-front : goal.returns-in-Err-clause-front
-returns-in-Err-clause-front g c = breaks_here c.args.source.now (g.K.Sink.written c.args.sink.now)
+of_err : (x y : RunFault) → x ≡ y → ◌≡◌ {A = Result Bool RunFault} (Err x) (Err y)
+of_err x y e = ap (λ (z : RunFault). Err z) e
+
+same_err : {T : Type 0} (x y : RunFault) → ◌≡◌ {A = Result T RunFault} (Err x) (Err y) → x ≡ y
+same_err {T} x y e = cc (e)
+
+pub returns-in-Ok-false : goal.returns-in-Ok-false
+returns-in-Ok-false g c = record {
+  end = λ e. (c.next.ensures.end (c.in-Ok-false.is ∙ of_bool c.in-Ok-false.field-0 false c.in-Ok-false.field-0-test), refl);
+  fed = λ e. absurd (cc);
+  front = tt;
+  cause = λ e. absurd (cc);
+  later = omega arith;
+}
+
+pub returns-in-Err : goal.returns-in-Err
+returns-in-Err g c = record {
+  end = λ e. absurd (cc);
+  fed = λ e. absurd (cc);
+  front = breaks_here c.args.source.now (g.K.Sink.written c.args.sink.now);
+  cause = λ e. absurd (cc);
+  later = omega arith;
+}
 
 pub feed-requires : goal.feed-requires
 feed-requires g c =
-    let ok = c.in-Ok-true.is ∙ of_true c.in-Ok-true.field-0 c.in-Ok-true.field-0-test in
+    let ok = c.in-Ok-true.is ∙ of_bool c.in-Ok-true.field-0 true c.in-Ok-true.field-0-test in
     may_feed c.args.source.now c.next.new.self c.args.server.now (item_of c.next.new.item) c.requires c.in-Ok-true.ensures.stands c.next.ensures.script c.next.ensures.client (c.next.ensures.item ok)
 
-pub returns-in_err-feed-clause-front : goal.returns-in_err-feed-clause-front
-returns-in_err-feed-clause-front g c =
+pub returns-in_err-feed : goal.returns-in_err-feed
+returns-in_err-feed g c =
     let p = err_from_is_err_and c.from_residual.result c.from_residual.ensures.1 in
-    let ok = c.in-Ok-true.is ∙ of_true c.in-Ok-true.field-0 c.in-Ok-true.field-0-test in
-    rw (p.1) (breaks c.args.source.now c.next.new.self c.args.server.now (item_of c.next.new.item) c.requires c.in-Ok-true.ensures.stands c.next.ensures.script c.next.ensures.client (c.next.ensures.item ok) (g.K.Sink.written c.args.sink.now) (g.K.Sink.written c.feed.new.sink) c.in_err-feed.ensures.front)
+    let ok = c.in-Ok-true.is ∙ of_bool c.in-Ok-true.field-0 true c.in-Ok-true.field-0-test in
+    rw (p.1) (record {
+      end = λ e. absurd (cc);
+      fed = λ e. absurd (cc);
+      front = breaks c.args.source.now c.next.new.self c.args.server.now (item_of c.next.new.item) c.requires c.in-Ok-true.ensures.stands c.next.ensures.script c.next.ensures.client (c.next.ensures.item ok) (g.K.Sink.written c.args.sink.now) (g.K.Sink.written c.feed.new.sink) c.in_err-feed.ensures.front;
+      cause = λ e. c.in_err-feed.ensures.cause (of_err c.in_err-feed.field-0.0 RunFault.WriteFault (sym p.2 ∙ same_err p.0 RunFault.WriteFault e));
+      later = c.feed.ensures.later;
+    })
 
-pub returns-clause-fed : goal.returns-clause-fed
-returns-clause-fed g c =
-    let ok = c.in-Ok-true.is ∙ of_true c.in-Ok-true.field-0 c.in-Ok-true.field-0-test in
-    λ e. moves c.args.source.now c.next.new.self c.args.server.now (item_of c.next.new.item) c.requires c.in-Ok-true.ensures.stands c.next.ensures.script c.next.ensures.client (c.next.ensures.item ok) c.feed.new.self c.in_ok-feed.ensures.stands (c.next.ensures.place ok) (g.K.Sink.written c.args.sink.now) (g.K.Sink.written c.feed.new.sink) c.in_ok-feed.ensures.lines
+pub returns : goal.returns
+returns g c =
+    let ok = c.in-Ok-true.is ∙ of_bool c.in-Ok-true.field-0 true c.in-Ok-true.field-0-test in
+    record {
+      end = λ e. absurd (cc);
+      fed = λ e. moves c.args.source.now c.next.new.self c.args.server.now (item_of c.next.new.item) c.requires c.in-Ok-true.ensures.stands c.next.ensures.script c.next.ensures.client (c.next.ensures.item ok) c.feed.new.self c.in_ok-feed.ensures.stands (c.next.ensures.place ok) (g.K.Sink.written c.args.sink.now) (g.K.Sink.written c.feed.new.sink) c.in_ok-feed.ensures.lines;
+      front = tt;
+      cause = λ e. absurd (cc);
+      later = c.feed.ensures.later;
+    }
