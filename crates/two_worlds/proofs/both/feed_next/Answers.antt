@@ -10,7 +10,7 @@ use Rattle.two_worlds.proofs.both.feed_next.Goals as goal
 of_bool : (b d : Bool) → b ≡ d → ◌≡◌ {A = Result Bool NoMemory} (Ok b) (Ok d)
 of_bool b d e = ap (λ (x : Bool). Ok x) e
 
-of_err : (x y : RunFault) → x ≡ y → ◌≡◌ {A = Result Bool RunFault} (Err x) (Err y)
+of_err : (x y : RunFault) → x ≡ y → ◌≡◌ {A = Result (Unit {0}) RunFault} (Err x) (Err y)
 of_err x y e = ap (λ (z : RunFault). Err z) e
 
 same_err : {T : Type 0} (x y : RunFault) → ◌≡◌ {A = Result T RunFault} (Err x) (Err y) → x ≡ y
