@@ -14,4 +14,5 @@ pub mod Turns
 pub mod ForGood
 pub mod InRange
 pub mod Kept
+pub mod Glancing
 pub mod Histories

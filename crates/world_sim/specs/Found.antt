@@ -1,7 +1,7 @@
 -- What a tick finds of the objects before anything moves: those that matter to others, in the order of their numbers, and
 -- a mark for each object that ends in the tick.
-use Rattle.std.specs.Prelude.{◌≡◌, ◌&&◌, ◌||◌, Bool, true, false, List, filter, map}
-use Rattle.std.specs.List.{list_any}
+use Rattle.std.specs.Prelude.{◌≡◌, ℕ, zero, suc, ◌⊎◌, ◌&&◌, ◌||◌, Bool, true, false, List, [], ◌∷◌, filter, map}
+use Rattle.std.specs.List.{list_any, AllByRecursion}
 use Rattle.world_rules.specs.declared.measures.TheConstants.{MINE_REACH}
 use Rattle.world_rules.specs.declared.object.Object.{Object}
 use Rattle.world_rules.specs.declared.object.State.{State}
@@ -33,6 +33,21 @@ is_players_part _ = false
 
 abbrev pub is_players : Object → Bool
 is_players o = is_players_part o.state
+
+-- none of these is a player
+abbrev pub AreOthers : List Object → Type 0
+AreOthers os = AllByRecursion (λ o. is_players o ≡ false) os
+
+-- the players stand before all others
+abbrev pub PlayersFirst : List Object → Type 0
+PlayersFirst [] = Unit {0}
+PlayersFirst (o ∷ os) = ((is_players o ≡ true) × PlayersFirst os) ⊎ AreOthers (o ∷ os)
+
+-- at this place stands none that is a player
+abbrev pub IsPlayersEnd : List Object → ℕ → Type 0
+IsPlayersEnd [] n = Unit {0}
+IsPlayersEnd (o ∷ os) zero = is_players o ≡ false
+IsPlayersEnd (o ∷ os) (suc n) = IsPlayersEnd os n
 
 pub record AreFound (os : List Object) (found : Found) : Type 0 where
   pub players_are : found.players.items ≡ filter is_players os

@@ -16,7 +16,7 @@ pub const CELL_SIDE: u32 = 4096;
 pub const CELLS_ACROSS: u32 = 16;
 
 // All cells.
-pub(crate) const CELLS: usize = 256;
+const CELLS: usize = 256;
 
 /// The numbers of the objects in each cell, row by row. Nothing after `new` takes memory.
 #[derive(Drop)]

@@ -1,6 +1,7 @@
 //! What a tick finds of the objects before anything moves, so that each rule looks through a short list only.
 ghost use Rattle.std.specs.Prelude.{◌≡◌, ◌≤◌, ◌+◌, ◌*◌, ◌&&◌, ◌||◌, ◌++◌, ◌∷◌, ◌<◌, [], true, slice_set, OnOk, filter, map, length, count_by, List, if◌then◌else◌};
 ghost use Rattle.std.specs.List.{list_any, AllByRecursion};
+ghost use Rattle.world_rules.specs.declared.object.Object.{Object};
 ghost use Rattle.world_rules.specs.Near.{is_standing, is_other_near};
 ghost use Rattle.world_rules.specs.Discs.{is_of, is_hitting};
 ghost use Rattle.world_rules.specs.Flags.{captures};
@@ -8,11 +9,13 @@ ghost use Rattle.world_rules.specs.Identity.{LivesOn};
 ghost use Rattle.world_rules.specs.Ranges.{PlaceFits, ObjectFits};
 ghost use Rattle.world_sim.specs.Searches.{AreWatched};
 ghost use Rattle.world_sim.specs.Cells.{IsGrid};
-ghost use Rattle.world_sim.specs.Found.{is_triggered_by, is_flag, is_players, AreFound};
+ghost use Rattle.world_sim.specs.Found.{is_triggered_by, is_flag, is_players, PlayersFirst, IsPlayersEnd, AreFound};
+ghost use Rattle.world_sim.specs.Glances.{glance_of};
 
-use crate::cells::{CELLS, Cells};
+use crate::cells::Cells;
+use crate::glance::Glance;
 use crate::near::any_target_round;
-use crate::watch::{is_watched, watch_all};
+use crate::watch::{PLOTS, is_watched, watch_all};
 use std::alloc::{AllocError, Global};
 use tn_types::MAX_OBJECTS;
 use world_rules::flags::is_captured;
@@ -79,9 +82,9 @@ fn is_hitting(cells: &Cells, objects: &[Object], o: &Object) -> bool
     o.is_flying() && any_target_round(cells, objects, o)
 }
 
-// Whether an object is an armed mine that one of these players triggers. Most lie in cells that nobody is near.
+// Whether an object is an armed mine that one of these players triggers. Most lie in plots that nobody is near.
 fn is_triggered_by(watched: &[bool], standing: &[Object], o: &Object) -> bool
-    requires room { length watched.now ≡ 256 }
+    requires room { length watched.now ≡ PLOTS }
     requires watched { AreWatched standing.now watched.now }
     requires fits { PlaceFits o.now.place }
     ensures { result ≡ is_triggered_by standing.now o.now }
@@ -112,27 +115,36 @@ fn keep(passes: bool, o: &Object, list: &mut Vec<Object>) -> Result<(), AllocErr
     Ok(())
 }
 
-// The players, those that stand, and the flags.
+// The players and those that stand.
 #[tactic(auto, using(crate::proofs::Gathered::filter_more))]
 fn gather(
     objects: &[Object],
     players: &mut Vec<Object>,
     standing: &mut Vec<Object>,
-    flags: &mut Vec<Object>,
 ) -> Result<(), AllocError>
     ensures players { OnOk result (players.new.items ≡ filter is_players objects.now) }
     ensures standing { OnOk result (standing.new.items ≡ filter is_standing objects.now) }
-    ensures flags { OnOk result (flags.new.items ≡ filter is_flag objects.now) }
 {
     players.clear();
     standing.clear();
-    flags.clear();
     for o in objects {
         keep(is_players(o), o, players)?;
         keep(o.is_standing(), o, standing)?;
-        keep(is_flag(o), o, flags)?;
     }
     Ok(())
+}
+
+// Where the players end, who stand first.
+fn players_end(glances: &[Glance]) -> usize
+    ensures within { result ≤ length glances.now }
+    ensures end { (os : List Object) → glances.now ≡ map glance_of os → IsPlayersEnd os result }
+{
+    for (n, g) in glances.iter().enumerate() {
+        if !g.is_player() {
+            return n;
+        }
+    }
+    glances.len()
 }
 
 // Marks the object of this number, if it ends.
@@ -145,13 +157,15 @@ fn mark(hits: bool, triggers: bool, number: usize, marks: &mut Vec<bool>)
     }
 }
 
-// The discs that hit and the mines that are triggered, with a mark for each object.
-#[tactic(auto, using(crate::proofs::Gathered::filter_more, crate::proofs::Watching::place_fits))]
-fn gather_ending(
+// Whether this one is a flag, a disc that hits or a mine that is triggered.
+fn find_this(
+    number: usize,
+    o: &Object,
     cells: &Cells,
     objects: &[Object],
     watched: &[bool],
     standing: &[Object],
+    flags: &mut Vec<Object>,
     hitting: &mut Vec<Object>,
     triggered: &mut Vec<Object>,
     marks: &mut Vec<bool>,
@@ -159,48 +173,145 @@ fn gather_ending(
     requires grid { IsGrid cells.now objects.now }
     requires alive { AllByRecursion LivesOn objects.now }
     requires fits { AllByRecursion ObjectFits objects.now }
-    requires room { length watched.now ≡ 256 }
+    requires place { PlaceFits o.now.place }
+    requires room { length watched.now ≡ PLOTS }
     requires watched { AreWatched standing.now watched.now }
+    requires number { number < length marks.old.items }
+    ensures flags { OnOk result (flags.new.items ≡ flags.old.items ++ (if is_flag o.now then o.now ∷ [] else [])) }
+    ensures hitting { OnOk result (hitting.new.items
+        ≡ hitting.old.items ++ (if is_hitting objects.now o.now then o.now ∷ [] else [])) }
+    ensures triggered { OnOk result (triggered.new.items
+        ≡ triggered.old.items ++ (if is_triggered_by standing.now o.now then o.now ∷ [] else [])) }
+    ensures marks { OnOk result (marks.new.items
+        ≡ (if is_hitting objects.now o.now || is_triggered_by standing.now o.now then slice_set marks.old.items number true
+        else marks.old.items)) }
+{
+    let hits = is_hitting(cells, objects, o);
+    let triggers = is_triggered_by(watched, standing, o);
+    keep(is_flag(o), o, flags)?;
+    keep(hits, o, hitting)?;
+    keep(triggers, o, triggered)?;
+    mark(hits, triggers, number, marks);
+    Ok(())
+}
+
+// The same by a glance at it first, since most are none of these.
+fn find_one(
+    number: usize,
+    o: &Object,
+    glance: &Glance,
+    cells: &Cells,
+    objects: &[Object],
+    watched: &[bool],
+    standing: &[Object],
+    flags: &mut Vec<Object>,
+    hitting: &mut Vec<Object>,
+    triggered: &mut Vec<Object>,
+    marks: &mut Vec<bool>,
+) -> Result<(), AllocError>
+    requires glance { glance.now ≡ glance_of o.now }
+    requires grid { IsGrid cells.now objects.now }
+    requires alive { AllByRecursion LivesOn objects.now }
+    requires fits { AllByRecursion ObjectFits objects.now }
+    requires place { PlaceFits o.now.place }
+    requires room { length watched.now ≡ PLOTS }
+    requires watched { AreWatched standing.now watched.now }
+    requires number { number < length marks.old.items }
+    ensures flags { OnOk result (flags.new.items ≡ flags.old.items ++ (if is_flag o.now then o.now ∷ [] else [])) }
+    ensures hitting { OnOk result (hitting.new.items
+        ≡ hitting.old.items ++ (if is_hitting objects.now o.now then o.now ∷ [] else [])) }
+    ensures triggered { OnOk result (triggered.new.items
+        ≡ triggered.old.items ++ (if is_triggered_by standing.now o.now then o.now ∷ [] else [])) }
+    ensures marks { OnOk result (marks.new.items
+        ≡ (if is_hitting objects.now o.now || is_triggered_by standing.now o.now then slice_set marks.old.items number true
+        else marks.old.items)) }
+{
+    if glance.may_matter(watched) {
+        find_this(
+            number, o, cells, objects, watched, standing, flags, hitting, triggered, marks,
+        )
+    } else {
+        Ok(())
+    }
+}
+
+// The flags, the discs that hit and the mines that are triggered, with a mark for each that ends.
+#[tactic(auto, using(crate::proofs::Gathered::filter_more, crate::proofs::Watching::place_fits))]
+fn gather_ending(
+    cells: &Cells,
+    objects: &[Object],
+    glances: &[Glance],
+    watched: &[bool],
+    standing: &[Object],
+    flags: &mut Vec<Object>,
+    hitting: &mut Vec<Object>,
+    triggered: &mut Vec<Object>,
+    marks: &mut Vec<bool>,
+) -> Result<(), AllocError>
+    requires glances { glances.now ≡ map glance_of objects.now }
+    requires grid { IsGrid cells.now objects.now }
+    requires alive { AllByRecursion LivesOn objects.now }
+    requires fits { AllByRecursion ObjectFits objects.now }
+    requires room { length watched.now ≡ PLOTS }
+    requires watched { AreWatched standing.now watched.now }
+    ensures flags { OnOk result (flags.new.items ≡ filter is_flag objects.now) }
     ensures hitting { OnOk result (hitting.new.items ≡ filter (is_hitting objects.now) objects.now) }
     ensures triggered { OnOk result (triggered.new.items ≡ filter (is_triggered_by standing.now) objects.now) }
     ensures marks { OnOk result (marks.new.items
         ≡ map (λ o. is_hitting objects.now o || is_triggered_by standing.now o) objects.now) }
 {
+    flags.clear();
     hitting.clear();
     triggered.clear();
     marks.clear();
     marks.resize(objects.len(), false)?;
     for (i, o) in objects.iter().enumerate() {
-        let hits = is_hitting(cells, objects, o);
-        let triggers = is_triggered_by(watched, standing, o);
-        keep(hits, o, hitting)?;
-        keep(triggers, o, triggered)?;
-        mark(hits, triggers, i, marks);
+        find_one(
+            i,
+            o,
+            &glances[i],
+            cells,
+            objects,
+            watched,
+            standing,
+            flags,
+            hitting,
+            triggered,
+            marks,
+        )?;
     }
     Ok(())
 }
 
 /// What a tick looks through, written anew.
 #[tactic(auto, using(crate::proofs::Gathered::are_found))]
-pub fn find_all(cells: &Cells, objects: &[Object], found: &mut Found) -> Result<(), AllocError>
+pub fn find_all(
+    cells: &Cells,
+    objects: &[Object],
+    glances: &[Glance],
+    found: &mut Found,
+) -> Result<(), AllocError>
+    requires glances { glances.now ≡ map glance_of objects.now }
+    requires first { PlayersFirst objects.now }
     requires grid { IsGrid cells.now objects.now }
     requires alive { AllByRecursion LivesOn objects.now }
     requires fits { AllByRecursion ObjectFits objects.now }
     ensures { OnOk result (AreFound objects.now found.new) }
 {
     gather(
-        objects,
+        &objects[..players_end(glances)],
         &mut found.players,
         &mut found.standing,
-        &mut found.flags,
     )?;
-    let mut watched = [false; CELLS];
+    let mut watched = [false; 4096];
     watch_all(&found.standing, &mut watched);
     gather_ending(
         cells,
         objects,
+        glances,
         &watched,
         &found.standing,
+        &mut found.flags,
         &mut found.hitting,
         &mut found.triggered,
         &mut found.marks,

@@ -4,6 +4,7 @@
 mod cell;
 mod cells;
 mod found;
+mod glance;
 pub mod laws;
 mod near;
 mod rows;
@@ -12,5 +13,6 @@ mod watch;
 mod world;
 
 pub use cells::{CELL_SIDE, CELLS_ACROSS};
+pub use glance::{Glance, Role};
 pub use rows::{Row, Write};
 pub use world::World;

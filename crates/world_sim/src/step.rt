@@ -12,10 +12,12 @@ ghost use Rattle.world_sim.specs.Rows.{values_of, row_writes, as_number};
 ghost use Rattle.world_sim.specs.RowsNext.{row_values, row_next, rows_updated, rows_writes, IsSoundRow};
 ghost use Rattle.world_sim.specs.Cells.{IsGrid};
 ghost use Rattle.world_sim.specs.Found.{AreFound, is_ending};
+ghost use Rattle.world_sim.specs.Glances.{glance_of};
 ghost use Rattle.world_sim.specs.Turns.{IsOld, is_quiet, moment};
 
 use crate::cells::{Cells, spot};
 use crate::found::{Found, count_near, count_of};
+use crate::glance::{Glance, glance_of};
 use crate::rows::{Row, Write, change_row, change_three};
 use tn_types::{MAX_OBJECTS, Move};
 use world_rules::fire::move_of;
@@ -112,6 +114,7 @@ fn step_drone(
     d: Drone,
     object: &mut Object,
     row: &mut Row,
+    glance: &mut Glance,
     cells: &mut Cells,
     writes: &mut Vec<Write>,
 )
@@ -120,10 +123,12 @@ fn step_drone(
     requires drone { object.old.state ≡ drone_of d }
     requires alive { object.old.alive ≡ true }
     requires sound { IsSoundRow row.old }
+    requires glance { glance.old ≡ glance_of object.old }
     requires values { row.old.values.items ≡ values_of object.old }
     requires room { length writes.old.items + 5 ≤ vec_capacity writes.old }
     ensures object { (os : List Object) (i : ℕ) → IsOld os old.now → slice_get os i ≡ Some object.old
         → object.new ≡ object_next os old.now.moves.now (moment old.now) object.old }
+    ensures glance { glance.new ≡ glance_of object.new }
     ensures row { row.new ≡ row_next row.old object.new }
     ensures writes { writes.new.items ≡ writes.old.items
         ++ row_writes number 0 row.old.values.items (values_of object.new) row.old.versions.items }
@@ -138,6 +143,9 @@ fn step_drone(
     turn_drone(r, harm, object, &d);
     let hp = d.hp.saturating_sub(harm);
     change_three(number, row, object.place.x, object.place.y, hp, writes);
+    glance.place.x = object.place.x;
+    glance.place.y = object.place.y;
+    glance.alive = object.alive;
     cells.shift(number, from, spot(object));
 }
 
@@ -158,15 +166,18 @@ fn step_mine(
     m: Mine,
     object: &mut Object,
     row: &mut Row,
+    glance: &mut Glance,
     cells: &mut Cells,
     writes: &mut Vec<Write>,
 )
     requires number { number < MAX_OBJECTS }
     requires mine { object.old.state ≡ mine_of m }
     requires sound { IsSoundRow row.old }
+    requires glance { glance.old ≡ glance_of object.old }
     requires values { row.old.values.items ≡ values_of object.old }
     requires room { length writes.old.items + 5 ≤ vec_capacity writes.old }
     ensures object { object.new ≡ mine_next ending object.old m }
+    ensures glance { glance.new ≡ glance_of object.new }
     ensures row { row.new ≡ row_next row.old object.new }
     ensures writes { writes.new.items ≡ writes.old.items
         ++ row_writes number 0 row.old.values.items (values_of object.new) row.old.versions.items }
@@ -179,6 +190,7 @@ fn step_mine(
     turn_mine(ending, object, &m);
     let armed = armed_number(object);
     change_three(number, row, object.place.x, object.place.y, armed, writes);
+    *glance = glance_of(object);
     cells.shift(number, from, spot(object));
 }
 
@@ -189,6 +201,7 @@ fn step_any(
     ending: bool,
     object: &mut Object,
     row: &mut Row,
+    glance: &mut Glance,
     cells: &mut Cells,
     writes: &mut Vec<Write>,
 )
@@ -197,10 +210,12 @@ fn step_any(
     requires standing { old.now.found.now.standing.items ≡ filter is_standing old.now.found.now.players.items }
     requires number { number < MAX_OBJECTS }
     requires sound { IsSoundRow row.old }
+    requires glance { glance.old ≡ glance_of object.old }
     requires values { row.old.values.items ≡ values_of object.old }
     requires room { length writes.old.items + 5 ≤ vec_capacity writes.old }
     ensures object { (os : List Object) (i : ℕ) → IsOld os old.now → slice_get os i ≡ Some object.old
         → ending ≡ is_ending os object.old → object.new ≡ object_next os old.now.moves.now (moment old.now) object.old }
+    ensures glance { glance.new ≡ glance_of object.new }
     ensures row { row.new ≡ row_next row.old object.new }
     ensures writes { writes.new.items ≡ writes.old.items
         ++ row_writes number 0 row.old.values.items (values_of object.new) row.old.versions.items }
@@ -212,6 +227,7 @@ fn step_any(
     let now = object_next(old, ending, object);
     change_row(number, row, &now, writes);
     cells.resettle(number, object, &now);
+    *glance = glance_of(&now);
     *object = now;
 }
 
@@ -222,6 +238,7 @@ fn turn(
     ending: bool,
     object: &mut Object,
     row: &mut Row,
+    glance: &mut Glance,
     cells: &mut Cells,
     writes: &mut Vec<Write>,
 )
@@ -230,10 +247,12 @@ fn turn(
     requires standing { old.now.found.now.standing.items ≡ filter is_standing old.now.found.now.players.items }
     requires number { number < MAX_OBJECTS }
     requires sound { IsSoundRow row.old }
+    requires glance { glance.old ≡ glance_of object.old }
     requires values { row.old.values.items ≡ values_of object.old }
     requires room { length writes.old.items + 5 ≤ vec_capacity writes.old }
     ensures object { (os : List Object) (i : ℕ) → IsOld os old.now → slice_get os i ≡ Some object.old
         → ending ≡ is_ending os object.old → object.new ≡ object_next os old.now.moves.now (moment old.now) object.old }
+    ensures glance { glance.new ≡ glance_of object.new }
     ensures row { row.new ≡ row_next row.old object.new }
     ensures writes { writes.new.items ≡ writes.old.items
         ++ row_writes number 0 row.old.values.items (values_of object.new) row.old.versions.items }
@@ -242,9 +261,12 @@ fn turn(
     ensures few { length writes.new.items ≤ length writes.old.items + 5 }
     ensures kept { vec_capacity writes.old ≤ vec_capacity writes.new }
 {
+    if glance.is_old_mine() && !ending {
+        return;
+    }
     if let State::Drone(d) = object.state {
         if object.alive {
-            step_drone(old, number, d, object, row, cells, writes);
+            step_drone(old, number, d, object, row, glance, cells, writes);
         }
         return;
     }
@@ -252,10 +274,10 @@ fn turn(
         return;
     }
     if let State::Mine(m) = object.state {
-        step_mine(number, ending, m, object, row, cells, writes);
+        step_mine(number, ending, m, object, row, glance, cells, writes);
         return;
     }
-    step_any(old, number, ending, object, row, cells, writes);
+    step_any(old, number, ending, object, row, glance, cells, writes);
 }
 
 /// Each object after the tick, with its row, its cell and the writes.
@@ -263,26 +285,31 @@ pub fn turn_all(
     old: &Old<'_, '_>,
     objects: &mut Vec<Object>,
     rows: &mut Vec<Row>,
+    glances: &mut Vec<Glance>,
     cells: &mut Cells,
     writes: &mut Vec<Write>,
 )
     requires old { IsOld objects.old.items old.now }
     requires values { map row_values rows.old.items ≡ map values_of objects.old.items }
     requires sound { AllByRecursion IsSoundRow rows.old.items }
+    requires glances { glances.old.items ≡ map glance_of objects.old.items }
     requires grid { IsGrid cells.old objects.old.items }
     requires none { writes.old.items ≡ [] }
     requires room { 5 * MAX_OBJECTS ≤ vec_capacity writes.old }
     ensures objects { objects.new.items ≡ map (object_next objects.old.items old.now.moves.now (moment old.now)) objects.old.items }
     ensures rows { rows.new.items ≡ rows_updated (length rows.old.items) rows.old.items objects.new.items }
     ensures writes { writes.new.items ≡ rows_writes 0 rows.old.items objects.new.items }
+    ensures glances { glances.new.items ≡ map glance_of objects.new.items }
     ensures grid { IsGrid cells.new objects.new.items }
     ensures kept { vec_capacity objects.old ≤ vec_capacity objects.new }
     ensures rows_kept { vec_capacity rows.old ≤ vec_capacity rows.new }
+    ensures glances_kept { vec_capacity glances.old ≤ vec_capacity glances.new }
 {
     for i in 0..objects.len() {
         let ending = old.found.marks[i];
         let object = &mut objects[i];
         let row = &mut rows[i];
-        turn(old, i as u32, ending, object, row, cells, writes);
+        let glance = &mut glances[i];
+        turn(old, i as u32, ending, object, row, glance, cells, writes);
     }
 }

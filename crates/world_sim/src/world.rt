@@ -12,11 +12,13 @@ ghost use Rattle.world_sim.specs.Grid.{numbers, lasts, lies_at, is_always};
 ghost use Rattle.world_sim.specs.Facts.{IsWriteOf, ValuesFit};
 ghost use Rattle.world_sim.specs.Rows.{values_of, world_writes};
 ghost use Rattle.world_sim.specs.Cells.{IsGrid};
-ghost use Rattle.world_sim.specs.Found.{AreFound};
+ghost use Rattle.world_sim.specs.Found.{AreFound, PlayersFirst};
+ghost use Rattle.world_sim.specs.Glances.{glance_of};
 ghost use Rattle.world_sim.specs.RowsNext.{fresh_row, row_values, row_counts, rows_next, IsSoundRow};
 
 use crate::cells::{CELLS_ACROSS, Cells, has_place};
 use crate::found::{Found, captures_of, find_all, nothing};
+use crate::glance::{Glance, glance_of};
 use crate::rows::{Row, Write, fresh_row};
 use crate::step::{Old, turn_all};
 use std::alloc::{AllocError, Global};
@@ -59,6 +61,8 @@ pub struct World {
     objects: Vec<Object>,
     rows: Vec<Row>,
     writes: Vec<Write>,
+    // A glance at each object.
+    glances: Vec<Glance>,
     // The living by the cell that they lie in.
     cells: Cells,
     // The numbers of what every client sees. No tick makes or ends one.
@@ -91,7 +95,7 @@ impl Model for World {
       objects = w.objects.items;
       versions = map row_counts w.rows.items;
       writes = w.writes.items;
-    }) w.rows.items w.cells w.always.items };
+    }) w.rows.items w.glances.items w.cells w.always.items };
 }
 
 // Adds a disc that is made, if there is a place.
@@ -128,47 +132,63 @@ fn make_discs(
 fn prepare(
     objects: &mut Vec<Object>,
     rows: &mut Vec<Row>,
+    glances: &mut Vec<Glance>,
     cells: &Cells,
     moves: &[Option<Move>],
     work: &mut Work,
 ) -> Result<(), AllocError>
     requires few { length objects.old.items ≤ MAX_OBJECTS }
     requires grid { IsGrid cells.now objects.old.items }
+    requires glances { glances.old.items ≡ map glance_of objects.old.items }
+    requires first { PlayersFirst objects.old.items }
     requires alive { AllByRecursion LivesOn objects.old.items }
     requires fits { AllByRecursion ObjectFits objects.old.items }
     ensures objects { objects.new.items ≡ objects.old.items }
     ensures rows { rows.new.items ≡ rows.old.items }
+    ensures glances { glances.new.items ≡ glances.old.items }
     ensures found { OnOk result (AreFound objects.old.items work.new.found) }
     ensures made { OnOk result (work.new.made.items ≡ discs_made objects.old.items moves.now) }
     ensures few { OnOk result (length objects.old.items + length work.new.made.items ≤ MAX_OBJECTS) }
     ensures none { OnOk result (work.new.after_writes.items ≡ []) }
     ensures room { OnOk result (length objects.old.items + length work.new.made.items ≤ vec_capacity objects.new) }
     ensures rows_room { OnOk result (length rows.old.items + length work.new.made.items ≤ vec_capacity rows.new) }
+    ensures glances_room { OnOk result (length glances.old.items + length work.new.made.items ≤ vec_capacity glances.new) }
     ensures writes_room { OnOk result (5 * MAX_OBJECTS ≤ vec_capacity work.new.after_writes) }
 {
-    find_all(cells, objects, &mut work.found)?;
+    find_all(cells, objects, glances, &mut work.found)?;
     let room = MAX_OBJECTS - objects.len();
     make_discs(&work.found.standing, moves, room, &mut work.made)?;
     objects.reserve(work.made.len())?;
     rows.reserve(work.made.len())?;
+    glances.reserve(work.made.len())?;
     work.after_writes.clear();
     work.after_writes.reserve(MAX_WRITES)?;
     Ok(())
 }
 
 // The discs that were made, behind the other objects.
-fn add_made(made: &[Object], objects: &mut Vec<Object>, rows: &mut Vec<Row>, cells: &mut Cells)
+fn add_made(
+    made: &[Object],
+    objects: &mut Vec<Object>,
+    rows: &mut Vec<Row>,
+    glances: &mut Vec<Glance>,
+    cells: &mut Cells,
+)
     requires few { length objects.old.items + length made.now ≤ MAX_OBJECTS }
     requires room { length objects.old.items + length made.now ≤ vec_capacity objects.old }
     requires rows_room { length rows.old.items + length made.now ≤ vec_capacity rows.old }
+    requires glances_room { length glances.old.items + length made.now ≤ vec_capacity glances.old }
+    requires glances { glances.old.items ≡ map glance_of objects.old.items }
     requires grid { IsGrid cells.old objects.old.items }
     ensures objects { objects.new.items ≡ objects.old.items ++ made.now }
     ensures rows { rows.new.items ≡ rows.old.items ++ map fresh_row made.now }
+    ensures glances { glances.new.items ≡ map glance_of objects.new.items }
     ensures grid { IsGrid cells.new objects.new.items }
 {
     for o in made {
         cells.settle(objects.len() as u32, o);
         rows.push_reserved(fresh_row(o));
+        glances.push_reserved(glance_of(o));
         objects.push_reserved(*o);
     }
 }
@@ -177,6 +197,7 @@ fn add_made(made: &[Object], objects: &mut Vec<Object>, rows: &mut Vec<Row>, cel
 fn advance(
     objects: &mut Vec<Object>,
     rows: &mut Vec<Row>,
+    glances: &mut Vec<Glance>,
     cells: &mut Cells,
     moves: &[Option<Move>],
     seed: u32,
@@ -187,6 +208,8 @@ fn advance(
     requires kept { map row_values rows.old.items ≡ map values_of objects.old.items }
     requires sound { AllByRecursion IsSoundRow rows.old.items }
     requires grid { IsGrid cells.old objects.old.items }
+    requires glances { glances.old.items ≡ map glance_of objects.old.items }
+    requires first { PlayersFirst objects.old.items }
     requires alive { AllByRecursion LivesOn objects.old.items }
     requires fits { AllByRecursion ObjectFits objects.old.items }
     ensures objects { OnOk result (objects.new.items
@@ -194,12 +217,14 @@ fn advance(
     ensures rows { OnOk result (rows.new.items ≡ rows_next rows.old.items objects.new.items) }
     ensures writes { OnOk result (work.new.after_writes.items
         ≡ world_writes 0 objects.old.items objects.new.items (map row_counts rows.old.items)) }
+    ensures glances { OnOk result (glances.new.items ≡ map glance_of objects.new.items) }
     ensures grid { OnOk result (IsGrid cells.new objects.new.items) }
     ensures same { OnErr result (objects.new.items ≡ objects.old.items) }
     ensures rows_same { OnErr result (rows.new.items ≡ rows.old.items) }
+    ensures glances_same { OnErr result (glances.new.items ≡ glances.old.items) }
     ensures cells_same { OnErr result (cells.new ≡ cells.old) }
 {
-    prepare(objects, rows, cells, moves, work)?;
+    prepare(objects, rows, glances, cells, moves, work)?;
     let red = captures_of(objects, &work.found.flags, 0) as u32;
     let blue = captures_of(objects, &work.found.flags, 1) as u32;
     let old = Old {
@@ -210,8 +235,8 @@ fn advance(
         seed,
         tick,
     };
-    turn_all(&old, objects, rows, cells, &mut work.after_writes);
-    add_made(&work.made, objects, rows, cells);
+    turn_all(&old, objects, rows, glances, cells, &mut work.after_writes);
+    add_made(&work.made, objects, rows, glances, cells);
     Ok(())
 }
 
@@ -238,6 +263,17 @@ fn first_rows(alloc: Global, objects: &[Object]) -> Result<Vec<Row>, AllocError>
         rows.push(fresh_row(o))?;
     }
     Ok(rows)
+}
+
+// A glance at each of the first objects.
+fn first_glances(alloc: Global, objects: &[Object]) -> Result<Vec<Glance>, AllocError>
+    ensures { IfOk result (λ v. v.items ≡ map glance_of objects.now) }
+{
+    let mut glances = Vec::with_capacity(alloc, MAX_OBJECTS)?;
+    for o in objects {
+        glances.push(glance_of(o))?;
+    }
+    Ok(glances)
 }
 
 // Whether an object's kind is always seen.
@@ -291,6 +327,7 @@ impl World {
     {
         let objects = start_objects(alloc, setup.spawns.as_slice())?;
         let rows = first_rows(alloc, &objects)?;
+        let glances = first_glances(alloc, &objects)?;
         let writes = Vec::with_capacity(alloc, MAX_WRITES)?;
         let always = lasting(alloc, &objects)?;
         let mut cells = Cells::new(alloc)?;
@@ -304,6 +341,7 @@ impl World {
             objects,
             rows,
             writes,
+            glances,
             cells,
             always,
             work,
@@ -340,6 +378,7 @@ impl World {
         advance(
             &mut self.objects,
             &mut self.rows,
+            &mut self.glances,
             &mut self.cells,
             moves,
             self.seed,
@@ -424,6 +463,13 @@ impl World {
         ensures { result.now ≡ numbers lasts 0 self.now.objects }
     {
         self.always.as_slice()
+    }
+
+    /// A glance at each object, dead ones too, at the place of its number.
+    pub fn glances(&self) -> &[Glance]
+        ensures { result.now ≡ map glance_of self.now.objects }
+    {
+        self.glances.as_slice()
     }
 
     /// A look at an object, which takes one step: its place in centimetres, `None` exactly for a clock.

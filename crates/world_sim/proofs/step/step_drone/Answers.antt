@@ -2,6 +2,7 @@ use Rattle.std.proofs.Common.{◌≡◌, ◌∙◌, ◌++◌, ◌∷◌, [], Lis
 use Rattle.std.specs.Prelude.{ℤ, pos}
 use Rattle.world_sim.specs.Rows.{values_of, row_writes}
 use Rattle.world_sim.specs.Turns.{moment}
+use Rattle.world_sim.proofs.Glancing.{drone_glance}
 use Rattle.world_sim.proofs.Turns.{drone_turn, three_of_drone, drone_told, row_told}
 use Rattle.world_sim.proofs.step.step_drone.Goals as goal
 
@@ -28,3 +29,6 @@ returns-clause-writes c =
 pub returns-clause-grid : goal.returns-clause-grid
 returns-clause-grid c = λ before behind many grid.
     c.shift.ensures before behind c.args.object.now c.turn_drone.new.o many (sym c.spot-from.ensures) (sym c.spot.ensures) grid
+
+pub returns-clause-glance : goal.returns-clause-glance
+returns-clause-glance c = drone_glance c.drawn-r.result c.harm-harm.result c.args.object.now c.turn_drone.new.o c.args.glance.now c.args.d c.requires.alive c.requires.drone c.turn_drone.ensures c.requires.glance

@@ -1,5 +1,5 @@
-use Rattle.std.proofs.Common.{◌∙◌, sym}
-use Rattle.world_sim.specs.Turns.{moment}
+use Rattle.std.proofs.Common.{◌∙◌, sym, ap, Bool}
+use Rattle.world_sim.specs.Turns.{moment, is_quiet}
 use Rattle.world_sim.proofs.RowFields.{row_stays, writes_nothing}
 use Rattle.world_sim.proofs.Turns.{quiet_stays, dead_drone, mine_turn}
 use Rattle.world_sim.proofs.step.turn.Goals as goal
@@ -14,6 +14,17 @@ returns-then-is_quiet-clause-row c = row_stays c.args.row.now c.args.object.now 
 pub returns-then-is_quiet-clause-writes : goal.returns-then-is_quiet-clause-writes
 returns-then-is_quiet-clause-writes c = writes_nothing c.args.writes.now.items c.args.number c.args.row.now.values.items _ c.args.row.now.versions.items c.requires.values
 
+pub returns-then-not-ending-clause-object : goal.returns-then-not-ending-clause-object
+returns-then-not-ending-clause-object c = λ os i is at ending.
+    quiet_stays os c.args.old.now.moves.now (moment c.args.old.now) c.args.object.now c.args.ending
+    (ap (λ (b : Bool). is_quiet b c.args.object.now) c.if-not-ending.true ∙ c.is_old_mine.ensures c.args.object.now c.requires.glance c.if-is_old_mine.true) ending
+
+pub returns-then-not-ending-clause-row : goal.returns-then-not-ending-clause-row
+returns-then-not-ending-clause-row c = row_stays c.args.row.now c.args.object.now (sym c.requires.values) c.requires.sound.1
+
+pub returns-then-not-ending-clause-writes : goal.returns-then-not-ending-clause-writes
+returns-then-not-ending-clause-writes c = writes_nothing c.args.writes.now.items c.args.number c.args.row.now.values.items _ c.args.row.now.versions.items c.requires.values
+
 pub returns-else-object-clause-object : goal.returns-else-object-clause-object
 returns-else-object-clause-object c = λ os i is at ending.
     quiet_stays os c.args.old.now.moves.now (moment c.args.old.now) c.args.object.now c.args.ending (dead_drone c.args.object.now c.in-Drone.d c.args.ending c.in-Drone.is c.if-object.false) ending
@@ -27,6 +38,7 @@ returns-else-object-clause-writes c = writes_nothing c.args.writes.now.items c.a
 pub returns-in-Mine : goal.returns-in-Mine
 returns-in-Mine c = record {
   object = λ os i is at ending. c.step_mine.ensures.object ∙ mine_turn os c.args.old.now.moves.now (moment c.args.old.now) c.args.object.now c.in-Mine.m c.args.ending c.in-Mine.is ending;
+  glance = c.step_mine.ensures.glance;
   row = c.step_mine.ensures.row;
   writes = c.step_mine.ensures.writes;
   grid = c.step_mine.ensures.grid;

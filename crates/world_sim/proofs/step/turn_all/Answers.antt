@@ -12,6 +12,7 @@ use Rattle.world_sim.proofs.ForGood.{got}
 use Rattle.world_sim.proofs.Kept.{as_many}
 use Rattle.world_sim.proofs.RowLoops.{sound_now, update_more, updated_at, length_updated, row_writes_at, row_writes_end}
 use Rattle.world_sim.proofs.Gathered.{hitting_few, triggered_few, mark_at}
+use Rattle.world_sim.proofs.Glancing.{as_many_glances, glance_at, set_glances}
 use Rattle.world_sim.proofs.Turns.{standing_found, row_of_old, stepped_more, stepped_at, stepped_length, stepped_all, grid_turn}
 use Rattle.world_sim.proofs.step.turn_all.Goals as goal
 
@@ -70,6 +71,25 @@ index_mut-row-requires c =
     let m : i < length rows = omega (arith, l, many) in
     omega (arith, m, c.loop-i.rows.ok, ap (λ (xs : List Row). length xs) c.loop-i.invariant.rows, length_updated i rows (map next os))
 
+pub index_mut-glance-requires : goal.index_mut-glance-requires
+index_mut-glance-requires c =
+    let os = c.args.objects.now.items in
+    let next = object_next os c.args.old.now.moves.now (moment c.args.old.now) in
+    let i = c.loop-i.i in
+    let l : i < length os = omega (arith, c.loop-i-test.true, c.len-i-end.ensures, c.args.objects.now.ok) in
+    let many = as_many_glances c.loop-i.objects.items c.loop-i.glances.items c.loop-i.invariant.glances in
+    omega (arith, l, many, c.loop-i.glances.ok, ap (λ (xs : List Object). length xs) c.loop-i.invariant.objects, stepped_length i next os)
+
+pub turn-requires-clause-glance : goal.turn-requires-clause-glance
+turn-requires-clause-glance c =
+    let os = c.args.objects.now.items in
+    let next = object_next os c.args.old.now.moves.now (moment c.args.old.now) in
+    let i = c.loop-i.i in
+    let objects = c.loop-i.objects.items in
+    let l : i < length os = omega (arith, c.loop-i-test.true, c.len-i-end.ensures, c.args.objects.now.ok) in
+    let long : i < length objects = omega (arith, l, ap (λ (xs : List Object). length xs) c.loop-i.invariant.objects, stepped_length i next os) in
+    glance_at objects c.loop-i.glances.items i c.index_mut-object.result.now c.index_mut-glance.result.now c.loop-i.invariant.glances long c.index_mut-object.ensures.value c.index_mut-glance.ensures.value
+
 pub loop-i-preserved : goal.loop-i-preserved
 loop-i-preserved c =
     let os = c.args.objects.now.items in
@@ -97,11 +117,13 @@ loop-i-preserved c =
       objects = stepped_more i next os objects was made c.loop-i.invariant.objects l (new ∙ ap next same);
       rows = update_more i rows c.loop-i.rows.items (map next os) row c.turn.new.row made c.loop-i.invariant.rows m mapped row_new;
       writes = c.loop-i.invariant.writes ∙ row_writes_at c.loop-i.writes.items c.turn.new.writes.items i rows (map next os) row made written row_same m mapped;
+      glances = set_glances objects c.loop-i.glances.items i made c.turn.new.glance c.loop-i.invariant.glances c.turn.ensures.glance;
       grid = grid_turn c.loop-i.cells c.turn.new.cells objects i was made long c.index_mut-object.ensures.value c.loop-i.invariant.grid c.turn.ensures.grid;
       few = omega (arith, c.turn.ensures.few, c.loop-i.invariant.few);
       room = omega (arith, c.turn.ensures.kept, c.loop-i.invariant.room);
       kept = c.loop-i.invariant.kept;
       rows_kept = c.loop-i.invariant.rows_kept;
+      glances_kept = c.loop-i.invariant.glances_kept;
     }
 
 pub returns-clause-objects : goal.returns-clause-objects

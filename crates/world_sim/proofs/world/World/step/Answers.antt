@@ -8,6 +8,7 @@ use Rattle.world_rules.specs.declared.object.Object.{Object}
 use Rattle.world_sim.proofs.Kept.{values_kept, counts_kept, as_many}
 use Rattle.world_sim.specs.Facts.{IsWriteOf}
 use Rattle.world_sim.proofs.InRange.{writes_fit}
+use Rattle.world_sim.proofs.Glancing.{players_first}
 use Rattle.world_sim.proofs.WorldLaws.{kept_from, sound_rows, more_objects}
 use Rattle.world_sim.proofs.world.World.step.Goals as goal
 
@@ -19,10 +20,10 @@ invariant_of-self-2 c =
     let rows : c.advance.new.rows.items ≡ rows_next c.self.inside.rows.items c.advance.new.objects.items = c.in_ok-advance.ensures.rows in
     let many = as_many c.self.inside.rows.items before.objects c.self.invariant.values in
     let more : length c.self.inside.rows.items ≤ length c.advance.new.objects.items = omega (arith, many, more_objects before.objects c.args.moves.now (coming before), ap (λ (os : List Object). length os) objects) in
-    kept_from before c.args.moves.now before.objects before.versions c.advance.new.objects.items c.advance.new.rows.items c.swap.new.x.items c.advance.new.cells c.self.inside.always.items refl refl objects
+    kept_from before c.args.moves.now before.objects before.versions c.advance.new.objects.items c.advance.new.rows.items c.swap.new.x.items c.advance.new.glances.items c.advance.new.cells c.self.inside.always.items refl refl objects
     (values_kept c.self.inside.rows.items c.advance.new.rows.items c.advance.new.objects.items rows more)
     (counts_kept c.self.inside.rows.items c.advance.new.rows.items before.objects c.advance.new.objects.items c.self.invariant.values rows)
-    writes c.in_ok-advance.ensures.grid c.self.invariant.lasting c.self.invariant.world
+    writes c.in_ok-advance.ensures.glances c.in_ok-advance.ensures.grid c.self.invariant.lasting c.self.invariant.world
 
 pub returns-clause-writes : goal.returns-clause-writes
 returns-clause-writes c =
@@ -36,3 +37,6 @@ pub advance-requires-clause-sound : goal.advance-requires-clause-sound
 advance-requires-clause-sound c =
     let few : c.self.inside.ticks < 2 ^ 32 - 1 = omega (arith, ap (λ (w : Worlds). w.ticks) c.self.view_is, c.requires) in
     sound_rows c.self.inside.ticks c.self.inside.objects.items c.self.inside.rows.items few c.self.invariant.values c.self.invariant.world.versions c.self.invariant.world.counted
+
+pub advance-requires-clause-first : goal.advance-requires-clause-first
+advance-requires-clause-first c = players_first c.self.inside.clients 0 c.self.inside.objects.items c.self.invariant.world.peopled.owned
