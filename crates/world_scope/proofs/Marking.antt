@@ -1,5 +1,5 @@
 -- Marks that are exact stay so, and those that weren't looked at stay as they were.
-use Rattle.std.proofs.Common.{◌≡◌, ℕ, suc, ◌+◌, ◌-◌, ◌<◌, ◌⊎◌, inl, inr, Bool, false, List, [], ◌∷◌, length, get_or, set, get_or-set_same, get_or-set_other, refl, sym, ap, ◌∙◌, arith, Some, nat_eq}
+use Rattle.std.proofs.Common.{◌≡◌, ℕ, zero, suc, ◌+◌, ◌-◌, ◌<◌, ◌⊎◌, inl, inr, Bool, false, List, [], ◌∷◌, length, map, get_or, set, get_or-set_same, get_or-set_other, refl, sym, ap, ◌∙◌, arith, Some, nat_eq}
 use Rattle.std.specs.Prelude.{slice_get}
 use Rattle.std.specs.List.{filter_map, enumerate_from}
 use Rattle.std.proofs.lemmas.Bool.Decides.{nat_tests, eqb_tells}
@@ -7,6 +7,9 @@ use Rattle.world_rules.specs.declared.object.Object.{Object}
 use Rattle.world_scope.specs.Scope.{Look, seen}
 use Rattle.world_sim.specs.Grid.{numbers}
 use Rattle.world_sim.proofs.Numbers.{found_in}
+use Rattle.world_sim.specs.declared.glance.Glance.{Glance}
+use Rattle.world_sim.specs.Glances.{glance_of}
+use Rattle.world_sim.proofs.Glancing.{glance_is}
 use Rattle.world_scope.specs.Marks.{told, IsExact, AreExact, AreKept}
 
 pub told_of : (n q : ℕ) → told (n, q + 1) ≡ Some (record { object = n; level = q })
@@ -22,6 +25,16 @@ exact_by v os before marks n m x e l at h = λ o there.
     let here : get_or marks n 0 ≡ m = ap (λ (xs : List ℕ). get_or xs n 0) e ∙ get_or-set_same before n m 0 l in
     let same : x ≡ o = (let f : Some x ≡ Some o = sym at ∙ there in cc) in
     ap (λ k. told (n, k)) here ∙ h ∙ ap (λ y. seen v (n, y)) same
+
+object_at : (os : List Object) (n : ℕ) (o : Object) → slice_get os n ≡ Some o → get_or os n o ≡ o
+object_at [] n o e = absurd (cc)
+object_at (x ∷ os) zero o e = cc
+object_at (x ∷ os) (suc n) o e = object_at os n o e
+
+-- the mark that a glance gives
+pub exact_by_glance : (v : Look) (os : List Object) (glances : List Glance) (before marks : List ℕ) (n m : ℕ) (g : Glance) → glances ≡ map glance_of os → n < length os → marks ≡ set before n m → n < length before → ((object : ℕ) (o : Object) → get_or glances n g ≡ glance_of o → told (object, m) ≡ seen v (object, o)) → IsExact v os marks n
+exact_by_glance v os glances before marks n m g same few e l h = λ o there.
+    exact_by v os before marks n m o e l there (h n o (glance_is os glances n o g same few ∙ ap glance_of (object_at os n o there))) o there
 
 pub kept_by : (v : Look) (os : List Object) (before marks : List ℕ) (n m : ℕ) → marks ≡ set before n m → IsExact v os marks n → AreKept v os before marks
 kept_by v os before marks n m e x = λ k.

@@ -75,7 +75,7 @@ fn flag(mark: u8, place: usize) -> u64
     requires { place < 64 }
     ensures { result ≡ (if mark == 0 then 0 else 1 * 2 ^ place % 2 ^ 64) }
 {
-    if mark == 0 { 0 } else { 1 << place }
+    u64::from(mark > 0) << place
 }
 
 // The mark of a number, 0 where there is no such number.

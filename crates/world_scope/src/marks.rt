@@ -30,7 +30,7 @@ fn mark_one<L: Ledger>(
     ensures steps { steps.new ≡ steps.old + 1 }
 {
     let _ = world.look(object, steps);
-    marks.put(object, viewer.mark(&world.all_objects()[object as usize]));
+    marks.put(object, viewer.mark(&world.glances()[object as usize]));
 }
 
 // Looks at each of these objects.

@@ -2,12 +2,14 @@
 ghost use Rattle.std.specs.Prelude.{◌≡◌, ℕ, ◌≤◌, ◌+◌, ◌*◌, ◌/◌, ◌||◌, Some, None, find, nat_le, if◌then◌else◌};
 ghost use Rattle.std.specs.Option.{option_copied};
 ghost use Rattle.world_rules.specs.Flags.{is_player};
+ghost use Rattle.world_rules.specs.declared.object.Object.{Object};
 ghost use Rattle.world_sim.specs.Grid.{is_always};
+ghost use Rattle.world_sim.specs.Glances.{glance_of};
 ghost use Rattle.world_scope.specs.Sight.{distance, is_hidden};
 
 use world_rules::flags::is_player;
-use world_rules::{Object, Place, State};
-use world_sim::World;
+use world_rules::{Object, Place};
+use world_sim::{Glance, Role, World};
 
 /// An object that a client sees.
 #[derive(Clone, Copy, Debug, PartialEq, Eq)]
@@ -35,22 +37,28 @@ fn distance(a: &Place, b: &Place) -> u32
 }
 
 // Whether an object is hidden from a team.
-fn is_hidden(team: u8, o: &Object) -> bool
-    ensures { result ≡ is_hidden team o.now }
+fn is_hidden(team: u8, g: &Glance) -> bool
+    ensures { (o : Object) → g.now ≡ glance_of o → result ≡ is_hidden team o }
 {
-    let state = o.state;
-    let other = o.team != team;
-    match state {
-        State::Mine(mine) => mine.armed & other,
-        _ => false,
-    }
+    let armed = matches!(g.role, Role::ArmedMine | Role::OldMine);
+    armed & (g.team != team)
 }
 
 // Whether an object's kind is always seen.
-fn is_always(o: &Object) -> bool
-    ensures { result ≡ is_always o.now }
+fn is_always(g: &Glance) -> bool
+    ensures { (o : Object) → g.now ≡ glance_of o → result ≡ is_always o }
 {
-    matches!(o.state, State::Flag(_) | State::Clock(_))
+    matches!(g.role, Role::Flag | Role::Clock)
+}
+
+// Whether an object is this client's player.
+fn is_own(client: u8, g: &Glance) -> bool
+    ensures { (o : Object) → g.now ≡ glance_of o → result ≡ is_player client o }
+{
+    match g.role {
+        Role::Player(owner) => owner == client,
+        _ => false,
+    }
 }
 
 // 1 where the number is at least that, and else 0.
@@ -94,40 +102,41 @@ impl Viewer {
     }
 
     // Whether an object is seen wherever it is.
-    fn sees_anywhere(&self, o: &Object) -> bool
-        ensures { result ≡ (is_player self.now.client o.now || is_always o.now) }
+    fn sees_anywhere(&self, g: &Glance) -> bool
+        ensures { (o : Object) → g.now ≡ glance_of o → result ≡ (is_player self.now.client o || is_always o) }
     {
-        is_player(self.client, o) || is_always(o)
+        is_own(self.client, g) || is_always(g)
     }
 
     // The mark of an object by what the client's player sees.
     #[tactic(auto, using(crate::proofs::Marking::told_of))]
-    fn mark_by_player(&self, o: &Object) -> u8
-        ensures { (object : ℕ) → told (object, result) ≡ (if player_sees self.now.radius self.now.player o.now
-            then Some (record { object = object; level = quarter self.now.radius self.now.player o.now }) else None) }
+    fn mark_by_player(&self, g: &Glance) -> u8
+        ensures { (object : ℕ) (o : Object) → g.now ≡ glance_of o
+            → told (object, result) ≡ (if player_sees self.now.radius self.now.player o
+            then Some (record { object = object; level = quarter self.now.radius self.now.player o }) else None) }
     {
         match &self.player {
             None => 0,
             Some(player) => {
-                let away = distance(&player.place, &o.place);
-                let sees = !is_hidden(player.team, o) & (away <= self.radius);
+                let away = distance(&player.place, &g.place);
+                let sees = !is_hidden(player.team, g) & (away <= self.radius);
                 let level = quarter(self.radius, away);
                 if sees { level + 1 } else { 0 }
             }
         }
     }
 
-    /// The mark of an object as the client sees it: 0 where it doesn't, and else one more than the level.
+    /// The mark of an object as the client sees it, by a glance: 0 where it doesn't, and else one more than the level.
     #[tactic(auto, using(crate::proofs::Marking::told_of))]
-    pub fn mark(&self, o: &Object) -> u8
-        ensures { (object : ℕ) → told (object, result) ≡ seen (look self.now) (object, o.now) }
+    pub fn mark(&self, g: &Glance) -> u8
+        ensures { (object : ℕ) (o : Object) → g.now ≡ glance_of o → told (object, result) ≡ seen (look self.now) (object, o) }
     {
-        if !o.alive {
+        if !g.alive {
             return 0;
         }
-        if self.sees_anywhere(o) {
+        if self.sees_anywhere(g) {
             return 1;
         }
-        self.mark_by_player(o)
+        self.mark_by_player(g)
     }
 }

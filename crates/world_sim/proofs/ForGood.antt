@@ -1,6 +1,7 @@
 -- What stays for good: the kind of each object; and what a row tells of its object.
-use Rattle.std.proofs.Common.{◌≡◌, ℕ, zero, suc, ◌<◌, List, [], ◌∷◌, ◌++◌, length, map, get_or, Option, Some, refl, sym, ap, ◌∙◌, arith}
-use Rattle.std.specs.Prelude.{ℤ, slice_get, option_map, option_and_then}
+use Rattle.std.proofs.Common.{◌≡◌, ℕ, zero, suc, ◌<◌, List, [], ◌∷◌, ◌++◌, length, map, get_or, Option, Some, refl, sym, ap, subst, ◌∙◌, arith}
+use Rattle.std.specs.Prelude.{ℤ, ◌≤◌, IfSome, slice_get, option_map, option_and_then}
+use Rattle.std.specs.List.{AllByRecursion}
 use Rattle.tn_types.specs.declared.moves.Move.{Move}
 use Rattle.world_rules.specs.declared.object.Object.{Object}
 use Rattle.world_rules.specs.Kinds.{kind_of}
@@ -13,7 +14,7 @@ use Rattle.world_rules.proofs.Peopled.{player_stays as owners_stay}
 use Rattle.world_sim.specs.declared.rows.Row.{Row}
 use Rattle.world_sim.specs.Rows.{values_of}
 use Rattle.world_sim.specs.RowsNext.{row_values, row_counts}
-use Rattle.world_sim.specs.Worlds.{Worlds, next, coming, kind_at, identity_at, player_of, values_at, version_at}
+use Rattle.world_sim.specs.Worlds.{Worlds, WasCounted, next, coming, kind_at, identity_at, player_of, values_at, version_at}
 
 identities_next : (os : List Object) (moves : List (Option Move)) (t : Moment) (xs ys : List Object) (k : ℕ) → k < length xs → option_map identity_of (slice_get (map (object_next os moves t) xs ++ ys) k) ≡ option_map identity_of (slice_get xs k)
 identities_next os moves t [] ys k l = absurd (omega arith)
@@ -71,3 +72,18 @@ version_told w v rows k field r version same told l at e =
     e ∙ sym (ap (option_and_then (λ versions. slice_get versions field)) (counts_at rows k r l at))
     ∙ ap (λ (vs : List (List ℕ)). option_and_then (λ versions. slice_get versions field) (slice_get vs k)) told
     ∙ ap (λ (u : Worlds). version_at u k field) same
+
+-- ---- versions
+
+row_most : (t : ℕ) (versions : List ℕ) (field : ℕ) → WasCounted t versions → IfSome (slice_get versions field) (λ v. v ≤ t)
+row_most t [] field a = tt
+row_most t (v ∷ versions) zero a = a.0
+row_most t (v ∷ versions) (suc field) a = row_most t versions field a.1
+
+all_most : (t : ℕ) (all : List (List ℕ)) (object field : ℕ) → AllByRecursion (WasCounted t) all → IfSome (option_and_then (λ versions. slice_get versions field) (slice_get all object)) (λ v. v ≤ t)
+all_most t [] object field a = tt
+all_most t (versions ∷ all) zero field a = row_most t versions field a.0
+all_most t (versions ∷ all) (suc object) field a = all_most t all object field a.1
+
+pub version_most : (w : Worlds) (object field : ℕ) (version : Option ℕ) → AllByRecursion (WasCounted w.ticks) w.versions → version ≡ version_at w object field → IfSome version (λ v. v ≤ w.ticks)
+version_most w object field version counted e = subst (λ (r : Option ℕ). IfSome r (λ v. v ≤ w.ticks)) (sym e) (all_most w.ticks w.versions object field counted)

@@ -8,6 +8,7 @@ mod glance;
 pub mod laws;
 mod near;
 mod rows;
+mod start;
 mod step;
 mod watch;
 mod world;

@@ -7,8 +7,8 @@ ghost use Rattle.world_rules.specs.Next.{objects_next, discs_made};
 ghost use Rattle.world_rules.specs.Spawning.{first_objects, SetupFits};
 ghost use Rattle.world_rules.specs.Ranges.{ObjectFits};
 ghost use Rattle.world_rules.specs.Identity.{IsPeopled, LivesOn};
-ghost use Rattle.world_sim.specs.Worlds.{next, added, first_world, alive_at, kind_at, block_at, values_at, version_at, identity_at, player_of, place_at};
-ghost use Rattle.world_sim.specs.Grid.{numbers, lasts, lies_at, is_always};
+ghost use Rattle.world_sim.specs.Worlds.{WasCounted, next, added, first_world, alive_at, kind_at, block_at, values_at, version_at, identity_at, player_of, place_at};
+ghost use Rattle.world_sim.specs.Grid.{numbers, lasts, lies_at};
 ghost use Rattle.world_sim.specs.Facts.{IsWriteOf, ValuesFit};
 ghost use Rattle.world_sim.specs.Rows.{values_of, world_writes};
 ghost use Rattle.world_sim.specs.Cells.{IsGrid};
@@ -20,6 +20,7 @@ use crate::cells::{CELLS_ACROSS, Cells, has_place};
 use crate::found::{Found, captures_of, find_all, nothing};
 use crate::glance::{Glance, glance_of};
 use crate::rows::{Row, Write, fresh_row};
+use crate::start::{first_glances, first_rows, lasting, start_objects};
 use crate::step::{Old, turn_all};
 use std::alloc::{AllocError, Global};
 use std::marker::Model;
@@ -28,7 +29,7 @@ use std::sync::ledger::Ledger;
 use tn_types::{MAX_CLIENTS, MAX_OBJECTS, Move, NoMemory, Steps};
 use world_rules::fire::fired;
 use world_rules::flags::is_player;
-use world_rules::{Object, Setup, Spawn, State};
+use world_rules::{Object, Setup};
 
 // Writes of a tick at the most: five fields of each object.
 const MAX_WRITES: usize = 5 * MAX_OBJECTS;
@@ -240,64 +241,6 @@ fn advance(
     Ok(())
 }
 
-// The objects at the start.
-#[tactic(auto, using(crate::proofs::Started::first_more, crate::proofs::Started::first_end))]
-fn start_objects(alloc: Global, spawns: &[Spawn]) -> Result<Vec<Object>, AllocError>
-    requires { length spawns.now ≤ MAX_OBJECTS }
-    ensures objects { IfOk result (λ v. v.items ≡ first_objects 0 spawns.now) }
-    ensures few { IfOk result (λ v. length v.items ≤ MAX_OBJECTS) }
-{
-    let mut objects = Vec::with_capacity(alloc, MAX_OBJECTS)?;
-    for (i, spawn) in spawns.iter().enumerate() {
-        objects.push(spawn.object(i as u32))?;
-    }
-    Ok(objects)
-}
-
-// The rows of the first objects.
-fn first_rows(alloc: Global, objects: &[Object]) -> Result<Vec<Row>, AllocError>
-    ensures { IfOk result (λ v. v.items ≡ map fresh_row objects.now) }
-{
-    let mut rows = Vec::with_capacity(alloc, MAX_OBJECTS)?;
-    for o in objects {
-        rows.push(fresh_row(o))?;
-    }
-    Ok(rows)
-}
-
-// A glance at each of the first objects.
-fn first_glances(alloc: Global, objects: &[Object]) -> Result<Vec<Glance>, AllocError>
-    ensures { IfOk result (λ v. v.items ≡ map glance_of objects.now) }
-{
-    let mut glances = Vec::with_capacity(alloc, MAX_OBJECTS)?;
-    for o in objects {
-        glances.push(glance_of(o))?;
-    }
-    Ok(glances)
-}
-
-// Whether an object's kind is always seen.
-fn is_always(o: &Object) -> bool
-    ensures { result ≡ is_always o.now }
-{
-    matches!(o.state, State::Flag(_) | State::Clock(_))
-}
-
-// The numbers of those that every client sees.
-#[tactic(auto, using(crate::proofs::Lasting::numbers_more, crate::proofs::Lasting::numbers_end))]
-fn lasting(alloc: Global, objects: &[Object]) -> Result<Vec<u32>, AllocError>
-    requires { length objects.now ≤ MAX_OBJECTS }
-    ensures { IfOk result (λ v. v.items ≡ numbers lasts 0 objects.now) }
-{
-    let mut always = Vec::new(alloc);
-    for (i, o) in objects.iter().enumerate() {
-        if o.alive && is_always(o) {
-            always.push(i as u32)?;
-        }
-    }
-    Ok(always)
-}
-
 // The place of the client's player.
 fn place_of_player(client: u8, objects: &[Object]) -> Option<usize>
     ensures place { result ≡ position (is_player client) objects.now }
@@ -467,7 +410,8 @@ impl World {
 
     /// A glance at each object, dead ones too, at the place of its number.
     pub fn glances(&self) -> &[Glance]
-        ensures { result.now ≡ map glance_of self.now.objects }
+        ensures value { result.now ≡ map glance_of self.now.objects }
+        ensures few { length result.now ≤ MAX_OBJECTS }
     {
         self.glances.as_slice()
     }
@@ -521,10 +465,19 @@ impl World {
         self.rows[object as usize].values.as_slice()
     }
 
-    /// How often a field was written; `None` exactly where the object has no such field.
+    /// How often a field was written, which is at most once in each tick; `None` exactly where the object has no such field.
     pub fn version(&self, object: u32, field: u8) -> Option<u32>
         requires { object < length self.now.objects }
-        ensures { result ≡ version_at self.now object field }
+        ensures value { result ≡ version_at self.now object field }
+        ensures most { IfSome result (λ version. version ≤ self.now.ticks) }
+    {
+        self.version_in_row(object, field)
+    }
+
+    fn version_in_row(&self, object: u32, field: u8) -> Option<u32>
+        requires { object < length self.now.objects }
+        ensures value { result ≡ version_at self.now object field }
+        ensures counted { AllByRecursion (WasCounted self.now.ticks) self.now.versions }
     {
         self.rows[object as usize]
             .versions

@@ -1,6 +1,6 @@
 use Rattle.std.proofs.Common.{◌≡◌, ◌++◌, drop, length}
 use Rattle.world_rules.specs.Spawning.{first_objects}
-use Rattle.world_sim.proofs.world.start_objects.Given as goal
+use Rattle.world_sim.proofs.start.start_objects.Given as goal
 
 abbrev pub invariant-loop-i : goal.invariant-loop-i
 invariant-loop-i l = record {
