@@ -7,7 +7,6 @@ use Rattle.std.proofs.lemmas.Bool.Decides.{nat_tests}
 use Rattle.tn_types.specs.declared.choices.Choice.{Choice}
 use Rattle.tn_types.specs.declared.choices.Verdict.{Verdict}
 use Rattle.tn_types.specs.declared.choices.Verdict.TheVariants.{Received, Lost}
-use Rattle.tn_types.specs.BitWords.{has_bit}
 use Rattle.packet_records.specs.declared.entries.Entry.{Entry}
 use Rattle.ghost_model.specs.declared.phase.Phase.{Phase}
 use Rattle.ghost_model.specs.declared.phase.Phase.TheVariants.{Waiting, Wanted, Creating, Leaving, Live, KillDue, Killing, Gone}
@@ -15,21 +14,21 @@ use Rattle.ghost_model.specs.Phases.{is_up, is_waiting, hidden_phase}
 use Rattle.ghost_model.specs.Scope as scope
 use Rattle.ghost_model.specs.Scope.{ScopeEvent, shows, given, table, is_hidden, has_received, has_unjudged}
 use Rattle.tn_types.specs.declared.choices.Op.TheVariants.{Kill, Create}
-use Rattle.ghost_model.specs.Ghosts.{GhostEvent, Show, Hide, Near, Absorb, Grant, Sent, Judged, scope_log, packets, verdicts, unjudged, oldest, wrote, settled_by, carries, lost_alone, is_due, phase, slot}
-use Rattle.ghost_model.specs.Candidates.{names, due_mask}
+use Rattle.ghost_model.specs.Ghosts.{GhostEvent, Show, Hide, Near, Grant, Sent, Judged, scope_log, packets, verdicts, unjudged, oldest, wrote, settled_by, carries, lost_alone, is_due, phase, slot}
+use Rattle.ghost_model.specs.Candidates.{Setting, names, due_mask}
+use Rattle.ghost_model.specs.Order.{IsOffer}
 use Rattle.ghost_model.specs.Legal.{KindSizes, IsLegal, IsAllowed, HoldsItsSlot}
 use Rattle.ghost_model.proofs.Steps.{other_test, hide_other, hide_phase, write_other, settle_other}
 use Rattle.ghost_model.proofs.Granted.{is_found, unfound_phase}
 use Rattle.ghost_model.proofs.Holders.{apart, slot_shown}
 use Rattle.ghost_model.proofs.Legal.{sound}
 use Rattle.ghost_model.proofs.Items.{unnamed}
-use Rattle.ghost_model.proofs.BySlot.{some_is_slot}
 use Rattle.ghost_scope.specs.Table.{work_after, work_at}
 use Rattle.work_list.specs.Work.{has}
 use Rattle.work_list.proofs.Lists.{has-put_other}
-use Rattle.ghost_masks.specs.Plan.{is_slot}
 use Rattle.ghost_masks.specs.StandsFor.{entry_for}
 use Rattle.ghost_masks.specs.Work.{has_due, AreMarked, AreMarkedIn}
+use Rattle.ghost_masks.proofs.SentMarks.{sent_owes_nothing}
 use Rattle.ghost_masks.proofs.RowLaws.{held_before, hide_alive, had_slot, sent_before, judged_before}
 
 -- ---- the same fields are due
@@ -39,7 +38,7 @@ due_as log new n same zero = refl
 due_as log new n same (suc k) =
     ap (λ (b : Bool). due_mask new n k + cond b (2 ^ k) 0) (same k) ∙ ap (λ (m : ℕ). m + cond (is_due log n k) (2 ^ k) 0) (due_as log new n same k)
 
-has_due_as : (log new : List GhostEvent) (n : ℕ) → ((f : ℕ) → is_due new n f ≡ is_due log n f) → has_due new n ≡ has_due log n
+pub has_due_as : (log new : List GhostEvent) (n : ℕ) → ((f : ℕ) → is_due new n f ≡ is_due log n f) → has_due new n ≡ has_due log n
 has_due_as log new n same = ap (λ (m : ℕ). not (eqb m 0)) (due_as log new n same 16)
 
 -- ---- a call that changes no mark
@@ -146,21 +145,11 @@ module _ (kinds : KindSizes) (log : List GhostEvent) (legal : IsLegal kinds log)
       found_waits : (n : ℕ) → is_found (scope_log log) n ≡ true → is_waiting (phase log n) ≡ true
       found_waits n h = grind (arith, h)
 
-  -- ---- slots that are marked anew
+  -- ---- slots that are marked anew, and those that have no work
 
   pick : (b x y z : Bool) → x ≡ cond b y z → (b ≡ false → z ≡ y) → x ≡ y
   pick true x y z e h = e
   pick false x y z e h = e ∙ h refl
-
-  is_slot_not : (s : ℕ) (o : Option ℕ) → is_slot s o ≡ false → o ≡ Some s → ⊥
-  is_slot_not s o h e = let f : true ≡ false = sym (some_is_slot s o e) ∙ h in cc
-
-  pub marks_absorb : (m bits : ℕ) (o : Option ℕ) → o ≡ slot log m → (old work : List ℕ) → AreMarkedIn (Absorb m bits ∷ log) (λ s. is_slot s o) old work → AreMarked log old → AreMarked (Absorb m bits ∷ log) work
-  marks_absorb m bits o told old work marked h n s held live =
-      pick (is_slot s o) (has work s) (has_due (Absorb m bits ∷ log) n) (has old s) (marked n s held live)
-      (λ e.
-      let other : m ≢ n = λ same. is_slot_not s o e (told ∙ ap (slot log) same ∙ held) in
-      h n s held live ∙ sym (has_due_as log (Absorb m bits ∷ log) n (λ f. ap (λ (t : Bool). (t && has_bit bits f) || is_due log n f) (other_test m n other))))
 
   -- a period of another slot isn't named
   unnamed_slot : (n s : ℕ) → slot log n ≡ Some s → (cs : List Choice) → AllByRecursion (HoldsItsSlot log) cs → list_any (λ c. eqb c.slot s) cs ≡ false → names n cs ≡ false
@@ -185,15 +174,18 @@ module _ (kinds : KindSizes) (log : List GhostEvent) (legal : IsLegal kinds log)
       let parts = or_parts (eqb c.n n) (names n cs) h in
       settled_phase_of v n cs (scope.Settled c.n c.op v ∷ e) parts.1 ∙ settle_other e n c.n c.op v parts.0
 
-  pub marks_sent : (cs : List Choice) → IsAllowed kinds (Sent cs) log → AllByRecursion (HoldsItsSlot log) cs → (old mid work : List ℕ) → ((s : ℕ) → list_any (λ c. eqb c.slot s) cs ≡ false → has mid s ≡ has old s)
-      → AreMarkedIn (Sent cs ∷ log) (λ s. list_any (λ c. eqb c.slot s) cs) mid work → AreMarked log old → AreMarked (Sent cs ∷ log) work
-  marks_sent cs allowed holding old mid work others marked h n s held live =
-      pick (list_any (λ c. eqb c.slot s) cs) (has work s) (has_due (Sent cs ∷ log) n) (has mid s) (marked n s held live)
-      (λ e.
+  -- what was written has no work
+  pub marks_sent : (o : Setting) (cs : List Choice) → IsAllowed kinds (Sent cs) log → AllByRecursion (IsOffer o log) cs → AllByRecursion (HoldsItsSlot log) cs → (old work : List ℕ) → ((s : ℕ) → list_any (λ c. eqb c.slot s) cs ≡ true → has work s ≡ false)
+      → ((s : ℕ) → list_any (λ c. eqb c.slot s) cs ≡ false → has work s ≡ has old s) → AreMarked log old → AreMarked (Sent cs ∷ log) work
+  marks_sent o cs allowed offers holding old work done others h n s held live =
       let was = sent_before kinds log legal cs allowed n s held in
-      let un = unnamed_slot n s was cs holding e in
-      others s e ∙ h n s was (sym (wrote_phase n cs (scope_log log) un) ∙ live)
-      ∙ sym (has_due_as log (Sent cs ∷ log) n (λ f. ap (λ (b : Bool). not b && is_due log n f) (unnamed n f cs un))))
+      elim (cases_Bool (list_any (λ c. eqb c.slot s) cs)) [
+        | inl named ↦ done s named ∙ sym (sent_owes_nothing kinds log legal o n s was cs offers named live)
+        | inr e ↦
+            let un = unnamed_slot n s was cs holding e in
+            others s e ∙ h n s was (sym (wrote_phase n cs (scope_log log) un) ∙ live)
+            ∙ sym (has_due_as log (Sent cs ∷ log) n (λ f. ap (λ (b : Bool). not b && is_due log n f) (unnamed n f cs un)))
+      ]
 
   lost_unnamed : (n f : ℕ) (ps : List (List Choice)) → names n (oldest ps) ≡ false → lost_alone n f ps ≡ false
   lost_unnamed n f [] h = refl

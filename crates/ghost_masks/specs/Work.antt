@@ -1,6 +1,6 @@
 -- The periods with work: those whose create or whose kill is still to be sent, and the Live ones of which a field is due.
 -- A plan looks at these alone, so it takes at most as many steps.
-use Rattle.std.specs.Prelude.{◌≡◌, refl, ℕ, Bool, true, false, not, List, [], ◌∷◌, ◌==◌, Some, if◌then◌else◌, count_by}
+use Rattle.std.specs.Prelude.{◌≡◌, refl, ℕ, Bool, true, false, not, List, [], ◌∷◌, ◌==◌, Option, Some, None, if◌then◌else◌, count_by}
 use Rattle.tn_types.specs.declared.limits.TheConstants.{MAX_FIELDS}
 use Rattle.ghost_model.specs.declared.phase.Phase.{Phase}
 use Rattle.ghost_model.specs.declared.phase.Phase.TheVariants.{Wanted, Live, KillDue}
@@ -10,7 +10,7 @@ use Rattle.ghost_model.specs.Ghosts.{GhostEvent, Show, Absorb, Grant, Sent, Judg
 use Rattle.tn_types.specs.declared.choices.Op.TheVariants.{Create}
 use Rattle.tn_types.specs.declared.choices.Verdict.TheVariants.{Received}
 use Rattle.ghost_model.specs.Candidates.{due_mask}
-use Rattle.work_list.specs.Work.{has}
+use Rattle.work_list.specs.Work.{has, put}
 
 -- a field of the period is due
 abbrev pub has_due : List GhostEvent → ℕ → Bool
@@ -32,6 +32,11 @@ work_count log = count_by (has_work log) (upto (shows (scope_log log)))
 -- a Live period's slot is listed exactly where a field of it is due
 abbrev pub AreMarked : List GhostEvent → List ℕ → Type 0
 AreMarked log work = (n s : ℕ) → slot log n ≡ Some s → phase log n ≡ Live → has work s ≡ has_due log n
+
+-- the slots with work once a field of the period became due that holds this slot, if it holds one
+abbrev pub work_with : Bool → Option ℕ → List ℕ → List ℕ
+work_with listed None work = work
+work_with listed (Some s) work = if listed then put true s work else work
 
 -- the slots of the test are listed so, and the others as they were
 abbrev pub AreMarkedIn : List GhostEvent → (ℕ → Bool) → List ℕ → List ℕ → Type 0
