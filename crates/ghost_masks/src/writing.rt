@@ -33,7 +33,7 @@ pub(crate) fn write_ghosts(masks: &Masks, values: &[i64], out: &mut BitWriter)
     put_ghost_count(out, chosen.len() as u32);
     let mut left = values;
     'writing: for choice in chosen {
-        let (own, later) = left.split_at(carried(masks, choice));
+        let (own, later) = left.split_at(carried(choice));
         put_item(masks, choice, own, out);
         left = later;
     }

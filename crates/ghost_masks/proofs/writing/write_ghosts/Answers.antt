@@ -23,7 +23,7 @@ split_at-requires c =
     let items = c.chosen-chosen.result.now in
     let log = c.requires.room.0 in
     let stands = c.requires.room.1 in
-    omega (arith, next_enough m.kinds log items c.writing.choice-index none c.writing-test.true c.writing.left.now (c.writing.invariant.left log stands), c.carried.ensures log stands)
+    omega (arith, next_enough m.kinds log items c.writing.choice-index none c.writing-test.true c.writing.left.now (c.writing.invariant.left log stands), c.carried.ensures m.kinds log (c.chosen-chosen.ensures.items log stands c.writing.choice-index none c.writing-test.true))
 
 pub put_item-requires-clause-values : goal.put_item-requires-clause-values
 put_item-requires-clause-values c log stands =
@@ -31,7 +31,7 @@ put_item-requires-clause-values c log stands =
     let items = c.chosen-chosen.result.now in
     let i = c.writing.choice-index in
     subst (λ (vs : List ℤ). AreValues (fields_carried m.kinds log (get_or items i none)) vs) (sym c.split_at.ensures.front)
-    (next_own m.kinds log items i none c.writing-test.true c.writing.left.now c.carried.result (c.carried.ensures log stands) (c.writing.invariant.left log stands))
+    (next_own m.kinds log items i none c.writing-test.true c.writing.left.now c.carried.result (c.carried.ensures m.kinds log (c.chosen-chosen.ensures.items log stands c.writing.choice-index none c.writing-test.true)) (c.writing.invariant.left log stands))
 
 pub put_item-requires-clause-room : goal.put_item-requires-clause-room
 put_item-requires-clause-room c =
@@ -57,8 +57,8 @@ writing-preserved c =
       bits = λ log stands.
           let g = ghost_for m.kinds log (take n vs) item in
           let put : c.put_item.new.out.bits ≡ s.out.bits ++ spell_ghost m.kinds g = c.put_item.ensures.bits log stands ∙ ap (λ (l : List ℤ). s.out.bits ++ spell_ghost m.kinds (ghost_for m.kinds log l item)) c.split_at.ensures.front in
-          rw c.split_at.ensures.back (written_one m.kinds log items i none lt vs n g s.out.bits c.put_item.new.out.bits _ (c.carried.ensures log stands) refl put (s.invariant.bits log stands));
-      left = λ log stands. rw c.split_at.ensures.back (next_later m.kinds log items i none lt vs n (c.carried.ensures log stands) (s.invariant.left log stands));
+          rw c.split_at.ensures.back (written_one m.kinds log items i none lt vs n g s.out.bits c.put_item.new.out.bits _ (c.carried.ensures m.kinds log (c.chosen-chosen.ensures.items log stands c.writing.choice-index none c.writing-test.true)) refl put (s.invariant.bits log stands));
+      left = λ log stands. rw c.split_at.ensures.back (next_later m.kinds log items i none lt vs n (c.carried.ensures m.kinds log (c.chosen-chosen.ensures.items log stands c.writing.choice-index none c.writing-test.true)) (s.invariant.left log stands));
       len = λ log stands. omega (arith, c.put_item.ensures.len log stands, sum_by_more (item_bits m.kinds log) items i none lt, s.invariant.len log stands);
       size = c.put_item.ensures.size ∙ s.invariant.size;
     }
