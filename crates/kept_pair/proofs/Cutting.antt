@@ -110,8 +110,8 @@ cut-more d r (x ∷ es) xs ys us vs e is_d is_r h =
 
 -- ---- room
 
-pub all-four : (a b c d : Bool) → a ≡ true → b ≡ true → c ≡ true → d ≡ true → (a && (b && (c && d))) ≡ true
-all-four a b c d p q r s = (λ j. p j && (q j && (r j && s j)))
+pub all-three : (a b c : Bool) → a ≡ true → b ≡ true → c ≡ true → (a && (b && c)) ≡ true
+all-three a b c p q r = (λ j. p j && (q j && r j))
 
 pub and-left : (a b : Bool) → (a && b) ≡ true → a ≡ true
 and-left true b e = refl

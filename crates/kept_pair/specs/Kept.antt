@@ -1,6 +1,6 @@
 -- A pair that keeps its steps. It stands for one list, the kept steps, so its clauses speak of that list: what a call asks of the
 -- steps before it, what it answers of them, and what all of them together mean.
-use Rattle.std.specs.Prelude.{◌≡◌, ℕ, ℤ, ◌*◌, ◌<◌, ◌≤◌, Bool, Option, Result, Ok, Err, List, [], reverse, length, take, slice_index}
+use Rattle.std.specs.Prelude.{◌≡◌, ℕ, ℤ, ◌*◌, ◌<◌, ◌≤◌, Bool, true, Option, Result, Ok, Err, List, [], reverse, length, take, slice_index}
 use Rattle.std.specs.List.{AllByRecursion}
 use Rattle.tn_types.specs.declared.limits.TheConstants.{MAX_PACKET_MOVES}
 use Rattle.tn_types.specs.declared.choices.Drain.{Drain}
@@ -24,6 +24,7 @@ pub record KeptState : Type 0 where
   pub pair : PairState
   pub steps : List PairStep  -- the oldest first
   pub prepared : Bool  -- there is room for one more step
+  pub drains : ℕ  -- and for so many drains of it
 
 -- what the connection was made with
 abbrev pub terms_in : KeptState → Terms
@@ -80,6 +81,10 @@ abbrev pub HasCause : ℕ → Result (Unit {0}) KeepFault → Type 0
 HasCause kept (Ok u) = kept < MAX_KEPT_STEPS
 HasCause kept (Err (keeps.NoRoom n)) = (n ≡ kept) × (kept ≡ MAX_KEPT_STEPS)
 HasCause kept (Err keeps.NoMemory) = kept < MAX_KEPT_STEPS
+
+-- there is room for one more step with so many drains, and all else is as it was
+abbrev pub Prepares : ℕ → KeptState → KeptState → Type 0
+Prepares drains old new = new ≡ record old { pair = record old.pair { prepared = true }; prepared = true; drains = drains }
 
 -- ---- what is kept beside the steps
 

@@ -9,10 +9,11 @@ use Rattle.pair_core.specs.History.{PairStep, Hide, Pack}
 use Rattle.pair_core.specs.Calls.{step_of}
 use Rattle.kept_pair.specs.declared.entry.Entry.{Entry}
 
--- what was made, and whether there is room for one more step
+-- what was made, whether there is room for one more step and its reads, and for how many drains of it
 pub record Steps : Type 0 where
   pub list : List PairStep
   pub has_room : Bool
+  pub drain_room : ℕ
 
 -- the step that was made when this one was given, where a pack drained and read these
 abbrev pub kept_of : GivenStep → List Drain → List Read → PairStep

@@ -15,7 +15,8 @@ use tn_types::{
 
 /// A pair that keeps the steps that are made on it.
 ///
-/// A clause sees the pair, the steps and whether there is room for one more. The pair is what these steps make of a new one.
+/// A clause sees the pair, the steps, whether there is room for one more, and for how many drains of it. The pair is what these
+/// steps make of a new one.
 #[derive(Drop)]
 pub struct KeptPair {
     pair: Pair,
@@ -25,6 +26,8 @@ pub struct KeptPair {
     befores: Vec<u32>,
     // what the last pack read
     noted: Vec<Read>,
+    // how many drains the next pack may have
+    drains: usize,
 }
 
 impl Model for KeptPair {
@@ -40,22 +43,24 @@ impl Model for KeptPair {
       steps = k.steps.list;
       prepared = k.pair.prepared && (k.steps.has_room && (nat_lt (vec_len k.befores) (vec_capacity k.befores)
           && (nat_le (vec_len k.moves + MAX_PACKET_MOVES) (vec_capacity k.moves) && nat_le MAX_PACKET_VALUES (vec_capacity k.noted))));
+      drains = k.drains;
     } };
 
-    ghost invariant = { λ k. AreKept k.pair k.steps.list k.moves.items k.befores.items };
+    ghost invariant = { λ k. AreKept k.pair k.steps.list k.moves.items k.befores.items × (k.drains ≤ k.steps.drain_room) };
 }
 
 impl KeptPair {
     ghost use Rattle.stream_manager.specs.EndCalls.{popped};
     ghost use Rattle.pair_core.specs.History.{Pack};
     ghost use Rattle.pair_core.specs.Calls.{step_of, Hands, Accepts, Keeps, KeepsAtServer, Unchanged, Asks};
-    ghost use Rattle.kept_pair.specs.Kept.{KeptState, IsFresh, Replays, MayStep, IsReady, MayPack, HasCause, answer_after, accepted_by};
+    ghost use Rattle.kept_pair.specs.Kept.{KeptState, IsFresh, Replays, MayStep, IsReady, MayPack, HasCause, Prepares, terms_in, answer_after, accepted_by};
 
     /// A pair that keeps its steps from now on. None was made before.
     pub fn new(alloc: Global, pair: Pair) -> KeptPair
         requires fresh { IsFresh pair }
         ensures pair { result.pair ≡ pair }
         ensures none { result.steps ≡ [] }
+        ensures no_drains { result.drains ≡ 0 }
     {
         KeptPair {
             pair,
@@ -63,33 +68,44 @@ impl KeptPair {
             moves: Vec::new(alloc),
             befores: Vec::new(alloc),
             noted: Vec::new(alloc),
+            drains: 0,
         }
     }
 
-    /// Makes room for one more step, whatever it sends, drains, reads and accepts. There is none exactly where
-    /// `MAX_KEPT_STEPS` are kept. After a fault nothing has changed.
+    /// Makes room for one more step, whatever it sends, reads and accepts, with a drain for each period that can be shown. There
+    /// is none exactly where `MAX_KEPT_STEPS` are kept. After a fault nothing has changed.
     pub fn prepare(&mut self, alloc: Global) -> Result<(), KeepFault>
         ensures cause { HasCause (length self.old.steps) result }
-        ensures prepared { OnOk result (self.new ≡ record self.old { pair = record self.old.pair { prepared = true }; prepared = true }) }
+        ensures prepared { OnOk result (Prepares MAX_SHOWN_PERIODS self.old self.new) }
+        ensures unchanged { OnErr result (self.new ≡ self.old) }
+    {
+        self.prepare_for(alloc, MAX_SHOWN_PERIODS)
+    }
+
+    /// The same for a step with so many drains. No list of drains that may be absorbed is too long, since a period may be named
+    /// again and again; so whoever gives more than there are periods says how many.
+    pub fn prepare_for(&mut self, alloc: Global, drains: usize) -> Result<(), KeepFault>
+        ensures cause { HasCause (length self.old.steps) result }
+        ensures prepared { OnOk result (Prepares drains self.old self.new) }
         ensures unchanged { OnErr result (self.new ≡ self.old) }
     {
         let kept = self.steps.len();
         if kept == MAX_KEPT_STEPS {
             return Err(KeepFault::NoRoom { kept });
         }
-        if self.reserve(alloc).is_err() {
+        if self.reserve(alloc, drains).is_err() {
             return Err(KeepFault::NoMemory);
         }
         Ok(())
     }
 
     /// Makes that room.
-    fn reserve(&mut self, alloc: Global) -> Result<(), NoMemory>
+    fn reserve(&mut self, alloc: Global, drains: usize) -> Result<(), NoMemory>
         requires few { length self.old.steps < MAX_KEPT_STEPS }
-        ensures prepared { OnOk result (self.new ≡ record self.old { pair = record self.old.pair { prepared = true }; prepared = true }) }
+        ensures prepared { OnOk result (Prepares drains self.old self.new) }
         ensures unchanged { OnErr result (self.new ≡ self.old) }
     {
-        self.steps.prepare()?;
+        self.steps.prepare(drains)?;
         if self.befores.reserve(1).is_err() {
             return Err(NoMemory);
         }
@@ -103,6 +119,7 @@ impl KeptPair {
         if !self.pair.is_prepared() {
             self.pair.prepare(alloc)?;
         }
+        self.drains = drains;
         Ok(())
     }
 
@@ -129,6 +146,7 @@ impl KeptPair {
         ensures moves { Accepts self.old.pair (step_of step) result self.new.pair }
         ensures keeps { Keeps self.old.pair (step_of step) self.new.pair }
         ensures unchanged { Unchanged self.old.pair result self.new.pair }
+        ensures terms { terms_in self.new ≡ terms_in self.old }
     {
         learn_payload(&step);
         self.befores.push_reserved(self.moves.len() as u32);
@@ -138,21 +156,23 @@ impl KeptPair {
         answer
     }
 
-    /// The server makes its next datagram, as `Pair::pack` does. The step is kept with these drains, no more than one for each
-    /// period that can be shown, and with what was read.
+    /// The server makes its next datagram, as `Pair::pack` does. The step is kept with these drains, for which there is room, and
+    /// with what was read.
     pub fn pack<V: Values>(&mut self, drains: &[Drain], values: &mut V) -> Answer
         requires prepared { self.old.prepared ≡ true }
-        requires few { length drains.now ≤ MAX_SHOWN_PERIODS }
+        requires room { length drains.now ≤ self.old.drains }
         requires may { MayPack self.old drains.now (V.ranges values.old) }
         ensures answer { result ≡ answer_after self.old (Pack drains.now []) }
         ensures told { (reads : List Read) × (self.new.steps ≡ self.old.steps ++ Pack drains.now reads ∷ [])
             × Asks V.ranges V.stands V.owes V.same values.old values.new reads }
         ensures keeps { KeepsAtServer self.old.pair self.new.pair }
+        ensures terms { terms_in self.new ≡ terms_in self.old }
     {
         self.befores.push_reserved(self.moves.len() as u32);
         let answer = self.pair.pack_noting(drains, values, &mut self.noted);
         self.steps
             .push(PairStep::Pack, drains, self.noted.as_slice());
+        self.drains -= drains.len();
         answer
     }
 

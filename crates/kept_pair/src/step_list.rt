@@ -1,17 +1,17 @@
 //! The steps that were made, in order.
-ghost use Rattle.std.specs.Prelude.{◌≡◌, true, ◌<◌, ◌≤◌, [], ◌∷◌, ◌++◌, OnOk, OnErr, IfSome, IsNone, ◌↔◌, Some, length, slice_get};
+ghost use Rattle.std.specs.Prelude.{◌≡◌, true, ◌<◌, ◌≤◌, ◌+◌, [], ◌∷◌, ◌++◌, OnOk, OnErr, IfSome, IsNone, ◌↔◌, Some, length, slice_get};
 ghost use Rattle.kept_pair.specs.StepLists.{kept_of, is_pack, drains_at, reads_at, drains_start, reads_start, part};
 
 use crate::entry::{Entry, MAX_KEPT_STEPS};
 use pair_core::{MAX_PACKET_VALUES, PairStep};
 use std::alloc::Global;
 use std::marker::Model;
-use tn_types::{Drain, MAX_SHOWN_PERIODS, NoMemory, Read};
+use tn_types::{Drain, NoMemory, Read};
 
 /// Steps in the order in which they were made, each pack with what it drained and read.
 ///
-/// A clause sees the list of them, and whether there is room for one more. The drains of all steps lie in one list, and the reads
-/// in another, so that a step takes the room that it uses.
+/// A clause sees the list of them, whether there is room for one more, and for how many drains of it. The drains of all steps lie
+/// in one list, and the reads in another, so that a step takes the room that it uses.
 #[derive(Drop)]
 pub struct StepList {
     entries: Vec<Entry>,
@@ -20,8 +20,7 @@ pub struct StepList {
 }
 
 impl Model for StepList {
-    ghost use Rattle.std.specs.Prelude.{◌+◌, ◌≤◌, nat_le, nat_lt, ◌&&◌, length, vec_len, vec_capacity};
-    ghost use Rattle.tn_types.specs.declared.limits.TheConstants.{MAX_SHOWN_PERIODS};
+    ghost use Rattle.std.specs.Prelude.{◌+◌, ◌-◌, ◌≤◌, nat_le, nat_lt, ◌&&◌, length, vec_len, vec_capacity};
     ghost use Rattle.pair_core.specs.declared.asking.TheConstants.{MAX_PACKET_VALUES};
     ghost use Rattle.kept_pair.specs.declared.entry.TheConstants.{MAX_KEPT_STEPS};
     ghost use Rattle.kept_pair.specs.StepLists.{Steps, cut, Rise};
@@ -31,8 +30,8 @@ impl Model for StepList {
     ghost view = { λ s. record {
       list = cut 0 0 s.entries.items s.drains.items s.reads.items;
       has_room = nat_lt (vec_len s.entries) MAX_KEPT_STEPS && (nat_lt (vec_len s.entries) (vec_capacity s.entries)
-          && (nat_le (vec_len s.drains + MAX_SHOWN_PERIODS) (vec_capacity s.drains)
-          && nat_le (vec_len s.reads + MAX_PACKET_VALUES) (vec_capacity s.reads)));
+          && nat_le (vec_len s.reads + MAX_PACKET_VALUES) (vec_capacity s.reads));
+      drain_room = vec_capacity s.drains - vec_len s.drains;
     } };
 
     ghost invariant = { λ s. Rise 0 0 s.entries.items (length s.drains.items) (length s.reads.items)
@@ -138,27 +137,29 @@ impl StepList {
         &[]
     }
 
-    /// Whether there is room for one more step, whatever it drains and reads.
+    /// Whether there is room for one more step, whatever it reads.
     pub(crate) fn has_room(&self) -> bool
         ensures { result ≡ self.now.has_room }
     {
         self.entries.len() < MAX_KEPT_STEPS as usize
             && self.entries.len() < self.entries.capacity()
-            && self.drains.capacity() - self.drains.len() >= MAX_SHOWN_PERIODS
             && self.reads.capacity() - self.reads.len() >= MAX_PACKET_VALUES
     }
 
-    /// Makes room for one more step, where fewer than `MAX_KEPT_STEPS` are kept. Where memory is wanting, nothing changed.
-    pub(crate) fn prepare(&mut self) -> Result<(), NoMemory>
+    /// Makes room for one more step with so many drains, where fewer than `MAX_KEPT_STEPS` are kept. Where memory is wanting, the
+    /// room for a step is as it was, and that for drains is no smaller.
+    pub(crate) fn prepare(&mut self, drains: usize) -> Result<(), NoMemory>
         requires few { length self.old.list < MAX_KEPT_STEPS }
         ensures list { self.new.list ≡ self.old.list }
         ensures room { OnOk result (self.new.has_room ≡ true) }
-        ensures unchanged { OnErr result (self.new ≡ self.old) }
+        ensures drains { OnOk result (drains ≤ self.new.drain_room) }
+        ensures no_smaller { self.old.drain_room ≤ self.new.drain_room }
+        ensures unchanged { OnErr result (self.new.has_room ≡ self.old.has_room) }
     {
-        if self.entries.reserve(1).is_err() {
+        if self.drains.reserve(drains).is_err() {
             return Err(NoMemory);
         }
-        if self.drains.reserve(MAX_SHOWN_PERIODS).is_err() {
+        if self.entries.reserve(1).is_err() {
             return Err(NoMemory);
         }
         if self.reads.reserve(MAX_PACKET_VALUES).is_err() {
@@ -170,10 +171,11 @@ impl StepList {
     /// Adds a step, for which there is room.
     pub(crate) fn push(&mut self, step: PairStep, drains: &[Drain], reads: &[Read])
         requires room { self.old.has_room ≡ true }
-        requires few_drains { length drains.now ≤ MAX_SHOWN_PERIODS }
+        requires few_drains { length drains.now ≤ self.old.drain_room }
         requires few_reads { length reads.now ≤ MAX_PACKET_VALUES }
         ensures list { self.new.list ≡ self.old.list ++ kept_of step drains.now reads.now ∷ [] }
         ensures few { length self.new.list ≤ MAX_KEPT_STEPS }
+        ensures drain_room { self.old.drain_room ≤ self.new.drain_room + length drains.now }
     {
         if self.drains.extend_from_slice(drains).is_err() {
             unreachable!()

@@ -21,8 +21,8 @@ module _ (c : After-brought) where
   accepted : accepted_in (terms_of c.self.inside.pair.conn) (step_of c.args.step ∷ newest_first c.self.inside.steps.list)
       ≡ accepted_in (terms_of c.self.inside.pair.conn) (newest_first c.self.inside.steps.list) ++ c.brought.result.now
   accepted =
-      brought-new (terms_of c.self.inside.pair.conn) (newest_first c.self.inside.steps.list) c.self.inside.pair c.step-answer.new.self c.args.step c.step-answer.result c.self.invariant.replays.stands
-      (c.step-answer.ensures.answer (terms_of c.self.inside.pair.conn) (newest_first c.self.inside.steps.list) c.self.invariant.replays.stands) c.step-answer.ensures.moves
+      brought-new (terms_of c.self.inside.pair.conn) (newest_first c.self.inside.steps.list) c.self.inside.pair c.step-answer.new.self c.args.step c.step-answer.result c.self.invariant.0.replays.stands
+      (c.step-answer.ensures.answer (terms_of c.self.inside.pair.conn) (newest_first c.self.inside.steps.list) c.self.invariant.0.replays.stands) c.step-answer.ensures.moves
       ∙ ap (λ (ms : List Move). accepted_in (terms_of c.self.inside.pair.conn) (newest_first c.self.inside.steps.list) ++ ms) (sym more)
 
 pub add_moves-requires : goal.add_moves-requires
@@ -41,9 +41,16 @@ invariant_of-self c =
     let list : c.push.new.self.list ≡ c.self.inside.steps.list ++ step_of c.args.step ∷ [] = c.push.ensures.list ∙ ap (λ (s : PairStep). c.self.inside.steps.list ++ s ∷ []) (kept-plain c.args.step) in
     let few = c.push.ensures.few in
     let befores : c.push_reserved.new.self.items ≡ c.self.inside.befores.items ++ length c.self.inside.moves.items ∷ [] =
-    c.push_reserved.ensures.items ∙ ap (λ (n : ℕ). c.self.inside.befores.items ++ n ∷ []) (let l = c.len.ensures in let ok = c.self.inside.moves.ok in let e : c.len.result ≡ length c.self.inside.moves.items = omega arith in e) in
-    subst (λ (x : List PairStep × List ℕ). AreKept c.step-answer.new.self x.0 c.add_moves.new.moves.items x.1) (λ j. (sym list j, sym befores j))
-    (kept-more c.self.inside.pair c.step-answer.new.self c.self.inside.steps.list c.self.inside.moves.items c.add_moves.new.moves.items c.self.inside.befores.items (step_of c.args.step) c.self.invariant
-    (subst (λ (l : List PairStep). length l ≤ 65536) list few) met c.learn_payload.ensures
-    (c.step-answer.ensures.stands (terms_of c.self.inside.pair.conn) (newest_first c.self.inside.steps.list) c.self.invariant.replays.stands)
-    (c.add_moves.ensures ∙ ap (λ (ms : List Move). ms ++ c.brought.result.now) c.self.invariant.moves_are ∙ sym (accepted here)))
+    c.push_reserved.ensures.items ∙ ap (λ (n : ℕ). c.self.inside.befores.items ++ n ∷ []) (let l = c.len.ensures in let ok = c.self.inside.moves.ok in let e : c.len.result ≡ length c.self.inside.moves.items = omega arith in e) in (
+      subst (λ (x : List PairStep × List ℕ). AreKept c.step-answer.new.self x.0 c.add_moves.new.moves.items x.1) (λ j. (sym list j, sym befores j))
+          (kept-more c.self.inside.pair c.step-answer.new.self c.self.inside.steps.list c.self.inside.moves.items c.add_moves.new.moves.items c.self.inside.befores.items (step_of c.args.step) c.self.invariant.0
+          (subst (λ (l : List PairStep). length l ≤ 65536) list few) met c.learn_payload.ensures
+          (c.step-answer.ensures.stands (terms_of c.self.inside.pair.conn) (newest_first c.self.inside.steps.list) c.self.invariant.0.replays.stands)
+          (c.add_moves.ensures ∙ ap (λ (ms : List Move). ms ++ c.brought.result.now) c.self.invariant.0.moves_are ∙ sym (accepted here))),
+      let room = c.push.ensures.drain_room in let before = c.self.invariant.1 in omega arith,
+    )
+
+pub returns-clause-terms : goal.returns-clause-terms
+returns-clause-terms c =
+    (c.step-answer.ensures.stands (terms_of c.self.inside.pair.conn) (newest_first c.self.inside.steps.list) c.self.invariant.0.replays.stands).terms
+    ∙ ap (λ (k : KeptState). terms_of k.pair.conn) c.self.view_is

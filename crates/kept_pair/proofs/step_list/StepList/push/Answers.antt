@@ -28,7 +28,7 @@ module _ (c : After-push_reserved) where
 
   few : length c.self.inside.entries.items < 65536
   few =
-      let room = ltb-true (vec_len c.self.inside.entries) 65536 (and-left (nat_lt (vec_len c.self.inside.entries) 65536) (nat_lt (vec_len c.self.inside.entries) (vec_capacity c.self.inside.entries) && (nat_le (vec_len c.self.inside.drains + 1024) (vec_capacity c.self.inside.drains) && nat_le (vec_len c.self.inside.reads + 2048) (vec_capacity c.self.inside.reads))) (ap (λ s. s.has_room) c.self.view_is ∙ c.requires.room)) in
+      let room = ltb-true (vec_len c.self.inside.entries) 65536 (and-left (nat_lt (vec_len c.self.inside.entries) 65536) (nat_lt (vec_len c.self.inside.entries) (vec_capacity c.self.inside.entries) && nat_le (vec_len c.self.inside.reads + 2048) (vec_capacity c.self.inside.reads)) (ap (λ s. s.has_room) c.self.view_is ∙ c.requires.room)) in
       let ok = c.self.inside.entries.ok in
       omega arith
 
