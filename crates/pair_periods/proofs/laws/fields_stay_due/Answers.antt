@@ -1,0 +1,9 @@
+use Rattle.pair_core.specs.History.{history}
+use Rattle.pair_periods.proofs.Due.{step_due, pack_due}
+use Rattle.pair_periods.proofs.laws.fields_stay_due.Goals as goal
+
+pub returns-clause-steps : goal.returns-clause-steps
+returns-clause-steps c = λ t steps step n f none due. step_due n f t step (history t steps) none due
+
+pub returns-clause-packs : goal.returns-clause-packs
+returns-clause-packs c = λ t steps drains reads n f table legal met own none e. pack_due n f t steps drains reads table legal met own none e

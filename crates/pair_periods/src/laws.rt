@@ -1,0 +1,36 @@
+//! What is proved of the definitions. Each law is the clause of a function with an empty body.
+ghost use Rattle.std.specs.Prelude.{◌≡◌, ℕ, ◌<◌, ◌||◌, true, false, None, List, ◌∷◌};
+ghost use Rattle.quantised_fields.specs.Kinds.{table_fault};
+ghost use Rattle.tn_types.specs.declared.choices.Drain.{Drain};
+ghost use Rattle.tn_types.specs.declared.choices.Read.{Read};
+ghost use Rattle.ghost_model.specs.Scope.{shows};
+ghost use Rattle.ghost_model.specs.Ghosts.{scope_log};
+ghost use Rattle.ghost_model.specs.Legal.{IsUp, IsLegal};
+ghost use Rattle.ghost_masks.specs.Plan.{kind_of, sizes};
+ghost use Rattle.stream_manager.specs.Limits.{Terms};
+ghost use Rattle.stream_manager.specs.Server.{ghost_log};
+ghost use Rattle.pair_core.specs.History.{PairStep, Pack};
+ghost use Rattle.pair_core.specs.Conditions.{IsMet};
+ghost use Rattle.pair_core.specs.Calls.{is_asked};
+ghost use Rattle.lane_periods.specs.Periods.{has};
+ghost use Rattle.lane_periods.specs.Views.{is_drained};
+ghost use Rattle.pair_periods.specs.Steps.{shows_in, up_in, traits_in};
+ghost use Rattle.pair_periods.specs.Agreement.{server_log, is_due_after, HasField, IsNoPack};
+
+/// What a list of steps says of periods is what the server's list says.
+pub fn steps_tell_periods()
+    ensures count { (t : Terms) (steps : List PairStep) → shows (scope_log (ghost_log (server_log t steps))) ≡ shows_in steps }
+    ensures kinds { (t : Terms) (steps : List PairStep) (n : ℕ) → kind_of (ghost_log (server_log t steps)) n ≡ (traits_in steps n).kind }
+    ensures up { (t : Terms) (steps : List PairStep) (n : ℕ) → IsUp (ghost_log (server_log t steps)) n → has n (up_in steps) ≡ true }
+    ensures listed { (t : Terms) (steps : List PairStep) (n : ℕ) → has n (up_in steps) ≡ true → IsUp (ghost_log (server_log t steps)) n }
+{}
+
+/// A field stays due after each step but a pack; and what was due or is drained is due after a pack that doesn't read it.
+pub fn fields_stay_due()
+    ensures steps { (t : Terms) (steps : List PairStep) (step : PairStep) (n field : ℕ) → IsNoPack step
+        → is_due_after t steps n field ≡ true → is_due_after t (step ∷ steps) n field ≡ true }
+    ensures packs { (t : Terms) (steps : List PairStep) (drains : List Drain) (reads : List Read) (n field : ℕ) → table_fault t.kinds ≡ None
+        → IsLegal (sizes t.kinds) (ghost_log (server_log t steps)) → IsMet t steps (Pack drains reads) → HasField t steps n field
+        → is_asked reads n field ≡ false → (is_due_after t steps n field || is_drained drains n field) ≡ true
+        → is_due_after t (Pack drains reads ∷ steps) n field ≡ true }
+{}
