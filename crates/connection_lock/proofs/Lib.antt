@@ -1,0 +1,5 @@
+pub mod Keeping
+pub mod Showing
+pub mod Drained
+pub mod Lines
+pub mod Holding

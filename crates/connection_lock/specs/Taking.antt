@@ -1,0 +1,55 @@
+-- What becomes of a message from the simulation. Where it meets the condition of its step, the step is made, and a show discards what
+-- was drained of its object before. Where it doesn't, it is passed over, and nothing changes. A show has two conditions of its own:
+-- the lanes have its object, and no period that is shown and not hidden has it.
+use Rattle.std.specs.Prelude.{◌≡◌, ℕ, ◌<◌, ◌⊎◌, false, List, [], ◌∷◌, ◌++◌}
+use Rattle.dirty_lanes.specs.declared.view.DrainedBits.{DrainedBits}
+use Rattle.stream_manager.specs.Limits.{Terms}
+use Rattle.pair_core.specs.History.{PairStep, Show, Hide, Near, Post}
+use Rattle.pair_core.specs.Conditions.{IsMet}
+use Rattle.lane_periods.specs.Periods.{has_object}
+use Rattle.pair_periods.specs.Steps.{up_in}
+use Rattle.connection_lock.specs.declared.message.Message.{Message}
+use Rattle.connection_lock.specs.declared.message.Message.TheVariants as message
+
+-- the steps, the newest first; the object of each period; and what the seat drained, the oldest first
+pub record Progress : Type 0 where
+  pub past : List PairStep
+  pub objects : List ℕ
+  pub drains : List DrainedBits
+
+abbrev pub step_for : Message → PairStep
+step_for (message.Show object kind block level control) = Show kind block level control
+step_for (message.Hide n) = Hide n
+step_for (message.Near n level) = Near n level
+step_for (message.Post class v) = Post class v
+
+-- what a show needs of its object
+abbrev pub IsFree : ℕ → Progress → Message → Type 0
+IsFree objects p (message.Show object kind block level control) = (object < objects) × (has_object p.objects (up_in p.past) object ≡ false)
+IsFree objects p m = Unit {0}
+
+-- the message meets its condition, where the lanes have so many objects
+abbrev pub MayTake : Terms → ℕ → Progress → Message → Type 0
+MayTake t objects p m = IsMet t p.past (step_for m) × IsFree objects p m
+
+abbrev pub objects_with : Message → List ℕ → List ℕ
+objects_with (message.Show object kind block level control) objects = objects ++ object ∷ []
+objects_with m objects = objects
+
+abbrev pub Discards : Message → List DrainedBits → List DrainedBits → Type 0
+Discards (message.Show object kind block level control) old new = (bits : ℕ) × (new ≡ old ++ record { object = object; bits = bits } ∷ [])
+Discards m old new = new ≡ old
+
+-- its step was made
+pub record IsTaken (m : Message) (old new : Progress) : Type 0 where
+  pub past : new.past ≡ step_for m ∷ old.past
+  pub objects : new.objects ≡ objects_with m old.objects
+  pub drains : Discards m old.drains new.drains
+
+abbrev pub Takes : Terms → ℕ → Progress → Message → Progress → Type 0
+Takes t objects old m new = (MayTake t objects old m × IsTaken m old new) ⊎ ((MayTake t objects old m → ⊥) × (new ≡ old))
+
+-- messages one after another
+abbrev pub TakesAll : Terms → ℕ → Progress → List Message → Progress → Type 0
+TakesAll t objects old [] new = new ≡ old
+TakesAll t objects old (m ∷ ms) new = (mid : Progress) × Takes t objects old m mid × TakesAll t objects mid ms new

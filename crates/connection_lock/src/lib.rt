@@ -1,0 +1,17 @@
+//! One connection under a lock: a pair that keeps its steps, the seat through which its packs read the lanes, and the ends of the
+//! rings from and to the simulation.
+#![tactic(auto)]
+
+mod events;
+mod line;
+mod locked;
+mod message;
+mod packing;
+mod shared;
+mod taking;
+
+pub use lane_periods::Objects;
+pub use locked::{Ended, Locked};
+pub use message::{Message, NetLine};
+pub use shared::SharedPair;
+pub use taking::MAX_TAKEN_MESSAGES;

@@ -1,0 +1,195 @@
+//! What lies under the lock.
+ghost use Rattle.std.specs.Prelude.{◌≡◌, [], IfOk};
+ghost use Rattle.rtrb.specs.Ring.{received, sent};
+
+use crate::line::make;
+use crate::message::{Message, NetLine};
+use crate::packing::{make_room, pack};
+use crate::taking::take_messages;
+use dirty_lanes::{LaneName, Lanes, PackSeat};
+use kept_pair::{KeepFault, KeptPair};
+use lane_periods::{Objects, Periods};
+use pair_core::Answer;
+use rtrb::{Consumer, Producer};
+use std::alloc::Global;
+use std::marker::Model;
+use tn_types::{Drain, Move, NoMemory};
+
+/// One connection that keeps its steps, with the seat through which it reads the lanes, and the ends of the rings from and to the
+/// simulation.
+///
+/// A clause sees `LockedState`. The lock rule holds of it whenever no call is at work.
+#[derive(Drop)]
+pub struct Locked<N: LaneName> {
+    pair: KeptPair,
+    seat: PackSeat<N>,
+    inbox: Consumer<Message>,
+    outbox: Producer<Move>,
+    periods: Periods,
+    // what the last pack drained
+    drains: Vec<Drain>,
+}
+
+impl<N: LaneName> Model for Locked<N> {
+    ghost use Rattle.rtrb.specs.Ring.{received, sent, known_items, known_free};
+    ghost use Rattle.connection_lock.specs.Rule.{LockedState, AreLocked};
+
+    ghost Value = { LockedState };
+
+    ghost view = { λ l. record {
+      kept = l.pair;
+      seat = l.seat;
+      objects = l.periods.objects;
+      received = received l.inbox;
+      known = known_items l.inbox;
+      sent = sent l.outbox;
+      free = known_free l.outbox;
+    } };
+
+    ghost invariant = { λ l. AreLocked N.objects l.pair l.seat l.periods };
+}
+
+/// What is left of a connection when it has ended: with the object of each of its periods.
+#[derive(Drop)]
+pub struct Ended<N: LaneName> {
+    pub pair: KeptPair,
+    pub seat: PackSeat<N>,
+    pub inbox: Consumer<Message>,
+    pub outbox: Producer<Move>,
+    pub objects: Objects,
+}
+
+impl<N: LaneName> Locked<N> {
+    ghost use Rattle.rtrb.specs.Ring.{known_items, known_free};
+    ghost use Rattle.connection_lock.specs.Rule.{LockHolds};
+    ghost use Rattle.connection_lock.specs.Turns.{PackTurn, NetTurn};
+
+    /// A connection with no kept step, at its start. For want of memory all that was handed in is dropped.
+    pub fn new(
+        alloc: Global,
+        pair: KeptPair,
+        seat: PackSeat<N>,
+        inbox: Consumer<Message>,
+        outbox: Producer<Move>,
+    ) -> Result<Locked<N>, NoMemory>
+        requires no_steps { pair.steps ≡ [] }
+        requires no_seat_steps { seat.steps ≡ [] }
+        requires none_received { received inbox ≡ [] }
+        requires none_sent { sent outbox ≡ [] }
+        ensures pair { IfOk result (λ l. l.kept ≡ pair) }
+        ensures seat { IfOk result (λ l. l.seat ≡ seat) }
+        ensures objects { IfOk result (λ l. l.objects ≡ []) }
+        ensures received { IfOk result (λ l. l.received ≡ []) }
+        ensures sent { IfOk result (λ l. l.sent ≡ []) }
+        ensures holds { IfOk result LockHolds }
+    {
+        let _steps = pair.steps();
+        let periods = Periods::new(alloc, pair.pair().conn().kinds());
+        let locked = Locked {
+            pair,
+            seat,
+            inbox,
+            outbox,
+            periods,
+            drains: Vec::new(alloc),
+        };
+        let _holds = locked.pair();
+        Ok(locked)
+    }
+
+    /// The pair with its steps. The lock rule holds: the pair is what these make of a new one, each read in them stands in the
+    /// seat's view of the lanes, and each owed field of a period that is shown and not hidden is due.
+    pub fn pair(&self) -> &KeptPair
+        ensures value { result.now ≡ self.now.kept }
+        ensures holds { LockHolds self.now }
+    {
+        let _steps = self.pair.steps();
+        self.periods.are_periods();
+        &self.pair
+    }
+
+    /// Takes messages from the simulation, and packs. A message that doesn't meet the condition of its step is passed over. Where
+    /// the pack is refused, no message and no bit is lost, and the messages that were taken stay taken.
+    pub fn pack(&mut self, alloc: Global, lanes: &Lanes<N>) -> Result<Answer, KeepFault>
+        ensures turn { PackTurn N.objects self.old self.new result }
+        ensures holds { LockHolds self.new }
+    {
+        let result = self.take_and_pack(alloc, lanes);
+        let _holds = self.pair();
+        result
+    }
+
+    /// Makes one line of the client. Accepted moves go into the ring to the simulation, whose free places are the room; events that
+    /// a delivery hands out are dropped. After a refusal nothing has changed.
+    pub fn net_turn(&mut self, alloc: Global, line: &NetLine) -> Result<Answer, KeepFault>
+        ensures turn { NetTurn self.old line.now self.new result }
+        ensures holds { LockHolds self.new }
+    {
+        let result = self.make_line(alloc, line);
+        let _holds = self.pair();
+        result
+    }
+
+    // What a pack does.
+    fn take_and_pack(&mut self, alloc: Global, lanes: &Lanes<N>) -> Result<Answer, KeepFault>
+        ensures { PackTurn N.objects self.old self.new result }
+    {
+        match take_messages(
+            alloc,
+            &mut self.pair,
+            &mut self.seat,
+            lanes,
+            &mut self.periods,
+            &mut self.inbox,
+        ) {
+            Err(fault) => Err(fault),
+            Ok(()) => match make_room(alloc, &mut self.pair, &self.periods, &mut self.drains) {
+                Err(fault) => Err(fault),
+                Ok(()) => Ok(pack(
+                    &mut self.pair,
+                    &mut self.seat,
+                    lanes,
+                    &self.periods,
+                    &mut self.drains,
+                )),
+            },
+        }
+    }
+
+    // What a line does.
+    fn make_line(&mut self, alloc: Global, line: &NetLine) -> Result<Answer, KeepFault>
+        ensures { NetTurn self.old line.now self.new result }
+    {
+        match self.pair.prepare(alloc) {
+            Err(fault) => Err(fault),
+            Ok(()) => Ok(make(&mut self.pair, &mut self.outbox, line)),
+        }
+    }
+
+    /// Ends it.
+    pub fn finish(self) -> Ended<N>
+        ensures pair { result.pair ≡ self.kept }
+        ensures seat { result.seat ≡ self.seat }
+        ensures objects { result.objects ≡ self.objects }
+        ensures received { received result.inbox ≡ self.received }
+        ensures sent { sent result.outbox ≡ self.sent }
+        ensures holds { LockHolds self }
+    {
+        let _holds = self.pair();
+        let Locked {
+            pair,
+            seat,
+            inbox,
+            outbox,
+            periods,
+            drains: _,
+        } = self;
+        Ended {
+            pair,
+            seat,
+            inbox,
+            outbox,
+            objects: periods.into_objects(),
+        }
+    }
+}

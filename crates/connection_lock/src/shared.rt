@@ -1,0 +1,65 @@
+//! The lock.
+ghost use Rattle.std.specs.Prelude.{◌≡◌, []};
+ghost use Rattle.rtrb.specs.Ring.{received, sent};
+
+use crate::locked::{Ended, Locked};
+use crate::message::{Message, NetLine};
+use dirty_lanes::{LaneName, Lanes, PackSeat};
+use kept_pair::{KeepFault, KeptPair};
+use pair_core::Answer;
+use rtrb::{Consumer, Producer};
+use std::alloc::Global;
+use std::sync::{Mutex, Wait};
+use tn_types::{Move, NoMemory};
+
+/// A lock round one connection. One thread packs it, and another feeds it.
+#[derive(Drop)]
+pub struct SharedPair<N: LaneName> {
+    locked: Mutex<Locked<N>>,
+}
+
+impl<N: LaneName> SharedPair<N> {
+    /// A connection with no kept step, at its start. For want of memory all that was handed in is dropped.
+    pub fn new(
+        alloc: Global,
+        pair: KeptPair,
+        seat: PackSeat<N>,
+        inbox: Consumer<Message>,
+        outbox: Producer<Move>,
+    ) -> Result<SharedPair<N>, NoMemory>
+        requires no_steps { pair.steps ≡ [] }
+        requires no_seat_steps { seat.steps ≡ [] }
+        requires none_received { received inbox ≡ [] }
+        requires none_sent { sent outbox ≡ [] }
+    {
+        Ok(SharedPair {
+            locked: Mutex::new(Locked::new(alloc, pair, seat, inbox, outbox)?),
+        })
+    }
+
+    /// Waits for the lock, and makes the call of the same name.
+    pub fn pack<R: Wait>(
+        &self,
+        rt: &R,
+        alloc: Global,
+        lanes: &Lanes<N>,
+    ) -> Result<Answer, KeepFault> {
+        self.locked.lock(rt).pack(alloc, lanes)
+    }
+
+    /// Waits for the lock, and makes the call of the same name.
+    pub fn net_turn<R: Wait>(
+        &self,
+        rt: &R,
+        alloc: Global,
+        line: &NetLine,
+    ) -> Result<Answer, KeepFault> {
+        self.locked.lock(rt).net_turn(alloc, line)
+    }
+
+    /// Ends it, once no thread has it any more.
+    pub fn finish(self) -> Ended<N> {
+        let SharedPair { locked } = self;
+        locked.into_inner().finish()
+    }
+}

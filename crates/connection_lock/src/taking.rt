@@ -1,0 +1,242 @@
+//! Messages from the simulation.
+ghost use Rattle.std.specs.Prelude.{◌≡◌, ◌<◌, ◌≤◌, ◌++◌, List, [], true, false, IsTrue, ◌↔◌, IfOk, OnOk, OnErr, length};
+ghost use Rattle.rtrb.specs.Ring.{received, known_items};
+ghost use Rattle.pair_core.specs.History.{Show, Hide, Near};
+ghost use Rattle.kept_pair.specs.Kept.{MayStep, terms_in};
+ghost use Rattle.connection_lock.specs.declared.message.Message.{Message as OneMessage};
+ghost use Rattle.connection_lock.specs.Taking.{TakesAll};
+ghost use Rattle.connection_lock.specs.Rule.{progress_of, AreLocked};
+ghost use Rattle.lane_periods.specs.Periods.{has_object};
+ghost use Rattle.connection_lock.specs.Turns.{FaultAt, TakesLocked};
+
+use crate::message::Message;
+use dirty_lanes::{LaneName, Lanes, PackSeat};
+use kept_pair::{KeepFault, KeptPair};
+use lane_periods::Periods;
+use pair_core::PairStep;
+use rtrb::Consumer;
+use std::alloc::Global;
+use tn_types::{Class, MAX_BLOCKS, MAX_DISTANCE_LEVEL, MAX_SHOWS, Payload};
+
+/// How many messages a pack takes at most.
+pub const MAX_TAKEN_MESSAGES: u32 = 4_096;
+
+/// Whether a period may begin so.
+fn may_show(pair: &KeptPair, kind: u8, block: u8, level: u8, control: bool) -> bool
+    ensures { IsTrue result ↔ MayStep pair.now (Show kind block level control) }
+{
+    let _steps = pair.steps();
+    let conn = pair.pair().conn();
+    if !conn.has_kind(kind) {
+        return false;
+    }
+    if block as usize >= MAX_BLOCKS {
+        return false;
+    }
+    if level > MAX_DISTANCE_LEVEL {
+        return false;
+    }
+    if conn.is_full() {
+        return false;
+    }
+    if conn.shows() >= MAX_SHOWS {
+        return false;
+    }
+    if !control {
+        return true;
+    }
+    !conn.has_control()
+}
+
+/// Whether the period may end.
+fn may_hide(pair: &KeptPair, n: u32) -> bool
+    ensures { IsTrue result ↔ MayStep pair.now (Hide n) }
+{
+    let _steps = pair.steps();
+    pair.pair().conn().is_up(n)
+}
+
+/// Whether the period's object may be at this level.
+fn may_come_near(pair: &KeptPair, n: u32, level: u8) -> bool
+    ensures { IsTrue result ↔ MayStep pair.now (Near n level) }
+{
+    let _steps = pair.steps();
+    pair.pair().conn().is_up(n) && level <= MAX_DISTANCE_LEVEL
+}
+
+/// Whether a show is taken: a period may begin so, and its object is one of the lanes that no period has which is shown and not
+/// hidden.
+fn may_take_show(
+    pair: &KeptPair,
+    periods: &Periods,
+    objects: u32,
+    object: u32,
+    kind: u8,
+    block: u8,
+    level: u8,
+    control: bool,
+) -> bool
+    ensures { IsTrue result ↔ (MayStep pair.now (Show kind block level control) × (object < objects)
+        × (has_object periods.now.objects periods.now.up object ≡ false)) }
+{
+    object < objects && !periods.has_object(object) && may_show(pair, kind, block, level, control)
+}
+
+/// Takes a show.
+fn take_show<N: LaneName>(
+    pair: &mut KeptPair,
+    seat: &mut PackSeat<N>,
+    lanes: &Lanes<N>,
+    periods: &mut Periods,
+    object: u32,
+    kind: u8,
+    block: u8,
+    level: u8,
+    control: bool,
+)
+    requires locked { AreLocked N.objects pair.old seat.old periods.old }
+    requires prepared { pair.old.prepared ≡ true }
+    requires room { periods.old.has_room ≡ true }
+    ensures { TakesLocked N.objects pair.old seat.old periods.old (OneMessage.Show object kind block level control)
+        pair.new seat.new periods.new }
+{
+    let _steps = pair.steps();
+    periods.are_periods();
+    let objects = lanes.objects();
+    let may = may_take_show(pair, periods, objects, object, kind, block, level, control);
+    if may {
+        let _discarded = seat.drain(lanes, object);
+        let _answer = pair.step(PairStep::Show {
+            kind,
+            block,
+            level,
+            control,
+        });
+        periods.show(object, kind);
+    }
+}
+
+/// Takes a hide.
+fn take_hide<N: LaneName>(pair: &mut KeptPair, seat: &PackSeat<N>, periods: &mut Periods, n: u32)
+    requires locked { AreLocked N.objects pair.old seat.now periods.old }
+    requires prepared { pair.old.prepared ≡ true }
+    ensures { TakesLocked N.objects pair.old seat.now periods.old (OneMessage.Hide n) pair.new seat.now periods.new }
+{
+    let _client = seat.client();
+    let may = may_hide(pair, n);
+    if may {
+        let _answer = pair.step(PairStep::Hide { n });
+        periods.hide(n);
+    }
+}
+
+/// Takes a change of level.
+fn take_near<N: LaneName>(
+    pair: &mut KeptPair,
+    seat: &PackSeat<N>,
+    periods: &Periods,
+    n: u32,
+    level: u8,
+)
+    requires locked { AreLocked N.objects pair.old seat.now periods.now }
+    requires prepared { pair.old.prepared ≡ true }
+    ensures { TakesLocked N.objects pair.old seat.now periods.now (OneMessage.Near n level) pair.new seat.now periods.now }
+{
+    let _client = seat.client();
+    let _up = periods.up();
+    let may = may_come_near(pair, n, level);
+    if may {
+        let _answer = pair.step(PairStep::Near { n, level });
+    }
+}
+
+/// Takes a post.
+fn take_post<N: LaneName>(
+    pair: &mut KeptPair,
+    seat: &PackSeat<N>,
+    periods: &Periods,
+    class: Class,
+    payload: Payload,
+)
+    requires locked { AreLocked N.objects pair.old seat.now periods.now }
+    requires prepared { pair.old.prepared ≡ true }
+    ensures { TakesLocked N.objects pair.old seat.now periods.now (OneMessage.Post class payload) pair.new seat.now periods.now }
+{
+    let _client = seat.client();
+    let _up = periods.up();
+    let _answer = pair.step(PairStep::Post { class, payload });
+}
+
+/// Makes the step of a message, if it may be made.
+fn take<N: LaneName>(
+    pair: &mut KeptPair,
+    seat: &mut PackSeat<N>,
+    lanes: &Lanes<N>,
+    periods: &mut Periods,
+    message: Message,
+)
+    requires locked { AreLocked N.objects pair.old seat.old periods.old }
+    requires prepared { pair.old.prepared ≡ true }
+    requires room { periods.old.has_room ≡ true }
+    ensures { TakesLocked N.objects pair.old seat.old periods.old message pair.new seat.new periods.new }
+{
+    match message {
+        Message::Show {
+            object,
+            kind,
+            block,
+            level,
+            control,
+        } => take_show(
+            pair, seat, lanes, periods, object, kind, block, level, control,
+        ),
+        Message::Hide { n } => take_hide(pair, seat, periods, n),
+        Message::Near { n, level } => take_near(pair, seat, periods, n, level),
+        Message::Post { class, payload } => take_post(pair, seat, periods, class, payload),
+    }
+}
+
+/// Makes room for the step of one message, whatever it is.
+fn prepare(alloc: Global, pair: &mut KeptPair, periods: &mut Periods) -> Result<(), KeepFault>
+    ensures prepared { OnOk result ((pair.new.prepared ≡ true) × (periods.new.has_room ≡ true)) }
+    ensures steps { pair.new.steps ≡ pair.old.steps }
+    ensures conn { pair.new.pair.conn ≡ pair.old.pair.conn }
+    ensures client { pair.new.pair.client ≡ pair.old.pair.client }
+    ensures same { periods.new ≡ record periods.old { has_room = periods.new.has_room } }
+    ensures fault { FaultAt (length pair.old.steps) result }
+{
+    pair.prepare(alloc)?;
+    if periods.prepare().is_err() {
+        return Err(KeepFault::NoMemory);
+    }
+    Ok(())
+}
+
+/// Takes messages until the ring shows none, or as many as may be taken. Whether it shows none.
+pub(crate) fn take_messages<N: LaneName>(
+    alloc: Global,
+    pair: &mut KeptPair,
+    seat: &mut PackSeat<N>,
+    lanes: &Lanes<N>,
+    periods: &mut Periods,
+    inbox: &mut Consumer<Message>,
+) -> Result<(), KeepFault>
+    requires locked { AreLocked N.objects pair.old seat.old periods.old }
+    ensures taken { (ms : List OneMessage) × (received inbox.new ≡ received inbox.old ++ ms) × (length ms ≤ MAX_TAKEN_MESSAGES)
+        × TakesAll (terms_in pair.old) N.objects (progress_of pair.old seat.old periods.old.objects) ms
+        (progress_of pair.new seat.new periods.new.objects)
+        × OnOk result (length ms < MAX_TAKEN_MESSAGES → known_items inbox.new ≡ []) }
+    ensures locked { AreLocked N.objects pair.new seat.new periods.new }
+    ensures terms { terms_in pair.new ≡ terms_in pair.old }
+    ensures client { seat.new.client ≡ seat.old.client }
+    ensures fault { FaultAt (length pair.new.steps) result }
+{
+    for _ in 0..MAX_TAKEN_MESSAGES {
+        prepare(alloc, pair, periods)?;
+        match inbox.pop() {
+            Ok(message) => take(pair, seat, lanes, periods, message),
+            Err(_) => return Ok(()),
+        }
+    }
+    Ok(())
+}
