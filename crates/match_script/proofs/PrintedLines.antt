@@ -97,7 +97,7 @@ line_back clients k (Raw c bytes) few small h = read_at clients k _ _ (Raw c byt
 line_back clients k (Move c m) few small h = read_at clients k _ _ (Move c m) few (line_plain clients (Move c m) small h) (line_read clients (Move c m) small h)
 line_back clients k (Show c) few small h = read_at clients k _ _ (Show c) few (line_plain clients (Show c) small h) (line_read clients (Show c) small h)
 
-body_back : (clients n k : ℕ) (lines : List BodyLine) → k + length lines ≤ 100000 → clients ≤ 16 → All (LineFits clients) lines → body_of clients n k (map spelled (map line_words lines)) ≡ Ok lines
+body_back : (clients n k : ℕ) (lines : List BodyLine) → k + length lines ≤ 100000 → clients ≤ 16 → All (LineFits clients) lines → body_of None clients n k (map spelled (map line_words lines)) ≡ Ok lines
 unfolding body_of
 body_back clients n k [] few small h = refl
 body_back clients n k (line ∷ lines) few small h =
@@ -396,7 +396,7 @@ objects_plain : (clients : ℕ) (objects : List Spawn) → clients ≤ 16 → Al
 objects_plain clients [] small h = refl
 objects_plain clients (s ∷ objects) small h = rw (object_plain clients s small (All-head (SpawnFits clients) s objects h), objects_plain clients objects small (All-tail (SpawnFits clients) s objects h)) refl
 
-script_back : (s : Script) → HasRanges s → script_in (map spelled (all_words s.head (map line_words s.body))) ≡ Ok s
+script_back : (s : Script) → HasRanges s → script_in None (map spelled (all_words s.head (map line_words s.body))) ≡ Ok s
 unfolding script_in
 script_back s f = rw (header_back s.head (map line_words s.body) f.head, body_back s.head.clients (header_length s.head) 0 s.body (omega (arith, f.few)) f.head.clients f.lines) refl
 
@@ -417,4 +417,4 @@ read_again s f =
     let words = all_words s.head (map line_words s.body) in
     let same : printed_header s.head ++ map line_words s.body ≡ words = regroup (version_words s.head.version) (match_words s.head) go_words (map block_words s.head.blocks) (map object_words s.head.setup.spawns) (map line_words s.body) in
     ap (λ (ws : List (List (List ℕ))). script_of (joined (map spelled ws))) same
-    ∙ ap script_in (lines_joined (map spelled words) (all_plain_text words (script_plain s f))) ∙ script_back s f
+    ∙ ap (script_in None) (lines_joined (map spelled words) (all_plain_text words (script_plain s f))) ∙ script_back s f

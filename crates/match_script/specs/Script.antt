@@ -1,6 +1,6 @@
 -- The script of a text, line by line: the header's lines, which end with `go`, then the body's. Where a text has no
 -- script, it has a least line that can't stand where it stands, and that line's first fault.
-use Rattle.std.specs.Prelude.{ℕ, pos, ◌≡◌, suc, ◌+◌, List, [], ◌∷◌, ◌++◌, length, not, nat_le, if◌then◌else◌, codes, Option, Some, None, Result, Ok, Err, refl}
+use Rattle.std.specs.Prelude.{ℕ, pos, ◌≡◌, zero, suc, ◌+◌, List, [], ◌∷◌, ◌++◌, length, Bool, true, false, not, nat_le, if◌then◌else◌, codes, Option, Some, None, Result, Ok, Err, refl}
 use Rattle.std.specs.Option.{option_map_or}
 use Rattle.tn_types.specs.declared.limits.TheConstants.{MAX_BODY_LINES}
 use Rattle.world_rules.specs.declared.setup.Spawn.{Spawn}
@@ -9,12 +9,14 @@ use Rattle.match_script.specs.declared.types.ScriptFault.TheVariants.{NotText, B
 use Rattle.match_script.specs.declared.types.ParseFault.{ParseFault}
 use Rattle.match_script.specs.declared.types.ParseFault.TheVariants.{Bad, NoMemory}
 use Rattle.match_script.specs.declared.types.BodyLine.{BodyLine}
+use Rattle.match_script.specs.declared.types.BodyLine.TheVariants.{Tick}
 use Rattle.match_script.specs.declared.types.Head.{Head}
 use Rattle.match_script.specs.declared.types.Script.{Script}
+use Rattle.match_script.specs.declared.limits.TheConstants.{MAX_THREAD_TICKS}
 use Rattle.match_script.specs.Text.{lines_of, words_of, is_text}
 use Rattle.world_rules.specs.declared.kinds.TheConstants.{PLAYER, CLOCK}
 use Rattle.match_script.specs.Words.{number, number_from, hex}
-use Rattle.match_script.specs.Lines.{body_line}
+use Rattle.match_script.specs.Lines.{body_line, scan_line}
 use Rattle.match_script.specs.Header.{version_line, match_line, block_line, is_go, kind_named, placed, player_words, spawn_words, named, object_line}
 
 -- a line, numbered from 1, and its first fault
@@ -98,29 +100,48 @@ line_at clients k line =
     else if nat_le MAX_BODY_LINES k then Err TooManyLines
     else body_line clients (words_of line)
 
+-- where no more ticks may come, a tick may not; None: any number may come
+abbrev pub may_come : Option ℕ → BodyLine → Bool
+may_come (Some zero) Tick = false
+may_come ticks line = true
+
+-- how many ticks may come behind a line
+abbrev pub ticks_behind : Option ℕ → BodyLine → Option ℕ
+ticks_behind (Some (suc n)) Tick = Some n
+ticks_behind ticks line = ticks
+
+-- a tick that may not come is a line too many
+abbrev pub limited : Option ℕ → Result BodyLine ScriptFault → Result BodyLine ScriptFault
+limited ticks (Ok line) = if may_come ticks line then Ok line else Err TooManyLines
+limited ticks (Err fault) = Err fault
+
 -- what a line of the body says, whose number in the text is n
 abbrev pub body_fault : {A : Type 0} → ℕ → Result A ScriptFault → Result A Fault
 body_fault n (Ok line) = Ok line
 body_fault n (Err fault) = Err (n, fault)
 
--- the lines of a body from line k on, behind line n of the text
-unfoldable pub body_of : ℕ → ℕ → ℕ → List (List ℕ) → Result (List BodyLine) Fault
-body_of clients n k [] = Ok []
-body_of clients n k (line ∷ lines) = do
-  first ← body_fault (n + suc k) (line_at clients k line)
-  rest ← body_of clients n (suc k) lines
+-- the lines of a body from line k on, behind line n of the text, where so many ticks may come
+unfoldable pub body_of : Option ℕ → ℕ → ℕ → ℕ → List (List ℕ) → Result (List BodyLine) Fault
+body_of ticks clients n k [] = Ok []
+body_of ticks clients n k (line ∷ lines) = do
+  first ← body_fault (n + suc k) (limited ticks (line_at clients k line))
+  rest ← body_of (ticks_behind ticks first) clients n (suc k) lines
   Ok (first ∷ rest)
 
--- the script of the lines
-unfoldable pub script_in : List (List ℕ) → Result Script Fault
-script_in lines = do
+-- the script of the lines, where so many ticks may come
+unfoldable pub script_in : Option ℕ → List (List ℕ) → Result Script Fault
+script_in ticks lines = do
   begun ← header lines
-  body ← body_of begun.0.clients (header_length begun.0) 0 begun.1
+  body ← body_of ticks begun.0.clients (header_length begun.0) 0 begun.1
   Ok (record { head = begun.0; body = body })
 
 -- the script of a text
 abbrev pub script_of : List ℕ → Result Script Fault
-script_of text = script_in (lines_of text)
+script_of text = script_in None (lines_of text)
+
+-- the script of a text for a match in threads
+abbrev pub threads_script_of : List ℕ → Result Script Fault
+threads_script_of text = script_in (Some MAX_THREAD_TICKS) (lines_of text)
 
 -- what a call gave is what the definitions read, but where memory ran out
 abbrev pub Gives : {X Y : Type 0} → (X → Y) → Result X ParseFault → Result Y Fault → Type 0
@@ -140,3 +161,8 @@ two_objects : objects_of 1 1 4 [] (codes "player 0 0 1 5 6" ∷ codes "spawn clo
     )
 unfolding objects_of text_line words_of is_go named player_words spawn_words kind_named placed number number_from
 two_objects = refl
+
+-- where two ticks may come, the third is a line too many
+third_tick : body_of (Some 2) 1 3 0 (codes "tick" ∷ codes "scan 0" ∷ codes "tick" ∷ codes "tick" ∷ []) ≡ Err (7, TooManyLines)
+unfolding body_of line_at words_of body_line scan_line number
+third_tick = refl

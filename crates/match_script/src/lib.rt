@@ -1,5 +1,5 @@
-//! The text of a match script: `parse` reads it, with the first fault of its least faulty line, and `print`
-//! writes it. The format stands in docs/formats.md, "The script".
+//! The text of a match script: `parse` and `parse_threads` read it, with the first fault of its least faulty line, and
+//! `print` writes it. The format stands in docs/formats.md, "The script".
 #![tactic(auto)]
 
 mod cut;
@@ -16,7 +16,7 @@ mod word;
 mod words;
 
 pub use held::{LineDatagram, LinePayload};
-pub use limits::VERSION;
+pub use limits::{MAX_THREAD_TICKS, VERSION};
 pub use printer::print;
-pub use reader::parse;
+pub use reader::{parse, parse_threads};
 pub use types::{Blocks, Body, BodyLine, Head, ParseFault, Script, ScriptFault};

@@ -3,12 +3,13 @@ ghost use Rattle.std.specs.Prelude.{◌≡◌, ◌<◌, ◌≤◌, ◌+◌, ◌�
 ghost use Rattle.std.specs.List.{All};
 ghost use Rattle.match_script.specs.Text.{lines_of};
 ghost use Rattle.match_script.specs.Lines.{GivesLine};
-ghost use Rattle.match_script.specs.Script.{Gives, line_at, header_length, body_of, script_of};
+ghost use Rattle.match_script.specs.Script.{Gives, line_at, header_length, may_come, ticks_behind, body_of, script_in, script_of, threads_script_of};
 ghost use Rattle.match_script.specs.Ranges.{LineFits, HasRanges};
 ghost use Rattle.match_script.specs.Shape.{first_line, words_at};
 
 use crate::cut::{cut_line, is_text};
 use crate::head::header;
+use crate::limits::MAX_THREAD_TICKS;
 use crate::line::{LineFault, words_line};
 use crate::types::{Body, BodyLine, Head, ParseFault, Script, ScriptFault};
 use crate::words::{Words, first_words, parted};
@@ -74,28 +75,56 @@ fn next_line(
     }
 }
 
-// The body behind line n of a text.
-#[tactic(auto, using(crate::proofs::Bodies::body_goes_on, crate::proofs::Bodies::body_stops, crate::proofs::Bodies::body_ends, crate::proofs::Bodies::line_few, crate::proofs::Bodies::fits_more))]
-fn body_of(alloc: Global, clients: u8, n: u32, text: &[u8]) -> Result<Body, ParseFault>
+// Whether a line may come where so many ticks may (None: any number), which are one less behind a tick.
+fn may_come(ticks: &mut Option<u32>, line: &BodyLine) -> bool
+    ensures value { result ≡ may_come ticks.old line.now }
+    ensures behind { ticks.new ≡ ticks_behind ticks.old line.now }
+{
+    match (*ticks, line) {
+        (Some(0), BodyLine::Tick) => false,
+        (Some(left), BodyLine::Tick) => {
+            *ticks = Some(left - 1);
+            true
+        }
+        _ => true,
+    }
+}
+
+// The body behind line n of a text, where so many ticks may come.
+#[tactic(auto, using(crate::proofs::Bodies::body_goes_on, crate::proofs::Bodies::body_stops, crate::proofs::Bodies::body_is_full, crate::proofs::Bodies::body_ends, crate::proofs::Bodies::line_few, crate::proofs::Bodies::fits_more))]
+fn body_of(
+    alloc: Global,
+    clients: u8,
+    n: u32,
+    most: Option<u32>,
+    text: &[u8],
+) -> Result<Body, ParseFault>
     requires { n ≤ BARE_HEADER_LINES + MAX_BLOCKS + MAX_OBJECTS }
-    ensures value { Gives (λ b. b) result (body_of clients n 0 (lines_of text.now)) }
+    ensures value { Gives (λ b. b) result (body_of most clients n 0 (lines_of text.now)) }
     ensures few { IfOk result (λ b. length b ≤ MAX_BODY_LINES) }
     ensures fits { IfOk result (All (LineFits clients)) }
 {
     // A line has eight bytes or so: few have less, and room for a line more costs little.
     let mut lines = Vec::with_capacity(alloc, (text.len() / 8).min(MAX_BODY_LINES as usize))?;
     let mut rest = text;
+    let mut ticks = most;
     let mut k = 0u32;
     while rest.len() > 0 {
+        let at = n + (k + 1);
         let (read, after) = next_line(alloc, clients, k, rest);
         match read {
-            Ok(line) => lines.push(line)?,
+            Ok(line) => {
+                if !may_come(&mut ticks, &line) {
+                    return Err(ParseFault::Bad {
+                        line: at,
+                        fault: ScriptFault::TooManyLines,
+                    });
+                }
+                lines.push(line)?
+            }
             Err(LineFault::NoMemory) => return Err(ParseFault::NoMemory),
             Err(LineFault::Faulty(fault)) => {
-                return Err(ParseFault::Bad {
-                    line: n + (k + 1),
-                    fault,
-                });
+                return Err(ParseFault::Bad { line: at, fault });
             }
         }
         rest = after;
@@ -104,15 +133,31 @@ fn body_of(alloc: Global, clients: u8, n: u32, text: &[u8]) -> Result<Body, Pars
     Ok(Body::from_vec(lines))
 }
 
+// The script of a text, where so many ticks may come.
+#[tactic(auto, unfolding(crate::specs::Script::script_in))]
+fn script_in(alloc: Global, most: Option<u32>, bytes: &[u8]) -> Result<Script, ParseFault>
+    ensures grammar { Gives (λ script. script) result (script_in most (lines_of bytes.now)) }
+    ensures ranges { IfOk result HasRanges }
+{
+    let (head, rest) = header(alloc, bytes)?;
+    let body = body_of(alloc, head.clients, header_length(&head), most, rest)?;
+    Ok(Script { head, body })
+}
+
 /// The script of a text, or the least line that can't stand where it stands, with its first fault; each exactly
 /// as docs/formats.md, "The script" and "Faults of a script", says. Any bytes may come, and they are gone over
 /// once.
-#[tactic(auto, unfolding(crate::specs::Script::script_in))]
 pub fn parse(alloc: Global, bytes: &[u8]) -> Result<Script, ParseFault>
     ensures grammar { Gives (λ script. script) result (script_of bytes.now) }
     ensures ranges { IfOk result HasRanges }
 {
-    let (head, rest) = header(alloc, bytes)?;
-    let body = body_of(alloc, head.clients, header_length(&head), rest)?;
-    Ok(Script { head, body })
+    script_in(alloc, None, bytes)
+}
+
+/// The same for a match in threads, where a tick behind `MAX_THREAD_TICKS` others is `TooManyLines`.
+pub fn parse_threads(alloc: Global, bytes: &[u8]) -> Result<Script, ParseFault>
+    ensures grammar { Gives (λ script. script) result (threads_script_of bytes.now) }
+    ensures ranges { IfOk result HasRanges }
+{
+    script_in(alloc, Some(MAX_THREAD_TICKS), bytes)
 }

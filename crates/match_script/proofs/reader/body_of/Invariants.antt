@@ -8,7 +8,7 @@ use Rattle.match_script.proofs.reader.body_of.Given as goal
 
 abbrev pub invariant-loop-rest : goal.invariant-loop-rest
 invariant-loop-rest l = record {
-  so_far : body_of l.clients l.n 0 (lines_of l.text) ≡ with_front l.lines.items (body_of l.clients l.n l.k (lines_of l.rest));
+  so_far : body_of l.fn.most l.clients l.n 0 (lines_of l.text) ≡ with_front l.lines.items (body_of l.ticks l.clients l.n l.k (lines_of l.rest));
   few : l.k ≤ 100000;
   count : length l.lines.items ≡ l.k;
   fits : All (LineFits l.clients) l.lines.items;
