@@ -1,5 +1,5 @@
 //! Of `match_script`: texts and their scripts or first faults, by the tables of docs/formats.md.
-use match_script::{ParseFault, ScriptFault, parse, print};
+use match_script::{MAX_THREAD_TICKS, ParseFault, ScriptFault, parse, parse_threads, print};
 use std::alloc::Global;
 use std::test::Fail;
 
@@ -196,5 +196,44 @@ fn printed_scripts_are_read_again(rt: HostRuntime) -> Result<(), Fail> {
     assert_eq!(rt; got.as_slice(), PRINTED.as_bytes());
     let head = script.head.copy(rt.alloc()).ok().ok_or("no memory")?;
     assert_eq!(rt; head.blocks.len(), 2);
+    Ok(())
+}
+
+// What is found in a text of the first header with so many lines `tick` and then this text.
+fn found_behind_ticks(
+    alloc: Global,
+    ticks: u32,
+    behind: &str,
+) -> Result<Option<(u32, ScriptFault)>, Fail> {
+    let mut text = Vec::from_slice(alloc, MATCH.as_bytes())?;
+    text.extend_from_slice("go\n".as_bytes())?;
+    for _ in 0..ticks {
+        text.extend_from_slice("tick\n".as_bytes())?;
+    }
+    text.extend_from_slice(behind.as_bytes())?;
+    match parse_threads(alloc, text.as_slice()) {
+        Ok(_) => Ok(None),
+        Err(ParseFault::Bad { line, fault }) => Ok(Some((line, fault))),
+        Err(ParseFault::NoMemory) => Err("no memory".into()),
+    }
+}
+
+#[test]
+fn ticks_of_a_match_in_threads(rt: HostRuntime) -> Result<(), Fail> {
+    for (ticks, behind, fault) in [
+        (MAX_THREAD_TICKS, "scan 0\n", None),
+        (
+            MAX_THREAD_TICKS + 1,
+            "scan 1\n",
+            Some((4100, ScriptFault::TooManyLines)),
+        ),
+        (
+            MAX_THREAD_TICKS,
+            "scan 1\ntick\n",
+            Some((4100, ScriptFault::OutOfRange)),
+        ),
+    ] {
+        assert_eq!(rt; found_behind_ticks(rt.alloc(), ticks, behind)?, fault);
+    }
     Ok(())
 }
