@@ -1,27 +1,11 @@
 //! The program: what its words ask for, over standard input, standard output and standard error.
 #![tactic(auto)]
 
-mod command;
-#[cfg(test)]
-mod examples;
-mod input;
-#[cfg(test)]
-mod outside;
-#[cfg(test)]
-mod raw_rows;
-#[cfg(test)]
-mod rows;
-mod status;
-#[cfg(test)]
-mod tests;
-mod top;
-
-use status::{Status, exit_of};
+use match_top::{Status, exit_of, top};
 use std::io::BufWriter;
 use std::process::ExitCode;
 use std::{env, io};
 use tn_outside::{StdSink, StdSource};
-use top::top;
 
 /// How many bytes are gathered before standard output is called.
 const GATHERED_BYTES: usize = 65_536;

@@ -1,0 +1,174 @@
+-- How a call ends, and what it leaves of its source and its sink. A command has a script: `run` and `alone` read theirs, a
+-- text of at most 1,048,576 bytes, to its end; `big` makes its own of its numbers and reads nothing. The command writes the
+-- text that it makes of its script. Every other end has its cause.
+use Rattle.std.specs.Prelude.{ℕ, ◌≡◌, ◌+◌, ◌<◌, ◌≤◌, ◌⊎◌, List, length, reverse, Bool, true, false, nat_le, Option, Some, Result, Ok, Err}
+use Rattle.std.specs.List.{flat_map}
+use Rattle.tn_types.specs.declared.limits.TheConstants.{MAX_SCRIPT_BYTES}
+use Rattle.tn_outside.specs.Causes.{Rose}
+use Rattle.tn_outside.specs.Totals.{Drained, GaveFront, Adds, AddsFront}
+use Rattle.match_script.specs.Script.{Fault, script_of}
+use Rattle.match_script.specs.declared.types.Script.{Script as OneScript}
+use Rattle.match_laws.specs.Laws.{packs_in}
+use Rattle.match_laws.specs.Report.{report, told_lines, text_behind}
+use Rattle.two_worlds.specs.Text.{alone_text}
+use Rattle.script_maker.specs.Made.{made}
+use Rattle.match_count.specs.Counting.{counts_of, tellings}
+use Rattle.match_count.specs.Summary.{summary_text}
+use Rattle.match_top.specs.declared.command.Command.{Command}
+use Rattle.match_top.specs.declared.command.Command.TheVariants.{Run, Alone, Big}
+use Rattle.match_top.specs.declared.status.Status.{Status}
+use Rattle.match_top.specs.declared.status.Status.TheVariants.{Done, Usage, Script, TooLong, ReadFault, WriteFault, NoMemory}
+
+-- what a command writes for its script
+abbrev pub text_of : Command → OneScript → List ℕ
+text_of Run script = report script
+text_of (Alone client) script = alone_text script client
+text_of (Big seed clients steps) script = summary_text seed clients steps (counts_of (tellings script))
+
+-- what `alone C` writes is what the report of `run` has of the `pack C` lines
+abbrev pub AloneIsOfRun : Type 0
+AloneIsOfRun = (script : OneScript) (client : ℕ) → client < script.head.clients
+    → let lines = told_lines script.head (reverse script.body) in
+    (text_of Run script ≡ flat_map text_behind lines) × (text_of (Alone client) script ≡ flat_map (λ line. line) (packs_in client lines))
+
+-- what is told of a source or a sink before a call and after it: its bytes, and how often it has failed
+pub record Seen : Type 0 where
+  pub old : Option (List ℕ)
+  pub new : Option (List ℕ)
+  pub faults : ℕ
+  pub faults_after : ℕ
+
+abbrev pub seen : Option (List ℕ) → Option (List ℕ) → ℕ → ℕ → Seen
+seen old new faults faults_after = record { old = old; new = new; faults = faults; faults_after = faults_after }
+
+abbrev pub HasFailed : Seen → Type 0
+HasFailed s = Rose s.faults s.faults_after
+
+abbrev pub IsUntouched : Seen → Type 0
+IsUntouched s = (s.new ≡ s.old) × (s.faults_after ≡ s.faults)
+
+-- ---- the script of a command
+
+-- all that the source held was this text, which is not too long
+pub record GaveText (old new : Option (List ℕ)) (text : List ℕ) : Type 0 where
+  pub all : Drained old new text
+  pub few : length text ≤ MAX_SCRIPT_BYTES
+
+-- what a text is read as: a script, or its first fault
+abbrev pub Reading : Type 0
+Reading = List ℕ → Result OneScript Fault
+
+-- the source gave a whole text, which is read so
+abbrev pub ReadAs : Reading → Option (List ℕ) → Option (List ℕ) → Result OneScript Fault → Type 0
+ReadAs reading old new read = (text : List ℕ) × GaveText old new text × (reading text ≡ read)
+
+-- the source gave so many bytes, and keeps the rest
+abbrev pub GaveBytes : ℕ → Option (List ℕ) → Option (List ℕ) → Type 0
+GaveBytes n old new = (bytes : List ℕ) × (length bytes ≡ n) × GaveFront old new bytes
+
+abbrev pub GaveAtMost : ℕ → Option (List ℕ) → Option (List ℕ) → Type 0
+GaveAtMost n old new = (k : ℕ) × (k ≤ n) × GaveBytes k old new
+
+-- why no script was read
+abbrev pub NotRead : Reading → Seen → Status → Type 0
+NotRead reading source (Script line fault) = ReadAs reading source.old source.new (Err (line, fault))
+NotRead reading source TooLong = GaveBytes (MAX_SCRIPT_BYTES + 1) source.old source.new
+NotRead reading source ReadFault = HasFailed source × GaveAtMost MAX_SCRIPT_BYTES source.old source.new
+NotRead reading source NoMemory = Unit {0}
+NotRead reading source s = ⊥
+
+-- the command has this script: it was read, or it is the one that is made of the command's numbers
+abbrev pub HasScript : Command → Seen → OneScript → Type 0
+HasScript Run source script = ReadAs script_of source.old source.new (Ok script)
+HasScript (Alone client) source script = ReadAs script_of source.old source.new (Ok script)
+HasScript (Big seed clients steps) source script = script ≡ made seed clients steps
+
+-- why the command has none
+abbrev pub NoScript : Command → Seen → Status → Type 0
+NoScript Run source s = NotRead script_of source s
+NoScript (Alone client) source s = NotRead script_of source s
+NoScript (Big seed clients steps) source s = s ≡ NoMemory
+
+-- where the words are no command, or one that reads nothing, the source is left as it was
+abbrev pub LeavesSource : Result Command ℕ → Seen → Type 0
+LeavesSource (Ok Run) source = Unit {0}
+LeavesSource (Ok (Alone client)) source = Unit {0}
+LeavesSource (Ok (Big seed clients steps)) source = IsUntouched source
+LeavesSource (Err place) source = IsUntouched source
+
+-- ---- the whole call
+
+-- the command has a script, and of its text for it a front was written
+abbrev pub WroteFront : Result Command ℕ → Seen → Seen → Type 0
+WroteFront (Ok c) source sink =
+    (script : OneScript) × HasScript c source script × AddsFront sink.old sink.new (text_of c script)
+WroteFront (Err place) source sink = ⊥
+
+-- the cause of the answer to a command
+abbrev pub Cause : Command → Seen → Seen → Status → Type 0
+Cause c source sink Done = (script : OneScript) × HasScript c source script × Adds sink.old sink.new (text_of c script)
+Cause c source sink WriteFault = HasFailed sink × WroteFront (Ok c) source sink
+Cause c source sink NoMemory = Unit {0}
+Cause c source sink s = NoScript c source s × IsUntouched sink
+
+-- where the words are no command, the answer is `Usage` and nothing was touched
+abbrev pub AnswerTo : Result Command ℕ → Seen → Seen → Status → Type 0
+AnswerTo (Err place) source sink s = (s ≡ Usage place) × IsUntouched source × IsUntouched sink
+AnswerTo (Ok c) source sink s = Cause c source sink s
+
+pub record Outcome (command : Result Command ℕ) (source sink : Seen) (s : Status) : Type 0 where
+  pub answer : AnswerTo command source sink s
+  pub left : LeavesSource command source
+  -- one byte past the limit tells that a text is too long, and no further byte is taken
+  pub taken : GaveAtMost (MAX_SCRIPT_BYTES + 1) source.old source.new
+  -- whatever the answer, nothing was written, or a front of the command's text for its script
+  pub written : (sink.new ≡ sink.old) ⊎ WroteFront command source sink
+  -- no count of faults fell
+  pub reads : source.faults ≤ source.faults_after
+  pub writes : sink.faults ≤ sink.faults_after
+
+-- ---- which answer it is
+
+abbrev pub answer_to : Result OneScript Fault → Status
+answer_to (Ok script) = Done
+answer_to (Err (line, fault)) = Script line fault
+
+abbrev pub answer_within : (short : Bool) → List ℕ → Status
+answer_within true text = answer_to (script_of text)
+answer_within false text = TooLong
+
+-- the answer that words and a text ask for
+abbrev pub wanted : Result Command ℕ → List ℕ → Status
+wanted (Err place) text = Usage place
+wanted (Ok Run) text = answer_within (nat_le (length text) MAX_SCRIPT_BYTES) text
+wanted (Ok (Alone client)) text = answer_within (nat_le (length text) MAX_SCRIPT_BYTES) text
+wanted (Ok (Big seed clients steps)) text = Done
+
+abbrev pub IsCommand : Result Command ℕ → Type 0
+IsCommand (Ok c) = Unit {0}
+IsCommand (Err place) = ⊥
+
+abbrev pub Reads : Result Command ℕ → Type 0
+Reads (Ok Run) = Unit {0}
+Reads (Ok (Alone client)) = Unit {0}
+Reads (Ok (Big seed clients steps)) = ⊥
+Reads (Err place) = ⊥
+
+-- the wanted answer, or that of a fault of the outside or of want of memory, which came before it
+abbrev pub IsWanted : Result Command ℕ → List ℕ → Seen → Seen → Status → Type 0
+IsWanted command text source sink ReadFault = Reads command × HasFailed source
+IsWanted command text source sink WriteFault = (wanted command text ≡ Done) × HasFailed sink
+IsWanted command text source sink NoMemory = IsCommand command
+IsWanted command text source sink s = s ≡ wanted command text
+
+-- the source tells a text that is a script and not too long
+abbrev pub TellsScript : Option (List ℕ) → Type 0
+TellsScript held =
+    (text : List ℕ) × (script : OneScript) × (held ≡ Some text) × (length text ≤ MAX_SCRIPT_BYTES) × (script_of text ≡ Ok script)
+
+-- the words are a command, and the source tells a script where the command reads one
+abbrev pub CanBeDone : Result Command ℕ → Option (List ℕ) → Type 0
+CanBeDone (Ok Run) held = TellsScript held
+CanBeDone (Ok (Alone client)) held = TellsScript held
+CanBeDone (Ok (Big seed clients steps)) held = Unit {0}
+CanBeDone (Err place) held = ⊥

@@ -1,0 +1,137 @@
+//! The words of the command line.
+ghost use Rattle.std.specs.Prelude.{◌≡◌, ◌≢◌, ◌∷◌, false, IsTrue, length, map, string_bytes, slice_get, slice_index, codes};
+ghost use Rattle.std.specs.Option.{option_and_then};
+ghost use Rattle.match_script.specs.Words.{is_number};
+ghost use Rattle.match_top.specs.Command.{command_of, number_said};
+
+use tn_types::{MAX_BODY_LINES, MAX_CLIENTS};
+
+// The greatest numbers of a client, and of clients.
+const LAST_CLIENT: u32 = MAX_CLIENTS as u32 - 1;
+
+const MOST_CLIENTS: u32 = MAX_CLIENTS as u32;
+
+/// What the program is to do.
+#[derive(Clone, Copy, Debug, PartialEq, Eq)]
+pub enum Command {
+    /// `run`: a script is read, and its report is written.
+    Run,
+    /// `alone C`: a script is read, and what a server writes for its packs that serves client C alone, from 0 to 15.
+    Alone { client: u8 },
+    /// `big SEED CLIENTS STEPS`: a script is made of these numbers and run, and what its report has is counted. CLIENTS is
+    /// from 1 to 16, STEPS from 1 to 100,000.
+    Big { seed: u32, clients: u8, steps: u32 },
+}
+
+// Whether digits that begin so have no sign and no leading zero.
+fn begins_plainly(word: &[u8]) -> bool
+    ensures plain { IsTrue result → (slice_index word.now 0 ≢ 43) × (slice_index word.now 0 ≡ 48 → length word.now ≡ 1) }
+    ensures other { result ≡ false → is_number word.now ≡ false }
+{
+    match word {
+        [b'+', ..] => false,
+        [b'0', _, ..] => false,
+        _ => true,
+    }
+}
+
+// The number in this range that a word says.
+fn number(word: &str, least: u32, most: u32) -> Option<u32>
+    ensures { result ≡ number_said least most word.now }
+{
+    if !begins_plainly(word.as_bytes()) {
+        return None;
+    }
+    match word.parse::<u32>() {
+        Ok(n) => {
+            if least <= n && n <= most {
+                Some(n)
+            } else {
+                None
+            }
+        }
+        Err(_) => None,
+    }
+}
+
+// The number in this range that the word at a place says, if there is such a word.
+fn number_at(words: &[String], place: usize, least: u32, most: u32) -> Option<u32>
+    ensures { result ≡ option_and_then (number_said least most) (slice_get (map string_bytes words.now) place) }
+{
+    match words.get(place) {
+        Some(word) => number(word.as_str(), least, most),
+        None => None,
+    }
+}
+
+// The command with these words behind `run`.
+fn run_of(words: &[String]) -> Result<Command, u32>
+    ensures { result ≡ command_of (codes "run" ∷ map string_bytes words.now) }
+{
+    if words.is_empty() {
+        Ok(Command::Run)
+    } else {
+        Err(1)
+    }
+}
+
+// The command with these words behind `alone`.
+fn alone_of(words: &[String]) -> Result<Command, u32>
+    ensures { result ≡ command_of (codes "alone" ∷ map string_bytes words.now) }
+{
+    let Some(client) = number_at(words, 0, 0, LAST_CLIENT) else {
+        return Err(1);
+    };
+    if words.len() == 1 {
+        Ok(Command::Alone {
+            client: client as u8,
+        })
+    } else {
+        Err(2)
+    }
+}
+
+// The command with these words behind `big`.
+fn big_of(words: &[String]) -> Result<Command, u32>
+    ensures { result ≡ command_of (codes "big" ∷ map string_bytes words.now) }
+{
+    let Some(seed) = number_at(words, 0, 0, u32::MAX) else {
+        return Err(1);
+    };
+    let Some(clients) = number_at(words, 1, 1, MOST_CLIENTS) else {
+        return Err(2);
+    };
+    let Some(steps) = number_at(words, 2, 1, MAX_BODY_LINES) else {
+        return Err(3);
+    };
+    if words.len() == 3 {
+        Ok(Command::Big {
+            seed,
+            clients: clients as u8,
+            steps,
+        })
+    } else {
+        Err(4)
+    }
+}
+
+/// The command that the words are, or the least place at which the words up to it begin none, or their number where
+/// words are missing (docs/formats.md, "The command line").
+pub fn command_of(words: &Vec<String>) -> Result<Command, u32>
+    ensures { result ≡ command_of (map string_bytes words.now.items) }
+{
+    match words.as_slice().split_first() {
+        None => Err(0),
+        Some((name, rest)) => {
+            if name.as_str() == "run" {
+                run_of(rest)
+            } else if name.as_str() == "alone" {
+                alone_of(rest)
+            } else if name.as_str() == "big" {
+                big_of(rest)
+            } else {
+                Err(0)
+            }
+        }
+    }
+}

@@ -1,0 +1,74 @@
+//! Reading a script, as every command does.
+ghost use Rattle.std.specs.Prelude.{◌≡◌, ◌+◌, ◌≤◌, IfOk, IfErr, Ok};
+ghost use Rattle.match_script.specs.Ranges.{HasRanges};
+ghost use Rattle.match_script.specs.Script.{script_of, threads_script_of};
+ghost use Rattle.match_top.specs.Outcome.{seen, GaveText, GaveAtMost, Reading, ReadAs, NotRead};
+
+use crate::status::Status;
+use match_script::{ParseFault, Script, parse, parse_threads};
+use std::alloc::Global;
+use tn_outside::Source;
+use tn_types::MAX_SCRIPT_BYTES;
+
+/// Bytes that are read in one go.
+const BUFFER_BYTES: usize = 4096;
+
+/// All bytes of a source, and never more than one past the limit.
+fn read_all<S: Source>(alloc: Global, source: &mut S) -> Result<Vec<u8>, Status>
+    ensures ok { IfOk result (λ text. GaveText (S.held source.old) (S.held source.new) text.items) }
+    ensures err { IfErr result (λ status. (reading : Reading)
+        → NotRead reading (seen (S.held source.old) (S.held source.new) (S.faults source.old) (S.faults source.new)) status) }
+    ensures taken { GaveAtMost (MAX_SCRIPT_BYTES + 1) (S.held source.old) (S.held source.new) }
+    ensures later { S.faults source.old ≤ S.faults source.new }
+{
+    let mut text = Vec::new(alloc);
+    let mut buffer = [0u8; BUFFER_BYTES];
+    'reads: while text.len() <= MAX_SCRIPT_BYTES {
+        let room = (MAX_SCRIPT_BYTES + 1 - text.len()).min(BUFFER_BYTES);
+        let (piece, _) = buffer.split_at_mut(room);
+        let Ok(count) = source.read(piece) else {
+            return Err(Status::ReadFault);
+        };
+        if count == 0 {
+            return Ok(text);
+        }
+        if text.extend_from_slice(&piece[..count]).is_err() {
+            return Err(Status::NoMemory);
+        }
+    }
+    Err(Status::TooLong)
+}
+
+/// The script of a source, or why there is none.
+pub fn read_script<S: Source>(alloc: Global, source: &mut S) -> Result<Script, Status>
+    ensures ok { IfOk result (λ script. ReadAs script_of (S.held source.old) (S.held source.new) (Ok script)) }
+    ensures err { IfErr result
+        (NotRead script_of (seen (S.held source.old) (S.held source.new) (S.faults source.old) (S.faults source.new))) }
+    ensures ranges { IfOk result HasRanges }
+    ensures taken { GaveAtMost (MAX_SCRIPT_BYTES + 1) (S.held source.old) (S.held source.new) }
+    ensures later { S.faults source.old ≤ S.faults source.new }
+{
+    let text = read_all(alloc, source)?;
+    match parse(alloc, text.as_slice()) {
+        Ok(script) => Ok(script),
+        Err(ParseFault::Bad { line, fault }) => Err(Status::Script(line, fault)),
+        Err(ParseFault::NoMemory) => Err(Status::NoMemory),
+    }
+}
+
+/// The same for a match in threads, whose script has at most `MAX_THREAD_TICKS` ticks.
+pub fn read_threads_script<S: Source>(alloc: Global, source: &mut S) -> Result<Script, Status>
+    ensures ok { IfOk result (λ script. ReadAs threads_script_of (S.held source.old) (S.held source.new) (Ok script)) }
+    ensures err { IfErr result
+        (NotRead threads_script_of (seen (S.held source.old) (S.held source.new) (S.faults source.old) (S.faults source.new))) }
+    ensures ranges { IfOk result HasRanges }
+    ensures taken { GaveAtMost (MAX_SCRIPT_BYTES + 1) (S.held source.old) (S.held source.new) }
+    ensures later { S.faults source.old ≤ S.faults source.new }
+{
+    let text = read_all(alloc, source)?;
+    match parse_threads(alloc, text.as_slice()) {
+        Ok(script) => Ok(script),
+        Err(ParseFault::Bad { line, fault }) => Err(Status::Script(line, fault)),
+        Err(ParseFault::NoMemory) => Err(Status::NoMemory),
+    }
+}

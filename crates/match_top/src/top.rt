@@ -1,0 +1,196 @@
+//! The commands: each has a script, which is read or made, and what the command makes of it is written.
+ghost use Rattle.std.specs.Prelude.{◌≡◌, ◌⊎◌, ◌≤◌, ◌+◌, List, [], ℕ, map, string_bytes, Some, Ok, OnOk, OnErr, IfOk, IfErr};
+ghost use Rattle.tn_outside.specs.Causes.{Rose};
+ghost use Rattle.tn_outside.specs.Totals.{Adds, AddsFront};
+ghost use Rattle.match_script.specs.Ranges.{HasRanges};
+ghost use Rattle.match_laws.specs.Laws.{Isolation, EventsInOrder, MovesInOrder, LooseInOrder, LittleIsRefused};
+ghost use Rattle.match_laws.specs.Values.{CopiesShowValues, SettledIsNewest, ChangesRecover};
+ghost use Rattle.match_laws.specs.Applied.{AppliedAreAccepted, AppliedInOrder};
+ghost use Rattle.match_laws.specs.Words.{PrintedInOrder};
+ghost use Rattle.match_top.specs.Command.{command_of, CommandFits, Says};
+ghost use Rattle.match_top.specs.Outcome.{seen, text_of, AloneIsOfRun, Outcome, IsWanted, CanBeDone, HasFailed, HasScript, NoScript, LeavesSource, GaveAtMost};
+
+use crate::command::{Command, command_of};
+use crate::input::read_script;
+use crate::status::Status;
+use match_count::{count, put_counts};
+use match_engine::{RunFault, run, write_all};
+use match_laws::{
+    applied_in_order, changes_recover, copies_show_values, events_in_order, isolation,
+    little_is_refused, loose_events_in_order, moves_in_order, printed_in_order, settled_is_newest,
+};
+use match_script::Script;
+use script_maker::make;
+use std::alloc::Global;
+use tn_outside::{Sink, Source};
+use tn_types::MAX_SCRIPT_BYTES;
+use two_worlds::run_alone;
+
+/// The script of a command, or why it has none.
+fn script_for<S: Source>(alloc: Global, command: Command, source: &mut S) -> Result<Script, Status>
+    requires { CommandFits command }
+    ensures ok { IfOk result
+        (HasScript command (seen (S.held source.old) (S.held source.new) (S.faults source.old) (S.faults source.new))) }
+    ensures err { IfErr result
+        (NoScript command (seen (S.held source.old) (S.held source.new) (S.faults source.old) (S.faults source.new))) }
+    ensures ranges { IfOk result HasRanges }
+    ensures left { LeavesSource (Ok command) (seen (S.held source.old) (S.held source.new) (S.faults source.old) (S.faults source.new)) }
+    ensures taken { GaveAtMost (MAX_SCRIPT_BYTES + 1) (S.held source.old) (S.held source.new) }
+    ensures later { S.faults source.old ≤ S.faults source.new }
+{
+    match command {
+        Command::Run => read_script(alloc, source),
+        Command::Alone { client: _ } => read_script(alloc, source),
+        Command::Big {
+            seed,
+            clients,
+            steps,
+        } => match make(alloc, seed, clients, steps) {
+            Ok(script) => Ok(script),
+            Err(_) => Err(Status::NoMemory),
+        },
+    }
+}
+
+/// Counts what the report of a script has, and writes the eight lines that say so.
+fn write_counts<K: Sink>(
+    alloc: Global,
+    seed: u32,
+    clients: u8,
+    steps: u32,
+    script: &Script,
+    sink: &mut K,
+) -> Result<(), RunFault>
+    requires { HasRanges script.now }
+    ensures text { OnOk result
+        (Adds (K.written sink.old) (K.written sink.new) (text_of (Command.Big seed clients steps) script.now)) }
+    ensures front { OnErr result
+        (AddsFront (K.written sink.old) (K.written sink.new) (text_of (Command.Big seed clients steps) script.now)) }
+    ensures cause { result ≡ Err RunFault.WriteFault → Rose (K.faults sink.old) (K.faults sink.new) }
+    ensures later { K.faults sink.old ≤ K.faults sink.new }
+{
+    let Ok(counts) = count(alloc, script) else {
+        return Err(RunFault::NoMemory);
+    };
+    let mut text = Vec::new(alloc);
+    let Ok(()) = put_counts(alloc, seed, clients, steps, &counts, &mut text) else {
+        return Err(RunFault::NoMemory);
+    };
+    match write_all(sink, text.as_slice()) {
+        Ok(()) => Ok(()),
+        Err(_) => Err(RunFault::WriteFault),
+    }
+}
+
+/// Writes what a command makes of its script. After an error a front of it was written.
+fn write_text<K: Sink>(
+    alloc: Global,
+    command: Command,
+    script: &Script,
+    sink: &mut K,
+) -> Result<(), RunFault>
+    requires { HasRanges script.now }
+    ensures text { OnOk result (Adds (K.written sink.old) (K.written sink.new) (text_of command script.now)) }
+    ensures front { OnErr result (AddsFront (K.written sink.old) (K.written sink.new) (text_of command script.now)) }
+    ensures cause { result ≡ Err RunFault.WriteFault → Rose (K.faults sink.old) (K.faults sink.new) }
+    ensures later { K.faults sink.old ≤ K.faults sink.new }
+{
+    match command {
+        Command::Run => run(alloc, script, sink),
+        Command::Alone { client } => run_alone(alloc, script, client, sink),
+        Command::Big {
+            seed,
+            clients,
+            steps,
+        } => write_counts(alloc, seed, clients, steps, script, sink),
+    }
+}
+
+/// Serves a command.
+fn serve<S: Source, K: Sink>(
+    alloc: Global,
+    command: Command,
+    source: &mut S,
+    sink: &mut K,
+) -> Status
+    requires { CommandFits command }
+    ensures outcome { Outcome (Ok command)
+        (seen (S.held source.old) (S.held source.new) (S.faults source.old) (S.faults source.new))
+        (seen (K.written sink.old) (K.written sink.new) (K.faults sink.old) (K.faults sink.new)) result }
+    ensures handed { result ≡ Status.Done → K.gathered sink.new ≡ [] }
+{
+    let script = match script_for(alloc, command, source) {
+        Ok(script) => script,
+        Err(status) => return status,
+    };
+    match write_text(alloc, command, &script, sink) {
+        Ok(()) => match sink.flush() {
+            Ok(()) => Status::Done,
+            Err(_) => Status::WriteFault,
+        },
+        Err(RunFault::WriteFault) => Status::WriteFault,
+        Err(RunFault::NoMemory) => Status::NoMemory,
+    }
+}
+
+/// Serves the commands that need neither threads nor a network: reads a script from the source or makes one, and writes to
+/// the sink what the command makes of it. What the sink gathers is handed on behind the last line.
+pub fn top<S: Source, K: Sink>(
+    alloc: Global,
+    words: &Vec<String>,
+    source: &mut S,
+    sink: &mut K,
+) -> Status
+    // What each answer says of the source and of the sink, and what holds after every answer.
+    ensures outcome { Outcome (command_of (map string_bytes words.now.items))
+        (seen (S.held source.old) (S.held source.new) (S.faults source.old) (S.faults source.new))
+        (seen (K.written sink.old) (K.written sink.new) (K.faults sink.old) (K.faults sink.new)) result }
+    // Which command the words are, or where they stop being one.
+    ensures words { Says (map string_bytes words.now.items) (command_of (map string_bytes words.now.items)) }
+    // Where the whole text was written, the sink keeps none of it back.
+    ensures handed { result ≡ Status.Done → K.gathered sink.new ≡ [] }
+    // The answer is the one that the words and the text ask for, where nothing fails and memory is there.
+    ensures exact { (text : List ℕ) → S.held source.old ≡ Some text → IsWanted (command_of (map string_bytes words.now.items)) text
+        (seen (S.held source.old) (S.held source.new) (S.faults source.old) (S.faults source.new))
+        (seen (K.written sink.old) (K.written sink.new) (K.faults sink.old) (K.faults sink.new)) result }
+    // A command, a text that is a script where the command reads one, and no fault: the whole text of the command, or no
+    // memory for it.
+    ensures complete { CanBeDone (command_of (map string_bytes words.now.items)) (S.held source.old)
+        → (HasFailed (seen (S.held source.old) (S.held source.new) (S.faults source.old) (S.faults source.new)) → ⊥)
+        → (HasFailed (seen (K.written sink.old) (K.written sink.new) (K.faults sink.old) (K.faults sink.new)) → ⊥)
+        → (result ≡ Status.Done) ⊎ (result ≡ Status.NoMemory) }
+    // What an honest client's copies show at every line, its object had; a settled field shows the newest value; and each field of
+    // what is shown and not hidden is due, or written and not drained, or on its way, or right.
+    ensures copies_show_values { CopiesShowValues }
+    ensures settled_is_newest { SettledIsNewest }
+    ensures changes_recover { ChangesRecover }
+    // Each client's datagrams in the report are a function of its own list, and `alone` writes them; in the journal of an
+    // honest client, at every line, what is delivered is a front of what was posted, of unguaranteed events some in their order,
+    // the accepted moves are a front of the sampled ones, and no end refuses a datagram but an old one.
+    ensures isolation { Isolation }
+    ensures alone { AloneIsOfRun }
+    ensures events_in_order { EventsInOrder }
+    ensures moves_in_order { MovesInOrder }
+    ensures loose_events_in_order { LooseInOrder }
+    ensures little_is_refused { LittleIsRefused }
+    // The moves that ticks took are the first that the server accepted, and of an honest client the first that it sampled; and
+    // the printed words of delivered events are the first of those of posted ones.
+    ensures applied_are_accepted { AppliedAreAccepted }
+    ensures applied_in_order { AppliedInOrder }
+    ensures printed_in_order { PrintedInOrder }
+{
+    isolation();
+    copies_show_values();
+    settled_is_newest();
+    changes_recover();
+    events_in_order();
+    moves_in_order();
+    loose_events_in_order();
+    little_is_refused();
+    applied_in_order();
+    printed_in_order();
+    match command_of(words) {
+        Ok(command) => serve(alloc, command, source, sink),
+        Err(place) => Status::Usage(place),
+    }
+}

@@ -1,0 +1,20 @@
+//! What no clause says of the program: that reports and counts come whole where there is memory, and what stands in a sink after a
+//! read or a write that fails. It has no code but its tests, and nothing stands on it.
+#![tactic(auto)]
+
+#[cfg(test)]
+mod examples;
+#[cfg(test)]
+mod ghost_rows;
+#[cfg(test)]
+mod outside;
+#[cfg(test)]
+mod raw_rows;
+#[cfg(test)]
+mod rows;
+#[cfg(test)]
+mod served;
+#[cfg(test)]
+mod tests;
+#[cfg(test)]
+mod world_examples;
