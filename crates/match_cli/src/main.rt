@@ -1,7 +1,8 @@
 //! The program: what its words ask for, over standard input, standard output and standard error.
 #![tactic(auto)]
 
-use match_top::{Status, exit_of, top};
+use match_top::top;
+use script_input::{Status, exit_of};
 use std::io::BufWriter;
 use std::process::ExitCode;
 use std::{env, io};

@@ -2,22 +2,16 @@
 use Rattle.std.proofs.Common.{ℕ, ◌+◌, ◌≤◌, inr, List, ◌++◌, length, take, Option, Ok, refl, arith, length-append, length-take, sym, subst}
 use Rattle.std.proofs.lemmas.List.{take_all}
 use Rattle.tn_outside.specs.Causes.{Rose}
-use Rattle.tn_outside.specs.Streams.{ReadTakes}
-use Rattle.tn_outside.specs.Totals.{GaveFront, Adds, AddsFront}
-use Rattle.tn_outside.proofs.Totals.{gave_more}
+use Rattle.tn_outside.specs.Totals.{Adds, AddsFront}
 use Rattle.match_script.specs.declared.types.Script.{Script as OneScript}
 use Rattle.match_top.specs.declared.command.Command.{Command}
-use Rattle.match_top.specs.declared.status.Status.TheVariants.{Done, WriteFault}
-use Rattle.match_top.specs.Outcome.{Seen, seen, HasScript, LeavesSource, GaveAtMost, Outcome, text_of, HasFailed}
+use Rattle.script_input.specs.declared.status.Status.TheVariants.{Done, WriteFault}
+use Rattle.script_input.specs.Reading.{Seen, seen, GaveAtMost, HasFailed}
+use Rattle.match_top.specs.Outcome.{HasScript, LeavesSource, Outcome, text_of}
 
 -- a fault that comes later in a call is one of the call
 pub rose_later : (a b n : ℕ) → a ≤ b → Rose b n → Rose a n
 rose_later a b n le rose = omega arith
-
--- a piece more was taken
-pub took_more : (old mid new : Option (List ℕ)) (k n : ℕ) (bytes buf : List ℕ) → GaveFront old mid bytes → ReadTakes mid new (Ok k) buf → length bytes + k ≤ n → GaveAtMost n old new
-took_more old mid new k n bytes buf g r few =
-    (length (bytes ++ take k buf), omega (arith, length-append bytes (take k buf), length-take k buf, few), (bytes ++ take k buf, refl, gave_more old mid new k bytes buf g r))
 
 -- what a source and a sink were told to be, before a call and after it
 module _ (c : Command) (held held' : Option (List ℕ)) (faults faults' : ℕ) (written written' : Option (List ℕ)) (sink_faults sink_faults' : ℕ) where

@@ -1,3 +1,2 @@
 pub mod Command
 pub mod Outcome
-pub mod Said

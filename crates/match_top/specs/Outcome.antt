@@ -1,12 +1,11 @@
 -- How a call ends, and what it leaves of its source and its sink. A command has a script: `run` and `alone` read theirs, a
 -- text of at most 1,048,576 bytes, to its end; `big` makes its own of its numbers and reads nothing. The command writes the
 -- text that it makes of its script. Every other end has its cause.
-use Rattle.std.specs.Prelude.{ℕ, ◌≡◌, ◌+◌, ◌<◌, ◌≤◌, ◌⊎◌, List, length, reverse, Bool, true, false, nat_le, Option, Some, Result, Ok, Err}
+use Rattle.std.specs.Prelude.{ℕ, ◌≡◌, ◌+◌, ◌<◌, ◌≤◌, ◌⊎◌, List, length, reverse, Option, Some, Result, Ok, Err}
 use Rattle.std.specs.List.{flat_map}
 use Rattle.tn_types.specs.declared.limits.TheConstants.{MAX_SCRIPT_BYTES}
-use Rattle.tn_outside.specs.Causes.{Rose}
-use Rattle.tn_outside.specs.Totals.{Drained, GaveFront, Adds, AddsFront}
-use Rattle.match_script.specs.Script.{Fault, script_of}
+use Rattle.tn_outside.specs.Totals.{Adds, AddsFront}
+use Rattle.match_script.specs.Script.{script_of}
 use Rattle.match_script.specs.declared.types.Script.{Script as OneScript}
 use Rattle.match_laws.specs.Laws.{packs_in}
 use Rattle.match_laws.specs.Report.{report, told_lines, text_behind}
@@ -16,8 +15,9 @@ use Rattle.match_count.specs.Counting.{counts_of, tellings}
 use Rattle.match_count.specs.Summary.{summary_text}
 use Rattle.match_top.specs.declared.command.Command.{Command}
 use Rattle.match_top.specs.declared.command.Command.TheVariants.{Run, Alone, Big}
-use Rattle.match_top.specs.declared.status.Status.{Status}
-use Rattle.match_top.specs.declared.status.Status.TheVariants.{Done, Usage, Script, TooLong, ReadFault, WriteFault, NoMemory}
+use Rattle.script_input.specs.declared.status.Status.{Status}
+use Rattle.script_input.specs.declared.status.Status.TheVariants.{Done, Usage, ReadFault, WriteFault, NoMemory}
+use Rattle.script_input.specs.Reading.{Seen, IsUntouched, HasFailed, ReadAs, NotRead, GaveAtMost, answer_of}
 
 -- what a command writes for its script
 abbrev pub text_of : Command → OneScript → List ℕ
@@ -31,51 +31,7 @@ AloneIsOfRun = (script : OneScript) (client : ℕ) → client < script.head.clie
     → let lines = told_lines script.head (reverse script.body) in
     (text_of Run script ≡ flat_map text_behind lines) × (text_of (Alone client) script ≡ flat_map (λ line. line) (packs_in client lines))
 
--- what is told of a source or a sink before a call and after it: its bytes, and how often it has failed
-pub record Seen : Type 0 where
-  pub old : Option (List ℕ)
-  pub new : Option (List ℕ)
-  pub faults : ℕ
-  pub faults_after : ℕ
-
-abbrev pub seen : Option (List ℕ) → Option (List ℕ) → ℕ → ℕ → Seen
-seen old new faults faults_after = record { old = old; new = new; faults = faults; faults_after = faults_after }
-
-abbrev pub HasFailed : Seen → Type 0
-HasFailed s = Rose s.faults s.faults_after
-
-abbrev pub IsUntouched : Seen → Type 0
-IsUntouched s = (s.new ≡ s.old) × (s.faults_after ≡ s.faults)
-
 -- ---- the script of a command
-
--- all that the source held was this text, which is not too long
-pub record GaveText (old new : Option (List ℕ)) (text : List ℕ) : Type 0 where
-  pub all : Drained old new text
-  pub few : length text ≤ MAX_SCRIPT_BYTES
-
--- what a text is read as: a script, or its first fault
-abbrev pub Reading : Type 0
-Reading = List ℕ → Result OneScript Fault
-
--- the source gave a whole text, which is read so
-abbrev pub ReadAs : Reading → Option (List ℕ) → Option (List ℕ) → Result OneScript Fault → Type 0
-ReadAs reading old new read = (text : List ℕ) × GaveText old new text × (reading text ≡ read)
-
--- the source gave so many bytes, and keeps the rest
-abbrev pub GaveBytes : ℕ → Option (List ℕ) → Option (List ℕ) → Type 0
-GaveBytes n old new = (bytes : List ℕ) × (length bytes ≡ n) × GaveFront old new bytes
-
-abbrev pub GaveAtMost : ℕ → Option (List ℕ) → Option (List ℕ) → Type 0
-GaveAtMost n old new = (k : ℕ) × (k ≤ n) × GaveBytes k old new
-
--- why no script was read
-abbrev pub NotRead : Reading → Seen → Status → Type 0
-NotRead reading source (Script line fault) = ReadAs reading source.old source.new (Err (line, fault))
-NotRead reading source TooLong = GaveBytes (MAX_SCRIPT_BYTES + 1) source.old source.new
-NotRead reading source ReadFault = HasFailed source × GaveAtMost MAX_SCRIPT_BYTES source.old source.new
-NotRead reading source NoMemory = Unit {0}
-NotRead reading source s = ⊥
 
 -- the command has this script: it was read, or it is the one that is made of the command's numbers
 abbrev pub HasScript : Command → Seen → OneScript → Type 0
@@ -129,19 +85,11 @@ pub record Outcome (command : Result Command ℕ) (source sink : Seen) (s : Stat
 
 -- ---- which answer it is
 
-abbrev pub answer_to : Result OneScript Fault → Status
-answer_to (Ok script) = Done
-answer_to (Err (line, fault)) = Script line fault
-
-abbrev pub answer_within : (short : Bool) → List ℕ → Status
-answer_within true text = answer_to (script_of text)
-answer_within false text = TooLong
-
 -- the answer that words and a text ask for
 abbrev pub wanted : Result Command ℕ → List ℕ → Status
 wanted (Err place) text = Usage place
-wanted (Ok Run) text = answer_within (nat_le (length text) MAX_SCRIPT_BYTES) text
-wanted (Ok (Alone client)) text = answer_within (nat_le (length text) MAX_SCRIPT_BYTES) text
+wanted (Ok Run) text = answer_of script_of text
+wanted (Ok (Alone client)) text = answer_of script_of text
 wanted (Ok (Big seed clients steps)) text = Done
 
 abbrev pub IsCommand : Result Command ℕ → Type 0

@@ -8,11 +8,10 @@ ghost use Rattle.match_laws.specs.Values.{CopiesShowValues, SettledIsNewest, Cha
 ghost use Rattle.match_laws.specs.Applied.{AppliedAreAccepted, AppliedInOrder};
 ghost use Rattle.match_laws.specs.Words.{PrintedInOrder};
 ghost use Rattle.match_top.specs.Command.{command_of, CommandFits, Says};
-ghost use Rattle.match_top.specs.Outcome.{seen, text_of, AloneIsOfRun, Outcome, IsWanted, CanBeDone, HasFailed, HasScript, NoScript, LeavesSource, GaveAtMost};
+ghost use Rattle.script_input.specs.Reading.{seen, GaveAtMost, HasFailed};
+ghost use Rattle.match_top.specs.Outcome.{text_of, AloneIsOfRun, Outcome, IsWanted, CanBeDone, HasScript, NoScript, LeavesSource};
 
 use crate::command::{Command, command_of};
-use crate::input::read_script;
-use crate::status::Status;
 use match_count::{count, put_counts};
 use match_engine::{RunFault, run, write_all};
 use match_laws::{
@@ -20,6 +19,7 @@ use match_laws::{
     little_is_refused, loose_events_in_order, moves_in_order, printed_in_order, settled_is_newest,
 };
 use match_script::Script;
+use script_input::{Status, read_script};
 use script_maker::make;
 use std::alloc::Global;
 use tn_outside::{Sink, Source};

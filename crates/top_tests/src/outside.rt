@@ -3,7 +3,7 @@
 use crate::ghost_rows::GHOST_ROWS;
 use crate::served::{ALL, run_on, served, with_lines};
 use match_script::ScriptFault;
-use match_top::Status;
+use script_input::Status;
 use std::alloc::{AllocError, Global};
 use std::test::Fail;
 

@@ -1,7 +1,8 @@
 //! Calls of the program over a source and a sink in memory.
 ghost use Rattle.std.specs.Prelude.{◌<◌};
 
-use match_top::{Status, top};
+use match_top::top;
+use script_input::Status;
 use std::alloc::AllocError;
 use std::test::Fail;
 use tn_outside::{MemSink, MemSource, SteadySource};

@@ -5,7 +5,7 @@ use crate::raw_rows::RAW_ROWS;
 use crate::rows::ROWS;
 use crate::served::{ALL, hold, run_on, served, with_lines};
 use match_script::ScriptFault;
-use match_top::{Status, exit_of};
+use script_input::{Status, exit_of};
 use std::alloc::{AllocError, Global};
 use std::test::Fail;
 

@@ -2,8 +2,8 @@
 use Rattle.std.specs.Prelude.{ℕ, List, ◌++◌, codes}
 use Rattle.std.specs.Fmt.{decimal}
 use Rattle.match_script.specs.Said.{fault_word}
-use Rattle.match_top.specs.declared.status.Status.{Status}
-use Rattle.match_top.specs.declared.status.Status.TheVariants.{Done, Usage, Script, TooLong, ReadFault, WriteFault, NoMemory}
+use Rattle.script_input.specs.declared.status.Status.{Status}
+use Rattle.script_input.specs.declared.status.Status.TheVariants.{Done, Usage, Script, TooLong, ReadFault, WriteFault, NoMemory}
 
 abbrev pub exit_of : Status → ℕ
 exit_of Done = 0

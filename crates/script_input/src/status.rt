@@ -1,6 +1,6 @@
 //! How a call ended, and what the program says of it.
 ghost use Rattle.std.specs.Prelude.{◌≡◌};
-ghost use Rattle.match_top.specs.Said.{exit_of};
+ghost use Rattle.script_input.specs.Said.{exit_of};
 
 use match_script::ScriptFault;
 use std::fmt;
@@ -42,7 +42,7 @@ pub fn exit_of(status: Status) -> u8
 /// The words on standard error.
 impl fmt::Display for Status {
     ghost use Rattle.std.specs.Prelude.{Some};
-    ghost use Rattle.match_top.specs.Said.{words_of};
+    ghost use Rattle.script_input.specs.Said.{words_of};
 
     ghost output = { λ s. Some (words_of s) };
 

@@ -2,7 +2,7 @@
 ghost use Rattle.std.specs.Prelude.{◌≡◌, ◌+◌, ◌≤◌, IfOk, IfErr, Ok};
 ghost use Rattle.match_script.specs.Ranges.{HasRanges};
 ghost use Rattle.match_script.specs.Script.{script_of, threads_script_of};
-ghost use Rattle.match_top.specs.Outcome.{seen, GaveText, GaveAtMost, Reading, ReadAs, NotRead};
+ghost use Rattle.script_input.specs.Reading.{seen, GaveText, GaveAtMost, Reading, ReadAs, NotRead};
 
 use crate::status::Status;
 use match_script::{ParseFault, Script, parse, parse_threads};

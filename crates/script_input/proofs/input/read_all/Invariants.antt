@@ -1,7 +1,7 @@
 use Rattle.std.proofs.Common.{◌≤◌, ◌-◌, ◌+◌, vec_len}
 use Rattle.tn_types.specs.declared.limits.TheConstants.{MAX_SCRIPT_BYTES}
 use Rattle.tn_outside.specs.Totals.{GaveFront}
-use Rattle.match_top.proofs.input.read_all.Given as goal
+use Rattle.script_input.proofs.input.read_all.Given as goal
 
 abbrev pub invariant-reads : goal.invariant-reads
 invariant-reads g l = record {

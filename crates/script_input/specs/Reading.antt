@@ -1,0 +1,70 @@
+-- What a call that reads a script took from its source: a text of at most 1,048,576 bytes, to its end, which is a script; or why there
+-- is none.
+use Rattle.std.specs.Prelude.{ℕ, ◌≡◌, ◌+◌, ◌≤◌, List, length, Option, Result, Ok, Err, Bool, true, false, nat_le}
+use Rattle.tn_types.specs.declared.limits.TheConstants.{MAX_SCRIPT_BYTES}
+use Rattle.tn_outside.specs.Causes.{Rose}
+use Rattle.tn_outside.specs.Totals.{Drained, GaveFront}
+use Rattle.match_script.specs.Script.{Fault}
+use Rattle.match_script.specs.declared.types.Script.{Script as OneScript}
+use Rattle.script_input.specs.declared.status.Status.{Status}
+use Rattle.script_input.specs.declared.status.Status.TheVariants.{Done, Script, TooLong, ReadFault, NoMemory}
+
+-- what is told of a source or a sink before a call and after it: its bytes, and how often it has failed
+pub record Seen : Type 0 where
+  pub old : Option (List ℕ)
+  pub new : Option (List ℕ)
+  pub faults : ℕ
+  pub faults_after : ℕ
+
+abbrev pub seen : Option (List ℕ) → Option (List ℕ) → ℕ → ℕ → Seen
+seen old new faults faults_after = record { old = old; new = new; faults = faults; faults_after = faults_after }
+
+abbrev pub HasFailed : Seen → Type 0
+HasFailed s = Rose s.faults s.faults_after
+
+abbrev pub IsUntouched : Seen → Type 0
+IsUntouched s = (s.new ≡ s.old) × (s.faults_after ≡ s.faults)
+
+-- ---- reading
+
+-- all that the source held was this text, which is not too long
+pub record GaveText (old new : Option (List ℕ)) (text : List ℕ) : Type 0 where
+  pub all : Drained old new text
+  pub few : length text ≤ MAX_SCRIPT_BYTES
+
+-- what a text is read as: a script, or its first fault
+abbrev pub Reading : Type 0
+Reading = List ℕ → Result OneScript Fault
+
+-- the source gave a whole text, which is read so
+abbrev pub ReadAs : Reading → Option (List ℕ) → Option (List ℕ) → Result OneScript Fault → Type 0
+ReadAs reading old new read = (text : List ℕ) × GaveText old new text × (reading text ≡ read)
+
+-- the source gave so many bytes, and keeps the rest
+abbrev pub GaveBytes : ℕ → Option (List ℕ) → Option (List ℕ) → Type 0
+GaveBytes n old new = (bytes : List ℕ) × (length bytes ≡ n) × GaveFront old new bytes
+
+abbrev pub GaveAtMost : ℕ → Option (List ℕ) → Option (List ℕ) → Type 0
+GaveAtMost n old new = (k : ℕ) × (k ≤ n) × GaveBytes k old new
+
+-- why no script was read
+abbrev pub NotRead : Reading → Seen → Status → Type 0
+NotRead reading source (Script line fault) = ReadAs reading source.old source.new (Err (line, fault))
+NotRead reading source TooLong = GaveBytes (MAX_SCRIPT_BYTES + 1) source.old source.new
+NotRead reading source ReadFault = HasFailed source × GaveAtMost MAX_SCRIPT_BYTES source.old source.new
+NotRead reading source NoMemory = Unit {0}
+NotRead reading source s = ⊥
+
+-- ---- which answer it is
+
+abbrev pub answer_to : Result OneScript Fault → Status
+answer_to (Ok script) = Done
+answer_to (Err (line, fault)) = Script line fault
+
+abbrev pub answer_within : (short : Bool) → Result OneScript Fault → Status
+answer_within true read = answer_to read
+answer_within false read = TooLong
+
+-- the answer that a text asks for, where nothing fails and memory is there
+abbrev pub answer_of : Reading → List ℕ → Status
+answer_of reading text = answer_within (nat_le (length text) MAX_SCRIPT_BYTES) (reading text)

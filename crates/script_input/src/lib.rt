@@ -1,0 +1,8 @@
+//! Reading a script from a source, and how a call of the program ends.
+#![tactic(auto)]
+
+mod input;
+mod status;
+
+pub use input::{read_script, read_threads_script};
+pub use status::{Status, exit_of};
