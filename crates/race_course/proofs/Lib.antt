@@ -1,0 +1,4 @@
+pub mod Adding
+pub mod Rising
+pub mod Following
+pub mod ScanSteps

@@ -1,0 +1,13 @@
+//! What a script and the moves of its ticks make: the values of all fields by version, and the messages that each client is to get.
+#![tactic(auto)]
+
+mod client;
+mod course;
+mod fit;
+pub mod laws;
+mod making;
+mod scan;
+
+pub use course::Course;
+pub use fit::moves_fit;
+pub use scan::scan_messages;

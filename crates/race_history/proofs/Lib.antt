@@ -1,0 +1,3 @@
+pub mod GrowLaws
+pub mod Extending
+pub mod Histories
