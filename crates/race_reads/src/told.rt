@@ -1,0 +1,24 @@
+//! The object of a period, and how many fields an object may have.
+ghost use Rattle.std.specs.Prelude.{◌≡◌, ℕ, ◌<◌, ◌≤◌, MatchOption, length};
+ghost use Rattle.race_history.specs.History.{fields_told};
+ghost use Rattle.race_reads.specs.Reads.{object_of};
+
+use lane_periods::Objects;
+use race_history::History;
+use tn_types::MAX_FIELDS;
+
+/// The object of a period; `None` exactly where it has none.
+pub(crate) fn object_of(objects: &Objects, n: u32) -> Option<u32>
+    ensures { MatchOption result (length objects.now ≤ n) (λ object. (n < length objects.now) × (object ≡ object_of objects.now n)) }
+{
+    objects.get(n)
+}
+
+/// No object has more fields than a table has places in a row.
+pub(crate) fn learn_fields(values: &History)
+    ensures { (object : ℕ) → length (fields_told values.now object) ≤ MAX_FIELDS }
+{
+    for object in 0..values.objects() {
+        let _few = values.fields(object);
+    }
+}
