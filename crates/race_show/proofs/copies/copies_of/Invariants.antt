@@ -1,0 +1,11 @@
+use Rattle.std.proofs.Common.{◌≡◌, List}
+use Rattle.std.specs.Prelude.{filter_map}
+use Rattle.ghost_model.specs.Words.{upto}
+use Rattle.stream_manager.specs.Limits.{Terms}
+use Rattle.pair_core.specs.History.{PairStep}
+use Rattle.pair_core.specs.Stands.{StandsFor}
+use Rattle.client_seat.specs.Told.{slot_told}
+use Rattle.race_show.proofs.copies.copies_of.Given as goal
+
+abbrev pub invariant-loop-slot : goal.invariant-loop-slot
+invariant-loop-slot l = (t : Terms) (steps : List PairStep) → StandsFor l.pair t steps → l.copies ≡ filter_map (slot_told t steps l.left) (upto l.slot)

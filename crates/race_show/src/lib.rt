@@ -1,0 +1,9 @@
+//! What each client has at the end of a race.
+#![tactic(auto)]
+
+mod copies;
+mod left;
+mod show;
+mod taken;
+
+pub use show::put_show;
