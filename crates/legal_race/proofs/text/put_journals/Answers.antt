@@ -1,0 +1,15 @@
+use Rattle.std.proofs.Common.{◌∙◌, ℕ, arith}
+use Rattle.race_record.specs.declared.race.RaceClient.{RaceClient}
+use Rattle.race_journal.specs.Text.{journal_text}
+use Rattle.legal_race.proofs.Places.{lent_at, told_more}
+use Rattle.legal_race.proofs.text.put_journals.Goals as goal
+
+pub loop-c-preserved : goal.loop-c-preserved
+loop-c-preserved c =
+    let at = lent_at c.as_slice-all.result.now c.args.race.now.clients c.args.clients c.loop-c.c c.index-all-c.result c.as_slice-all.ensures c.requires.clients (omega (arith, c.loop-c-test.true)) c.index-all-c.is in
+    record {
+      added =
+          told_more c.args.race.now (λ (n : ℕ) (k : RaceClient). journal_text n k.objects k.pair.steps k.full) c.loop-c.c c.index-all-c.result c.args.text.now.added c.loop-c.text.added c.put_journal.new.text.added
+          at c.loop-c.invariant.added c.in_ok-put_journal.ensures.added;
+      before = c.in_ok-put_journal.ensures.before ∙ c.loop-c.invariant.before;
+    }
