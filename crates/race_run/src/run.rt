@@ -1,0 +1,244 @@
+//! A match, in threads or on one.
+ghost use Rattle.std.specs.Prelude.{◌≡◌, ◌<◌, ◌*◌, IfOk, length};
+ghost use Rattle.match_script.specs.Ranges.{HasRanges};
+ghost use Rattle.world_sim.specs.Worlds.{first_world};
+ghost use Rattle.race_history.specs.History.{IsHistoryOf};
+ghost use Rattle.race_sim.specs.Simulating.{Follows, AreFew};
+
+use crate::clients::Served;
+use crate::connecting::{Connections, connect};
+use crate::ending::end;
+use connection_lock::SharedPair;
+use dirty_lanes::{FreshLanes, LaneName, Lanes};
+use kept_pair::KeepFault;
+use match_script::Script;
+use race_record::Race;
+use race_sim::{FreeGate, Gate, Simulated, Simulation, simulate};
+use std::alloc::{AllocError, Global};
+use std::marker::Brand;
+use std::sync::Wait;
+use std::thread::{Threads, join, map_indices};
+use tn_types::{MAX_OBJECTS, NoMemory};
+
+/// A match before its first line.
+#[derive(Drop)]
+struct Ready<N: LaneName> {
+    lanes: Lanes<N>,
+    pairs: Vec<SharedPair<N>>,
+    sim: Simulation<N>,
+}
+
+// Whose packer or net this is: the packer of client c has place 2c, and its net the next one.
+fn client_of(i: usize) -> u8
+    requires { i < 32 }
+{
+    (i / 2) as u8
+}
+
+// One activity of a client, by its place.
+fn serve<N: LaneName, R: Wait, G: Gate>(
+    rt: &R,
+    alloc: Global,
+    script: &Script,
+    lanes: &Lanes<N>,
+    gate: &G,
+    pairs: &[SharedPair<N>],
+    i: usize,
+) -> Option<KeepFault>
+    requires ranges { HasRanges script.now }
+    requires place { i < 2 * length pairs.now }
+    requires few { length pairs.now < 17 }
+{
+    let served = Served {
+        alloc,
+        script,
+        lanes,
+        gate,
+        pair: &pairs[i / 2],
+        client: client_of(i),
+    };
+    if i % 2 == 0 {
+        served.pack(rt)
+    } else {
+        served.bring(rt)
+    }
+}
+
+// All activities of the clients beside one another.
+fn serve_all<N: LaneName + Send + Sync, R: Threads + Wait + Sync, G: Gate + Sync>(
+    rt: &R,
+    alloc: Global,
+    script: &Script,
+    lanes: &Lanes<N>,
+    gate: &G,
+    pairs: &[SharedPair<N>],
+) -> Result<Vec<Option<KeepFault>>, AllocError>
+    requires ranges { HasRanges script.now }
+    requires few { length pairs.now < 17 }
+    ensures { IfOk result (λ stopped. length stopped.items ≡ 2 * length pairs.now) }
+{
+    map_indices(
+        rt,
+        alloc,
+        2 * pairs.len(),
+        &|i| { serve(rt, alloc, script, lanes, gate, pairs, i) },
+    )
+}
+
+// All activities of the clients, one after another.
+fn serve_in_turn<N: LaneName, R: Wait, G: Gate>(
+    rt: &R,
+    alloc: Global,
+    script: &Script,
+    lanes: &Lanes<N>,
+    gate: &G,
+    pairs: &[SharedPair<N>],
+) -> Result<Vec<Option<KeepFault>>, AllocError>
+    requires ranges { HasRanges script.now }
+    requires few { length pairs.now < 17 }
+    ensures { IfOk result (λ stopped. length stopped.items ≡ 2 * length pairs.now) }
+{
+    let mut stopped = Vec::new(alloc);
+    for i in 0..2 * pairs.len() {
+        stopped.push(serve(rt, alloc, script, lanes, gate, pairs, i))?;
+    }
+    Ok(stopped)
+}
+
+// Makes a match ready, on lanes of this name.
+fn make_ready<N: LaneName>(
+    alloc: Global,
+    script: &Script,
+    fresh: FreshLanes,
+) -> Result<Ready<N>, NoMemory>
+    requires ranges { HasRanges script.now }
+    requires named { (fresh.table ≡ N.table) × (fresh.objects ≡ N.objects) }
+    requires objects { fresh.objects ≡ MAX_OBJECTS }
+    requires clients { fresh.clients ≡ script.now.head.clients }
+    ensures objects { IfOk result (λ ready. ready.lanes.objects ≡ MAX_OBJECTS) }
+    ensures clients { IfOk result (λ ready. ready.lanes.clients ≡ script.now.head.clients) }
+    ensures pairs { IfOk result (λ ready. length ready.pairs.items ≡ script.now.head.clients) }
+    ensures ports { IfOk result (λ ready. length ready.sim.ports ≡ script.now.head.clients) }
+    ensures first { IfOk result (λ ready. Follows (first_world script.now.head.seed script.now.head.setup) ready.sim) }
+    ensures few { IfOk result (λ ready. AreFew 0 ready.sim) }
+{
+    let (lanes, seat, seats) = fresh.named::<N>();
+    let Connections { pairs, ports } = connect(alloc, &script.head, seats)?;
+    let sim = Simulation::new(alloc, &script.head, seat, ports)?;
+    Ok(Ready { lanes, pairs, sim })
+}
+
+// The simulation, beside all activities of the clients.
+fn run_beside<N: LaneName + Send + Sync, R: Threads + Wait + Sync, G: Gate + Sync>(
+    rt: &R,
+    alloc: Global,
+    script: &Script,
+    lanes: &Lanes<N>,
+    gate: &G,
+    pairs: &[SharedPair<N>],
+    sim: Simulation<N>,
+) -> (
+    Result<Simulated<N>, NoMemory>,
+    Result<Vec<Option<KeepFault>>, AllocError>,
+)
+    requires ranges { HasRanges script.now }
+    requires objects { lanes.now.objects ≡ MAX_OBJECTS }
+    requires few { length pairs.now < 17 }
+    requires ports { length sim.ports ≡ script.now.head.clients }
+    requires first { Follows (first_world script.now.head.seed script.now.head.setup) sim }
+    requires lines { AreFew 0 sim }
+    ensures values { IfOk result.0 (λ s. IsHistoryOf (first_world script.now.head.seed script.now.head.setup) s.moves s.values) }
+    ensures waiting { IfOk result.0 (λ s. length s.waiting.items ≡ script.now.head.clients) }
+    ensures stopped { IfOk result.1 (λ stopped. length stopped.items ≡ 2 * length pairs.now) }
+{
+    join(
+        rt,
+        move || -> Result<Simulated<N>, NoMemory>
+            requires { HasRanges script.now × (lanes.now.objects ≡ MAX_OBJECTS) × (length sim.ports ≡ script.now.head.clients)
+                × Follows (first_world script.now.head.seed script.now.head.setup) sim × AreFew 0 sim }
+            ensures { IfOk result (λ s. IsHistoryOf (first_world script.entry.now.head.seed script.entry.now.head.setup) s.moves s.values)
+                × IfOk result (λ s. length s.waiting.items ≡ script.entry.now.head.clients) }
+        { simulate(alloc, script, lanes, gate, sim) },
+        move || -> Result<Vec<Option<KeepFault>>, AllocError>
+            requires { HasRanges script.now × (length pairs.now < 17) }
+            ensures { IfOk result (λ stopped. length stopped.items ≡ 2 * length pairs.entry.now) }
+        { serve_all(rt, alloc, script, lanes, gate, pairs) },
+    )
+}
+
+// A match in threads, on lanes of this name.
+fn race_on<N: LaneName + Send + Sync, R: Threads + Wait + Sync, G: Gate + Sync>(
+    rt: &R,
+    alloc: Global,
+    script: &Script,
+    gate: &G,
+    fresh: FreshLanes,
+) -> Result<Race, NoMemory>
+    requires ranges { HasRanges script.now }
+    requires named { (fresh.table ≡ N.table) × (fresh.objects ≡ N.objects) }
+    requires objects { fresh.objects ≡ MAX_OBJECTS }
+    requires clients { fresh.clients ≡ script.now.head.clients }
+    ensures values { IfOk result (λ race. IsHistoryOf (first_world script.now.head.seed script.now.head.setup) race.moves race.values) }
+    ensures clients { IfOk result (λ race. length race.clients ≡ script.now.head.clients) }
+    ensures words { IfOk result (λ race. (race.words.objects ≡ MAX_OBJECTS) × (race.words.clients ≡ script.now.head.clients)) }
+{
+    let Ready { lanes, pairs, sim } = make_ready::<N>(alloc, script, fresh)?;
+    let (simulated, stopped) = run_beside(rt, alloc, script, &lanes, gate, &pairs, sim);
+    let simulated = simulated?;
+    let Ok(stopped) = stopped else {
+        return Err(NoMemory);
+    };
+    end(alloc, lanes, simulated, pairs, &stopped)
+}
+
+// A match on one thread, on lanes of this name.
+fn race_in_turn_on<N: LaneName, R: Wait>(
+    rt: &R,
+    alloc: Global,
+    script: &Script,
+    fresh: FreshLanes,
+) -> Result<Race, NoMemory>
+    requires ranges { HasRanges script.now }
+    requires named { (fresh.table ≡ N.table) × (fresh.objects ≡ N.objects) }
+    requires objects { fresh.objects ≡ MAX_OBJECTS }
+    requires clients { fresh.clients ≡ script.now.head.clients }
+    ensures values { IfOk result (λ race. IsHistoryOf (first_world script.now.head.seed script.now.head.setup) race.moves race.values) }
+    ensures clients { IfOk result (λ race. length race.clients ≡ script.now.head.clients) }
+    ensures words { IfOk result (λ race. (race.words.objects ≡ MAX_OBJECTS) × (race.words.clients ≡ script.now.head.clients)) }
+{
+    let Ready { lanes, pairs, sim } = make_ready::<N>(alloc, script, fresh)?;
+    let Ok(stopped) = serve_in_turn(rt, alloc, script, &lanes, &FreeGate, &pairs) else {
+        return Err(NoMemory);
+    };
+    let simulated = simulate(alloc, script, &lanes, &FreeGate, sim)?;
+    end(alloc, lanes, simulated, pairs, &stopped)
+}
+
+/// Makes a match in threads: the simulation, and for each client a packer and a net activity, all beside one another. What each of
+/// them does of the script's lines stands in README.md. Nothing is promised of the order in which they come to their lines.
+pub fn race<R: Threads + Wait + Sync, G: Gate + Sync>(
+    rt: &R,
+    alloc: Global,
+    script: &Script,
+    gate: &G,
+) -> Result<Race, NoMemory>
+    requires { HasRanges script.now }
+    ensures values { IfOk result (λ race. IsHistoryOf (first_world script.now.head.seed script.now.head.setup) race.moves race.values) }
+    ensures clients { IfOk result (λ race. length race.clients ≡ script.now.head.clients) }
+    ensures words { IfOk result (λ race. (race.words.objects ≡ MAX_OBJECTS) × (race.words.clients ≡ script.now.head.clients)) }
+{
+    let fresh = FreshLanes::new(alloc, MAX_OBJECTS as u32, u32::from(script.head.clients))?;
+    race_on::<Brand, R, G>(rt, alloc, script, gate, fresh)
+}
+
+/// Makes the same match on one thread: first the activities of each client, and then the simulation, so that each message becomes a
+/// step behind all lines of its client.
+pub fn race_in_turn<R: Wait>(rt: &R, alloc: Global, script: &Script) -> Result<Race, NoMemory>
+    requires { HasRanges script.now }
+    ensures values { IfOk result (λ race. IsHistoryOf (first_world script.now.head.seed script.now.head.setup) race.moves race.values) }
+    ensures clients { IfOk result (λ race. length race.clients ≡ script.now.head.clients) }
+    ensures words { IfOk result (λ race. (race.words.objects ≡ MAX_OBJECTS) × (race.words.clients ≡ script.now.head.clients)) }
+{
+    let fresh = FreshLanes::new(alloc, MAX_OBJECTS as u32, u32::from(script.head.clients))?;
+    race_in_turn_on::<Brand, R>(rt, alloc, script, fresh)
+}

@@ -1,0 +1,291 @@
+//! The simulation, line by line.
+ghost use Rattle.std.specs.Prelude.{◌≡◌, ◌<◌, ◌≤◌, ◌+◌, ◌-◌, ◌*◌, ◌^◌, [], IfOk, OnOk, length};
+ghost use Rattle.std.specs.List.{All};
+ghost use Rattle.dirty_lanes.specs.Named.{no_steps};
+ghost use Rattle.match_script.specs.Ranges.{HeadFits, LineFits};
+ghost use Rattle.world_sim.specs.Worlds.{Worlds, first_world};
+ghost use Rattle.race_history.specs.History.{world_after, IsHistoryOf};
+ghost use Rattle.race_sim.specs.Simulating.{Follows, AreFew, HaveFew};
+
+use crate::gate::{Actor, Gate, Place};
+use crate::port::Port;
+use dirty_lanes::{LaneName, Lanes, SimSeat};
+use match_script::{BodyLine, Head};
+use quantised_fields::KindTable;
+use race_history::{History, TickMoves};
+use std::alloc::{AllocError, Global};
+use std::marker::Model;
+use tn_types::{Class, MAX_BODY_LINES, MAX_OBJECTS, Move, NoMemory, Payload};
+use world_lanes::{Changed, raise_all, store_world};
+use world_rules::match_kinds;
+use world_sim::World;
+
+/// The world of a match, the simulation's seat at the lanes, and what it has of each client; with the values by version and the moves
+/// of each tick so far. After an `Err` of one of its calls it may not be called again.
+#[derive(Drop)]
+pub struct Simulation<N: LaneName> {
+    world: World,
+    seat: SimSeat<N>,
+    ports: Vec<Port>,
+    values: History,
+    moves: TickMoves,
+    kinds: KindTable,
+    // room for the moves of a tick, and for what it changes
+    taken: Vec<Option<Move>>,
+    changed: Vec<Changed>,
+}
+
+impl<N: LaneName> Model for Simulation<N> {
+    ghost use Rattle.std.specs.Prelude.{◌≡◌};
+    ghost use Rattle.world_rules.specs.Kinds.{match_kinds};
+    ghost use Rattle.race_sim.specs.Simulating.{SimulationState};
+
+    ghost Value = { SimulationState };
+
+    ghost view = { λ s. record {
+      world = s.world;
+      seat = s.seat;
+      ports = s.ports.items;
+      values = s.values;
+      moves = s.moves;
+    } };
+
+    ghost invariant = { λ s. s.kinds ≡ match_kinds };
+}
+
+// The oldest move of each client that has come.
+fn take_moves(ports: &mut Vec<Port>, taken: &mut Vec<Option<Move>>) -> Result<(), AllocError>
+    ensures ports { length ports.new.items ≡ length ports.old.items }
+    ensures periods { HaveFew ports.old.items ports.new.items }
+    ensures each { OnOk result (length taken.new.items ≡ length ports.old.items) }
+{
+    taken.clear();
+    for i in 0..ports.len() {
+        taken.push(ports[i].take_move())?;
+    }
+    Ok(())
+}
+
+// The world makes a tick with these moves, which is noted.
+fn advance(
+    alloc: Global,
+    world: &mut World,
+    values: &mut History,
+    moves: &mut TickMoves,
+    taken: &[Option<Move>],
+) -> Result<(), NoMemory>
+    requires { world.old.ticks < 2 ^ 32 - 1 }
+    ensures ticks { OnOk result (world.new.ticks ≡ world.old.ticks + 1) }
+    ensures world { OnOk result ((first : Worlds) → world.old ≡ world_after first moves.old → world.new ≡ world_after first moves.new) }
+    ensures values { OnOk result ((first : Worlds) → world.old ≡ world_after first moves.old → IsHistoryOf first moves.old values.old
+        → IsHistoryOf first moves.new values.new) }
+{
+    moves.push(alloc, taken)?;
+    world.tick(alloc, taken)?;
+    values.add(alloc, world)?;
+    Ok(())
+}
+
+// Passes on what waits for each client.
+fn pass_on_all(ports: &mut Vec<Port>)
+    ensures { ports.new.items ≡ ports.old.items }
+{
+    for i in 0..ports.len() {
+        ports[i].pass_on();
+    }
+}
+
+impl<N: LaneName> Simulation<N> {
+    /// The simulation before its first line.
+    pub fn new(
+        alloc: Global,
+        head: &Head,
+        seat: SimSeat<N>,
+        ports: Vec<Port>,
+    ) -> Result<Simulation<N>, NoMemory>
+        requires head { HeadFits head.now }
+        requires fresh { All (λ p. p.scope.count ≡ 0) ports.items }
+        ensures follows { IfOk result (Follows (first_world head.now.seed head.now.setup)) }
+        ensures few { IfOk result (AreFew 0) }
+        ensures none { IfOk result (λ s. s.moves ≡ []) }
+        ensures seat { IfOk result (λ s. s.seat ≡ seat) }
+        ensures ports { IfOk result (λ s. s.ports ≡ ports.items) }
+    {
+        let world = World::new(alloc, head.seed, &head.setup)?;
+        let mut values = History::new(alloc);
+        values.add(alloc, &world)?;
+        Ok(Simulation {
+            world,
+            seat,
+            ports,
+            values,
+            moves: TickMoves::new(alloc),
+            kinds: match_kinds(),
+            taken: Vec::new(alloc),
+            changed: Vec::new(alloc),
+        })
+    }
+
+    /// Stores the values that the lanes lack, and then tells every client of them.
+    fn tell<G: Gate>(
+        &mut self,
+        lanes: &Lanes<N>,
+        gate: &G,
+        inside: Option<u32>,
+    ) -> Result<(), NoMemory>
+        requires objects { lanes.now.objects ≡ MAX_OBJECTS }
+        requires ticks { self.old.world.ticks < 2 ^ 32 - 1 }
+        ensures { self.new ≡ record self.old { seat = self.new.seat } }
+    {
+        let _few = self.world.objects();
+        store_world(
+            &self.kinds,
+            &self.world,
+            lanes,
+            &mut self.seat,
+            &mut self.changed,
+        )?;
+        if let Some(place) = inside {
+            gate.pass(Actor::Sim, Place::Inside(place));
+        }
+        raise_all(lanes, &mut self.seat, &self.changed);
+        Ok(())
+    }
+
+    /// Stores the values with which the objects begin, and tells every client of them.
+    pub(crate) fn begin(&mut self, lanes: &Lanes<N>) -> Result<(), NoMemory>
+        requires objects { lanes.now.objects ≡ MAX_OBJECTS }
+        requires ticks { self.old.world.ticks < 2 ^ 32 - 1 }
+        ensures { self.new ≡ record self.old { seat = self.new.seat } }
+    {
+        self.tell(lanes, &crate::gate::FreeGate, None)
+    }
+
+    // The world makes a tick, which takes at most one accepted move of each client.
+    fn step(&mut self, alloc: Global) -> Result<(), NoMemory>
+        requires ticks { self.old.world.ticks < 2 ^ 32 - 1 }
+        ensures follows { OnOk result ((first : Worlds) → Follows first self.old → Follows first self.new) }
+        ensures ticks { OnOk result (self.new.world.ticks ≡ self.old.world.ticks + 1) }
+        ensures ports { length self.new.ports ≡ length self.old.ports }
+        ensures periods { HaveFew self.old.ports self.new.ports }
+    {
+        let Ok(()) = take_moves(&mut self.ports, &mut self.taken) else {
+            return Err(NoMemory);
+        };
+        advance(
+            alloc,
+            &mut self.world,
+            &mut self.values,
+            &mut self.moves,
+            &self.taken,
+        )
+    }
+
+    // A tick: each client is told of what it changed.
+    fn tick<G: Gate>(
+        &mut self,
+        alloc: Global,
+        lanes: &Lanes<N>,
+        gate: &G,
+        place: u32,
+    ) -> Result<(), NoMemory>
+        requires objects { lanes.now.objects ≡ MAX_OBJECTS }
+        requires place { place < MAX_BODY_LINES }
+        requires few { AreFew place self.old }
+        ensures follows { OnOk result ((first : Worlds) → Follows first self.old → Follows first self.new) }
+        ensures few { OnOk result (AreFew (place + 1) self.new) }
+        ensures ports { length self.new.ports ≡ length self.old.ports }
+    {
+        self.step(alloc)?;
+        self.tell(lanes, gate, Some(place))
+    }
+
+    // A scan of a client.
+    fn scan(&mut self, alloc: Global, client: u8, place: u32) -> Result<(), NoMemory>
+        requires client { client < length self.old.ports }
+        requires place { place < MAX_BODY_LINES }
+        requires few { AreFew place self.old }
+        ensures follows { OnOk result ((first : Worlds) → Follows first self.old → Follows first self.new) }
+        ensures few { OnOk result (AreFew (place + 1) self.new) }
+        ensures ports { length self.new.ports ≡ length self.old.ports }
+    {
+        let _place = place;
+        self.ports[client as usize].scan(alloc, &self.world, client)
+    }
+
+    // A post to a client.
+    fn post(
+        &mut self,
+        alloc: Global,
+        client: u8,
+        class: Class,
+        payload: Payload,
+        place: u32,
+    ) -> Result<(), NoMemory>
+        requires client { client < length self.old.ports }
+        requires place { place < MAX_BODY_LINES }
+        requires few { AreFew place self.old }
+        ensures follows { OnOk result ((first : Worlds) → Follows first self.old → Follows first self.new) }
+        ensures few { OnOk result (AreFew (place + 1) self.new) }
+        ensures ports { length self.new.ports ≡ length self.old.ports }
+    {
+        let _place = place;
+        self.ports[client as usize].post(alloc, class, payload)
+    }
+
+    /// Does the line of this place, if it is one of the simulation's.
+    pub(crate) fn line<G: Gate>(
+        &mut self,
+        alloc: Global,
+        lanes: &Lanes<N>,
+        gate: &G,
+        place: u32,
+        line: &BodyLine,
+    ) -> Result<(), NoMemory>
+        requires objects { lanes.now.objects ≡ MAX_OBJECTS }
+        requires place { place < MAX_BODY_LINES }
+        requires few { AreFew place self.old }
+        requires fits { LineFits (length self.old.ports) line.now }
+        ensures follows { OnOk result ((first : Worlds) → Follows first self.old → Follows first self.new) }
+        ensures few { OnOk result (AreFew (place + 1) self.new) }
+        ensures ports { length self.new.ports ≡ length self.old.ports }
+    {
+        match line {
+            BodyLine::Tick => self.tick(alloc, lanes, gate, place),
+            BodyLine::Scan { client } => self.scan(alloc, *client, place),
+            BodyLine::Post {
+                client,
+                class,
+                payload,
+            } => self.post(alloc, *client, *class, payload.payload(), place),
+            _ => Ok(()),
+        }
+    }
+
+    /// Passes on what waits for each client, as far as the rings have places.
+    pub(crate) fn pass_on(&mut self)
+        ensures { self.new ≡ self.old }
+    {
+        pass_on_all(&mut self.ports);
+    }
+
+    /// The seat, what there was of each client, the values and the moves.
+    pub(crate) fn into_parts(self) -> (SimSeat<N>, Vec<Port>, History, TickMoves)
+        ensures seat { result.0 ≡ self.seat }
+        ensures ports { result.1.items ≡ self.ports }
+        ensures values { result.2 ≡ self.values }
+        ensures moves { result.3 ≡ self.moves }
+    {
+        let Simulation {
+            world: _,
+            seat,
+            ports,
+            values,
+            moves,
+            kinds: _,
+            taken: _,
+            changed: _,
+        } = self;
+        (seat, ports, values, moves)
+    }
+}
