@@ -3,10 +3,14 @@
 
 use match_top::top;
 use script_input::{Status, exit_of};
+use std::alloc::Global;
 use std::io::BufWriter;
 use std::process::ExitCode;
+use std::sync::Wait;
+use std::thread::Threads;
 use std::{env, io};
-use tn_outside::{StdSink, StdSource};
+use threads_top::top_threads;
+use tn_outside::{Sink, Source, StdSink, StdSource};
 
 /// How many bytes are gathered before standard output is called.
 const GATHERED_BYTES: usize = 65_536;
@@ -22,12 +26,26 @@ fn arguments(rt: &HostRuntime) -> Option<Vec<String>> {
     Some(words)
 }
 
+/// Serves the words: `threads` in threads, and all others on one.
+fn serve<R: Threads + Wait + Sync, S: Source, K: Sink>(
+    rt: &R,
+    alloc: Global,
+    words: &Vec<String>,
+    source: &mut S,
+    sink: &mut K,
+) -> Status {
+    match words.first() {
+        Some(name) if name.as_str() == "threads" => { top_threads(rt, alloc, words, source, sink) }
+        _ => top(alloc, words, source, sink),
+    }
+}
+
 fn main(rt: HostRuntime) -> ExitCode {
     let status = match arguments(&rt) {
         Some(words) => {
             let mut source = StdSource::new(rt.reader());
             match BufWriter::with_capacity(rt.alloc(), GATHERED_BYTES, io::writer(&rt)) {
-                Ok(out) => top(rt.alloc(), &words, &mut source, &mut StdSink::new(out)),
+                Ok(out) => serve(&rt, rt.alloc(), &words, &mut source, &mut StdSink::new(out)),
                 Err(_) => Status::NoMemory,
             }
         }

@@ -2,7 +2,6 @@
 #![tactic(auto)]
 
 mod command;
-mod top;
+mod serving;
 
-pub use command::{Command, command_of};
-pub use top::top;
+pub use serving::top;

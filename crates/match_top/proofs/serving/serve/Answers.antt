@@ -2,7 +2,7 @@ use Rattle.std.proofs.Common.{sym, subst, arith, Option, List, ℕ}
 use Rattle.tn_outside.specs.Totals.{Adds}
 use Rattle.match_top.specs.Outcome.{text_of}
 use Rattle.match_top.proofs.Ends.{done, write_fault, whole, rose_later}
-use Rattle.match_top.proofs.top.serve.Goals as goal
+use Rattle.match_top.proofs.serving.serve.Goals as goal
 
 pub returns-in-Ok-flush-clause-outcome : goal.returns-in-Ok-flush-clause-outcome
 returns-in-Ok-flush-clause-outcome g c =

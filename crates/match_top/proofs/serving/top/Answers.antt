@@ -1,7 +1,7 @@
 use Rattle.std.proofs.Common.{map, string_bytes}
 use Rattle.match_top.proofs.Isolated.{alone_is_of_run}
 use Rattle.match_top.proofs.Rule.{rule, fits}
-use Rattle.match_top.proofs.top.top.Goals as goal
+use Rattle.match_top.proofs.serving.top.Goals as goal
 
 pub serve-requires : goal.serve-requires
 serve-requires g c = fits (map string_bytes c.args.words.now.items) c.in-Ok.command c.in-Ok.ensures

@@ -1,0 +1,32 @@
+//! A large match in threads.
+
+use crate::gates::WatchGate;
+use match_threads::run_threads;
+use script_maker::make;
+use std::test::Fail;
+use tn_outside::MemSink;
+
+/// So often the match is run.
+const RUNS: u32 = 3;
+
+/// More bytes than a write has.
+const ALL: usize = 1 << 26;
+
+#[test]
+fn large_match_in_threads(rt: HostRuntime) -> Result<(), Fail> {
+    let script = make(rt.alloc(), 7, 8, 5000)?;
+    let gate = WatchGate::new();
+    for _ in 0..RUNS {
+        let mut sink = MemSink {
+            bytes: Vec::new(rt.alloc()),
+            most: ALL,
+            failing: &[],
+            calls: 0,
+            faults: 0,
+        };
+        assert!(rt; run_threads(&rt, rt.alloc(), &script, &gate, &mut sink).is_ok());
+        assert!(rt; sink.bytes.len() > 0);
+    }
+    assert!(rt; gate.saw_both());
+    Ok(())
+}

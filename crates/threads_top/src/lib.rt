@@ -1,0 +1,6 @@
+//! The call of the program that runs a match in threads, over a source and a sink.
+#![tactic(auto)]
+
+mod threads;
+
+pub use threads::top_threads;
