@@ -1,12 +1,8 @@
 //! The scripts of examples/ with their reports, which the same rules gave in another program (`docs/check` holds both against the
 //! files).
 
-use crate::served::hold;
-use crate::world_examples::WORLD_EXAMPLES;
-use std::test::Fail;
-
 /// Those of a connection alone, each with its name.
-const EXAMPLES: [(&str, &str, &str); 6] = [
+pub(crate) const EXAMPLES: [(&str, &str, &str); 6] = [
     (
         "blocks",
         "tribes 1
@@ -242,9 +238,3 @@ show 0 events 0 sampled 3 accepted 3 taken 0 control - ghosts 0
 ",
     ),
 ];
-
-#[test]
-fn examples_have_their_reports(rt: HostRuntime) -> Result<(), Fail> {
-    hold(&rt, &EXAMPLES)?;
-    hold(&rt, &WORLD_EXAMPLES)
-}

@@ -7,9 +7,13 @@ mod examples;
 #[cfg(test)]
 mod ghost_rows;
 #[cfg(test)]
+mod long_reports;
+#[cfg(test)]
 mod outside;
 #[cfg(test)]
 mod raw_rows;
+#[cfg(test)]
+mod refusals;
 #[cfg(test)]
 mod rows;
 #[cfg(test)]

@@ -1,14 +1,25 @@
-//! Calls of the program over a source and a sink in memory.
+//! Calls of the program over a source and a sink in memory, and texts that are written out for them.
 ghost use Rattle.std.specs.Prelude.{◌<◌};
 
 use match_top::top;
 use script_input::Status;
-use std::alloc::AllocError;
+use std::alloc::{AllocError, Global};
 use std::test::Fail;
 use tn_outside::{MemSink, MemSource, SteadySource};
 
 /// More bytes than a script or a line of its report here has.
 pub(crate) const ALL: usize = 4096;
+
+/// A part of a text.
+#[derive(Clone, Copy)]
+pub(crate) enum Part {
+    /// These words as they stand.
+    Words(&'static str),
+    /// The same words so many times.
+    Times(u32, &'static str),
+    /// A line for each number from the first on, so many: the number between words.
+    Numbered(u32, u32, &'static str, &'static str),
+}
 
 /// What a call with these words answers, and what it writes. The source gives and the sink takes at most `most` bytes a
 /// call, and the calls with these numbers fail.
@@ -50,27 +61,64 @@ pub(crate) fn served<'a>(
     Ok((status, bytes))
 }
 
-/// What the command `run` answers and writes where nothing fails.
-pub(crate) fn run_on(rt: &HostRuntime, text: &str) -> Result<(Status, Vec<u8>), Fail> {
-    served(rt, &["run"], text.as_bytes(), ALL, &[], &[])
+/// Holds that a call with these words, for which no read or write fails, answers and writes this; else the name is told.
+pub(crate) fn hold_call(
+    rt: &HostRuntime,
+    name: &'static str,
+    words: &[&str],
+    text: &[u8],
+    (status, written): (Status, &[u8]),
+) -> Result<(), Fail> {
+    let (found, bytes) = served(rt, words, text, ALL, &[], &[])?;
+    if found != status || bytes.as_slice() != written {
+        return Err(name.into());
+    }
+    Ok(())
 }
 
 /// Holds that `run` writes of each script its report; the name of the first of which it doesn't is told.
 pub(crate) fn hold(rt: &HostRuntime, rows: &[(&'static str, &str, &str)]) -> Result<(), Fail> {
     for (name, script, report) in rows {
-        let (status, bytes) = run_on(rt, script)?;
-        if status != Status::Done || bytes.as_slice() != report.as_bytes() {
-            return Err((*name).into());
+        hold_call(
+            rt,
+            *name,
+            &["run"],
+            script.as_bytes(),
+            (Status::Done, report.as_bytes()),
+        )?;
+    }
+    Ok(())
+}
+
+// One part behind a text.
+fn write_part(part: Part, alloc: Global, text: &mut String) -> Result<(), AllocError> {
+    match part {
+        Part::Words(words) => text.push_str(words)?,
+        Part::Times(count, words) => write_times(count, words, text)?,
+        Part::Numbered(first, count, before, behind) => {
+            for k in 0..count {
+                let number = first.wrapping_add(k);
+                let line = format!(in alloc; "{before}{number}{behind}")?;
+                text.push_str(line.as_str())?;
+            }
         }
     }
     Ok(())
 }
 
-/// The text with a line added so many times.
-pub(crate) fn with_lines(text: String, count: u32, line: &str) -> Result<String, AllocError> {
-    let mut text = text;
+// The same words so many times behind a text.
+fn write_times(count: u32, words: &str, text: &mut String) -> Result<(), AllocError> {
     for _ in 0..count {
-        text.push_str(line)?;
+        text.push_str(words)?;
+    }
+    Ok(())
+}
+
+/// The text of these parts.
+pub(crate) fn written_out(alloc: Global, parts: &[Part]) -> Result<String, AllocError> {
+    let mut text = String::new(alloc);
+    for part in parts {
+        write_part(*part, alloc, &mut text)?;
     }
     Ok(text)
 }
