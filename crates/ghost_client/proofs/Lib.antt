@@ -1,4 +1,5 @@
 pub mod Merged
+mod MergeStep
 pub mod After
 pub mod Range
 pub mod Packet

@@ -30,8 +30,3 @@ applied_in_range kinds slots item old range fits lt t = elim (cases_eq t (slot_n
       (after_in_range kinds item (copy_in slots (slot_named item)) (old (slot_named item)) range fits)
   | inr other ↦ subst (λ o. IfSome o (IsInRange kinds)) (sym (get_or-set_other slots (slot_named item) t (after item (copy_in slots (slot_named item))) None other)) (old t)
 ]
-
-pub set_twice : {X : Type 0} (xs : List X) (i : ℕ) (x y : X) → set (set xs i x) i y ≡ set xs i y
-set_twice [] i x y = refl
-set_twice (z ∷ xs) zero x y = refl
-set_twice (z ∷ xs) (suc i) x y = ap (λ l. z ∷ l) (set_twice xs i x y)

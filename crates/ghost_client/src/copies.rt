@@ -137,8 +137,7 @@ impl Copies {
         ensures slot { slot_named item.now < MAX_SLOTS }
     {
         let slot = slot_named(item) as usize;
-        let old = self.slots[slot].take();
-        self.slots[slot] = copy_after(item, old);
+        apply_to(item, &mut self.slots[slot]);
     }
 
     /// The value of the field of the copy in the slot; None exactly where the slot or the field isn't there.
@@ -193,26 +192,28 @@ fn slot_named(item: &GhostItem) -> u8
     }
 }
 
-// What the item makes of the copy of its slot.
-fn copy_after(item: &GhostItem, old: Option<GhostCopy>) -> Option<GhostCopy>
-    ensures { result ≡ after item.now old }
+// Does what an item says to the copy of its slot.
+fn apply_to(item: &GhostItem, slot: &mut Option<GhostCopy>)
+    ensures { slot.new ≡ after item.now slot.old }
 {
     match item {
-        GhostItem::Kill { .. } => None,
+        GhostItem::Kill { .. } => *slot = None,
         GhostItem::Create {
             kind,
             block,
             levels,
             ..
-        } => Some(GhostCopy {
-            kind: *kind,
-            block: *block,
-            levels: copied(levels),
-        }),
+        } => {
+            *slot = Some(GhostCopy {
+                kind: *kind,
+                block: *block,
+                levels: copied(levels),
+            });
+        }
         GhostItem::Update { mask, levels, .. } => {
-            let copy = old?;
-            let levels = merge(copy.levels.as_slice(), *mask, levels.as_slice());
-            Some(GhostCopy { levels, ..copy })
+            if let Some(copy) = slot {
+                merge(&mut copy.levels, *mask, levels.as_slice());
+            }
         }
     }
 }

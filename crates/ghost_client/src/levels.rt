@@ -1,6 +1,6 @@
 //! The levels of a copy.
 
-ghost use Rattle.std.specs.Prelude.{◌≡◌, ◌<◌, ◌≤◌, length, drop, slice_index_or, if◌then◌else◌};
+ghost use Rattle.std.specs.Prelude.{◌≡◌, ◌<◌, length, drop, slice_index_or, slice_set};
 ghost use Rattle.tn_types.specs.BitWords.{has_bit};
 ghost use Rattle.ghost_client.specs.State.{merged};
 
@@ -34,31 +34,29 @@ pub(crate) fn copied(levels: &Levels) -> Levels
     list
 }
 
-// The level of a field, and what is left of the fresh ones: the first of them where the field has one.
-fn next_level(has_fresh: bool, fresh: &[u32], level: u32) -> (u32, &[u32])
-    ensures level { result.0 ≡ (if has_fresh then slice_index_or fresh.entry.now 0 level else level) }
-    ensures rest { result.1.now ≡ (if has_fresh then drop 1 fresh.entry.now else fresh.entry.now) }
+// Puts the first of the fresh levels in place of a field's level, if there is one, and answers the others.
+fn put_next<'a>(levels: &mut Levels, field: usize, fresh: &'a [u32]) -> &'a [u32]
+    requires { field < length levels.old }
+    ensures put { levels.new ≡ slice_set levels.old field (slice_index_or fresh.entry.now 0 (slice_index_or levels.old field 0)) }
+    ensures rest { result.now ≡ drop 1 fresh.entry.now }
 {
-    if !has_fresh {
-        return (level, fresh);
-    }
     match fresh.split_first() {
-        Some((first, rest)) => (*first, rest),
-        None => (level, fresh),
+        Some((first, rest)) => {
+            levels.set(field, *first);
+            rest
+        }
+        None => fresh,
     }
 }
 
-// The levels with fresh ones of the fields in the mask.
-pub(crate) fn merge(levels: &[u32], mask: u32, fresh: &[u32]) -> Levels
-    requires { length levels.now ≤ MAX_FIELDS }
-    ensures { result ≡ merged 0 mask fresh.now levels.now }
+// Puts fresh levels in place of those of the fields in the mask.
+pub(crate) fn merge(levels: &mut Levels, mask: u32, fresh: &[u32])
+    ensures { levels.new ≡ merged 0 mask fresh.now levels.old }
 {
-    let mut list = Levels::new();
     let mut rest = fresh;
-    for (field, level) in levels.iter().enumerate() {
-        let (next, others) = next_level(has_field(mask, field), rest, *level);
-        list.push(next);
-        rest = others;
+    for field in 0..levels.len() {
+        if has_field(mask, field) {
+            rest = put_next(levels, field, rest);
+        }
     }
-    list
 }

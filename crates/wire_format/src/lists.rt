@@ -1,5 +1,5 @@
 //! The lists of a packet.
-ghost use Rattle.std.specs.Prelude.{◌≡◌, ◌+◌, ◌<◌, ◌≤◌, ◌↔◌, [], ◌∷◌, ◌++◌, length, take, IsTrue, slice_get};
+ghost use Rattle.std.specs.Prelude.{◌≡◌, ◌+◌, ◌<◌, ◌≤◌, ◌↔◌, [], ◌∷◌, ◌++◌, length, take, IsTrue, slice_get, slice_set};
 ghost use Rattle.std.specs.Option.{option_copied};
 
 use arrayvec::ArrayVec;
@@ -105,6 +105,16 @@ impl<T: Drop, const N: usize> ItemList<T, N> {
         ensures { option_copied result ≡ slice_get self.now index }
     {
         self.as_slice().get(index)
+    }
+
+    /// Puts an item in the place of the one at `index`, counted from 0; there must be one.
+    pub fn set(&mut self, index: usize, item: T)
+        requires { index < length self.old }
+        ensures { self.new ≡ slice_set self.old index item }
+    {
+        if let Some(place) = self.places.get_mut(index) {
+            *place = item;
+        }
     }
 
     /// The items, lent.

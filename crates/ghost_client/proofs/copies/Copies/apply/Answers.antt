@@ -3,22 +3,21 @@ use Rattle.std.proofs.Math.ListN.{length-set}
 use Rattle.std.proofs.lemmas.List.{get_or_default}
 use Rattle.ghost_client.specs.State.{State, copy_in, after, applied, FitsCopy}
 use Rattle.wire_format.specs.Ghosts.{IsGhostInRange, slot_named}
-use Rattle.ghost_client.proofs.Range.{applied_in_range, set_twice}
+use Rattle.ghost_client.proofs.Range.{applied_in_range}
+use Rattle.ghost_client.proofs.copies.Copies.apply.Given as given
 use Rattle.ghost_client.proofs.copies.Copies.apply.Goals as goal
-use Rattle.ghost_client.proofs.copies.Copies.apply.Goals.{After-self-2-1}
+use Rattle.ghost_client.proofs.copies.Copies.apply.Goals.{After-self-1}
 
-module _ (c : After-self-2-1) where
+module _ (c : After-self-1) where
   long : c.slot_named-slot.result < length c.self.inside.slots.items
   long = omega (arith, c.self.invariant.0, c.slot_named-slot.type_inv)
 
-  read : c.take-old.result ≡ copy_in c.self.inside.slots.items (slot_named c.args.item.now)
-  read = c.take-old.ensures.value ∙ c.index_mut.ensures.value ∙ get_or_default _ _ c.index_mut.result.now None long ∙ ap (copy_in c.self.inside.slots.items) c.slot_named-slot.ensures
+  read : c.index_mut.result.now ≡ copy_in c.self.inside.slots.items (slot_named c.args.item.now)
+  read = c.index_mut.ensures.value ∙ get_or_default _ _ c.index_mut.result.now None long ∙ ap (copy_in c.self.inside.slots.items) c.slot_named-slot.ensures
 
-  -- both writes together
-  written : set (set c.self.inside.slots.items c.slot_named-slot.result c.take-old.new.self) c.slot_named-slot.result c.copy_after.result ≡ applied c.self.inside.slots.items c.args.item.now
+  written : set c.self.inside.slots.items c.slot_named-slot.result c.apply_to.new.slot ≡ applied c.self.inside.slots.items c.args.item.now
   written =
-      set_twice c.self.inside.slots.items c.slot_named-slot.result c.take-old.new.self c.copy_after.result
-      ∙ ap (set c.self.inside.slots.items c.slot_named-slot.result) (c.copy_after.ensures ∙ ap (after c.args.item.now) read)
+      ap (set c.self.inside.slots.items c.slot_named-slot.result) (c.apply_to.ensures ∙ ap (after c.args.item.now) read)
       ∙ ap (λ n. set c.self.inside.slots.items n (after c.args.item.now (copy_in c.self.inside.slots.items (slot_named c.args.item.now)))) c.slot_named-slot.ensures
 
 pub invariant_of-self : goal.invariant_of-self
