@@ -1,6 +1,6 @@
 -- A ghost of a packet under a table of kinds: how it is spelled, and how it is read. The widths of its
 -- levels are those of its kind's fields: of all fields in a create, of those in the mask in an update.
-use Rattle.std.specs.Prelude.{ℕ, ◌≡◌, ◌<◌, ◌+◌, ◌/◌, ◌%◌, ◌^◌, ◌==◌, nat_lt, if◌then◌else◌, map, sum, take, refl, List, [], ◌∷◌, ◌++◌, length, Bool, Option, Some, None, Result, Ok, slice_get}
+use Rattle.std.specs.Prelude.{ℕ, ◌≡◌, ◌<◌, ◌+◌, ◌/◌, ◌%◌, ◌^◌, ◌==◌, nat_lt, if◌then◌else◌, map, sum, take, refl, List, [], ◌∷◌, ◌++◌, length, Bool, Option, Some, None, Result, Ok, Err, slice_get}
 use Rattle.quantised_fields.specs.declared.kind.Kind.{Kind}
 use Rattle.bit_stream.specs.Bits.{number}
 use Rattle.bit_stream.specs.Reading.{Unread}
@@ -8,6 +8,7 @@ use Rattle.wire_format.specs.declared.widths.TheConstants.{SLOT_WIDTH, GHOST_COU
 use Rattle.wire_format.specs.declared.fault.BitsFault.{BitsFault}
 use Rattle.wire_format.specs.declared.fault.BitsCause.TheVariants.{OpBits, UnknownKind, EmptyMask}
 use Rattle.wire_format.specs.declared.ghosts.GhostItem.{GhostItem}
+use Rattle.wire_format.specs.declared.ghost_reading.Named.{Named}
 use Rattle.wire_format.specs.declared.ghosts.GhostItem.TheVariants.{Kill, Create, Update}
 use Rattle.wire_format.specs.Reading.{◌>>=◌, part_at, such_at, within_at, listed}
 
@@ -98,6 +99,11 @@ pub record Updated : Type 0 where
   pub kind : ℕ
   pub mask : ℕ
   pub levels : List ℕ
+
+-- an update with the levels that are read for it
+abbrev pub with_levels : Named → Result (List ℕ × Unread) BitsFault → Result (GhostItem × Unread) BitsFault
+with_levels named (Ok ls) = Ok (Update named.slot named.kind named.mask ls.0, ls.1)
+with_levels named (Err e) = Err e
 
 unfoldable pub updated_at : List Kind → Unread → Result (Updated × Unread) BitsFault
 updated_at kinds s = do

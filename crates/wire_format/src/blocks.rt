@@ -122,8 +122,14 @@ impl Item for BlockItem {
 
     ghost is_item = { λ _. IsBlock };
 
-    fn read(reader: &mut BitReader<'_>, _context: &()) -> Result<Self, BitsFault> {
-        read_block(reader)
+    fn read(&mut self, reader: &mut BitReader<'_>, _context: &()) -> Result<(), BitsFault> {
+        match read_block(reader) {
+            Ok(item) => {
+                *self = item;
+                Ok(())
+            }
+            Err(fault) => Err(fault),
+        }
     }
 
     fn bits(&self, _context: &()) -> u32 {

@@ -121,8 +121,14 @@ impl Item for EventItem {
 
     ghost is_item = { λ _. IsEvent };
 
-    fn read(reader: &mut BitReader<'_>, _context: &()) -> Result<Self, BitsFault> {
-        read_event(reader)
+    fn read(&mut self, reader: &mut BitReader<'_>, _context: &()) -> Result<(), BitsFault> {
+        match read_event(reader) {
+            Ok(item) => {
+                *self = item;
+                Ok(())
+            }
+            Err(fault) => Err(fault),
+        }
     }
 
     fn bits(&self, _context: &()) -> u32 {

@@ -1,15 +1,14 @@
 //! Ghosts of a packet: what it says of the objects in the client's scope, by slot.
 ghost use Rattle.std.specs.Prelude.{◌≡◌, ◌<◌, ◌≤◌, ◌+◌, ◌*◌, ◌^◌, ◌++◌, All, length, map, sum, take};
 ghost use Rattle.bit_stream.specs.Bits.{number};
-ghost use Rattle.bit_stream.specs.Reading.{Gives};
-ghost use Rattle.wire_format.specs.Ghosts.{spell_ghost, ghost_at, ghost_size, create_rest, update_rest, kind_number_at, field_mask_at, create_at, update_at, levels, levels_at, widths, chosen, spell_ghosts, AreLevels, IsGhost, IsGhostInRange};
+ghost use Rattle.wire_format.specs.Ghosts.{spell_ghost, ghost_at, ghost_size, create_rest, update_rest, levels, widths, chosen, spell_ghosts, AreLevels, IsGhost, IsGhostInRange};
 ghost use Rattle.std.specs.List.{AllByRecursion};
 ghost use Rattle.wire_format.specs.Reading.{AreListed};
 
-use crate::fault::{BitsCause, BitsFault};
+use crate::fault::BitsFault;
+use crate::ghost_reading::read_ghost;
 use crate::items::{Item, put_list};
 use crate::lists::ItemList;
-use crate::parts::{part, within};
 use crate::widths::{
     BLOCK_NUMBER_WIDTH, CREATE, GHOST_COUNT_WIDTH, KILL, KIND_NUMBER_WIDTH, MAX_GHOST_BITS,
     OP_WIDTH, SLOT_WIDTH, UPDATE,
@@ -74,7 +73,7 @@ fn field_widths(fields: &[FieldSpec]) -> Widths
 }
 
 /// The widths of the fields of a kind; none where the table has no such kind.
-fn kind_widths(kinds: &KindTable, kind: u8) -> Widths
+pub(crate) fn kind_widths(kinds: &KindTable, kind: u8) -> Widths
     ensures value { result ≡ widths kinds.now kind }
     ensures few { length kinds.now ≤ MAX_KINDS }
     ensures narrow { All (λ w. w ≤ MAX_FIELD_BITS) result }
@@ -103,114 +102,6 @@ fn chosen_widths(widths: &[u32], mask: u32) -> Widths
         mask /= 2;
     }
     chosen
-}
-
-/// The number of a kind of the table.
-#[tactic(auto, unfolding(crate::specs::Reading::such_at))]
-fn read_kind(reader: &mut BitReader<'_>, kinds: &KindTable) -> Result<u8, BitsFault>
-    ensures read { Gives result reader.new (kind_number_at kinds.now reader.old) }
-{
-    let place = reader.place();
-    let kind = part(reader, KIND_NUMBER_WIDTH)? as u8;
-    if kinds.kind(kind).is_some() {
-        Ok(kind)
-    } else {
-        Err(BitsFault {
-            place,
-            cause: BitsCause::UnknownKind,
-        })
-    }
-}
-
-/// A mask of so many fields, at least one of them set.
-#[tactic(auto, unfolding(crate::specs::Reading::such_at))]
-fn read_mask(reader: &mut BitReader<'_>, width: u32) -> Result<u32, BitsFault>
-    requires { width ≤ MAX_WORD_BITS }
-    ensures read { Gives result reader.new (field_mask_at width reader.old) }
-{
-    let place = reader.place();
-    let mask = part(reader, width)?;
-    if mask > 0 {
-        Ok(mask)
-    } else {
-        Err(BitsFault {
-            place,
-            cause: BitsCause::EmptyMask,
-        })
-    }
-}
-
-/// A level for each width.
-fn read_levels(reader: &mut BitReader<'_>, widths: &[u32]) -> Result<Levels, BitsFault>
-    requires few { length widths.now ≤ MAX_FIELDS }
-    requires narrow { All (λ w. w ≤ MAX_FIELD_BITS) widths.now }
-    ensures { Gives result reader.new (levels_at widths.now reader.old) }
-{
-    let mut levels = Levels::new();
-    for width in widths {
-        let level = part(reader, *width)?;
-        levels.push(level);
-    }
-    Ok(levels)
-}
-
-/// Reads what stands behind the op of a create, or gives its first fault.
-#[tactic(auto, unfolding(crate::specs::Ghosts::create_at))]
-fn read_create(
-    reader: &mut BitReader<'_>,
-    kinds: &KindTable,
-    slot: u8,
-) -> Result<GhostItem, BitsFault>
-    ensures { Gives result reader.new (create_at kinds.now slot reader.old) }
-{
-    let kind = read_kind(reader, kinds)?;
-    let block = part(reader, BLOCK_NUMBER_WIDTH)?;
-    let widths = kind_widths(kinds, kind);
-    let levels = read_levels(reader, widths.as_slice())?;
-    Ok(GhostItem::Create {
-        slot,
-        kind,
-        block: block as u8,
-        levels,
-    })
-}
-
-/// Reads what stands behind the op of an update, or gives its first fault.
-#[tactic(auto, unfolding(crate::specs::Ghosts::update_at, crate::specs::Ghosts::updated_at))]
-fn read_update(
-    reader: &mut BitReader<'_>,
-    kinds: &KindTable,
-    slot: u8,
-) -> Result<GhostItem, BitsFault>
-    ensures { Gives result reader.new (update_at kinds.now slot reader.old) }
-{
-    let kind = read_kind(reader, kinds)?;
-    let widths = kind_widths(kinds, kind);
-    let mask = read_mask(reader, widths.len() as u32)?;
-    let chosen = chosen_widths(widths.as_slice(), mask);
-    let levels = read_levels(reader, chosen.as_slice())?;
-    Ok(GhostItem::Update {
-        slot,
-        kind,
-        mask,
-        levels,
-    })
-}
-
-/// Reads a ghost, or gives its first fault.
-#[tactic(auto, unfolding(crate::specs::Ghosts::ghost_at))]
-fn read_ghost(reader: &mut BitReader<'_>, kinds: &KindTable) -> Result<GhostItem, BitsFault>
-    ensures { Gives result reader.new (ghost_at kinds.now reader.old) }
-{
-    let slot = part(reader, SLOT_WIDTH)? as u8;
-    let op = within(reader, BitsCause::OpBits, KILL, UPDATE, OP_WIDTH)?;
-    if op == KILL {
-        return Ok(GhostItem::Kill { slot });
-    }
-    if op == CREATE {
-        return read_create(reader, kinds, slot);
-    }
-    read_update(reader, kinds, slot)
 }
 
 /// The bits of so many levels of these widths.
@@ -433,8 +324,8 @@ impl Item for GhostItem {
 
     ghost is_item = { IsGhost };
 
-    fn read(reader: &mut BitReader<'_>, kinds: &KindTable) -> Result<Self, BitsFault> {
-        read_ghost(reader, kinds)
+    fn read(&mut self, reader: &mut BitReader<'_>, kinds: &KindTable) -> Result<(), BitsFault> {
+        read_ghost(reader, kinds, self)
     }
 
     fn bits(&self, kinds: &KindTable) -> u32 {

@@ -1,7 +1,7 @@
 //! The items of a packet, which stand one after the other behind their count.
 ghost use Rattle.std.specs.Prelude.{◌≡◌, ◌+◌, ◌*◌, ◌^◌, ◌<◌, ◌≤◌, ◌++◌, length, List, Bool, Result, sum_by};
 ghost use Rattle.std.specs.List.{flat_map, AllByRecursion};
-ghost use Rattle.bit_stream.specs.Reading.{Gives, Unread};
+ghost use Rattle.bit_stream.specs.Reading.{Unread};
 ghost use Rattle.wire_format.specs.declared.fault.BitsFault.{BitsFault};
 ghost use Rattle.wire_format.specs.Reading.{counted_at, listed, listed_at, Fills};
 
@@ -29,9 +29,9 @@ pub(crate) trait Item: Default + Drop {
     /// The item has a spelling that is read again.
     ghost is_item: { Self.Context → Self → Type 0 };
 
-    /// Reads an item, or gives its first fault.
-    fn read(reader: &mut BitReader<'_>, context: &Self::Context) -> Result<Self, BitsFault>
-        ensures { Gives result reader.new (reading context.now reader.old) };
+    /// Reads an item in place of this one, or gives its first fault.
+    fn read(&mut self, reader: &mut BitReader<'_>, context: &Self::Context) -> Result<(), BitsFault>
+        ensures { Fills result self.new reader.new (reading context.now reader.old) };
 
     /// The bits of the item.
     fn bits(&self, context: &Self::Context) -> u32
@@ -60,8 +60,7 @@ fn read_counted<T: Item, const N: usize>(
 {
     list.clear();
     for _ in 0..count {
-        let item = T::read(reader, context)?;
-        list.push(item);
+        list.read_next(reader, context)?;
     }
     Ok(())
 }

@@ -9,6 +9,7 @@ mod blocks;
 mod client;
 mod events;
 mod fault;
+mod ghost_reading;
 mod ghosts;
 mod header;
 mod items;

@@ -1,8 +1,12 @@
 //! The lists of a packet.
-ghost use Rattle.std.specs.Prelude.{◌≡◌, ◌+◌, ◌<◌, ◌≤◌, ◌↔◌, [], ◌∷◌, ◌++◌, length, take, IsTrue, slice_get, slice_set};
+ghost use Rattle.std.specs.Prelude.{◌≡◌, ◌+◌, ◌<◌, ◌≤◌, ◌↔◌, [], ◌∷◌, ◌++◌, length, take, IsTrue, OnOk, OnErr, slice_get, slice_set};
 ghost use Rattle.std.specs.Option.{option_copied};
+ghost use Rattle.wire_format.specs.Reading.{Fills, behind};
 
+use crate::fault::BitsFault;
+use crate::items::Item;
 use arrayvec::ArrayVec;
+use bit_stream::BitReader;
 use std::marker::Model;
 
 /// At most `N` items of a packet, which contracts see as their list. They lie in the value itself,
@@ -39,6 +43,47 @@ fn write<T: Drop, const N: usize>(places: &mut ArrayVec<T, N>, count: usize, ite
     match places.get_mut(count) {
         Some(place) => *place = item,
         None => places.push(item),
+    }
+}
+
+/// Reads an item behind the first `count` ones, in place of one that lies there already or behind all.
+fn read_at<T: Item, const N: usize>(
+    reader: &mut BitReader<'_>,
+    context: &T::Context,
+    places: &mut ArrayVec<T, N>,
+    count: usize,
+) -> Result<(), BitsFault>
+    requires held { count ≤ length places.old.items }
+    requires few { length places.old.items ≤ N }
+    requires room { count < N }
+    ensures read { Fills result (take (count + 1) places.new.items) reader.new
+        (behind (take count places.old.items) (T.reading context.now reader.old)) }
+    ensures held { OnOk result (count + 1 ≤ length places.new.items) }
+    ensures kept { OnErr result (count ≤ length places.new.items) }
+    ensures few { length places.new.items ≤ N }
+{
+    if let Some(place) = places.get_mut(count) {
+        return place.read(reader, context);
+    }
+    let mut item = T::default();
+    item.read(reader, context)?;
+    places.push(item);
+    Ok(())
+}
+
+impl<T: Item, const N: usize> ItemList<T, N> {
+    /// Reads an item behind the others, or gives its first fault; there must be room for it.
+    pub(crate) fn read_next(
+        &mut self,
+        reader: &mut BitReader<'_>,
+        context: &T::Context,
+    ) -> Result<(), BitsFault>
+        requires { length self.old < N }
+        ensures { Fills result self.new reader.new (behind self.old (T.reading context.now reader.old)) }
+    {
+        read_at(reader, context, &mut self.places, self.count)?;
+        self.count += 1;
+        Ok(())
     }
 }
 

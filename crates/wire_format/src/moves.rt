@@ -174,8 +174,14 @@ impl Item for Move {
 
     ghost is_item = { λ _. AnyMove };
 
-    fn read(reader: &mut BitReader<'_>, _context: &()) -> Result<Self, BitsFault> {
-        read_move(reader)
+    fn read(&mut self, reader: &mut BitReader<'_>, _context: &()) -> Result<(), BitsFault> {
+        match read_move(reader) {
+            Ok(item) => {
+                *self = item;
+                Ok(())
+            }
+            Err(fault) => Err(fault),
+        }
     }
 
     fn bits(&self, _context: &()) -> u32 {
