@@ -1,5 +1,6 @@
 pub mod Formats
 pub mod Counted
+pub mod EachItem
 pub mod Whole
 pub mod Lengths
 pub mod InParts
