@@ -18,6 +18,7 @@ use Rattle.world_rules.specs.Ranges.{ObjectFits}
 use Rattle.world_rules.proofs.Identities.{stays_itself}
 use Rattle.world_rules.proofs.Peopled.{peopled_next}
 use Rattle.world_sim.specs.Grid.{numbers, lasts, is_always, lies_at, has_place}
+use Rattle.world_sim.specs.Lines.{GridParts}
 use Rattle.world_sim.specs.Cells.{IsGrid, lies_in, is_cell}
 
 -- ---- numbers
@@ -122,7 +123,7 @@ all_lie : (cx cy : ℕ) (os : List Object) → cx < 16 → cy < 16 → AllByRecu
 all_lie cx cy [] a b fits = tt
 all_lie cx cy (o ∷ os) a b fits = (lies_by cx cy o a b fits.0, all_lie cx cy os a b fits.1)
 
-pub cell_tells : (cells : List (List ℕ)) (os : List Object) (cx cy : ℕ) → IsGrid cells os → AllByRecursion ObjectFits os → cx < 16 → cy < 16 → get_or cells (cy * 16 + cx) [] ≡ numbers (lies_at cx cy) 0 os
-cell_tells cells os cx cy g fits a b =
+pub cell_tells : (grid : GridParts) (os : List Object) (cx cy : ℕ) → IsGrid grid os → AllByRecursion ObjectFits os → cx < 16 → cy < 16 → get_or grid.cells (cy * 16 + cx) [] ≡ numbers (lies_at cx cy) 0 os
+cell_tells grid os cx cy g fits a b =
     g.exact (cy * 16 + cx) (omega arith)
     ∙ same_numbers_by (lies_in (cy * 16 + cx)) (lies_at cx cy) 0 os (all_lie cx cy os a b fits)

@@ -1,5 +1,8 @@
 pub mod Places
 pub mod Changes
+pub mod Grids
+pub mod LineBits
+pub mod Between
 pub mod Lasting
 pub mod RowFields
 pub mod RowLoops

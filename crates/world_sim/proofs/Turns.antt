@@ -23,6 +23,7 @@ use Rattle.world_rules.specs.Next.{Moment, object_next, by_kind}
 use Rattle.world_sim.specs.declared.found.Found.{Found}
 use Rattle.world_sim.specs.Found.{AreFound, is_ending, is_players, is_players_part}
 use Rattle.world_sim.specs.Turns.{is_quiet, is_quiet_part, stepped_to}
+use Rattle.world_sim.specs.Lines.{GridParts}
 use Rattle.world_sim.specs.Cells.{IsGrid}
 use Rattle.world_sim.specs.declared.rows.Row.{Row}
 use Rattle.world_sim.specs.Rows.{values_of, row_versions, as_number}
@@ -197,7 +198,7 @@ split_at n [] d l = absurd (omega arith)
 split_at zero (y ∷ xs) d l = refl
 split_at (suc n) (y ∷ xs) d l = let e : suc n + 1 ≡ suc (n + 1) = omega arith in rw e (ap (λ (ys : List Object). y ∷ ys) (split_at n xs d (omega arith)))
 
-pub grid_turn : (cells next : List (List ℕ)) (xs : List Object) (n : ℕ) (was x : Object) → n < length xs → was ≡ get_or xs n was → IsGrid cells xs → ((before behind : List Object) → length before ≡ n → IsGrid cells (before ++ was ∷ behind) → IsGrid next (before ++ x ∷ behind)) → IsGrid next (set xs n x)
+pub grid_turn : (cells next : GridParts) (xs : List Object) (n : ℕ) (was x : Object) → n < length xs → was ≡ get_or xs n was → IsGrid cells xs → ((before behind : List Object) → length before ≡ n → IsGrid cells (before ++ was ∷ behind) → IsGrid next (before ++ x ∷ behind)) → IsGrid next (set xs n x)
 grid_turn cells next xs n was x l e g step =
     let many : length (take n xs) ≡ n = let t = length-take n xs in omega (arith, t) in
     let split : take n xs ++ was ∷ drop (n + 1) xs ≡ xs = ap (λ (o : Object). take n xs ++ o ∷ drop (n + 1) xs) e ∙ sym (split_at n xs was l) in

@@ -18,6 +18,7 @@ use Rattle.world_sim.specs.Rows.{values_of, fresh_versions, versions_next, world
 use Rattle.world_sim.specs.RowsNext.{row_values}
 use Rattle.world_sim.specs.Grid.{numbers, lasts, place_told}
 use Rattle.world_sim.specs.Cells.{IsGrid}
+use Rattle.world_sim.specs.Lines.{GridParts}
 use Rattle.world_sim.specs.declared.glance.Glance.{Glance}
 use Rattle.world_sim.specs.Glances.{glance_of}
 
@@ -73,7 +74,7 @@ pub record IsWorld (w : Worlds) : Type 0 where
 
 -- a world as the code keeps it: each row has its object's values, each cell the numbers of those that lie in it, and there
 -- is a glance at each object
-pub record IsKept (w : Worlds) (rows : List Row) (glances : List Glance) (cells : List (List ℕ)) (always : List ℕ) : Type 0 where
+pub record IsKept (w : Worlds) (rows : List Row) (glances : List Glance) (cells : GridParts) (always : List ℕ) : Type 0 where
   pub world : IsWorld w
   pub values : map row_values rows ≡ map values_of w.objects
   pub glanced : glances ≡ map glance_of w.objects

@@ -1,9 +1,12 @@
-//! The cells of the field, with the numbers of the objects that lie in each.
-ghost use Rattle.std.specs.Prelude.{◌≡◌, ◌<◌, ◌≤◌, List, [], ◌∷◌, ◌++◌, length, take, IfOk, None, true, slice_index_or};
+//! The cells of the field, with the numbers of the objects that lie in each, and by columns and rows which objects those are.
+ghost use Rattle.std.specs.Prelude.{◌≡◌, ℕ, ◌<◌, ◌≤◌, ◌+◌, ◌*◌, ◌-◌, min, List, [], ◌∷◌, ◌++◌, length, take, IfOk, None, true, slice_index_or};
+ghost use Rattle.std.specs.Int.{bit_at};
 ghost use Rattle.world_sim.specs.Grid.{has_place};
-ghost use Rattle.world_sim.specs.Cells.{cell_of, spot, come, left, IsGrid};
+ghost use Rattle.world_sim.specs.Lines.{has, IsPut};
+ghost use Rattle.world_sim.specs.Cells.{cell_of, spot, column_in, row_in, come, left, IsGrid};
 
-use crate::cell::Cell;
+use crate::cell_lists::CellLists;
+use crate::lines::Lines;
 use std::alloc::{AllocError, Global};
 use std::marker::Model;
 use tn_types::MAX_OBJECTS;
@@ -15,23 +18,21 @@ pub const CELL_SIDE: u32 = 4096;
 /// Cells in a row, and rows.
 pub const CELLS_ACROSS: u32 = 16;
 
-// All cells.
-const CELLS: usize = 256;
-
-/// The numbers of the objects in each cell, row by row. Nothing after `new` takes memory.
+/// The numbers of the objects in each cell, row by row, and which objects lie in each column and row. Nothing after `new`
+/// takes memory.
 #[derive(Drop)]
 pub(crate) struct Cells {
-    cells: Vec<Cell>,
+    lists: CellLists,
+    columns: Lines,
+    rows: Lines,
 }
 
 impl Model for Cells {
-    ghost use Rattle.std.specs.Prelude.{◌≡◌, ℕ, List, length};
+    ghost use Rattle.world_sim.specs.Lines.{GridParts};
 
-    ghost Value = { List (List ℕ) };
+    ghost Value = { GridParts };
 
-    ghost view = { λ a. a.cells.items };
-
-    ghost invariant = { λ a. length a.cells.items ≡ 256 };
+    ghost view = { λ a. record { cells = a.lists; columns = a.columns; rows = a.rows } };
 }
 
 // Whether an object has a place: all but clocks.
@@ -64,6 +65,26 @@ pub(crate) fn spot(o: &Object) -> Option<u8>
     }
 }
 
+// The column of a spot, and behind the last one where there is none.
+fn column_in(spot: Option<u8>) -> u8
+    ensures { result ≡ column_in spot }
+{
+    match spot {
+        None => CELLS_ACROSS as u8,
+        Some(cell) => cell % CELLS_ACROSS as u8,
+    }
+}
+
+// The row of a spot, and behind the last one where there is none.
+fn row_in(spot: Option<u8>) -> u8
+    ensures { result ≡ row_in spot }
+{
+    match spot {
+        None => CELLS_ACROSS as u8,
+        Some(cell) => cell / CELLS_ACROSS as u8,
+    }
+}
+
 fn is_same(a: Option<u8>, b: Option<u8>) -> bool
     ensures { result ≡ true → a ≡ b }
 {
@@ -79,59 +100,53 @@ impl Cells {
     pub(crate) fn new(alloc: Global) -> Result<Cells, AllocError>
         ensures { IfOk result (λ c. IsGrid c []) }
     {
-        let mut cells = Vec::with_capacity(alloc, CELLS)?;
-        for _ in 0..CELLS {
-            cells.push(Cell::new(alloc)?)?;
-        }
-        Ok(Cells { cells })
+        Ok(Cells {
+            lists: CellLists::new(alloc)?,
+            columns: Lines::new(alloc)?,
+            rows: Lines::new(alloc)?,
+        })
     }
 
     /// The numbers in a cell, rising.
     pub(crate) fn cell(&self, cell: u8) -> &[u32]
-        ensures value { result.now ≡ slice_index_or self.now cell [] }
+        ensures value { result.now ≡ slice_index_or self.now.cells cell [] }
     {
-        self.cells[cell as usize].as_slice()
+        self.lists.cell(cell)
     }
 
-    // The object comes into the cell.
-    fn insert(&mut self, cell: u8, number: u32)
-        requires { number < MAX_OBJECTS }
-        ensures { self.new ≡ come number (Some cell) self.old }
+    /// Which of 64 objects lie in the columns from one on and before another.
+    pub(crate) fn columns_between(&self, columns: (u8, u8), word: usize) -> u64
+        requires word { word < 16 }
+        requires from { columns.0 ≤ CELLS_ACROSS }
+        requires to { columns.1 ≤ CELLS_ACROSS }
+        ensures { (k : ℕ) → k < 64 → bit_at result k
+            ≡ min (has self.now.columns columns.1 (64 * word + k)) (1 - has self.now.columns columns.0 (64 * word + k)) }
     {
-        self.cells[cell as usize].insert(number);
+        self.columns.between(columns.0, columns.1, word)
     }
 
-    // The object leaves the cell.
-    fn remove(&mut self, cell: u8, number: u32)
-        ensures { self.new ≡ left number (Some cell) self.old }
+    /// Which of 64 objects lie in the rows from one on and before another.
+    pub(crate) fn rows_between(&self, rows: (u8, u8), word: usize) -> u64
+        requires word { word < 16 }
+        requires from { rows.0 ≤ CELLS_ACROSS }
+        requires to { rows.1 ≤ CELLS_ACROSS }
+        ensures { (k : ℕ) → k < 64 → bit_at result k
+            ≡ min (has self.now.rows rows.1 (64 * word + k)) (1 - has self.now.rows rows.0 (64 * word + k)) }
     {
-        self.cells[cell as usize].remove(number);
-    }
-
-    fn leave(&mut self, number: u32, from: Option<u8>)
-        ensures { self.new ≡ left number from self.old }
-    {
-        if let Some(cell) = from {
-            self.remove(cell, number);
-        }
-    }
-
-    fn arrive(&mut self, number: u32, to: Option<u8>)
-        requires { number < MAX_OBJECTS }
-        ensures { self.new ≡ come number to self.old }
-    {
-        if let Some(cell) = to {
-            self.insert(cell, number);
-        }
+        self.rows.between(rows.0, rows.1, word)
     }
 
     // An object goes from where it lay to where it lies now; None is nowhere.
     fn move_to(&mut self, number: u32, from: Option<u8>, to: Option<u8>)
         requires { number < MAX_OBJECTS }
-        ensures { self.new ≡ come number to (left number from self.old) }
+        ensures cells { self.new.cells ≡ come number to (left number from self.old.cells) }
+        ensures columns { IsPut number (column_in to) self.old.columns self.new.columns }
+        ensures rows { IsPut number (row_in to) self.old.rows self.new.rows }
     {
-        self.leave(number, from);
-        self.arrive(number, to);
+        self.lists.leave(number, from);
+        self.lists.arrive(number, to);
+        self.columns.put(number, column_in(to));
+        self.rows.put(number, row_in(to));
     }
 
     // The same, where most stay in their cells.

@@ -2,10 +2,12 @@
 #![tactic(auto)]
 
 mod cell;
+mod cell_lists;
 mod cells;
 mod found;
 mod glance;
 pub mod laws;
+mod lines;
 mod near;
 mod rows;
 mod start;

@@ -8,7 +8,8 @@ ghost use Rattle.world_rules.specs.Spawning.{first_objects, SetupFits};
 ghost use Rattle.world_rules.specs.Ranges.{ObjectFits};
 ghost use Rattle.world_rules.specs.Identity.{IsPeopled, LivesOn};
 ghost use Rattle.world_sim.specs.Worlds.{WasCounted, next, added, first_world, alive_at, kind_at, block_at, values_at, version_at, identity_at, player_of, place_at};
-ghost use Rattle.world_sim.specs.Grid.{numbers, lasts, lies_at};
+ghost use Rattle.world_sim.specs.Grid.{numbers, lasts, lies_at, lies_between};
+ghost use Rattle.world_sim.specs.Lines.{AreBits};
 ghost use Rattle.world_sim.specs.Facts.{IsWriteOf, ValuesFit};
 ghost use Rattle.world_sim.specs.Rows.{values_of, world_writes};
 ghost use Rattle.world_sim.specs.Cells.{IsGrid};
@@ -399,6 +400,20 @@ impl World {
         ensures { result.now ≡ numbers (lies_at cx cy) 0 self.now.objects }
     {
         self.cells.cell(cy * CELLS_ACROSS as u8 + cx)
+    }
+
+    /// Which of the 64 objects from number `64 * word` on are alive and lie in the cells between two columns and two rows,
+    /// the last left out, as bits, the lowest for the first. Clocks lie in no cell.
+    #[tactic(auto, using(crate::proofs::Between::between_tells))]
+    pub fn between(&self, columns: (u8, u8), rows: (u8, u8), word: usize) -> u64
+        requires word { word < 16 }
+        requires column_first { columns.0 ≤ CELLS_ACROSS }
+        requires column_last { columns.1 ≤ CELLS_ACROSS }
+        requires row_first { rows.0 ≤ CELLS_ACROSS }
+        requires row_last { rows.1 ≤ CELLS_ACROSS }
+        ensures { AreBits result (64 * word) 64 (lies_between columns.0 columns.1 rows.0 rows.1) self.now.objects }
+    {
+        self.cells.columns_between(columns, word) & self.cells.rows_between(rows, word)
     }
 
     /// The numbers of the living objects that every client sees, rising: flags and clocks.

@@ -1,5 +1,5 @@
 use Rattle.std.proofs.Common.{arith}
-use Rattle.world_sim.proofs.Changes.{IsGrid-more}
+use Rattle.world_sim.proofs.Grids.{IsGrid-more}
 use Rattle.world_sim.proofs.cells.Cells.settle_from.Goals as goal
 
 pub loop-i-preserved : goal.loop-i-preserved
