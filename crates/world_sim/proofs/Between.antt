@@ -70,8 +70,8 @@ between_tells grid os columns rows word a b c d g fits lw la lb lc ld hx hy = λ
     let few : n < 1024 = omega (arith, lw, lt) in
     let s = spot_at os n in
     let x : bit_at columns k ≡ bit (is_between a b (column_in s)) =
-        hx k lt ∙ rw (g.columns b n lb few, g.columns a n la few) (one_line a b (column_in s)) in
+    hx k lt ∙ rw (g.columns b n lb few, g.columns a n la few) (one_line a b (column_in s)) in
     let y : bit_at rows k ≡ bit (is_between c d (row_in s)) =
-        hy k lt ∙ rw (g.rows d n ld few, g.rows c n lc few) (one_line c d (row_in s)) in
+    hy k lt ∙ rw (g.rows d n ld few, g.rows c n lc few) (one_line c d (row_in s)) in
     bit_at_and columns rows k ∙ rw (x, y) (both_bits (is_between a b (column_in s)) (is_between c d (row_in s)))
     ∙ ap bit (at_number a b c d n os (slice_get os n) lb fits refl)

@@ -137,13 +137,13 @@ no_flag watched o (Clock k) e m = rw e refl
 no_hit : (watched : List Bool) (os : List Object) (o : Object) (s : State) → o.state ≡ s → may_matter watched (glance_of o) ≡ false → is_hitting os o ≡ false
 unfolding is_hitting
 no_hit watched os o (Player p) e m = rw (e, and-false o.alive) refl
-no_hit watched os o (Disc d) e m = absurd (let f = rw e at m in cc)
+no_hit watched os o (Disc d) e m = let dead : o.alive ≡ false = rw e at m in rw dead refl
 no_hit watched os o (Mine k) e m = rw (e, and-false o.alive) refl
 no_hit watched os o (Drone d) e m = rw (e, and-false o.alive) refl
 no_hit watched os o (Flag f) e m = rw (e, and-false o.alive) refl
 no_hit watched os o (Clock k) e m = rw (e, and-false o.alive) refl
 
-by_armed : (alive armed old near watched : Bool) → cond (is_armed_role (cond (not armed) YoungMine (cond old OldMine ArmedMine))) watched (is_found_role (cond (not armed) YoungMine (cond old OldMine ArmedMine))) ≡ false → (watched ≡ false → near ≡ false) → ((alive && armed) && near) ≡ false
+by_armed : (alive armed old near watched : Bool) → cond (is_armed_role (cond (not armed) YoungMine (cond old OldMine ArmedMine))) watched (is_found_role alive (cond (not armed) YoungMine (cond old OldMine ArmedMine))) ≡ false → (watched ≡ false → near ≡ false) → ((alive && armed) && near) ≡ false
 by_armed alive false old near watched m h = rw (and-false alive) refl
 by_armed alive true false near watched m h = rw (h m, and-false (alive && true)) refl
 by_armed alive true true near watched m h = rw (h m, and-false (alive && true)) refl

@@ -3,7 +3,7 @@ use Rattle.std.proofs.Common.{◌≡◌, ℕ, zero, suc, ◌+◌, ◌<◌, ◌�
 use Rattle.std.proofs.lemmas.List.{take_more, drop_more, length-take}
 use Rattle.std.proofs.lemmas.Bool.Decides.{nat_tests, eqb_tells}
 use Rattle.world_rules.specs.declared.object.Object.{Object}
-use Rattle.world_sim.specs.Lines.{GridParts, has, is_before, IsPut}
+use Rattle.world_sim.specs.Lines.{GridParts, has, is_before, IsAt, IsPut}
 use Rattle.world_sim.specs.Cells.{spot, spot_at, column_in, row_in, AreLines, IsGrid, left, come}
 use Rattle.world_sim.proofs.Changes.{AreCells, AreCells-same, AreCells-moved, AreCells-made, dead, dead_place}
 
@@ -49,6 +49,9 @@ lines_moved line_in n to words next xs ys x y m f put a = λ line k l lt.
           ∙ ap (λ s. is_before line (line_in s)) (spot_other xs ys x y k (λ h. w.1 (h ∙ m)))
     ]
 
+lies_there : (line_in : Option ℕ → ℕ) (n : ℕ) (from : Option ℕ) (words : List ℕ) (xs ys : List Object) (x : Object) → n < 1024 → length xs ≡ n → spot x ≡ from → AreLines line_in words (xs ++ x ∷ ys) → IsAt n (line_in from) words
+lies_there line_in n from words xs ys x few m e a = λ line l. a line n l few ∙ ap (λ s. is_before line (line_in s)) (spot_here xs ys x n m ∙ e)
+
 lines_same : (line_in : Option ℕ → ℕ) (words : List ℕ) (os ps : List Object) → ((n : ℕ) → spot_at os n ≡ spot_at ps n) → AreLines line_in words os → AreLines line_in words ps
 lines_same line_in words os ps e a = λ line k l lt. a line k l lt ∙ ap (λ s. is_before line (line_in s)) (e k)
 
@@ -72,27 +75,27 @@ IsGrid-same grid xs ys x y e g =
     }
 
 -- it goes from where it lay to where it lies now
-pub IsGrid-moved : (n : ℕ) (from to : Option ℕ) (grid next : GridParts) (xs ys : List Object) (x y : Object) → length xs ≡ n → spot x ≡ from → spot y ≡ to → next.cells ≡ come n to (left n from grid.cells) → IsPut n (column_in to) grid.columns next.columns → IsPut n (row_in to) grid.rows next.rows → IsGrid grid (xs ++ x ∷ ys) → IsGrid next (xs ++ y ∷ ys)
-IsGrid-moved n from to grid next xs ys x y m e f lists column row g =
+pub IsGrid-moved : (n : ℕ) (from to : Option ℕ) (grid next : GridParts) (xs ys : List Object) (x y : Object) → n < 1024 → length xs ≡ n → spot x ≡ from → spot y ≡ to → next.cells ≡ come n to (left n from grid.cells) → (IsAt n (column_in from) grid.columns → IsPut n (column_in to) grid.columns next.columns) → (IsAt n (row_in from) grid.rows → IsPut n (row_in to) grid.rows next.rows) → IsGrid grid (xs ++ x ∷ ys) → IsGrid next (xs ++ y ∷ ys)
+IsGrid-moved n from to grid next xs ys x y few m e f lists column row g =
     let cells : AreCells next.cells (xs ++ y ∷ ys) = rw lists (AreCells-moved n from to grid.cells xs ys x y m e f (as_cells grid _ g)) in
     record {
       all = cells.all;
       exact = cells.exact;
-      columns = lines_moved column_in n to grid.columns next.columns xs ys x y m f column g.columns;
-      rows = lines_moved row_in n to grid.rows next.rows xs ys x y m f row g.rows;
+      columns = lines_moved column_in n to grid.columns next.columns xs ys x y m f (column (lies_there column_in n from grid.columns xs ys x few m e g.columns)) g.columns;
+      rows = lines_moved row_in n to grid.rows next.rows xs ys x y m f (row (lies_there row_in n from grid.rows xs ys x few m e g.rows)) g.rows;
     }
 
 -- one more object
-pub IsGrid-made : (n : ℕ) (from to : Option ℕ) (grid next : GridParts) (xs : List Object) (y : Object) → length xs ≡ n → from ≡ None → spot y ≡ to → next.cells ≡ come n to (left n from grid.cells) → IsPut n (column_in to) grid.columns next.columns → IsPut n (row_in to) grid.rows next.rows → IsGrid grid xs → IsGrid next (xs ++ y ∷ [])
-IsGrid-made n from to grid next xs y m e f lists column row g =
+pub IsGrid-made : (n : ℕ) (from to : Option ℕ) (grid next : GridParts) (xs : List Object) (y : Object) → n < 1024 → length xs ≡ n → from ≡ None → spot y ≡ to → next.cells ≡ come n to (left n from grid.cells) → (IsAt n (column_in from) grid.columns → IsPut n (column_in to) grid.columns next.columns) → (IsAt n (row_in from) grid.rows → IsPut n (row_in to) grid.rows next.rows) → IsGrid grid xs → IsGrid next (xs ++ y ∷ [])
+IsGrid-made n from to grid next xs y few m e f lists column row g =
     let cells : AreCells next.cells (xs ++ y ∷ []) = rw lists (AreCells-made n from to grid.cells xs y m e f (as_cells grid _ g)) in
     let columns : AreLines column_in grid.columns (xs ++ dead ∷ []) = lines_same column_in grid.columns _ _ (λ k. sym (spot_behind xs dead k dead_place)) g.columns in
     let rows : AreLines row_in grid.rows (xs ++ dead ∷ []) = lines_same row_in grid.rows _ _ (λ k. sym (spot_behind xs dead k dead_place)) g.rows in
     record {
       all = cells.all;
       exact = cells.exact;
-      columns = lines_moved column_in n to grid.columns next.columns xs [] dead y m f column columns;
-      rows = lines_moved row_in n to grid.rows next.rows xs [] dead y m f row rows;
+      columns = lines_moved column_in n to grid.columns next.columns xs [] dead y m f (column (lies_there column_in n from grid.columns xs [] dead few m (dead_place ∙ sym e) columns)) columns;
+      rows = lines_moved row_in n to grid.rows next.rows xs [] dead y m f (row (lies_there row_in n from grid.rows xs [] dead few m (dead_place ∙ sym e) rows)) rows;
     }
 
 pub IsGrid-empty : (grid : GridParts) → length grid.cells ≡ 256 → ((k : ℕ) → get_or grid.cells k [] ≡ []) → ((line n : ℕ) → has grid.columns line n ≡ 0) → ((line n : ℕ) → has grid.rows line n ≡ 0) → IsGrid grid []

@@ -1,10 +1,11 @@
 -- The bits of lines, word by word.
-use Rattle.std.proofs.Common.{◌≡◌, ℕ, zero, suc, ◌+◌, ◌-◌, ◌*◌, ◌/◌, ◌%◌, ◌^◌, ◌<◌, ◌≤◌, Bool, true, false, cond, nat_eq, nat_lt, ◌&&◌, List, [], ◌∷◌, length, get_or, set, replicate, get_or-set_same, get_or-set_other, refl, sym, ap, ◌∙◌, arith, inl, inr, min, bit_and, bit_or}
+use Rattle.std.proofs.Common.{◌≡◌, ℕ, zero, suc, ◌+◌, ◌-◌, ◌*◌, ◌/◌, ◌%◌, ◌^◌, ◌<◌, ◌≤◌, Bool, true, false, cond, nat_eq, nat_lt, ◌&&◌, List, [], ◌∷◌, length, get_or, set, replicate, get_or-set_same, get_or-set_other, refl, sym, ap, ◌∙◌, arith, inl, inr, min, max, bit_and, bit_or}
 use Rattle.std.specs.Int.{bit_at, bit_not, w64}
 use Rattle.std.proofs.lemmas.Nat.{one_shl}
 use Rattle.std.proofs.lemmas.Nat.Bits.{bit_at_and, bit_at_not, bit_at-lt, bit_at-zero, bit_at_set_same, bit_at_set_other, bit_at-pow_same, bit_at-pow_other}
+use Rattle.std.proofs.lemmas.Bool.{cases_lt}
 use Rattle.std.proofs.lemmas.Bool.Decides.{nat_tests, eqb_tells}
-use Rattle.world_sim.specs.Lines.{has, is_before, IsPut}
+use Rattle.world_sim.specs.Lines.{has, is_before, IsAt, IsPut}
 
 -- ---- one word
 
@@ -46,18 +47,51 @@ none_at (suc many) (suc j) = none_at many j
 pub no_bits : (words : List ℕ) (many line n : ℕ) → words ≡ zeros many → has words line n ≡ 0
 no_bits words many line n e = rw (e, none_at many (line * 16 + n / 64)) (bit_at-zero (n % 64))
 
--- the ends up to this one have the object's bits, the others are as they were
-abbrev pub IsPutTo : ℕ → ℕ → ℕ → List ℕ → List ℕ → Type 0
-IsPutTo to number at old new =
-    (line n : ℕ) → line ≤ 16 → n < 1024 → has new line n ≡ cond (nat_lt line to) (cond (nat_eq n number) (is_before line at) (has old line n)) (has old line n)
+-- the lines behind one and before another have the object's bits, the others are as they were
+abbrev pub IsPutIn : ℕ → ℕ → ℕ → ℕ → List ℕ → List ℕ → Type 0
+IsPutIn lo to number at old new =
+    (line n : ℕ) → line ≤ 16 → n < 1024 → has new line n ≡ cond (nat_lt lo line && nat_lt line to) (cond (nat_eq n number) (is_before line at) (has old line n)) (has old line n)
 
-pub put_none : (number at : ℕ) (words : List ℕ) → IsPutTo 0 number at words words
-put_none number at words = λ line n l m. let t : nat_lt line 0 ≡ false = grind (arith, nat_tests) in rw t refl
+pub put_none : (lo number at : ℕ) (words : List ℕ) → IsPutIn lo (lo + 1) number at words words
+put_none lo number at words = λ line n l m. let t : (nat_lt lo line && nat_lt line (lo + 1)) ≡ false = grind (arith, nat_tests) in rw t refl
 
-pub put_all : (number at : ℕ) (old new : List ℕ) → IsPutTo 17 number at old new → IsPut number at old new
-put_all number at old new h = λ line n l m.
-    let t : nat_lt line 17 ≡ true = grind (arith, nat_tests) in
-    h line n l m ∙ ap (λ b. cond b (cond (nat_eq n number) (is_before line at) (has old line n)) (has old line n)) t
+both_behind : (line from to : ℕ) → max from to < line → is_before line from ≡ is_before line to
+both_behind line from to l =
+    let a : nat_lt from line ≡ true = grind (arith, nat_tests) in
+    let b : nat_lt to line ≡ true = grind (arith, nat_tests) in
+    rw (a, b) refl
+
+both_before : (line from to : ℕ) → line ≤ min from to → is_before line from ≡ is_before line to
+both_before line from to l =
+    let a : nat_lt from line ≡ false = grind (arith, nat_tests) in
+    let b : nat_lt to line ≡ false = grind (arith, nat_tests) in
+    rw (a, b) refl
+
+outside : (line from to : ℕ) → (nat_lt (min from to) line && nat_lt line (max from to + 1)) ≡ false → is_before line from ≡ is_before line to
+outside line from to e =
+    elim (cases_lt (min from to) line) [
+      | inr before ↦ both_before line from to before
+      | inl behind ↦ elim (cases_lt (max from to) line) [
+        | inl past ↦ both_behind line from to past
+        | inr within ↦
+            let t : (nat_lt (min from to) line && nat_lt line (max from to + 1)) ≡ true = grind (arith, nat_tests) in
+            absurd (let f = sym e ∙ t in cc)
+      ]
+    ]
+
+put_by : (b : Bool) (number from to : ℕ) (old new : List ℕ) (line n : ℕ) → (nat_lt (min from to) line && nat_lt line (max from to + 1)) ≡ b → has old line number ≡ is_before line from → has new line n ≡ cond b (cond (nat_eq n number) (is_before line to) (has old line n)) (has old line n) → has new line n ≡ cond (nat_eq n number) (is_before line to) (has old line n)
+put_by true number from to old new line n e at h = h
+put_by false number from to old new line n e at h =
+    h ∙ elim (eqb_tells n number) [
+      | inl w ↦
+          let here : has old line n ≡ is_before line to = ap (has old line) w.1 ∙ at ∙ outside line from to e in
+          here ∙ sym (ap (λ b. cond b (is_before line to) (has old line n)) w.0)
+      | inr w ↦ sym (ap (λ b. cond b (is_before line to) (has old line n)) w.0)
+    ]
+
+pub put_all : (number from to : ℕ) (old new : List ℕ) → IsAt number from old → IsPutIn (min from to) (max from to + 1) number to old new → IsPut number to old new
+put_all number from to old new at h = λ line n l m.
+    put_by (nat_lt (min from to) line && nat_lt line (max from to + 1)) number from to old new line n refl (at line l) (h line n l m)
 
 -- the word of one end, with the object's bit
 abbrev pub IsWordPut : ℕ → ℕ → ℕ → ℕ → Type 0
@@ -78,21 +112,21 @@ other_block n number e = elim (eqb_tells n number) [
   | inr w ↦ w.0
 ]
 
-pub put_more : (to number at word : ℕ) (old now : List ℕ) → to < 17 → number < 1024 → length now ≡ 272 → IsPutTo to number at old now → IsWordPut (number % 64) (is_before to at) (get_or now (index to number) 0) word → IsPutTo (to + 1) number at old (set now (index to number) word)
-put_more to number at word old now l m many h put = λ line n ll lm.
+pub put_more : (lo to number at word : ℕ) (old now : List ℕ) → lo < to → to < 17 → number < 1024 → length now ≡ 272 → IsPutIn lo to number at old now → IsWordPut (number % 64) (is_before to at) (get_or now (index to number) 0) word → IsPutIn lo (to + 1) number at old (set now (index to number) word)
+put_more lo to number at word old now low l m many h put = λ line n ll lm.
     let next = set now (index to number) word in
     let within : index to number < length now = omega (arith, l, m, many) in
     elim (eqb_tells line to) [
       | inr w ↦
           let kept : get_or next (index line n) 0 ≡ get_or now (index line n) 0 = get_or-set_other now (index to number) (index line n) word 0 (elsewhere line to n number lm m w.1) in
           let other = w.1 in
-          let tests : nat_lt line (to + 1) ≡ nat_lt line to = grind (arith, nat_tests) in
+          let tests : (nat_lt lo line && nat_lt line (to + 1)) ≡ (nat_lt lo line && nat_lt line to) = grind (arith, nat_tests) in
           ap (λ x. bit_at x (n % 64)) kept ∙ h line n ll lm
           ∙ sym (ap (λ b. cond b (cond (nat_eq n number) (is_before line at) (has old line n)) (has old line n)) tests)
       | inl w ↦
           let e = w.1 in
-          let before : nat_lt line to ≡ false = grind (arith, nat_tests) in
-          let after : nat_lt line (to + 1) ≡ true = grind (arith, nat_tests) in
+          let before : (nat_lt lo line && nat_lt line to) ≡ false = grind (arith, nat_tests) in
+          let after : (nat_lt lo line && nat_lt line (to + 1)) ≡ true = grind (arith, nat_tests) in
           let was : has now line n ≡ has old line n = h line n ll lm ∙ ap (λ b. cond b (cond (nat_eq n number) (is_before line at) (has old line n)) (has old line n)) before in
           let goal_is : has next line n ≡ cond (nat_eq n number) (is_before line at) (has old line n) = elim (eqb_tells (n / 64) (number / 64)) [
             | inl v ↦

@@ -29,12 +29,12 @@ is_armed_role ArmedMine = true
 is_armed_role OldMine = true
 is_armed_role _ = false
 
--- a disc or a flag
-abbrev pub is_found_role : Role → Bool
-is_found_role disc_role = true
-is_found_role flag_role = true
-is_found_role _ = false
+-- a living disc, or a flag
+abbrev pub is_found_role : Bool → Role → Bool
+is_found_role alive disc_role = alive
+is_found_role alive flag_role = true
+is_found_role alive _ = false
 
 -- it may be a disc that hits, a mine that is triggered, or a flag
 abbrev pub may_matter : List Bool → Glance → Bool
-may_matter watched g = if is_armed_role g.role then slice_index_or watched (plot_of g.place) false else is_found_role g.role
+may_matter watched g = if is_armed_role g.role then slice_index_or watched (plot_of g.place) false else is_found_role g.alive g.role

@@ -13,6 +13,10 @@ has words line n = bit_at (slice_index_or words (line * 16 + n / 64) 0) (n % 64)
 abbrev pub is_before : ℕ → ℕ → ℕ
 is_before line at = if nat_lt at line then 1 else 0
 
+-- the object of this number lies at this line
+abbrev pub IsAt : ℕ → ℕ → List ℕ → Type 0
+IsAt number at words = (line : ℕ) → line ≤ 16 → has words line number ≡ is_before line at
+
 -- the object of this number lies at this line now, and the others where they lay
 abbrev pub IsPut : ℕ → ℕ → List ℕ → List ℕ → Type 0
 IsPut number at old new =

@@ -2,7 +2,7 @@
 ghost use Rattle.std.specs.Prelude.{◌≡◌, ℕ, ◌<◌, ◌≤◌, ◌+◌, ◌*◌, ◌-◌, min, List, [], ◌∷◌, ◌++◌, length, take, IfOk, None, true, slice_index_or};
 ghost use Rattle.std.specs.Int.{bit_at};
 ghost use Rattle.world_sim.specs.Grid.{has_place};
-ghost use Rattle.world_sim.specs.Lines.{has, IsPut};
+ghost use Rattle.world_sim.specs.Lines.{has, IsAt, IsPut};
 ghost use Rattle.world_sim.specs.Cells.{cell_of, spot, column_in, row_in, come, left, IsGrid};
 
 use crate::cell_lists::CellLists;
@@ -67,7 +67,8 @@ pub(crate) fn spot(o: &Object) -> Option<u8>
 
 // The column of a spot, and behind the last one where there is none.
 fn column_in(spot: Option<u8>) -> u8
-    ensures { result ≡ column_in spot }
+    ensures value { result ≡ column_in spot }
+    ensures few { result ≤ CELLS_ACROSS }
 {
     match spot {
         None => CELLS_ACROSS as u8,
@@ -77,7 +78,8 @@ fn column_in(spot: Option<u8>) -> u8
 
 // The row of a spot, and behind the last one where there is none.
 fn row_in(spot: Option<u8>) -> u8
-    ensures { result ≡ row_in spot }
+    ensures value { result ≡ row_in spot }
+    ensures few { result ≤ CELLS_ACROSS }
 {
     match spot {
         None => CELLS_ACROSS as u8,
@@ -140,13 +142,14 @@ impl Cells {
     fn move_to(&mut self, number: u32, from: Option<u8>, to: Option<u8>)
         requires { number < MAX_OBJECTS }
         ensures cells { self.new.cells ≡ come number to (left number from self.old.cells) }
-        ensures columns { IsPut number (column_in to) self.old.columns self.new.columns }
-        ensures rows { IsPut number (row_in to) self.old.rows self.new.rows }
+        ensures columns { IsAt number (column_in from) self.old.columns
+            → IsPut number (column_in to) self.old.columns self.new.columns }
+        ensures rows { IsAt number (row_in from) self.old.rows → IsPut number (row_in to) self.old.rows self.new.rows }
     {
         self.lists.leave(number, from);
         self.lists.arrive(number, to);
-        self.columns.put(number, column_in(to));
-        self.rows.put(number, row_in(to));
+        self.columns.shift(number, column_in(from), column_in(to));
+        self.rows.shift(number, row_in(from), row_in(to));
     }
 
     // The same, where most stay in their cells.

@@ -81,11 +81,17 @@ impl Glance {
         matches!(self.role, Role::Player(_))
     }
 
-    // An armed mine that no tick changes, as long as nothing triggers it.
-    pub(crate) fn is_old_mine(&self) -> bool
+    // What no tick changes, as long as nothing triggers it: an old mine, and what is dead.
+    pub(crate) fn is_still(&self) -> bool
         ensures { (o : Object) → self.now ≡ glance_of o → result ≡ true → is_quiet false o ≡ true }
     {
-        matches!(self.role, Role::OldMine)
+        if self.alive {
+            return matches!(self.role, Role::OldMine);
+        }
+        matches!(
+            self.role,
+            Role::Disc | Role::YoungMine | Role::ArmedMine | Role::OldMine | Role::Drone
+        )
     }
 
     // Whether it is an armed mine.
@@ -103,6 +109,9 @@ impl Glance {
         if self.is_armed_mine() {
             return is_watched(watched, &self.place);
         }
-        matches!(self.role, Role::Disc | Role::Flag)
+        if !matches!(self.role, Role::Disc | Role::Flag) {
+            return false;
+        }
+        self.alive || matches!(self.role, Role::Flag)
     }
 }

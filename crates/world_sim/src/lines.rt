@@ -1,8 +1,8 @@
 //! Which objects lie before each line of a coordinate, a column or a row of cells, as bits: so those between two lines are
 //! found 64 at a time.
-ghost use Rattle.std.specs.Prelude.{◌≡◌, ℕ, ◌<◌, ◌≤◌, ◌+◌, ◌*◌, ◌-◌, nat_lt, min, IfOk, true, ◌==◌, if◌then◌else◌};
+ghost use Rattle.std.specs.Prelude.{◌≡◌, ℕ, ◌<◌, ◌≤◌, ◌+◌, ◌*◌, ◌-◌, min, IfOk, ◌==◌, if◌then◌else◌};
 ghost use Rattle.std.specs.Int.{bit_at};
-ghost use Rattle.world_sim.specs.Lines.{has, IsPut};
+ghost use Rattle.world_sim.specs.Lines.{has, IsAt, IsPut};
 
 use std::alloc::{AllocError, Global};
 use std::marker::Model;
@@ -59,15 +59,17 @@ impl Lines {
         })
     }
 
-    /// The object of this number lies in this line, from 16 on in none.
-    pub(crate) fn put(&mut self, number: u32, line: u8)
-        requires { number < MAX_OBJECTS }
-        ensures { IsPut number line self.old self.new }
+    /// The object of this number goes from a line to another; line 16 is none.
+    pub(crate) fn shift(&mut self, number: u32, from: u8, to: u8)
+        requires number { number < MAX_OBJECTS }
+        requires from { from ≤ 16 }
+        requires to { to ≤ 16 }
+        ensures { IsAt number from self.old → IsPut number to self.old self.new }
     {
         let n = number as usize;
-        for end in 0..ENDS {
-            let at = end * WORDS + n / 64;
-            self.words[at] = with_bit(self.words[at], n % 64, (line as usize) < end);
+        for line in from.min(to)..from.max(to) {
+            let at = (line as usize + 1) * WORDS + n / 64;
+            self.words[at] = with_bit(self.words[at], n % 64, to <= line);
         }
     }
 

@@ -261,7 +261,7 @@ fn turn(
     ensures few { length writes.new.items ≤ length writes.old.items + 5 }
     ensures kept { vec_capacity writes.old ≤ vec_capacity writes.new }
 {
-    if glance.is_old_mine() && !ending {
+    if glance.is_still() && !ending {
         return;
     }
     if let State::Drone(d) = object.state {

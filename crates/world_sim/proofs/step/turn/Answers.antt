@@ -17,7 +17,7 @@ returns-then-is_quiet-clause-writes c = writes_nothing c.args.writes.now.items c
 pub returns-then-not-ending-clause-object : goal.returns-then-not-ending-clause-object
 returns-then-not-ending-clause-object c = λ os i is at ending.
     quiet_stays os c.args.old.now.moves.now (moment c.args.old.now) c.args.object.now c.args.ending
-    (ap (λ (b : Bool). is_quiet b c.args.object.now) c.if-not-ending.true ∙ c.is_old_mine.ensures c.args.object.now c.requires.glance c.if-is_old_mine.true) ending
+    (ap (λ (b : Bool). is_quiet b c.args.object.now) c.if-not-ending.true ∙ c.is_still.ensures c.args.object.now c.requires.glance c.if-is_still.true) ending
 
 pub returns-then-not-ending-clause-row : goal.returns-then-not-ending-clause-row
 returns-then-not-ending-clause-row c = row_stays c.args.row.now c.args.object.now (sym c.requires.values) c.requires.sound.1

@@ -4,7 +4,7 @@ use Rattle.world_sim.proofs.cells.Cells.shift.Goals as goal
 
 pub returns : goal.returns
 returns c = λ before behind old now many from to grid.
-    IsGrid-moved c.args.number c.args.from c.args.to c.args.self.now c.move_to.new.self before behind old now many from to c.move_to.ensures.cells c.move_to.ensures.columns c.move_to.ensures.rows grid
+    IsGrid-moved c.args.number c.args.from c.args.to c.args.self.now c.move_to.new.self before behind old now c.requires many from to c.move_to.ensures.cells c.move_to.ensures.columns c.move_to.ensures.rows grid
 
 pub returns-then-is_same : goal.returns-then-is_same
 returns-then-is_same c = λ before behind old now many from to grid.
