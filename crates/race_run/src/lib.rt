@@ -1,12 +1,9 @@
 //! A match in threads: the simulation, and for each client a packer and a net activity, beside one another.
 #![tactic(auto)]
 
-mod clients;
 mod connecting;
-mod ending;
-mod left;
-mod may;
 mod run;
+mod start;
 
 pub use race_sim::{Actor, FreeGate, Gate, Place};
 pub use run::{race, race_in_turn};

@@ -1,17 +1,17 @@
 //! A match, in threads or on one.
-ghost use Rattle.std.specs.Prelude.{◌≡◌, ◌<◌, ◌*◌, IfOk, length};
+ghost use Rattle.std.specs.Prelude.{◌≡◌, ◌<◌, ◌*◌, Ok, IfOk, length};
 ghost use Rattle.match_script.specs.Ranges.{HasRanges};
 ghost use Rattle.world_sim.specs.Worlds.{first_world};
 ghost use Rattle.race_history.specs.History.{IsHistoryOf};
 ghost use Rattle.race_sim.specs.Simulating.{Follows, AreFew};
 
-use crate::clients::Served;
-use crate::connecting::{Connections, connect};
-use crate::ending::end;
+use crate::start::{Ready, make_ready};
 use connection_lock::SharedPair;
 use dirty_lanes::{FreshLanes, LaneName, Lanes};
 use kept_pair::KeepFault;
 use match_script::Script;
+use race_activities::Served;
+use race_ending::end;
 use race_record::Race;
 use race_sim::{FreeGate, Gate, Simulated, Simulation, simulate};
 use std::alloc::{AllocError, Global};
@@ -19,14 +19,6 @@ use std::marker::Brand;
 use std::sync::Wait;
 use std::thread::{Threads, join, map_indices};
 use tn_types::{MAX_OBJECTS, NoMemory};
-
-/// A match before its first line.
-#[derive(Drop)]
-struct Ready<N: LaneName> {
-    lanes: Lanes<N>,
-    pairs: Vec<SharedPair<N>>,
-    sim: Simulation<N>,
-}
 
 // Whose packer or net this is: the packer of client c has place 2c, and its net the next one.
 fn client_of(i: usize) -> u8
@@ -105,27 +97,17 @@ fn serve_in_turn<N: LaneName, R: Wait, G: Gate>(
     Ok(stopped)
 }
 
-// Makes a match ready, on lanes of this name.
-fn make_ready<N: LaneName>(
-    alloc: Global,
-    script: &Script,
-    fresh: FreshLanes,
-) -> Result<Ready<N>, NoMemory>
-    requires ranges { HasRanges script.now }
-    requires named { (fresh.table ≡ N.table) × (fresh.objects ≡ N.objects) }
-    requires objects { fresh.objects ≡ MAX_OBJECTS }
-    requires clients { fresh.clients ≡ script.now.head.clients }
-    ensures objects { IfOk result (λ ready. ready.lanes.objects ≡ MAX_OBJECTS) }
-    ensures clients { IfOk result (λ ready. ready.lanes.clients ≡ script.now.head.clients) }
-    ensures pairs { IfOk result (λ ready. length ready.pairs.items ≡ script.now.head.clients) }
-    ensures ports { IfOk result (λ ready. length ready.sim.ports ≡ script.now.head.clients) }
-    ensures first { IfOk result (λ ready. Follows (first_world script.now.head.seed script.now.head.setup) ready.sim) }
-    ensures few { IfOk result (λ ready. AreFew 0 ready.sim) }
+// What the simulation and the other activities leave, where memory was not wanting.
+fn both<N: LaneName>(
+    simulated: Result<Simulated<N>, NoMemory>,
+    stopped: Result<Vec<Option<KeepFault>>, AllocError>,
+) -> Result<(Simulated<N>, Vec<Option<KeepFault>>), NoMemory>
+    ensures { IfOk result (λ r. (simulated ≡ Ok r.0) × (stopped ≡ Ok r.1)) }
 {
-    let (lanes, seat, seats) = fresh.named::<N>();
-    let Connections { pairs, ports } = connect(alloc, &script.head, seats)?;
-    let sim = Simulation::new(alloc, &script.head, seat, ports)?;
-    Ok(Ready { lanes, pairs, sim })
+    match (simulated, stopped) {
+        (Ok(simulated), Ok(stopped)) => Ok((simulated, stopped)),
+        _ => Err(NoMemory),
+    }
 }
 
 // The simulation, beside all activities of the clients.
@@ -137,21 +119,18 @@ fn run_beside<N: LaneName + Send + Sync, R: Threads + Wait + Sync, G: Gate + Syn
     gate: &G,
     pairs: &[SharedPair<N>],
     sim: Simulation<N>,
-) -> (
-    Result<Simulated<N>, NoMemory>,
-    Result<Vec<Option<KeepFault>>, AllocError>,
-)
+) -> Result<(Simulated<N>, Vec<Option<KeepFault>>), NoMemory>
     requires ranges { HasRanges script.now }
     requires objects { lanes.now.objects ≡ MAX_OBJECTS }
     requires few { length pairs.now < 17 }
     requires ports { length sim.ports ≡ script.now.head.clients }
     requires first { Follows (first_world script.now.head.seed script.now.head.setup) sim }
     requires lines { AreFew 0 sim }
-    ensures values { IfOk result.0 (λ s. IsHistoryOf (first_world script.now.head.seed script.now.head.setup) s.moves s.values) }
-    ensures waiting { IfOk result.0 (λ s. length s.waiting.items ≡ script.now.head.clients) }
-    ensures stopped { IfOk result.1 (λ stopped. length stopped.items ≡ 2 * length pairs.now) }
+    ensures values { IfOk result (λ r. IsHistoryOf (first_world script.now.head.seed script.now.head.setup) r.0.moves r.0.values) }
+    ensures waiting { IfOk result (λ r. length r.0.waiting.items ≡ script.now.head.clients) }
+    ensures stopped { IfOk result (λ r. length r.1.items ≡ 2 * length pairs.now) }
 {
-    join(
+    let (simulated, stopped) = join(
         rt,
         move || -> Result<Simulated<N>, NoMemory>
             requires { HasRanges script.now × (lanes.now.objects ≡ MAX_OBJECTS) × (length sim.ports ≡ script.now.head.clients)
@@ -163,7 +142,32 @@ fn run_beside<N: LaneName + Send + Sync, R: Threads + Wait + Sync, G: Gate + Syn
             requires { HasRanges script.now × (length pairs.now < 17) }
             ensures { IfOk result (λ stopped. length stopped.items ≡ 2 * length pairs.entry.now) }
         { serve_all(rt, alloc, script, lanes, gate, pairs) },
-    )
+    );
+    both(simulated, stopped)
+}
+
+// All activities of the clients, and then the simulation.
+fn run_in_turn<N: LaneName, R: Wait>(
+    rt: &R,
+    alloc: Global,
+    script: &Script,
+    lanes: &Lanes<N>,
+    pairs: &[SharedPair<N>],
+    sim: Simulation<N>,
+) -> Result<(Simulated<N>, Vec<Option<KeepFault>>), NoMemory>
+    requires ranges { HasRanges script.now }
+    requires objects { lanes.now.objects ≡ MAX_OBJECTS }
+    requires few { length pairs.now < 17 }
+    requires ports { length sim.ports ≡ script.now.head.clients }
+    requires first { Follows (first_world script.now.head.seed script.now.head.setup) sim }
+    requires lines { AreFew 0 sim }
+    ensures values { IfOk result (λ r. IsHistoryOf (first_world script.now.head.seed script.now.head.setup) r.0.moves r.0.values) }
+    ensures waiting { IfOk result (λ r. length r.0.waiting.items ≡ script.now.head.clients) }
+    ensures stopped { IfOk result (λ r. length r.1.items ≡ 2 * length pairs.now) }
+{
+    let stopped = serve_in_turn(rt, alloc, script, lanes, &FreeGate, pairs);
+    let simulated = simulate(alloc, script, lanes, &FreeGate, sim);
+    both(simulated, stopped)
 }
 
 // A match in threads, on lanes of this name.
@@ -183,11 +187,7 @@ fn race_on<N: LaneName + Send + Sync, R: Threads + Wait + Sync, G: Gate + Sync>(
     ensures words { IfOk result (λ race. (race.words.objects ≡ MAX_OBJECTS) × (race.words.clients ≡ script.now.head.clients)) }
 {
     let Ready { lanes, pairs, sim } = make_ready::<N>(alloc, script, fresh)?;
-    let (simulated, stopped) = run_beside(rt, alloc, script, &lanes, gate, &pairs, sim);
-    let simulated = simulated?;
-    let Ok(stopped) = stopped else {
-        return Err(NoMemory);
-    };
+    let (simulated, stopped) = run_beside(rt, alloc, script, &lanes, gate, &pairs, sim)?;
     end(alloc, lanes, simulated, pairs, &stopped)
 }
 
@@ -207,10 +207,7 @@ fn race_in_turn_on<N: LaneName, R: Wait>(
     ensures words { IfOk result (λ race. (race.words.objects ≡ MAX_OBJECTS) × (race.words.clients ≡ script.now.head.clients)) }
 {
     let Ready { lanes, pairs, sim } = make_ready::<N>(alloc, script, fresh)?;
-    let Ok(stopped) = serve_in_turn(rt, alloc, script, &lanes, &FreeGate, &pairs) else {
-        return Err(NoMemory);
-    };
-    let simulated = simulate(alloc, script, &lanes, &FreeGate, sim)?;
+    let (simulated, stopped) = run_in_turn(rt, alloc, script, &lanes, &pairs, sim)?;
     end(alloc, lanes, simulated, pairs, &stopped)
 }
 

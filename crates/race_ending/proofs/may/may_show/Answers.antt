@@ -5,7 +5,7 @@ use Rattle.stream_manager.specs.Stands.{ConnState}
 use Rattle.pair_core.specs.History.{history}
 use Rattle.kept_pair.specs.Kept.{terms_in, newest_first}
 use Rattle.connection_lock.proofs.Showing.{may-be-shown, shown-few, shown-alone}
-use Rattle.race_run.proofs.may.may_show.Goals as goal
+use Rattle.race_ending.proofs.may.may_show.Goals as goal
 
 yes : (b : Bool) → not b ≡ true → b ≡ false
 yes true e = sym e

@@ -1,7 +1,7 @@
 use Rattle.std.proofs.Common.{◌≡◌, ◌<◌, ◌+◌, ℕ, zero, suc, List, [], ◌∷◌, ◌∙◌, length, get_or, refl, arith}
 use Rattle.dirty_lanes.specs.declared.view.PackView.{PackView}
 use Rattle.dirty_lanes.specs.Named.{IsNumbered}
-use Rattle.race_run.proofs.ending.are_numbered.Goals as goal
+use Rattle.race_ending.proofs.ending.are_numbered.Goals as goal
 
 numbered : (first : ℕ) (seats : List PackView) → ((k : ℕ) (d : PackView) → k < length seats → (get_or seats k d).client ≡ first + k) → IsNumbered first seats
 numbered first [] each = tt

@@ -1,9 +1,8 @@
 //! The activities of a client: its packer and its net.
-ghost use Rattle.std.specs.Prelude.{◌≡◌, ◌<◌, ◌≤◌, ◌*◌, IfOk, length};
 ghost use Rattle.match_script.specs.Ranges.{HasRanges};
-ghost use Rattle.race_run.specs.Asking.{is_pack_of, net_line};
 
-use connection_lock::{NetLine, SharedPair};
+use crate::asked::{is_pack_of, net_line};
+use connection_lock::SharedPair;
 use dirty_lanes::{LaneName, Lanes};
 use kept_pair::KeepFault;
 use match_script::{BodyLine, Script};
@@ -11,46 +10,21 @@ use race_sim::{Actor, Gate, Place};
 use std::alloc::Global;
 use std::sync::Wait;
 
-// Whether the line is a pack for the client.
-fn is_pack_of(client: u8, line: &BodyLine) -> bool
-    ensures { result ≡ is_pack_of client line.now }
-{
-    match line {
-        BodyLine::Pack { client: named } => *named == client,
-        _ => false,
-    }
-}
-
-// What a line asks of the client's net, if it names it.
-fn net_line(client: u8, line: &BodyLine) -> Option<NetLine>
-    ensures { result ≡ net_line client line.now }
-{
-    match line {
-        BodyLine::ClientPost {
-            client: named,
-            class,
-            payload,
-        } if *named == client => Some(NetLine::ClientPost {
-            class: *class,
-            payload: payload.payload(),
-        }),
-        BodyLine::ClientPack { client: named } if *named == client => Some(NetLine::ClientPack),
-        BodyLine::Down { client: named, k } if *named == client => Some(NetLine::Down { k: *k }),
-        BodyLine::Up { client: named, k } if *named == client => Some(NetLine::Up { k: *k }),
-        BodyLine::Move { client: named, m } if *named == client => Some(NetLine::Move { m: *m }),
-        _ => None,
-    }
-}
-
 /// One client of a match, as its activities have it.
 #[derive(Drop)]
-pub(crate) struct Served<'a, N: LaneName, G: Gate> {
-    pub(crate) alloc: Global,
-    pub(crate) script: &'a Script,
-    pub(crate) lanes: &'a Lanes<N>,
-    pub(crate) gate: &'a G,
-    pub(crate) pair: &'a SharedPair<N>,
-    pub(crate) client: u8,
+pub struct Served<'a, N: LaneName, G: Gate> {
+    /// Where memory comes from.
+    pub alloc: Global,
+    /// The script, all lines of which are gone through.
+    pub script: &'a Script,
+    /// The lanes, from which its packs read.
+    pub lanes: &'a Lanes<N>,
+    /// What it passes before and after each of its lines.
+    pub gate: &'a G,
+    /// Its connection.
+    pub pair: &'a SharedPair<N>,
+    /// Its number.
+    pub client: u8,
 }
 
 impl<'a, N: LaneName, G: Gate> Served<'a, N, G> {
@@ -98,7 +72,7 @@ impl<'a, N: LaneName, G: Gate> Served<'a, N, G> {
     }
 
     /// Does the `pack` lines of the client, in the order of the script. Gives the fault with which it stopped, if it did.
-    pub(crate) fn pack<R: Wait>(&self, rt: &R) -> Option<KeepFault>
+    pub fn pack<R: Wait>(&self, rt: &R) -> Option<KeepFault>
         requires { HasRanges self.now.script.now }
     {
         let mut stopped = None;
@@ -110,7 +84,7 @@ impl<'a, N: LaneName, G: Gate> Served<'a, N, G> {
 
     /// Does the client's own lines, and those of the net between it and the server, in the order of the script. Gives the fault
     /// with which it stopped, if it did.
-    pub(crate) fn bring<R: Wait>(&self, rt: &R) -> Option<KeepFault>
+    pub fn bring<R: Wait>(&self, rt: &R) -> Option<KeepFault>
         requires { HasRanges self.now.script.now }
     {
         let mut stopped = None;

@@ -1,0 +1,212 @@
+//! The end of a match, when all activities have ended.
+ghost use Rattle.std.specs.Prelude.{◌≡◌, ◌+◌, ◌*◌, ◌<◌, true, IfOk, OnOk, length};
+ghost use Rattle.dirty_lanes.specs.Named.{IsNumbered};
+
+use crate::left::take_left;
+use connection_lock::{Ended, SharedPair};
+use dirty_lanes::{FinalWords, LaneName, Lanes, PackSeat, SimSeat, close};
+use kept_pair::KeepFault;
+use race_record::{Race, RaceClient, RaceClients};
+use race_sim::{Simulated, Waiting};
+use std::alloc::Global;
+use tn_types::NoMemory;
+
+// Whether an activity stopped because no more steps can be kept; it is an error that memory was wanting.
+fn is_full(stopped: Option<KeepFault>) -> Result<bool, NoMemory> {
+    match stopped {
+        None => Ok(false),
+        Some(KeepFault::NoRoom { kept: _ }) => Ok(true),
+        Some(KeepFault::NoMemory) => Err(NoMemory),
+    }
+}
+
+// Takes what is left of a connection, of which the packer and the net stopped so. Whether it is full.
+fn finish_steps<N: LaneName>(
+    alloc: Global,
+    lanes: &Lanes<N>,
+    ended: &mut Ended<N>,
+    waiting: &mut Waiting,
+    packer: Option<KeepFault>,
+    net: Option<KeepFault>,
+) -> Result<bool, NoMemory> {
+    let was_full = is_full(packer)? | is_full(net)?;
+    let is_full = is_full(take_left(alloc, lanes, ended, waiting).err())?;
+    Ok(is_full || was_full)
+}
+
+// Keeps what there is of a connection.
+fn keep<N: LaneName>(
+    alloc: Global,
+    ended: Ended<N>,
+    full: bool,
+    clients: &mut RaceClients,
+    seats: &mut Vec<PackSeat<N>>,
+) -> Result<(), NoMemory>
+    ensures clients { OnOk result (length clients.new ≡ length clients.old + 1) }
+    ensures seats { OnOk result (length seats.new.items ≡ length seats.old.items + 1) }
+{
+    let Ended {
+        pair,
+        seat,
+        inbox: _,
+        outbox: _,
+        objects,
+    } = ended;
+    if seats.push(seat).is_err() {
+        return Err(NoMemory);
+    }
+    clients.push(
+        alloc,
+        RaceClient {
+            pair,
+            objects,
+            full,
+        },
+    )
+}
+
+// What is left of the next client.
+fn end_next<N: LaneName>(
+    alloc: Global,
+    lanes: &Lanes<N>,
+    pair: SharedPair<N>,
+    waiting: &mut Vec<Waiting>,
+    stopped: &[Option<KeepFault>],
+    clients: &mut RaceClients,
+    seats: &mut Vec<PackSeat<N>>,
+) -> Result<(), NoMemory>
+    requires waiting { length seats.old.items < length waiting.old.items }
+    requires stopped { length stopped.now ≡ 2 * length waiting.old.items }
+    ensures clients { OnOk result (length clients.new ≡ length clients.old + 1) }
+    ensures seats { OnOk result (length seats.new.items ≡ length seats.old.items + 1) }
+    ensures waiting { length waiting.new.items ≡ length waiting.old.items }
+{
+    let i = seats.len();
+    let mut ended = pair.finish();
+    let full = finish_steps(
+        alloc,
+        lanes,
+        &mut ended,
+        &mut waiting[i],
+        stopped[2 * i],
+        stopped[2 * i + 1],
+    )?;
+    keep(alloc, ended, full, clients, seats)
+}
+
+// What is left of each client, and the seats of their packers.
+fn end_all<N: LaneName>(
+    alloc: Global,
+    lanes: &Lanes<N>,
+    pairs: Vec<SharedPair<N>>,
+    waiting: &mut Vec<Waiting>,
+    stopped: &[Option<KeepFault>],
+    clients: &mut RaceClients,
+    seats: &mut Vec<PackSeat<N>>,
+) -> Result<(), NoMemory>
+    requires none { (length clients.old ≡ 0) × (length seats.old.items ≡ 0) }
+    requires waiting { length waiting.old.items ≡ length pairs.items }
+    requires stopped { length stopped.now ≡ 2 * length pairs.items }
+    ensures clients { OnOk result (length clients.new ≡ length pairs.items) }
+    ensures seats { OnOk result (length seats.new.items ≡ length pairs.items) }
+{
+    for pair in pairs {
+        end_next(alloc, lanes, pair, waiting, stopped, clients, seats)?;
+    }
+    Ok(())
+}
+
+// Whether each seat is that of the client of its place. What lies under a lock is known by its type alone, so this is looked at.
+fn are_numbered<N: LaneName>(seats: &[PackSeat<N>]) -> bool
+    ensures { result ≡ true → IsNumbered 0 seats.now }
+{
+    for (i, seat) in seats.iter().enumerate() {
+        if seat.client() as usize != i {
+            return false;
+        }
+    }
+    true
+}
+
+// Closes the lanes.
+fn close_lanes<N: LaneName>(
+    alloc: Global,
+    lanes: Lanes<N>,
+    sim: SimSeat<N>,
+    seats: Vec<PackSeat<N>>,
+) -> Result<FinalWords, NoMemory>
+    requires all { length seats.items ≡ lanes.clients }
+    ensures objects { IfOk result (λ words. words.objects ≡ lanes.objects) }
+    ensures clients { IfOk result (λ words. words.clients ≡ lanes.clients) }
+{
+    if !are_numbered(seats.as_slice()) {
+        return Err(NoMemory);
+    }
+    match close(alloc, lanes, sim, seats) {
+        Ok(words) => Ok(words),
+        Err(_) => Err(NoMemory),
+    }
+}
+
+// What is left of the clients, and the words of the lanes at the end.
+fn end_clients<N: LaneName>(
+    alloc: Global,
+    lanes: Lanes<N>,
+    sim: SimSeat<N>,
+    pairs: Vec<SharedPair<N>>,
+    waiting: &mut Vec<Waiting>,
+    stopped: &[Option<KeepFault>],
+    clients: &mut RaceClients,
+) -> Result<FinalWords, NoMemory>
+    requires none { length clients.old ≡ 0 }
+    requires clients { lanes.clients ≡ length pairs.items }
+    requires waiting { length waiting.old.items ≡ length pairs.items }
+    requires stopped { length stopped.now ≡ 2 * length pairs.items }
+    ensures clients { OnOk result (length clients.new ≡ length pairs.items) }
+    ensures words { IfOk result (λ words. (words.objects ≡ lanes.objects) × (words.clients ≡ lanes.clients)) }
+{
+    let mut seats = Vec::new(alloc);
+    end_all(alloc, &lanes, pairs, waiting, stopped, clients, &mut seats)?;
+    close_lanes(alloc, lanes, sim, seats)
+}
+
+/// Ends a match: what is left in the rings, and then what still waits, becomes steps, and the lanes are closed. `stopped` has the
+/// faults with which the packer and the net of each client stopped, by client.
+pub fn end<N: LaneName>(
+    alloc: Global,
+    lanes: Lanes<N>,
+    simulated: Simulated<N>,
+    pairs: Vec<SharedPair<N>>,
+    stopped: &[Option<KeepFault>],
+) -> Result<Race, NoMemory>
+    requires clients { lanes.clients ≡ length pairs.items }
+    requires waiting { length simulated.waiting.items ≡ length pairs.items }
+    requires stopped { length stopped.now ≡ 2 * length pairs.items }
+    ensures values { IfOk result (λ race. race.values ≡ simulated.values) }
+    ensures moves { IfOk result (λ race. race.moves ≡ simulated.moves) }
+    ensures clients { IfOk result (λ race. length race.clients ≡ length pairs.items) }
+    ensures words { IfOk result (λ race. (race.words.objects ≡ lanes.objects) × (race.words.clients ≡ lanes.clients)) }
+{
+    let Simulated {
+        seat,
+        values,
+        moves,
+        mut waiting,
+    } = simulated;
+    let mut clients = RaceClients::new(alloc);
+    let words = end_clients(
+        alloc,
+        lanes,
+        seat,
+        pairs,
+        &mut waiting,
+        stopped,
+        &mut clients,
+    )?;
+    Ok(Race {
+        values,
+        moves,
+        words,
+        clients,
+    })
+}

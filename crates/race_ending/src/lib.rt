@@ -1,0 +1,8 @@
+//! The end of a match in threads: what nobody took becomes steps, and what is left is the race.
+#![tactic(auto)]
+
+mod ending;
+mod left;
+mod may;
+
+pub use ending::end;
