@@ -1,9 +1,7 @@
 //! A match in threads: the simulation, and for each client a packer and a net activity, beside one another.
 #![tactic(auto)]
 
-mod connecting;
 mod run;
-mod start;
 
 pub use race_sim::{Actor, FreeGate, Gate, Place};
 pub use run::{race, race_in_turn};

@@ -5,7 +5,6 @@ ghost use Rattle.world_sim.specs.Worlds.{first_world};
 ghost use Rattle.race_history.specs.History.{IsHistoryOf};
 ghost use Rattle.race_sim.specs.Simulating.{Follows, AreFew};
 
-use crate::start::{Ready, make_ready};
 use connection_lock::SharedPair;
 use dirty_lanes::{FreshLanes, LaneName, Lanes};
 use kept_pair::KeepFault;
@@ -14,6 +13,7 @@ use race_activities::Served;
 use race_ending::end;
 use race_record::Race;
 use race_sim::{FreeGate, Gate, Simulated, Simulation, simulate};
+use race_start::{Ready, make_ready};
 use std::alloc::{AllocError, Global};
 use std::marker::Brand;
 use std::sync::Wait;

@@ -14,14 +14,17 @@ use tn_types::{MAX_OBJECTS, NoMemory};
 
 /// A match before its first line.
 #[derive(Drop)]
-pub(crate) struct Ready<N: LaneName> {
-    pub(crate) lanes: Lanes<N>,
-    pub(crate) pairs: Vec<SharedPair<N>>,
-    pub(crate) sim: Simulation<N>,
+pub struct Ready<N: LaneName> {
+    /// Its lanes.
+    pub lanes: Lanes<N>,
+    /// The connections by client.
+    pub pairs: Vec<SharedPair<N>>,
+    /// The simulation.
+    pub sim: Simulation<N>,
 }
 
 /// Makes a match ready, on lanes of this name.
-pub(crate) fn make_ready<N: LaneName>(
+pub fn make_ready<N: LaneName>(
     alloc: Global,
     script: &Script,
     fresh: FreshLanes,
