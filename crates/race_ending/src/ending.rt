@@ -62,7 +62,8 @@ fn keep<N: LaneName>(
             objects,
             full,
         },
-    )
+    )?;
+    Ok(())
 }
 
 // What is left of the next client.
@@ -91,7 +92,8 @@ fn end_next<N: LaneName>(
         stopped[2 * i],
         stopped[2 * i + 1],
     )?;
-    keep(alloc, ended, full, clients, seats)
+    keep(alloc, ended, full, clients, seats)?;
+    Ok(())
 }
 
 // What is left of each client, and the seats of their packers.
@@ -167,7 +169,8 @@ fn end_clients<N: LaneName>(
 {
     let mut seats = Vec::new(alloc);
     end_all(alloc, &lanes, pairs, waiting, stopped, clients, &mut seats)?;
-    close_lanes(alloc, lanes, sim, seats)
+    let words = close_lanes(alloc, lanes, sim, seats)?;
+    Ok(words)
 }
 
 /// Ends a match: what is left in the rings, and then what still waits, becomes steps, and the lanes are closed. `stopped` has the

@@ -123,7 +123,8 @@ fn connect_next<N: LaneName>(
     } = new_rings(alloc)?;
     add(&mut made.ports, port)?;
     let pair = new_shared(alloc, head, client, seat, inbox, outbox)?;
-    add(&mut made.pairs, pair)
+    add(&mut made.pairs, pair)?;
+    Ok(())
 }
 
 // Adds the connection of each client.
