@@ -15,13 +15,23 @@ use stream_manager::Config;
 use tn_types::{BlockBytes, MAX_BLOCKS, MAX_WAITING_MOVES, Move, NoMemory};
 
 /// A client's connection, and its accepted moves that wait for a tick, at most 32. No event waits between two calls.
-#[derive(Drop)]
 pub struct Seat {
     pub(crate) pair: Pair,
     // the oldest first
     pub(crate) waiting: HeapCircularBuffer<Move>,
     // accepted moves that ticks took
     pub(crate) taken: u32,
+}
+
+// Written out, so that a function above that lets a seat go calls this, and doesn't prove again how each of its parts is let go.
+impl Drop for Seat {
+    fn drop(self) {
+        let Seat {
+            pair: _pair,
+            waiting: _waiting,
+            taken: _taken,
+        } = self;
+    }
 }
 
 impl Model for Seat {

@@ -58,7 +58,7 @@ impl<'a> Model for Game<'a> {
 }
 
 /// The client that a line names, if it names one.
-fn client_named(line: &BodyLine) -> Option<u8>
+pub fn client_named(line: &BodyLine) -> Option<u8>
     ensures { result ≡ client_named line.now }
 {
     match line {
@@ -136,8 +136,8 @@ impl<'a> Game<'a> {
     {
         let seats = seats_of(alloc, head)?;
         let scopes = scopes_of(alloc, head.clients)?;
-        let world = World::new(alloc, head.seed, &head.setup)?;
         let lanes = PlainLanes::new(alloc, MAX_OBJECTS as u32, u32::from(MAX_CLIENTS))?;
+        let world = World::new(alloc, head.seed, &head.setup)?;
         Ok(Game {
             head,
             seats,

@@ -11,6 +11,8 @@ mod serving;
 mod ticking;
 mod values;
 
+pub use game::client_named;
+pub use lines::line_on;
 pub use output::write_all;
 pub use played::Match;
-pub use running::{RunFault, run};
+pub use running::{RunFault, run, tell};

@@ -1,8 +1,9 @@
 //! A line that is done on its client's connection alone.
 ghost use Rattle.std.specs.Prelude.{◌≡◌, ℕ, ◌<◌, ◌∷◌, List, IfOk, OnOk, Some, length};
 ghost use Rattle.match_script.specs.declared.types.Head.{Head};
-ghost use Rattle.own_lists.specs.Own.{client_named, Line};
-ghost use Rattle.own_lists.specs.Kept.{follows};
+ghost use Rattle.stream_manager.specs.Limits.{Terms};
+ghost use Rattle.own_lists.specs.Own.{client_named};
+ghost use Rattle.own_lists.specs.Kept.{Kept, after_line};
 ghost use Rattle.own_lists.specs.Past.{Past, client_terms, kept_by};
 ghost use Rattle.client_seat.specs.Stands.{Stands, StandsFor};
 ghost use Rattle.match_laws.specs.Report.{told};
@@ -15,14 +16,14 @@ use std::alloc::Global;
 use tn_types::{MAX_DATAGRAMS, NoMemory};
 
 /// Does a line on the connection of the client that it names, and gives what the report tells of it.
-pub(crate) fn line_on(alloc: Global, seat: &mut Seat, line: &BodyLine) -> Result<Told, NoMemory>
+pub fn line_on(alloc: Global, seat: &mut Seat, line: &BodyLine) -> Result<Told, NoMemory>
     requires direct { IsDirect line.now }
     requires stands { Stands seat.old }
     requires few { length seat.old.pair.up < MAX_DATAGRAMS }
     ensures told { IfOk result (λ told_. (h : Head) (p q : Past) (c : ℕ) → client_named line.now ≡ Some c
         → StandsFor seat.old (client_terms h c) (kept_by h p c).course → told_ ≡ told h p q line.now) }
-    ensures stands { OnOk result ((h : Head) (p : Past) (c : ℕ) → StandsFor seat.old (client_terms h c) (kept_by h p c).course
-        → StandsFor seat.new (client_terms h c) (follows (client_terms h c) (Line line.now) (kept_by h p c)).course) }
+    ensures stands { OnOk result ((t : Terms) (k : Kept) → StandsFor seat.old t k.course
+        → StandsFor seat.new t (after_line t line.now k).course) }
 {
     match line {
         BodyLine::Post {

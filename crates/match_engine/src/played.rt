@@ -19,7 +19,6 @@ use world_sim::World;
 /// may be done.
 ///
 /// A clause sees `MatchState`, and what it means by the lines that were done.
-#[derive(Drop)]
 pub struct Match<'a> {
     script: &'a Script,
     game: Game<'a>,
@@ -27,6 +26,18 @@ pub struct Match<'a> {
     place: usize,
     // what the last line tells
     told: Option<Told>,
+}
+
+// Written out, so that a function that lets a match go calls this, and doesn't prove again how its parts are let go.
+impl Drop for Match<'_> {
+    fn drop(self) {
+        let Match {
+            script: _script,
+            game: _game,
+            place: _place,
+            told: _told,
+        } = self;
+    }
 }
 
 impl<'a> Model for Match<'a> {

@@ -32,8 +32,8 @@ pub enum RunFault {
     WriteFault,
 }
 
-/// Writes the line of the report of what a line tells. `text` is only a place for it.
-fn tell<K: Sink>(
+/// Writes the line of the report of what a line tells. `text` is only a place for it. After an error a front of it was written.
+pub fn tell<K: Sink>(
     alloc: Global,
     told: &Told,
     text: &mut Vec<u8>,

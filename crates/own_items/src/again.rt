@@ -2,36 +2,10 @@
 ghost use Rattle.std.specs.Prelude.{◌≡◌, IfOk, Some, None, if◌then◌else◌};
 ghost use Rattle.own_lists.specs.Own.{client_named, is_named, StandsAlone};
 
+use match_engine::client_named;
 use match_script::BodyLine;
 use std::alloc::Global;
 use tn_types::NoMemory;
-
-/// The client that a line names which stands in an own list as it is.
-fn client_of(line: &BodyLine) -> Option<u8>
-    ensures { result ≡ client_named line.now }
-{
-    match line {
-        BodyLine::Tick | BodyLine::World => None,
-        BodyLine::Scan { client } => Some(*client),
-        BodyLine::Post {
-            client,
-            class: _,
-            payload: _,
-        } => Some(*client),
-        BodyLine::ClientPost {
-            client,
-            class: _,
-            payload: _,
-        } => Some(*client),
-        BodyLine::Pack { client } => Some(*client),
-        BodyLine::ClientPack { client } => Some(*client),
-        BodyLine::Down { client, k: _ } => Some(*client),
-        BodyLine::Up { client, k: _ } => Some(*client),
-        BodyLine::Raw { client, bytes: _ } => Some(*client),
-        BodyLine::Move { client, m: _ } => Some(*client),
-        BodyLine::Show { client } => Some(*client),
-    }
-}
 
 /// The same line again.
 fn again(alloc: Global, line: &BodyLine) -> Result<BodyLine, NoMemory>
@@ -89,7 +63,7 @@ pub(crate) fn named_again(
 ) -> Result<Option<BodyLine>, NoMemory>
     ensures { IfOk result (λ l. l ≡ (if is_named client (client_named line.now) then Some line.now else None)) }
 {
-    if client_of(line) != Some(client) {
+    if client_named(line) != Some(client) {
         return Ok(None);
     }
     Ok(Some(again(alloc, line)?))

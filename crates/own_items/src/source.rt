@@ -20,13 +20,24 @@ use tn_types::NoMemory;
 /// ended: no other item may be asked for.
 ///
 /// A clause sees `SourceState`, and what it means by the lines that were done.
-#[derive(Drop)]
 pub struct OwnSource<'a> {
     script: &'a Script,
     client: u8,
     game: Match<'a>,
     // so many lines of the script were done
     place: usize,
+}
+
+// Written out, so that a function that lets a source go calls this, and doesn't prove again how a match is let go.
+impl Drop for OwnSource<'_> {
+    fn drop(self) {
+        let OwnSource {
+            script: _script,
+            client: _client,
+            game: _game,
+            place: _place,
+        } = self;
+    }
 }
 
 impl<'a> Model for OwnSource<'a> {

@@ -11,8 +11,8 @@ use crate::periods::{OwnPeriod, drain_all, hide_all, show_all, write_each};
 use crate::values::AloneValues;
 use client_scope::Near;
 use client_seat::Seat;
-use match_engine::{RunFault, write_all};
-use match_report::{Told, put_line};
+use match_engine::{RunFault, tell};
+use match_report::Told;
 use match_script::{Blocks, BodyLine};
 use own_items::{OwnItem, OwnShow, OwnWrite};
 use own_lists::Showing;
@@ -37,7 +37,6 @@ pub struct AloneHeader {
 
 /// A server that serves one client alone. It knows nothing of the match but what it is fed: the items of the client's own list
 /// (docs/proofs.md, "Own lists").
-#[derive(Drop)]
 pub struct Alone {
     pub(crate) client: u8,
     pub(crate) seat: Seat,
@@ -49,6 +48,21 @@ pub struct Alone {
     // room for what a scan begins and a pack drains
     begins: Vec<Showing>,
     drains: Vec<Drain>,
+}
+
+// Written out, so that a function that lets a server go calls this, and doesn't prove again how its parts are let go.
+impl Drop for Alone {
+    fn drop(self) {
+        let Alone {
+            client: _client,
+            seat: _seat,
+            periods: _periods,
+            shows: _shows,
+            counted: _counted,
+            begins: _begins,
+            drains: _drains,
+        } = self;
+    }
 }
 
 /// How these periods begin.
@@ -253,12 +267,6 @@ impl Alone {
             return Err(RunFault::NoMemory);
         };
         let mut text = Vec::new(alloc);
-        let Ok(()) = put_line(alloc, &told, &mut text) else {
-            return Err(RunFault::NoMemory);
-        };
-        match write_all(sink, text.as_slice()) {
-            Ok(()) => Ok(()),
-            Err(_) => Err(RunFault::WriteFault),
-        }
+        tell(alloc, &told, &mut text, sink)
     }
 }

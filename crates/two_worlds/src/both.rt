@@ -41,6 +41,28 @@ fn feed_next<K: Sink>(
     Ok(true)
 }
 
+/// Feeds the server with the whole own list, of which nothing was made yet.
+fn feed_rest<K: Sink>(
+    alloc: Global,
+    source: &mut OwnSource,
+    server: &mut Alone,
+    sink: &mut K,
+) -> Result<(), RunFault>
+    requires fed { IsFed source.old server.old }
+    requires first { source.old.place ≡ 0 }
+    ensures lines { OnOk result (Adds (K.written sink.old) (K.written sink.new) (alone_text source.old.script source.old.client)) }
+    ensures front { OnErr result (AddsFront (K.written sink.old) (K.written sink.new) (alone_text source.old.script source.old.client)) }
+    ensures cause { result ≡ Err RunFault.WriteFault → Rose (K.faults sink.old) (K.faults sink.new) }
+    ensures later { K.faults sink.old ≤ K.faults sink.new }
+{
+    let mut item = OwnItem::Tick {
+        writes: OwnWrites::from_vec(Vec::new(alloc)),
+        taken: 0,
+    };
+    'items: while feed_next(alloc, source, server, &mut item, sink)? {}
+    Ok(())
+}
+
 /// Writes what a server writes that is fed the whole own list of a client of the match.
 fn feed_all<K: Sink>(
     alloc: Global,
@@ -70,12 +92,7 @@ fn feed_all<K: Sink>(
     let Ok(mut source) = OwnSource::new(alloc, script, client) else {
         return Err(RunFault::NoMemory);
     };
-    let mut item = OwnItem::Tick {
-        writes: OwnWrites::from_vec(Vec::new(alloc)),
-        taken: 0,
-    };
-    'items: while feed_next(alloc, &mut source, &mut server, &mut item, sink)? {}
-    Ok(())
+    feed_rest(alloc, &mut source, &mut server, sink)
 }
 
 /// Writes what a server writes that serves one client alone: the report's lines of this client's packs, though it is fed with

@@ -18,38 +18,6 @@ pub(crate) fn line_on(alloc: Global, seat: &mut Seat, line: &BodyLine) -> Result
     ensures { OnOk result ((t : Terms) (k : Kept) → StandsFor seat.old t k.course
         → StandsFor seat.new t (after_line t line.now k).course) }
 {
-    match line {
-        BodyLine::Post {
-            client,
-            class,
-            payload,
-        } => {
-            let _told = seat.post(*client, *class, payload.payload());
-        }
-        BodyLine::ClientPost {
-            client,
-            class,
-            payload,
-        } => {
-            let _told = seat.client_post(*client, *class, payload.payload());
-        }
-        BodyLine::ClientPack { client } => {
-            let _told = seat.client_pack(alloc, *client)?;
-        }
-        BodyLine::Down { client, k } => {
-            let _told = seat.down(alloc, *client, *k)?;
-        }
-        BodyLine::Up { client, k } => {
-            let _told = seat.up(alloc, *client, *k)?;
-        }
-        BodyLine::Raw { client, bytes } => {
-            let bytes = bytes.raw_bytes(alloc)?;
-            let _told = seat.raw(alloc, *client, bytes)?;
-        }
-        BodyLine::Move { client, m } => {
-            let _told = seat.sample(*client, *m);
-        }
-        _ => unreachable!(),
-    }
+    let _told = match_engine::line_on(alloc, seat, line)?;
     Ok(())
 }

@@ -1,41 +1,44 @@
-use Rattle.std.proofs.Common.{◌≡◌, ◌∙◌, Ok, Err, Bool, false, List, Option, ℕ, sym, ap, subst}
-use Rattle.std.specs.Prelude.{Result}
-use Rattle.std.proofs.lemmas.Result.{err_from_is_err_and}
-use Rattle.tn_outside.specs.Totals.{Adds}
-use Rattle.match_engine.specs.declared.running.RunFault.{RunFault}
+use Rattle.std.proofs.Common.{◌≡◌, List, ℕ, subst, arith}
+use Rattle.std.specs.Prelude.{OnOk, OnErr}
+use Rattle.tn_outside.specs.Totals.{Adds, AddsFront}
+use Rattle.tn_outside.proofs.Totals.{adds_nothing}
 use Rattle.two_worlds.specs.Text.{alone_text}
-use Rattle.two_worlds.proofs.WholeText.{all_written, front_written, rose_later}
 use Rattle.two_worlds.proofs.both.feed_all.Goals as goal
 
-of_false : (b : Bool) → b ≡ false → ◌≡◌ {A = Result Bool RunFault} (Ok b) (Ok false)
-of_false b e = ap (λ (x : Bool). Ok x) e
+pub returns-in_default : goal.returns-in_default
+returns-in_default g c = record {
+  lines = tt;
+  front = (0, omega arith, adds_nothing (g.K.Sink.written c.args.sink.now));
+  cause = λ e. absurd (cc);
+  later = omega arith;
+}
 
-of_err : (x y : RunFault) → x ≡ y → ◌≡◌ {A = Result Bool RunFault} (Err x) (Err y)
-of_err x y e = ap (λ (z : RunFault). Err z) e
+pub returns-in_default-new : goal.returns-in_default-new
+returns-in_default-new g c = record {
+  lines = tt;
+  front = (0, omega arith, adds_nothing (g.K.Sink.written c.args.sink.now));
+  cause = λ e. absurd (cc);
+  later = omega arith;
+}
 
-same_err : {T : Type 0} (x y : RunFault) → ◌≡◌ {A = Result T RunFault} (Err x) (Err y) → x ≡ y
-same_err {T} x y e = cc (e)
+pub returns-in_default-new-2 : goal.returns-in_default-new-2
+returns-in_default-new-2 g c = record {
+  lines = tt;
+  front = (0, omega arith, adds_nothing (g.K.Sink.written c.args.sink.now));
+  cause = λ e. absurd (cc);
+  later = omega arith;
+}
 
-pub returns-in_err-feed_next-clause-front : goal.returns-in_err-feed_next-clause-front
-returns-in_err-feed_next-clause-front g c =
-    let p = err_from_is_err_and c.from_residual.result c.from_residual.ensures.1 in
-    let first = g.K.Sink.written c.args.sink.now in
-    rw (p.1)
-    (front_written c.items.source c.args.script.now c.args.client c.items.invariant.fed.source c.items.invariant.script c.items.invariant.client first
-    (g.K.Sink.written c.feed_next.new.sink)
-    (c.in_err-feed_next.ensures.front first c.items.invariant.written))
-
-pub returns-in_err-feed_next-clause-cause : goal.returns-in_err-feed_next-clause-cause
-returns-in_err-feed_next-clause-cause g c = λ e.
-    let p = err_from_is_err_and c.from_residual.result c.from_residual.ensures.1 in
-    let fault = of_err c.in_err-feed_next.field-0.0 RunFault.WriteFault (sym p.2 ∙ same_err p.0 RunFault.WriteFault (sym p.1 ∙ e)) in
-    rose_later (g.K.Sink.faults c.args.sink.now) (g.K.Sink.faults c.items.sink) (g.K.Sink.faults c.feed_next.new.sink) c.items.invariant.later
-    (c.in_err-feed_next.ensures.cause fault)
-
-pub returns-clause-lines : goal.returns-clause-lines
-returns-clause-lines g c =
-    let first = g.K.Sink.written c.args.sink.now in
-    let end = c.in_ok-feed_next.ensures.end (of_false c.in_ok-feed_next.field-0 c.if-branch.false) in
-    subst (λ (w : Option (List ℕ)). Adds first w (alone_text c.args.script.now c.args.client)) (sym end.1)
-    (all_written c.items.source c.args.script.now c.args.client c.items.invariant.fed.source c.items.invariant.script c.items.invariant.client first
-    (g.K.Sink.written c.items.sink) end.0 c.items.invariant.written)
+pub returns : goal.returns
+returns g c =
+    let w = g.K.Sink.written c.args.sink.now in
+    let x = g.K.Sink.written c.feed_rest.new.sink in
+    let s = c.in-Ok-new-2.source in
+    let same : alone_text s.script s.client ≡ alone_text c.args.script.now c.args.client =
+    (λ j. alone_text (c.in-Ok-new-2.ensures.script j) (c.in-Ok-new-2.ensures.client j)) in
+    record {
+      lines = subst (λ (text : List ℕ). OnOk c.feed_rest.result (Adds w x text)) same c.feed_rest.ensures.lines;
+      front = subst (λ (text : List ℕ). OnErr c.feed_rest.result (AddsFront w x text)) same c.feed_rest.ensures.front;
+      cause = c.feed_rest.ensures.cause;
+      later = c.feed_rest.ensures.later;
+    }

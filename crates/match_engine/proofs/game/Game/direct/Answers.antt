@@ -5,8 +5,9 @@ use Rattle.match_script.specs.declared.types.Head.{Head}
 use Rattle.match_script.specs.Ranges.{LineFits}
 use Rattle.match_report.specs.declared.told.Told.{Told}
 use Rattle.client_scope.specs.StandsFor.{Table}
-use Rattle.own_lists.specs.Own.{Line, client_named}
-use Rattle.own_lists.specs.Kept.{follows}
+use Rattle.stream_manager.specs.Limits.{Terms}
+use Rattle.own_lists.specs.Own.{client_named}
+use Rattle.own_lists.specs.Kept.{Kept, after_line}
 use Rattle.own_lists.specs.Past.{Past, client_terms, kept_by, after}
 use Rattle.own_lists.proofs.Counting.{few_up}
 use Rattle.client_seat.specs.Stands.{SeatState, StandsFor as SeatStandsFor}
@@ -38,13 +39,13 @@ module _ (m : GameState) (d : SeatState) (n : ℕ) (line : BodyLine) (past : Lis
   tells told_ f = f m.head (after m.head past) (after m.head (line ∷ past)) n named course
 
   next : IsDirect line → m.done < 4000000 → (new : SeatState)
-      → ((h : Head) (p : Past) (c : ℕ) → SeatStandsFor d (client_terms h c) (kept_by h p c).course → SeatStandsFor new (client_terms h c) (follows (client_terms h c) (Line line) (kept_by h p c)).course)
+      → ((t : Terms) (k : Kept) → SeatStandsFor d t k.course → SeatStandsFor new t (after_line t line k).course)
       → StandsFor (record { head = m.head; seats = set m.seats n new; scopes = m.scopes; world = m.world; lanes = m.lanes; done = m.done + 1 }) (line ∷ past)
   next direct done new f =
       let scope = get_or m.scopes n some_scope in
       fed m past line n (set m.seats n new) new m.scopes scope m.lanes named fits done s
       (put_set n m.seats new (omega (arith, lt, s.seat_count))) (put_none n m.scopes scope some_scope (omega (arith, lt, s.scope_count)) refl) (record { objects = refl; clients = refl; masks = λ c o l apart. refl })
-      (after_direct m.head line past n (get_or m.seats n d) new scope m.lanes direct named (s.client n d some_scope lt) (f m.head (after m.head past) n course))
+      (after_direct m.head line past n (get_or m.seats n d) new scope m.lanes direct named (s.client n d some_scope lt) (f (client_terms m.head n) (kept_by m.head (after m.head past) n) course))
 
 stands : (c : goal.After-index_mut) → StandsFor (before c) c.requires.stands.0
 stands c = subst (λ (x : GameState). StandsFor x c.requires.stands.0) (sym c.self.view_is) c.requires.stands.1

@@ -1,0 +1,40 @@
+use Rattle.std.proofs.Common.{◌≡◌, ◌∙◌, Ok, Err, Bool, false, List, Option, ℕ, sym, ap, subst, arith}
+use Rattle.std.specs.Prelude.{Result}
+use Rattle.std.proofs.lemmas.Result.{err_from_is_err_and}
+use Rattle.tn_outside.specs.Totals.{Adds}
+use Rattle.match_engine.specs.declared.running.RunFault.{RunFault}
+use Rattle.two_worlds.specs.Text.{alone_text}
+use Rattle.two_worlds.proofs.WholeText.{all_written, front_written, rose_later}
+use Rattle.two_worlds.proofs.both.feed_rest.Goals as goal
+
+of_false : (b : Bool) → b ≡ false → ◌≡◌ {A = Result Bool RunFault} (Ok b) (Ok false)
+of_false b e = ap (λ (x : Bool). Ok x) e
+
+of_err : (x y : RunFault) → x ≡ y → ◌≡◌ {A = Result Bool RunFault} (Err x) (Err y)
+of_err x y e = ap (λ (z : RunFault). Err z) e
+
+same_err : {T : Type 0} (x y : RunFault) → ◌≡◌ {A = Result T RunFault} (Err x) (Err y) → x ≡ y
+same_err {T} x y e = cc (e)
+
+pub returns-in_err-feed_next : goal.returns-in_err-feed_next
+returns-in_err-feed_next g c =
+    let p = err_from_is_err_and c.from_residual.result c.from_residual.ensures.1 in
+    let first = g.K.Sink.written c.args.sink.now in
+    rw (p.1) (record {
+      lines = tt;
+      front = front_written c.items.source c.args.source.now.script c.args.source.now.client c.items.invariant.fed.source c.items.invariant.script c.items.invariant.client first (g.K.Sink.written c.feed_next.new.sink) (c.in_err-feed_next.ensures.front first c.items.invariant.written);
+      cause = λ e. rose_later (g.K.Sink.faults c.args.sink.now) (g.K.Sink.faults c.items.sink) (g.K.Sink.faults c.feed_next.new.sink) c.items.invariant.later (c.in_err-feed_next.ensures.cause (of_err c.in_err-feed_next.field-0.0 RunFault.WriteFault (sym p.2 ∙ same_err p.0 RunFault.WriteFault e)));
+      later = omega (arith, c.items.invariant.later, c.feed_next.ensures.later);
+    })
+
+pub returns : goal.returns
+returns g c =
+    let first = g.K.Sink.written c.args.sink.now in
+    let end = c.in_ok-feed_next.ensures.end (of_false c.in_ok-feed_next.field-0 c.if-branch.false) in
+    record {
+      lines = subst (λ (w : Option (List ℕ)). Adds first w (alone_text c.args.source.now.script c.args.source.now.client)) (sym end.1)
+          (all_written c.items.source c.args.source.now.script c.args.source.now.client c.items.invariant.fed.source c.items.invariant.script c.items.invariant.client first (g.K.Sink.written c.items.sink) end.0 c.items.invariant.written);
+      front = tt;
+      cause = λ e. absurd (cc);
+      later = omega (arith, c.items.invariant.later, c.feed_next.ensures.later);
+    }
