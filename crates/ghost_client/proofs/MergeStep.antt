@@ -11,12 +11,12 @@ merged_here mask f fresh levels v is lt has =
     let rest = merged (suc f) mask (drop 1 fresh) (drop (suc f) levels) in
     let old = merged (suc f) mask fresh (drop (suc f) levels) in
     subst (λ n. take n (set levels f v) ++ merged n mask (drop 1 fresh) (drop n (set levels f v)) ≡ take f levels ++ merged f mask fresh (drop f levels)) (sym (add-one f)) (
-      ap (λ t. t ++ merged (suc f) mask (drop 1 fresh) (drop (suc f) (set levels f v))) (take-suc-set levels f v lt)
-      ∙ ap (λ d. (take f levels ++ v ∷ []) ++ merged (suc f) mask (drop 1 fresh) d) (drop-set-lt (suc f) levels f v (omega arith))
-      ∙ append_assoc (take f levels) (v ∷ []) rest
-      ∙ ap (λ x. take f levels ++ x ∷ rest) is
-      ∙ ap (λ b. take f levels ++ cond b (get_or fresh 0 (get_or levels f 0) ∷ rest) (get_or levels f 0 ∷ old)) (sym has)
-      ∙ ap (λ d. take f levels ++ merged f mask fresh d) (sym (drop-cons levels f 0 lt)))
+    ap (λ t. t ++ merged (suc f) mask (drop 1 fresh) (drop (suc f) (set levels f v))) (take-suc-set levels f v lt)
+    ∙ ap (λ d. (take f levels ++ v ∷ []) ++ merged (suc f) mask (drop 1 fresh) d) (drop-set-lt (suc f) levels f v (omega arith))
+    ∙ append_assoc (take f levels) (v ∷ []) rest
+    ∙ ap (λ x. take f levels ++ x ∷ rest) is
+    ∙ ap (λ b. take f levels ++ cond b (get_or fresh 0 (get_or levels f 0) ∷ rest) (get_or levels f 0 ∷ old)) (sym has)
+    ∙ ap (λ d. take f levels ++ merged f mask fresh d) (sym (drop-cons levels f 0 lt)))
 
 -- a field that isn't in the mask
 pub merged_past : (mask f : ℕ) (fresh levels : List ℕ) → f < length levels → has_bit mask f ≡ false → take (f + 1) levels ++ merged (f + 1) mask fresh (drop (f + 1) levels) ≡ take f levels ++ merged f mask fresh (drop f levels)
@@ -24,7 +24,7 @@ merged_past mask f fresh levels lt lacks =
     let rest = merged (suc f) mask (drop 1 fresh) (drop (suc f) levels) in
     let old = merged (suc f) mask fresh (drop (suc f) levels) in
     subst (λ n. take n levels ++ merged n mask fresh (drop n levels) ≡ take f levels ++ merged f mask fresh (drop f levels)) (sym (add-one f)) (
-      ap (λ t. t ++ old) (take-suc levels f 0 lt)
-      ∙ append_assoc (take f levels) (get_or levels f 0 ∷ []) old
-      ∙ ap (λ b. take f levels ++ cond b (get_or fresh 0 (get_or levels f 0) ∷ rest) (get_or levels f 0 ∷ old)) (sym lacks)
-      ∙ ap (λ d. take f levels ++ merged f mask fresh d) (sym (drop-cons levels f 0 lt)))
+    ap (λ t. t ++ old) (take-suc levels f 0 lt)
+    ∙ append_assoc (take f levels) (get_or levels f 0 ∷ []) old
+    ∙ ap (λ b. take f levels ++ cond b (get_or fresh 0 (get_or levels f 0) ∷ rest) (get_or levels f 0 ∷ old)) (sym lacks)
+    ∙ ap (λ d. take f levels ++ merged f mask fresh d) (sym (drop-cons levels f 0 lt)))
