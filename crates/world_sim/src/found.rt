@@ -1,10 +1,10 @@
 //! What a tick finds of the objects before anything moves, so that each rule looks through a short list only.
-ghost use Rattle.std.specs.Prelude.{◌≡◌, ◌≤◌, ◌+◌, ◌*◌, ◌&&◌, ◌||◌, ◌++◌, ◌∷◌, ◌<◌, [], true, slice_set, OnOk, filter, map, length, count_by, List, if◌then◌else◌};
+ghost use Rattle.std.specs.Prelude.{◌≡◌, ◌≤◌, ◌+◌, ◌*◌, ◌&&◌, ◌||◌, ◌++◌, ◌∷◌, ◌<◌, [], true, slice_set, OnOk, IfSome, position, filter, map, length, count_by, List, if◌then◌else◌};
 ghost use Rattle.std.specs.List.{list_any, AllByRecursion};
 ghost use Rattle.world_rules.specs.declared.object.Object.{Object};
 ghost use Rattle.world_rules.specs.Near.{is_standing, is_other_near};
 ghost use Rattle.world_rules.specs.Discs.{is_of, is_hitting};
-ghost use Rattle.world_rules.specs.Flags.{captures};
+ghost use Rattle.world_rules.specs.Flags.{captures, is_player};
 ghost use Rattle.world_rules.specs.Identity.{LivesOn};
 ghost use Rattle.world_rules.specs.Ranges.{PlaceFits, ObjectFits};
 ghost use Rattle.world_sim.specs.Searches.{AreWatched};
@@ -18,7 +18,7 @@ use crate::near::any_target_round;
 use crate::watch::{PLOTS, is_watched, watch_all};
 use std::alloc::{AllocError, Global};
 use tn_types::MAX_OBJECTS;
-use world_rules::flags::is_captured;
+use world_rules::flags::{is_captured, is_player};
 use world_rules::measures::MINE_REACH;
 use world_rules::{Object, State};
 
@@ -330,4 +330,12 @@ pub fn captures_of(objects: &[Object], flags: &[Object], team: u8) -> usize
         .iter()
         .filter(|f| is_captured(objects, team, f))
         .count()
+}
+
+/// The place of the client's player.
+pub fn place_of_player(client: u8, objects: &[Object]) -> Option<usize>
+    ensures place { result ≡ position (is_player client) objects.now }
+    ensures few { IfSome result (λ place. place < length objects.now) }
+{
+    objects.iter().position(|o| is_player(client, o))
 }

@@ -1,6 +1,5 @@
 //! The world and its ticks.
-ghost use Rattle.std.specs.Prelude.{◌≡◌, ℕ, vec_capacity, ◌<◌, ◌≤◌, ◌+◌, ◌-◌, ◌*◌, ◌^◌, ◌++◌, List, length, map, take, position, OnOk, OnErr, [], IfOk, IfSome, slice_get, Some};
-ghost use Rattle.world_rules.specs.Flags.{is_player};
+ghost use Rattle.std.specs.Prelude.{◌≡◌, ℕ, vec_capacity, ◌<◌, ◌≤◌, ◌+◌, ◌-◌, ◌*◌, ◌^◌, ◌++◌, List, length, map, take, OnOk, OnErr, [], IfOk, IfSome, slice_get, Some};
 ghost use Rattle.std.specs.List.{filter_map, AllByRecursion};
 ghost use Rattle.world_rules.specs.Players.{fired};
 ghost use Rattle.world_rules.specs.Next.{objects_next, discs_made};
@@ -18,7 +17,7 @@ ghost use Rattle.world_sim.specs.Glances.{glance_of};
 ghost use Rattle.world_sim.specs.RowsNext.{fresh_row, row_values, row_counts, rows_next, IsSoundRow};
 
 use crate::cells::{CELLS_ACROSS, Cells, has_place};
-use crate::found::{Found, captures_of, find_all, nothing};
+use crate::found::{Found, captures_of, find_all, nothing, place_of_player};
 use crate::glance::{Glance, glance_of};
 use crate::rows::{Row, Write, fresh_row};
 use crate::start::{first_glances, first_rows, lasting, start_objects};
@@ -29,7 +28,6 @@ use std::mem;
 use std::sync::ledger::Ledger;
 use tn_types::{MAX_CLIENTS, MAX_OBJECTS, Move, NoMemory, Steps};
 use world_rules::fire::fired;
-use world_rules::flags::is_player;
 use world_rules::{Object, Setup};
 
 // Writes of a tick at the most: five fields of each object.
@@ -240,14 +238,6 @@ fn advance(
     turn_all(&old, objects, rows, glances, cells, &mut work.after_writes);
     add_made(&work.made, objects, rows, glances, cells);
     Ok(())
-}
-
-// The place of the client's player.
-fn place_of_player(client: u8, objects: &[Object]) -> Option<usize>
-    ensures place { result ≡ position (is_player client) objects.now }
-    ensures few { IfSome result (λ place. place < length objects.now) }
-{
-    objects.iter().position(|o| is_player(client, o))
 }
 
 impl World {
