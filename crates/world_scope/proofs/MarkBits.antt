@@ -19,12 +19,12 @@ use Rattle.world_scope.proofs.Gathering.{one_at}
 shifted : (n s j : ℕ) → bit_at (n / 2 ^ s) j ≡ bit_at n (s + j)
 shifted n s j = ap (λ (m : ℕ). m % 2) (div-div-eq-div-mul n (2 ^ s) (2 ^ j) ∙ ap (λ (k : ℕ). n / k) (sym (pow-add 2 s j)))
 
-next_bit : (n s k : ℕ) → bit_at (n / 2 ^ s / 2) k ≡ bit_at n (s + 1 + k)
+pub next_bit : (n s k : ℕ) → bit_at (n / 2 ^ s / 2) k ≡ bit_at n (s + 1 + k)
 next_bit n s k =
     let e : s + suc k ≡ s + 1 + k = omega arith in
     sym (bit_at-suc (n / 2 ^ s) k) ∙ shifted n s (suc k) ∙ ap (bit_at n) e
 
-next_small : (n s b : ℕ) → n < 2 ^ (s + (1 + b)) → n / 2 ^ s / 2 < 2 ^ b
+pub next_small : (n s b : ℕ) → n < 2 ^ (s + (1 + b)) → n / 2 ^ s / 2 < 2 ^ b
 next_small n s b h =
     let whole : 2 ^ (s + (1 + b)) ≡ 2 ^ s * 2 ^ (1 + b) = pow-add 2 s (1 + b) in
     let turned : 2 ^ s * 2 ^ (1 + b) ≡ 2 ^ (1 + b) * 2 ^ s = grind arith in

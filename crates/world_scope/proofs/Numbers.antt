@@ -10,7 +10,7 @@ use Rattle.world_sim.specs.Grid.{numbers}
 abbrev pub one : Bool → ℕ
 one b = cond b 1 0
 
-count_cons : (p : Object → Bool) (o : Object) (os : List Object) → count_by p (o ∷ os) ≡ one (p o) + count_by p os
+pub count_cons : (p : Object → Bool) (o : Object) (os : List Object) → count_by p (o ∷ os) ≡ one (p o) + count_by p os
 count_cons p o os = sum_by-cons (λ x. one (p x)) o os
 
 count_more : (b : Bool) (k n : ℕ) (ns : List ℕ) → length ns ≡ n → length (cond b (k ∷ ns) ns) ≡ one b + n

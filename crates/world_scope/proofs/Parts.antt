@@ -7,10 +7,10 @@ use Rattle.std.proofs.lemmas.Bool.Decides.{nat_tests}
 use Rattle.world_rules.specs.declared.object.Object.{Object}
 use Rattle.world_rules.specs.declared.object.Place.{Place}
 use Rattle.world_rules.specs.Ranges.{ObjectFits}
-use Rattle.world_sim.specs.Grid.{has_place, lies_at}
+use Rattle.world_sim.specs.Grid.{has_place, lies_at, is_between, lies_between}
 use Rattle.world_scope.specs.Scope.{Look}
 use Rattle.world_scope.specs.Square.{is_round}
-use Rattle.world_scope.specs.Marks.{IsExact, AreExact, is_between, is_in_row, is_in_part}
+use Rattle.world_scope.specs.Marks.{IsExact, AreExact, is_in_row}
 use Rattle.world_scope.proofs.Numbers.{one, count_split, count_same, count_none}
 
 between_more : (from c x : ℕ) → from ≤ c → one (is_between from (c + 1) x) ≡ one (is_between from c x) + one (x == c)
@@ -34,7 +34,7 @@ row_split : (row from c : ℕ) → from ≤ c → (o : Object) → one (is_in_ro
 row_split row from c h o =
     glue_cell o.alive (has_place o.state) (o.place.y / 4096 == row) _ _ _ (between_more from c (o.place.x / 4096) h)
 
-part_split : (a b from c : ℕ) → from ≤ c → (o : Object) → one (is_in_part a b from (c + 1) o) ≡ one (is_in_part a b from c o) + one (is_in_row c a b o)
+part_split : (a b from c : ℕ) → from ≤ c → (o : Object) → one (lies_between a b from (c + 1) o) ≡ one (lies_between a b from c o) + one (is_in_row c a b o)
 part_split a b from c h o =
     glue_row o.alive (has_place o.state) (is_between a b (o.place.x / 4096)) _ _ _ (between_more from c (o.place.y / 4096) h)
 
@@ -63,7 +63,7 @@ between_none c x = grind (arith, nat_tests)
 empty_row : (row c : ℕ) (o : Object) → is_in_row row c c o ≡ false
 empty_row row c o = rw (between_none c (o.place.x / 4096), and-false (o.place.y / 4096 == row), and-false (has_place o.state), and-false o.alive) refl
 
-empty_part : (a b c : ℕ) (o : Object) → is_in_part a b c c o ≡ false
+empty_part : (a b c : ℕ) (o : Object) → lies_between a b c c o ≡ false
 empty_part a b c o = rw (between_none c (o.place.y / 4096), and-false (has_place o.state), and-false o.alive) refl
 
 -- ---- for the loops
@@ -77,14 +77,14 @@ row_more v os marks row from c h x y = joined v os (is_in_row row from (c + 1)) 
 pub row_counts : (os : List Object) (row from c : ℕ) → from ≤ c → count_by (is_in_row row from (c + 1)) os ≡ count_by (is_in_row row from c) os + count_by (lies_at c row) os
 row_counts os row from c h = count_split (is_in_row row from (c + 1)) (is_in_row row from c) (lies_at c row) os (row_split row from c h)
 
-pub part_none : (v : Look) (os : List Object) (marks : List ℕ) (a b c : ℕ) → AreExact v os (is_in_part a b c c) marks × (count_by (is_in_part a b c c) os ≡ 0)
-part_none v os marks a b c = (none_exact v os (is_in_part a b c c) marks (empty_part a b c), count_none (is_in_part a b c c) os (empty_part a b c))
+pub part_none : (v : Look) (os : List Object) (marks : List ℕ) (a b c : ℕ) → AreExact v os (lies_between a b c c) marks × (count_by (lies_between a b c c) os ≡ 0)
+part_none v os marks a b c = (none_exact v os (lies_between a b c c) marks (empty_part a b c), count_none (lies_between a b c c) os (empty_part a b c))
 
-pub part_more : (v : Look) (os : List Object) (marks : List ℕ) (a b from c : ℕ) → from ≤ c → AreExact v os (is_in_part a b from c) marks → AreExact v os (is_in_row c a b) marks → AreExact v os (is_in_part a b from (c + 1)) marks
-part_more v os marks a b from c h x y = joined v os (is_in_part a b from (c + 1)) (is_in_part a b from c) (is_in_row c a b) marks (part_split a b from c h) x y
+pub part_more : (v : Look) (os : List Object) (marks : List ℕ) (a b from c : ℕ) → from ≤ c → AreExact v os (lies_between a b from c) marks → AreExact v os (is_in_row c a b) marks → AreExact v os (lies_between a b from (c + 1)) marks
+part_more v os marks a b from c h x y = joined v os (lies_between a b from (c + 1)) (lies_between a b from c) (is_in_row c a b) marks (part_split a b from c h) x y
 
-pub part_counts : (os : List Object) (a b from c : ℕ) → from ≤ c → count_by (is_in_part a b from (c + 1)) os ≡ count_by (is_in_part a b from c) os + count_by (is_in_row c a b) os
-part_counts os a b from c h = count_split (is_in_part a b from (c + 1)) (is_in_part a b from c) (is_in_row c a b) os (part_split a b from c h)
+pub part_counts : (os : List Object) (a b from c : ℕ) → from ≤ c → count_by (lies_between a b from (c + 1)) os ≡ count_by (lies_between a b from c) os + count_by (is_in_row c a b) os
+part_counts os a b from c h = count_split (lies_between a b from (c + 1)) (lies_between a b from c) (is_in_row c a b) os (part_split a b from c h)
 
 -- ---- the square as columns and rows
 
@@ -96,7 +96,7 @@ columns_rise radius at = omega arith
 
 abbrev pub part_round : ℕ → Place → Object → Bool
 part_round radius p o =
-    is_in_part (min ((p.x - radius) / 4096) 16) (min ((p.x + radius) / 4096 + 1) 16) (min ((p.y - radius) / 4096) 16) (min ((p.y + radius) / 4096 + 1) 16) o
+    lies_between (min ((p.x - radius) / 4096) 16) (min ((p.x + radius) / 4096 + 1) 16) (min ((p.y - radius) / 4096) 16) (min ((p.y + radius) / 4096 + 1) 16) o
 
 round_is : (radius : ℕ) (p : Place) (o : Object) → ObjectFits o → part_round radius p o ≡ is_round radius p o
 round_is radius p o fits =

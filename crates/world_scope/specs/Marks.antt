@@ -1,8 +1,8 @@
 -- How a scan keeps what it has found: a mark for each number, 0 for what isn't seen (yet) and else one more than the level.
-use Rattle.std.specs.Prelude.{◌≡◌, ℕ, ◌-◌, ◌/◌, ◌⊎◌, Bool, true, false, ◌==◌, ◌&&◌, nat_le, nat_lt, List, Option, Some, None, slice_get, slice_index_or, if◌then◌else◌}
+use Rattle.std.specs.Prelude.{◌≡◌, ℕ, ◌-◌, ◌/◌, ◌⊎◌, Bool, true, false, ◌==◌, ◌&&◌, List, Option, Some, None, slice_get, slice_index_or, if◌then◌else◌}
 use Rattle.world_rules.specs.declared.object.Object.{Object}
 use Rattle.world_sim.specs.declared.cells.TheConstants.{CELL_SIDE}
-use Rattle.world_sim.specs.Grid.{has_place}
+use Rattle.world_sim.specs.Grid.{has_place, is_between}
 use Rattle.world_scope.specs.declared.viewer.Seen.{Seen}
 use Rattle.world_scope.specs.Scope.{Look, seen}
 use Rattle.world_scope.specs.Square.{is_round}
@@ -23,16 +23,9 @@ AreExact v os p marks = (n : ℕ) (o : Object) → slice_get os n ≡ Some o →
 abbrev pub AreKept : Look → List Object → List ℕ → List ℕ → Type 0
 AreKept v os before marks = (n : ℕ) → (slice_index_or marks n 0 ≡ slice_index_or before n 0) ⊎ IsExact v os marks n
 
--- between these columns and these rows, the last left out
-abbrev pub is_between : ℕ → ℕ → ℕ → Bool
-is_between from to x = nat_le from x && nat_lt x to
-
+-- alive, with a place in this row and in the columns from one on and before another
 abbrev pub is_in_row : ℕ → ℕ → ℕ → Object → Bool
 is_in_row cy from to o = o.alive && (has_place o.state && (o.place.y / CELL_SIDE == cy && is_between from to (o.place.x / CELL_SIDE)))
-
--- columns from a to b and rows from c to d
-abbrev pub is_in_part : ℕ → ℕ → ℕ → ℕ → Object → Bool
-is_in_part a b c d o = o.alive && (has_place o.state && (is_between c d (o.place.y / CELL_SIDE) && is_between a b (o.place.x / CELL_SIDE)))
 
 -- round the player, if there is one
 abbrev pub is_near : ℕ → Option Object → Object → Bool

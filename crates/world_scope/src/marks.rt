@@ -1,11 +1,15 @@
-//! What a scan finds, as a mark for each number: by single objects, cells, rows of cells, and the whole part of the field.
-ghost use Rattle.std.specs.Prelude.{◌≡◌, ℕ, ◌≤◌, ◌<◌, ◌+◌, ◌-◌, ◌/◌, min, length, count_by, slice_index_or};
+//! What a scan finds, as a mark for each number: by single objects, by words that have a bit for each of 64 objects, and the
+//! whole part of the field.
+ghost use Rattle.std.specs.Prelude.{◌≡◌, ℕ, ◌≤◌, ◌<◌, ◌+◌, ◌-◌, ◌*◌, ◌/◌, Bool, min, nat_le, length, drop, count_by, slice_index_or};
+ghost use Rattle.std.specs.Int.{bit_at};
 ghost use Rattle.std.specs.List.{AllByRecursion};
+ghost use Rattle.world_rules.specs.declared.object.Object.{Object};
 ghost use Rattle.world_rules.specs.Ranges.{ObjectFits};
-ghost use Rattle.world_sim.specs.Grid.{lasts};
+ghost use Rattle.world_sim.specs.Grid.{lasts, lies_between};
+ghost use Rattle.world_sim.specs.Lines.{AreBits};
 ghost use Rattle.world_scope.specs.Views.{look};
 ghost use Rattle.world_scope.specs.Square.{is_round, many_round};
-ghost use Rattle.world_scope.specs.Marks.{IsExact, AreExact, AreKept, is_in_row, is_in_part, is_near};
+ghost use Rattle.world_scope.specs.Marks.{IsExact, AreExact, AreKept, is_in_row, is_near};
 
 use crate::mark_table::MarkTable;
 use crate::viewer::Viewer;
@@ -70,6 +74,35 @@ fn mark_always<L: Ledger>(
     mark_all(viewer, world, world.always(), marks, steps);
 }
 
+// Looks at each object that has a bit, the lowest for the object of a number.
+fn mark_word<L: Ledger>(
+    viewer: &Viewer,
+    world: &World,
+    from: usize,
+    word: u64,
+    marks: &mut MarkTable,
+    steps: &mut Steps<L>,
+)
+    requires few { from + 64 ≤ MAX_OBJECTS }
+    requires there { (k : ℕ) → k < 64 → bit_at word k ≡ 1 → from + k < length world.now.objects }
+    requires room { length marks.old ≡ MAX_OBJECTS }
+    ensures room { length marks.new ≡ MAX_OBJECTS }
+    ensures exact { (k : ℕ) → k < 64 → bit_at word k ≡ 1 → IsExact (look viewer.now) world.now.objects marks.new (from + k) }
+    ensures kept { AreKept (look viewer.now) world.now.objects marks.old marks.new }
+    ensures steps { (p : Object → Bool) → AreBits word from 64 p world.now.objects
+        → steps.new + count_by p (drop (from + 64) world.now.objects) ≡ steps.old + count_by p (drop from world.now.objects) }
+{
+    let mut at = from;
+    let mut rest = word;
+    while rest != 0 {
+        let skipped = rest.trailing_zeros();
+        at += skipped as usize;
+        mark_one(viewer, world, at as u32, marks, steps);
+        at += 1;
+        rest = (rest >> skipped) >> 1;
+    }
+}
+
 // Looks at a row of cells between two columns.
 fn mark_row<L: Ledger>(
     viewer: &Viewer,
@@ -93,6 +126,72 @@ fn mark_row<L: Ledger>(
     }
 }
 
+// Looks at all cells between two columns and two rows, one by one: the shorter way where they are few.
+fn mark_cells<L: Ledger>(
+    viewer: &Viewer,
+    world: &World,
+    columns: (u8, u8),
+    rows: (u8, u8),
+    marks: &mut MarkTable,
+    steps: &mut Steps<L>,
+)
+    requires columns { columns.1 ≤ CELLS_ACROSS }
+    requires column_order { columns.0 ≤ columns.1 }
+    requires rows { rows.1 ≤ CELLS_ACROSS }
+    requires row_order { rows.0 ≤ rows.1 }
+    requires room { length marks.old ≡ MAX_OBJECTS }
+    ensures room { length marks.new ≡ MAX_OBJECTS }
+    ensures exact { AreExact (look viewer.now) world.now.objects (lies_between columns.0 columns.1 rows.0 rows.1) marks.new }
+    ensures kept { AreKept (look viewer.now) world.now.objects marks.old marks.new }
+    ensures steps { steps.new ≡ steps.old + count_by (lies_between columns.0 columns.1 rows.0 rows.1) world.now.objects }
+{
+    for row in rows.0..rows.1 {
+        mark_row(viewer, world, row, columns, marks, steps);
+    }
+}
+
+// How many words of 64 bits have one for each object.
+fn words_of(world: &World) -> usize
+    ensures few { result ≤ 16 }
+    ensures all { length world.now.objects ≤ 64 * result }
+{
+    (world.objects() as usize).div_ceil(64)
+}
+
+// Looks at all cells between two columns and two rows by words: the shorter way where they are many.
+fn mark_words<L: Ledger>(
+    viewer: &Viewer,
+    world: &World,
+    columns: (u8, u8),
+    rows: (u8, u8),
+    marks: &mut MarkTable,
+    steps: &mut Steps<L>,
+)
+    requires columns { columns.1 ≤ CELLS_ACROSS }
+    requires column_order { columns.0 ≤ columns.1 }
+    requires rows { rows.1 ≤ CELLS_ACROSS }
+    requires row_order { rows.0 ≤ rows.1 }
+    requires room { length marks.old ≡ MAX_OBJECTS }
+    ensures room { length marks.new ≡ MAX_OBJECTS }
+    ensures exact { AreExact (look viewer.now) world.now.objects (lies_between columns.0 columns.1 rows.0 rows.1) marks.new }
+    ensures kept { AreKept (look viewer.now) world.now.objects marks.old marks.new }
+    ensures steps { steps.new ≡ steps.old + count_by (lies_between columns.0 columns.1 rows.0 rows.1) world.now.objects }
+{
+    for word in 0..words_of(world) {
+        let found = world.between(columns, rows, word);
+        mark_word(viewer, world, 64 * word, found, marks, steps);
+    }
+}
+
+// Whether so few cells lie between two columns and two rows that to go through them is the shorter way.
+fn are_few(columns: (u8, u8), rows: (u8, u8), words: usize) -> bool
+    requires columns { columns.0 ≤ columns.1 }
+    requires rows { rows.0 ≤ rows.1 }
+    ensures { result ≡ nat_le (4 * (columns.1 - columns.0) * (rows.1 - rows.0)) words }
+{
+    4 * usize::from(columns.1 - columns.0) * usize::from(rows.1 - rows.0) <= words
+}
+
 // Looks at all cells between two columns and two rows.
 fn mark_part<L: Ledger>(
     viewer: &Viewer,
@@ -108,12 +207,14 @@ fn mark_part<L: Ledger>(
     requires row_order { rows.0 ≤ rows.1 }
     requires room { length marks.old ≡ MAX_OBJECTS }
     ensures room { length marks.new ≡ MAX_OBJECTS }
-    ensures exact { AreExact (look viewer.now) world.now.objects (is_in_part columns.0 columns.1 rows.0 rows.1) marks.new }
+    ensures exact { AreExact (look viewer.now) world.now.objects (lies_between columns.0 columns.1 rows.0 rows.1) marks.new }
     ensures kept { AreKept (look viewer.now) world.now.objects marks.old marks.new }
-    ensures steps { steps.new ≡ steps.old + count_by (is_in_part columns.0 columns.1 rows.0 rows.1) world.now.objects }
+    ensures steps { steps.new ≡ steps.old + count_by (lies_between columns.0 columns.1 rows.0 rows.1) world.now.objects }
 {
-    for row in rows.0..rows.1 {
-        mark_row(viewer, world, row, columns, marks, steps);
+    if are_few(columns, rows, words_of(world)) {
+        mark_cells(viewer, world, columns, rows, marks, steps);
+    } else {
+        mark_words(viewer, world, columns, rows, marks, steps);
     }
 }
 

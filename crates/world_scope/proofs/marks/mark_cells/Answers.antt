@@ -2,7 +2,7 @@ use Rattle.std.proofs.Common.{◌≡◌, ◌≤◌, arith}
 use Rattle.world_scope.specs.Views.{look}
 use Rattle.world_scope.proofs.Marking.{all_stay, kept_on, kept_none}
 use Rattle.world_scope.proofs.Parts.{part_none, part_more, part_counts}
-use Rattle.world_scope.proofs.marks.mark_part.Goals as goal
+use Rattle.world_scope.proofs.marks.mark_cells.Goals as goal
 
 pub loop-row-init : goal.loop-row-init
 loop-row-init g c =
