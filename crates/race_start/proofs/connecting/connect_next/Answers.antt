@@ -6,6 +6,5 @@ use Rattle.race_start.proofs.connecting.connect_next.Goals as goal
 
 pub returns-clause-none : goal.returns-clause-none
 returns-clause-none g c =
-    let none : c.in_ok-inbox.port.scope.count ≡ 0 = (let told = c.in_ok-inbox.ensures.port in let is = c.in_ok-inbox.port-is in cc) in
     subst (All (λ (p : PortState). p.scope.count ≡ 0)) (sym c.in_ok-add.ensures)
-    (All-push (λ (p : PortState). p.scope.count ≡ 0) c.args.made.now.ports.items c.in_ok-inbox.port c.requires.none none)
+    (All-push (λ (p : PortState). p.scope.count ≡ 0) c.args.made.now.ports.items c.in_ok-inbox.field-0.port c.requires.none c.in_ok-inbox.ensures.port)
