@@ -17,7 +17,6 @@ use tn_types::{
 ///
 /// A clause sees the pair, the steps, whether there is room for one more, and for how many drains of it. The pair is what these
 /// steps make of a new one.
-#[derive(Drop)]
 pub struct KeptPair {
     pair: Pair,
     steps: StepList,
@@ -28,6 +27,20 @@ pub struct KeptPair {
     noted: Vec<Read>,
     // how many drains the next pack may have
     drains: usize,
+}
+
+// Written out, so that a function above that lets a pair go calls this, and doesn't prove again how its parts are let go.
+impl Drop for KeptPair {
+    fn drop(self) {
+        let KeptPair {
+            pair: _pair,
+            steps: _steps,
+            moves: _moves,
+            befores: _befores,
+            noted: _noted,
+            drains: _drains,
+        } = self;
+    }
 }
 
 impl Model for KeptPair {

@@ -379,7 +379,7 @@ stands_first h f = record {
 }
 
 header_back : (h : Head) (rest : List (List (List ℕ))) → HeadFits h → header (map spelled (all_words h rest)) ≡ Ok (h, map spelled rest)
-unfolding header
+unfolding header opening
 header_back h rest f =
     let stand = stands_first h f in
     rw (

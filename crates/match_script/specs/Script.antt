@@ -79,15 +79,21 @@ with_objects head blocks spawns = record {
   setup = record { clients = head.clients; radius = head.radius; spawns = spawns };
 }
 
--- the header of the lines, and the lines after it
-unfoldable pub header : List (List ℕ) → Result (Head × List (List ℕ)) Fault
-header lines = do
+-- the header that the first two lines of it begin, and the lines after those
+unfoldable pub opening : List (List ℕ) → Result (Head × List (List ℕ)) Fault
+opening lines = do
   first ← header_words 1 lines
   version ← stands 1 (version_line first.0)
   second ← header_words 2 first.1
   head ← stands 2 (match_line version second.0)
-  objects ← objects_of head.clients (length (blocks_of 0 second.1).0) (3 + length (blocks_of 0 second.1).0) [] (blocks_of 0 second.1).1
-  Ok (with_objects head (blocks_of 0 second.1).0 objects.0, objects.1)
+  Ok (head, second.1)
+
+-- the header of the lines, and the lines after it
+unfoldable pub header : List (List ℕ) → Result (Head × List (List ℕ)) Fault
+header lines = do
+  opened ← opening lines
+  objects ← objects_of opened.0.clients (length (blocks_of 0 opened.1).0) (3 + length (blocks_of 0 opened.1).0) [] (blocks_of 0 opened.1).1
+  Ok (with_objects opened.0 (blocks_of 0 opened.1).0 objects.0, objects.1)
 
 -- how many lines a header is: `tribes`, `match`, the blocks, the objects and `go`
 abbrev pub header_length : Head → ℕ

@@ -5,7 +5,7 @@ ghost use Rattle.match_script.specs.declared.types.ParseFault.TheVariants.{Bad};
 ghost use Rattle.match_script.specs.declared.types.ScriptFault.TheVariants.{BadHeader};
 ghost use Rattle.match_script.specs.Text.{lines_of, words_of};
 ghost use Rattle.match_script.specs.Header.{match_numbers, version_line, match_line, block_line, is_go};
-ghost use Rattle.match_script.specs.Script.{Gives, header_words, block_in, blocks_of, with_objects, header};
+ghost use Rattle.match_script.specs.Script.{Gives, header_words, block_in, blocks_of, with_objects, opening, header};
 ghost use Rattle.match_script.specs.Ranges.{BlockFits, HeadFits};
 
 use crate::cut::{cut_line, is_text};
@@ -192,10 +192,10 @@ fn blocks_of(alloc: Global, text: &[u8]) -> Result<(Blocks, &[u8]), ParseFault>
     Ok((Blocks::from_vec(blocks), rest))
 }
 
-// The header of a text, and what comes after it.
-#[tactic(auto, unfolding(crate::specs::Script::header))]
-pub fn header(alloc: Global, text: &[u8]) -> Result<(Head, &[u8]), ParseFault>
-    ensures value { Gives (λ x. (x.0, lines_of x.1.now)) result (header (lines_of text.now)) }
+// The header that the first two lines of a text begin, and what comes after those. A head that is made is held at no exit.
+#[tactic(auto, unfolding(crate::specs::Script::opening))]
+fn opening(alloc: Global, text: &[u8]) -> Result<(Head, &[u8]), ParseFault>
+    ensures value { Gives (λ x. (x.0, lines_of x.1.now)) result (opening (lines_of text.now)) }
     ensures fits { IfOk result (λ x. HeadFits x.0) }
 {
     let (line, rest) = header_line(1, text)?;
@@ -203,9 +203,19 @@ pub fn header(alloc: Global, text: &[u8]) -> Result<(Head, &[u8]), ParseFault>
         return Err(misplaced(1));
     };
     let (line, rest) = header_line(2, rest)?;
-    let Some(head) = match_line(alloc, version, line) else {
-        return Err(misplaced(2));
-    };
+    match match_line(alloc, version, line) {
+        Some(head) => Ok((head, rest)),
+        None => Err(misplaced(2)),
+    }
+}
+
+// The header of a text, and what comes after it.
+#[tactic(auto, unfolding(crate::specs::Script::header))]
+pub fn header(alloc: Global, text: &[u8]) -> Result<(Head, &[u8]), ParseFault>
+    ensures value { Gives (λ x. (x.0, lines_of x.1.now)) result (header (lines_of text.now)) }
+    ensures fits { IfOk result (λ x. HeadFits x.0) }
+{
+    let (head, rest) = opening(alloc, text)?;
     let (blocks, rest) = blocks_of(alloc, rest)?;
     let (spawns, rest) = objects_of(alloc, head.clients, blocks.len() as u8, rest)?;
     Ok((with_objects(head, blocks, spawns), rest))

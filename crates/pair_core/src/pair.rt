@@ -15,7 +15,6 @@ use tn_types::{BlockBytes, Class, MAX_BLOCKS, MAX_DATAGRAM_BYTES, NoMemory, Payl
 /// The server's end, the client's end, and the datagrams that each sent.
 ///
 /// A clause sees `PairState`, and what it means by the list of steps.
-#[derive(Drop)]
 pub struct Pair {
     pub(crate) conn: Conn,
     pub(crate) client: Client,
@@ -25,6 +24,20 @@ pub struct Pair {
     pub(crate) values: Vec<i64>,
     // and its reads, if nobody else notes them
     pub(crate) noted: Vec<Read>,
+}
+
+// Written out, so that a function above that lets a pair go calls this, and doesn't prove again how its parts are let go.
+impl Drop for Pair {
+    fn drop(self) {
+        let Pair {
+            conn: _conn,
+            client: _client,
+            down: _down,
+            up: _up,
+            values: _values,
+            noted: _noted,
+        } = self;
+    }
 }
 
 impl Model for Pair {

@@ -43,7 +43,6 @@ pub enum ClientOut<'a> {
 /// A client's end of its connection to the server.
 ///
 /// A clause sees `ClientState`, and what it means by the list of what happened at this end.
-#[derive(Drop)]
 pub struct Client {
     common: End,
     moves: MoveSender,
@@ -54,6 +53,21 @@ pub struct Client {
     out: BitWriter,
     // where the next packet that comes is read
     body: Box<ServerBody>,
+}
+
+// Written out, so that a function above that lets an end go calls this, and doesn't prove again how its parts are let go.
+impl Drop for Client {
+    fn drop(self) {
+        let Client {
+            common: _common,
+            moves: _moves,
+            blocks: _blocks,
+            copies: _copies,
+            control: _control,
+            out: _out,
+            body: _body,
+        } = self;
+    }
 }
 
 impl Model for Client {

@@ -37,7 +37,6 @@ pub struct Taken {
 /// The server's end of the connection to one client.
 ///
 /// A clause sees `ConnState`, and what it means by the list of what happened at this end.
-#[derive(Drop)]
 pub struct Conn {
     pub(crate) common: End,
     pub(crate) masks: Masks,
@@ -48,6 +47,21 @@ pub struct Conn {
     pub(crate) out: BitWriter,
     // where the next packet that comes is read
     body: Box<ClientBody>,
+}
+
+// Written out, so that a function above that lets an end go calls this, and doesn't prove again how its parts are let go.
+impl Drop for Conn {
+    fn drop(self) {
+        let Conn {
+            common: _common,
+            masks: _masks,
+            blocks: _blocks,
+            moves: _moves,
+            taken: _taken,
+            out: _out,
+            body: _body,
+        } = self;
+    }
 }
 
 impl Model for Conn {
