@@ -22,7 +22,7 @@ use Rattle.std.proofs.lemmas.List.{map-append}
 use Rattle.match_script.specs.Text.{words_of, is_text, spelled}
 use Rattle.match_script.specs.Lines.{body_line, scan_line, post_line, client_post_line, pack_line, client_pack_line, down_line, up_line, raw_line, move_line, show_line}
 use Rattle.match_script.specs.Header.{match_numbers, version_line, match_line, block_line, is_go, is_earlier_player, may_follow, kind_named, placed, player_words, spawn_words, named, object_line}
-use Rattle.match_script.specs.Script.{script_in, script_of, body_of, line_at, header, header_length, text_line, header_words, block_in, blocks_of, objects_of, with_objects}
+use Rattle.match_script.specs.Script.{script_in, script_of, body_of, line_at, opening, header, header_length, text_line, header_words, block_in, blocks_of, objects_of, with_objects}
 use Rattle.match_script.specs.Ranges.{LineFits, BlockFits, HeadFits, HasRanges}
 use Rattle.match_script.specs.Print.{line_words, version_words, match_words, block_words, place_words, owned_line, object_words, go_words, hex_word, flag_word, joined, text_of}
 use Rattle.match_script.specs.Print.{header_words as printed_header}
