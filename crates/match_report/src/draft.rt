@@ -92,14 +92,36 @@ impl Draft {
         self.push(word.as_bytes())
     }
 
-    /// Appends a number.
+    // Appends the digit of a number below 10.
+    #[tactic(auto, using(crate::proofs::Digits::one_digit))]
+    fn push_digit(&mut self, number: u8) -> Result<(), AllocError>
+        requires { number < 10 }
+        ensures line { OnOk result (self.new.line ≡ self.old.line ++ decimal number) }
+        ensures before { self.new.before ≡ self.old.before }
+    {
+        self.push(&[b'0' + number])
+    }
+
+    // Appends a number by its text in a buffer.
     // Not inlined: its buffer would be set to zero once more for each call that its caller has.
     #[inline(never)]
-    pub(crate) fn push_number(&mut self, number: u64) -> Result<(), AllocError>
+    fn push_long(&mut self, number: u64) -> Result<(), AllocError>
         ensures line { OnOk result (self.new.line ≡ self.old.line ++ decimal number) }
         ensures before { self.new.before ≡ self.old.before }
     {
         self.push(Buffer::new().format(number).as_bytes())
+    }
+
+    /// Appends a number. Most numbers of a report have one digit.
+    pub(crate) fn push_number(&mut self, number: u64) -> Result<(), AllocError>
+        ensures line { OnOk result (self.new.line ≡ self.old.line ++ decimal number) }
+        ensures before { self.new.before ≡ self.old.before }
+    {
+        if number < 10 {
+            self.push_digit(number as u8)
+        } else {
+            self.push_long(number)
+        }
     }
 
     /// Appends a number with its sign, if it is below 0.
