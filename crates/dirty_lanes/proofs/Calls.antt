@@ -1,15 +1,16 @@
 -- All that a write, a raise and a drain do to the words.
-use Rattle.std.proofs.Common.{◌≡◌, ℕ, ◌+◌, ◌*◌, ◌/◌, ◌%◌, ◌<◌, ◌^◌, List, [], ◌∷◌, length, get_or, refl, sym, ap, ◌∙◌, subst, arith}
+use Rattle.std.proofs.Common.{◌≡◌, ◌≢◌, ◌⊎◌, inl, inr, ⊎_elim, ℕ, ◌+◌, ◌*◌, ◌/◌, ◌%◌, ◌<◌, ◌≤◌, ◌^◌, List, [], ◌∷◌, ◌++◌, take, drop, length, get_or, refl, sym, ap, ◌∙◌, subst, arith}
 use Rattle.std.specs.Prelude.{bit_or, replicate, slice_index}
-use Rattle.std.proofs.lemmas.List.{get_or_default}
+use Rattle.std.proofs.lemmas.List.{get_or_default, take_all, drop_all, append-nil}
 use Rattle.std.proofs.lemmas.Nat.{or_lt}
+use Rattle.std.proofs.lemmas.Bool.{cases_eq, cases_lt}
 use Rattle.tn_types.specs.declared.limits.TheConstants.{MAX_FIELDS, MAX_CLIENTS}
 use Rattle.dirty_lanes.specs.declared.words.TheConstants.{WORDS, VERSION}
 use Rattle.dirty_lanes.specs.Words.{Words, field_word, mask_word, packed, version_at, value_at, mask_at, with_word, new_words, after_write, after_raise, after_drain, SizesStay, FieldsStay, MasksStay, OtherFieldsStay, OtherMasksStay, IsLaidOut}
-use Rattle.dirty_lanes.specs.Log.{LaneEvent, Wrote, Raised, Drained, StandsFor}
+use Rattle.dirty_lanes.specs.Log.{LaneEvent, Wrote, Raised, Drained, raised_for, StandsFor}
 use Rattle.dirty_lanes.proofs.Places.{all_zero, field_there, mask_there}
 use Rattle.dirty_lanes.proofs.Changes.{sizes_stay, field_is, other_fields_stay, masks_stay, mask_is, other_masks_stay, fields_stay, laid_out-field, laid_out-mask}
-use Rattle.dirty_lanes.proofs.Logs.{stands-new, stands-write, stands-raise, stands-drain}
+use Rattle.dirty_lanes.proofs.Logs.{stands-new, stands-write, stands-raise, stands-raised_for, stands-drain}
 
 packed_version : (version value : ℕ) → value < VERSION → packed version value / VERSION ≡ version
 packed_version version value small = omega arith
@@ -132,6 +133,93 @@ raises v w c o bits i word n same laid named there small at read put =
     subst (λ (u : Words). Raises w u c o bits)
     (sym (put_is v w i (mask_word c o) n (bit_or (mask_at w c o) bits) same at (put ∙ ap (λ (k : ℕ). bit_or k bits) (mask_read v w c o i word same laid named there at read))))
     (raises-after w c o bits (subst IsLaidOut same laid) named there small)
+
+-- a raise for every client: what it did to the list of words, and so to the words
+pub record AreRaised (old new : List ℕ) (from bits : ℕ) : Type 0 where
+  pub long : length new ≡ length old
+  pub raised : (k : ℕ) → k < MAX_CLIENTS → slice_index new (from + k) ≡ bit_or (slice_index old (from + k)) bits
+  pub before : (i : ℕ) → i < from → slice_index new i ≡ slice_index old i
+  pub behind : (i : ℕ) → from + MAX_CLIENTS ≤ i → slice_index new i ≡ slice_index old i
+
+pub record RaisesAll (old new : Words) (o bits : ℕ) : Type 0 where
+  pub laid_out : IsLaidOut new
+  pub sizes : SizesStay old new
+  pub raised : (c : ℕ) → c < MAX_CLIENTS → mask_at new c o ≡ bit_or (mask_at old c o) bits
+  pub masks : (c p : ℕ) → c < MAX_CLIENTS → p ≢ o → mask_at new c p ≡ mask_at old c p
+  pub fields : FieldsStay old new
+  pub log : (log : List LaneEvent) → StandsFor old log → StandsFor new (raised_for MAX_CLIENTS o bits ++ log)
+
+module _ (w : Words) (o bits : ℕ) (list : List ℕ) (laid : IsLaidOut w) (there : o < w.objects) (small : bits < 2 ^ MAX_FIELDS) (are : AreRaised w.words list (mask_word 0 o) bits) where
+  abbrev with_list : Words
+  with_list = record w { words = list }
+
+  elsewhere : (i : ℕ) → (i < mask_word 0 o) ⊎ (mask_word 0 o + MAX_CLIENTS ≤ i) → slice_index list i ≡ slice_index w.words i
+  elsewhere i apart = ⊎_elim (λ (lt : i < mask_word 0 o). are.before i lt) (λ (le : mask_word 0 o + MAX_CLIENTS ≤ i). are.behind i le) apart
+
+  field_elsewhere : (p g : ℕ) → g < MAX_FIELDS → (field_word p g < mask_word 0 o) ⊎ (mask_word 0 o + MAX_CLIENTS ≤ field_word p g)
+  field_elsewhere p g within = ⊎_elim (λ (lt : o < p). inr (omega (arith, lt, within))) (λ (le : p ≤ o). inl (omega (arith, le, within))) (cases_lt o p)
+
+  mask_elsewhere : (c p : ℕ) → c < MAX_CLIENTS → p ≢ o → (mask_word c p < mask_word 0 o) ⊎ (mask_word 0 o + MAX_CLIENTS ≤ mask_word c p)
+  mask_elsewhere c p within apart = ⊎_elim (λ (lt : o < p). inr (omega (arith, lt, within))) (λ (le : p ≤ o). inl (let ne : p ≢ o = apart in omega (arith, le, ne, within))) (cases_lt o p)
+
+  mask_raised : (c : ℕ) → c < MAX_CLIENTS → mask_at with_list c o ≡ bit_or (mask_at w c o) bits
+  unfolding mask_at
+  mask_raised c within =
+      subst (λ (i : ℕ). slice_index list i ≡ bit_or (slice_index w.words i) bits) (let e : mask_word 0 o + c ≡ mask_word c o = omega arith in e) (are.raised c within)
+
+  masks_same : (c p : ℕ) → c < MAX_CLIENTS → p ≢ o → mask_at with_list c p ≡ mask_at w c p
+  unfolding mask_at
+  masks_same c p within apart = elsewhere (mask_word c p) (mask_elsewhere c p within apart)
+
+  fields_same : FieldsStay w with_list
+  unfolding version_at value_at
+  fields_same = record {
+    versions = λ p g within. ap (λ (n : ℕ). n / VERSION) (elsewhere (field_word p g) (field_elsewhere p g within));
+    values = λ p g within. ap (λ (n : ℕ). n % VERSION) (elsewhere (field_word p g) (field_elsewhere p g within));
+  }
+
+  sizes_same : SizesStay w with_list
+  sizes_same = record { objects = refl; clients = refl }
+
+  narrow_all : (c p : ℕ) → c < MAX_CLIENTS → mask_at with_list c p < 2 ^ MAX_FIELDS
+  narrow_all c p within = ⊎_elim
+      (λ (e : p ≡ o). subst (λ (k : ℕ). mask_at with_list c k < 2 ^ MAX_FIELDS) (sym e)
+      (subst (λ (n : ℕ). n < 2 ^ MAX_FIELDS) (sym (mask_raised c within)) (or_lt 16 (mask_at w c o) bits (laid.narrow c o within) small)))
+      (λ (ne : p ≢ o). subst (λ (n : ℕ). n < 2 ^ MAX_FIELDS) (sym (masks_same c p within ne)) (laid.narrow c p within))
+      (cases_eq p o)
+
+  raises_all-after : RaisesAll w with_list o bits
+  raises_all-after = record {
+    laid_out = record {
+      some_objects = laid.some_objects;
+      few_objects = laid.few_objects;
+      some_clients = laid.some_clients;
+      few_clients = laid.few_clients;
+      long = are.long ∙ laid.long;
+      narrow = narrow_all;
+    };
+    sizes = sizes_same;
+    raised = mask_raised;
+    masks = masks_same;
+    fields = fields_same;
+    log = λ log stands. stands-raised_for w with_list log o bits sizes_same fields_same mask_raised masks_same laid.few_clients stands;
+  }
+
+-- what a vector holds once all of it was lent and changed
+written_back : (now before : List ℕ) (len : ℕ) → len ≡ length before → length now ≡ length before → take len (now ++ drop (length now) before) ≡ now
+written_back now before len l w =
+    let none : drop (length now) before ≡ [] = drop_all (length now) before (omega (arith, w)) in
+    let all : length now ≤ len = omega (arith, l, w) in
+    rw (none, append-nil) (take_all len now all)
+
+pub raises_all : (v w : Words) (o bits i n len : ℕ) (lent now : List ℕ) → v ≡ w → IsLaidOut v → o < w.objects → bits < 2 ^ MAX_FIELDS → i ≡ mask_word 0 o → n ≡ bits → lent ≡ v.words → len ≡ length v.words → AreRaised lent now i n
+    → RaisesAll w (record v { words = take len (now ++ drop (length now) v.words) }) o bits
+raises_all v w o bits i n len lent now same laid there small at put is long are =
+    let raised : AreRaised v.words now (mask_word 0 o) bits =
+    subst (λ (z : ℕ × ℕ). AreRaised v.words now z.0 z.1) (λ j. (at j, put j)) (subst (λ (l : List ℕ). AreRaised l now i n) is are) in
+    subst (λ (u : Words). RaisesAll u (record v { words = take len (now ++ drop (length now) v.words) }) o bits) same
+    (raises_all-after v o bits (take len (now ++ drop (length now) v.words)) laid (subst (λ (u : Words). o < u.objects) (sym same) there) small
+    (subst (λ (l : List ℕ). AreRaised v.words l (mask_word 0 o) bits) (sym (written_back now v.words len long raised.long)) raised))
 
 -- a drain
 pub record Drains (old new : Words) (c o : ℕ) : Type 0 where

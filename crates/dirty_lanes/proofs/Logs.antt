@@ -1,12 +1,12 @@
 -- What one more event adds to what follows from a log, and so what each call keeps.
-use Rattle.std.proofs.Common.{◌≡◌, ◌≢◌, ◌⊎◌, ℕ, ◌+◌, ◌<◌, ◌≤◌, true, false, not, ◌&&◌, ◌==◌, List, [], ◌∷◌, refl, sym, ap, ◌∙◌, subst, arith, inl, inr, ⊎_elim}
+use Rattle.std.proofs.Common.{◌≡◌, ◌≢◌, ◌⊎◌, ℕ, zero, suc, ◌+◌, ◌<◌, ◌≤◌, true, false, not, ◌&&◌, ◌==◌, List, [], ◌∷◌, ◌++◌, refl, sym, ap, ◌∙◌, subst, arith, inl, inr, ⊎_elim}
 use Rattle.std.specs.Prelude.{bit_or}
 use Rattle.std.proofs.lemmas.Bool.{cases_eq}
 use Rattle.std.proofs.lemmas.Bool.Decides.{nat_tests}
 use Rattle.std.proofs.lemmas.List.Sums.{take_while-cons}
 use Rattle.tn_types.specs.declared.limits.TheConstants.{MAX_FIELDS, MAX_CLIENTS}
 use Rattle.dirty_lanes.specs.Words.{Words, version_at, value_at, mask_at, SizesStay, FieldsStay, MasksStay, OtherFieldsStay, OtherMasksStay}
-use Rattle.dirty_lanes.specs.Log.{LaneEvent, Wrote, Raised, Drained, Read, version_of, last_value, is_drain, mask_of, StandsFor}
+use Rattle.dirty_lanes.specs.Log.{LaneEvent, Wrote, Raised, Drained, Read, version_of, last_value, is_drain, mask_of, raised_for, StandsFor}
 
 same_here : (a b : ℕ) → ((a == a) && (b == b)) ≡ true
 same_here a b = grind (arith, nat_tests)
@@ -131,3 +131,47 @@ stands-read w log c o f stands = record {
   values = λ p g there within. stands.values p g there within;
   masks = λ d p named there. stands.masks d p named there ∙ sym (mask_of-read log c o f d p);
 }
+
+-- a raise for each of the first clients
+raised_for-version : (n o bits : ℕ) (log : List LaneEvent) (p g : ℕ) → version_of (raised_for n o bits ++ log) p g ≡ version_of log p g
+unfolding version_of
+raised_for-version zero o bits log p g = refl
+raised_for-version (suc n) o bits log p g = raised_for-version n o bits log p g
+
+raised_for-value : (n o bits : ℕ) (log : List LaneEvent) (p g : ℕ) → last_value (raised_for n o bits ++ log) p g ≡ last_value log p g
+unfolding last_value
+raised_for-value zero o bits log p g = refl
+raised_for-value (suc n) o bits log p g = raised_for-value n o bits log p g
+
+raised_for-other : (n o bits : ℕ) (log : List LaneEvent) (d p : ℕ) → (n ≤ d) ⊎ (p ≢ o) → mask_of (raised_for n o bits ++ log) d p ≡ mask_of log d p
+raised_for-other zero o bits log d p apart = refl
+raised_for-other (suc n) o bits log d p apart =
+    mask_of-raised_other (raised_for n o bits ++ log) n o bits d p (⊎_elim (λ (le : suc n ≤ d). inl (λ (e : d ≡ n). omega arith)) (λ (ne : p ≢ o). inr ne) apart)
+    ∙ raised_for-other n o bits log d p (⊎_elim (λ (le : suc n ≤ d). inl (omega arith)) (λ (ne : p ≢ o). inr ne) apart)
+
+raised_for-each : (n o bits : ℕ) (log : List LaneEvent) (d : ℕ) → d < n → mask_of (raised_for n o bits ++ log) d o ≡ bit_or (mask_of log d o) bits
+raised_for-each zero o bits log d lt = absurd (omega arith)
+raised_for-each (suc n) o bits log d lt = ⊎_elim
+    (λ (e : d ≡ n). subst (λ (k : ℕ). mask_of (Raised n o bits ∷ raised_for n o bits ++ log) k o ≡ bit_or (mask_of log k o) bits) (sym e)
+    (mask_of-raised (raised_for n o bits ++ log) n o bits ∙ ap (λ (m : ℕ). bit_or m bits) (raised_for-other n o bits log n o (inl (omega arith)))))
+    (λ (ne : d ≢ n). mask_of-raised_other (raised_for n o bits ++ log) n o bits d o (inl ne) ∙ raised_for-each n o bits log d (omega (arith, ne)))
+    (cases_eq d n)
+
+pub stands-raised_for : (old new : Words) (log : List LaneEvent) (o bits : ℕ) → SizesStay old new → FieldsStay old new
+    → ((d : ℕ) → d < MAX_CLIENTS → mask_at new d o ≡ bit_or (mask_at old d o) bits) → ((d p : ℕ) → d < MAX_CLIENTS → p ≢ o → mask_at new d p ≡ mask_at old d p)
+    → old.clients ≤ MAX_CLIENTS → StandsFor old log → StandsFor new (raised_for MAX_CLIENTS o bits ++ log)
+stands-raised_for old new log o bits sizes fields raised others few stands = record {
+  versions = λ p g known within. fields.versions p g within ∙ stands.versions p g (old_object p known) within ∙ sym (raised_for-version MAX_CLIENTS o bits log p g);
+  values = λ p g known within. fields.values p g within ∙ stands.values p g (old_object p known) within ∙ sym (raised_for-value MAX_CLIENTS o bits log p g);
+  masks = λ d p named known. let lt : d < MAX_CLIENTS = omega (arith, old_client d named) in ⊎_elim
+      (λ (e : p ≡ o). subst (λ (k : ℕ). k < old.objects → mask_at new d k ≡ mask_of (raised_for MAX_CLIENTS o bits ++ log) d k) (sym e)
+      (λ there. raised d lt ∙ ap (λ (m : ℕ). bit_or m bits) (stands.masks d o (old_client d named) there) ∙ sym (raised_for-each MAX_CLIENTS o bits log d lt)) (old_object p known))
+      (λ (ne : p ≢ o). others d p lt ne ∙ stands.masks d p (old_client d named) (old_object p known) ∙ sym (raised_for-other MAX_CLIENTS o bits log d p (inr ne)))
+      (cases_eq p o);
+}
+  where
+    old_object : (p : ℕ) → p < new.objects → p < old.objects
+    old_object p known = subst (λ (n : ℕ). p < n) sizes.objects known
+
+    old_client : (d : ℕ) → d < new.clients → d < old.clients
+    old_client d named = subst (λ (n : ℕ). d < n) sizes.clients named

@@ -1,7 +1,7 @@
 -- What happened to lanes, the newest first, and what follows from it. The version of a field is the number of writes to
 -- it, and its value is the one written last. What a client is to hear of an object is each bit that was raised since
 -- the last drain.
-use Rattle.std.specs.Prelude.{ℕ, ◌≡◌, ◌<◌, Bool, false, not, ◌&&◌, ◌==◌, if◌then◌else◌, List, [], ◌∷◌, length, slice_index, bit_or, Option, Some, None, refl}
+use Rattle.std.specs.Prelude.{ℕ, zero, suc, ◌≡◌, ◌<◌, Bool, false, not, ◌&&◌, ◌==◌, if◌then◌else◌, List, [], ◌∷◌, length, slice_index, bit_or, Option, Some, None, refl}
 use Rattle.std.specs.List.{filter_map, take_while}
 use Rattle.tn_types.specs.declared.limits.TheConstants.{MAX_FIELDS}
 use Rattle.dirty_lanes.specs.Words.{Words, version_at, value_at, mask_at}
@@ -55,6 +55,11 @@ or_of (bits ∷ rest) = bit_or (or_of rest) bits
 unfoldable pub mask_of : List LaneEvent → ℕ → ℕ → ℕ
 mask_of log client object = or_of (raised_since_drain log client object)
 
+-- these bits of the object were raised for each of the first `clients` clients
+abbrev pub raised_for : ℕ → ℕ → ℕ → List LaneEvent
+raised_for zero object bits = []
+raised_for (suc client) object bits = Raised client object bits ∷ raised_for client object bits
+
 pub record StandsFor (w : Words) (log : List LaneEvent) : Type 0 where
   pub versions : (object field : ℕ) → object < w.objects → field < MAX_FIELDS
       → version_at w object field ≡ version_of log object field
@@ -85,3 +90,6 @@ told_mask = refl
 told_drained : mask_of told 0 3 ≡ 0
 unfolding told mask_of
 told_drained = refl
+
+raised_for_two : raised_for 2 3 4 ≡ Raised 1 3 4 ∷ Raised 0 3 4 ∷ []
+raised_for_two = refl

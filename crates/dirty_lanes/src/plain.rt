@@ -1,8 +1,8 @@
 //! The lanes of one thread.
 
-ghost use Rattle.std.specs.Prelude.{ℕ, ◌≡◌, ◌+◌, ◌^◌, ◌<◌, ◌≤◌, List, [], ◌∷◌, IfOk, bit_or};
+ghost use Rattle.std.specs.Prelude.{ℕ, ◌≡◌, ◌≢◌, ◌+◌, ◌^◌, ◌<◌, ◌≤◌, List, [], ◌∷◌, ◌++◌, IfOk, length, slice_index, bit_or};
 ghost use Rattle.dirty_lanes.specs.Words.{version_at, value_at, mask_at, new_words, after_write, after_raise, after_drain, SizesStay, FieldsStay, MasksStay, OtherFieldsStay, OtherMasksStay};
-ghost use Rattle.dirty_lanes.specs.Log.{LaneEvent, Wrote, Raised, Drained, Read, version_of, last_value, mask_of, StandsFor};
+ghost use Rattle.dirty_lanes.specs.Log.{LaneEvent, Wrote, Raised, Drained, Read, version_of, last_value, mask_of, raised_for, StandsFor};
 
 use crate::words::{WORDS, field_word, mask_word, packed, value_in, version_in};
 use std::alloc::Global;
@@ -16,6 +16,20 @@ pub struct PlainLanes {
     objects: u32,
     clients: u32,
     words: Vec<u64>,
+}
+
+// Raises bits in a word for each client, of which the first is at this place. The words are lent once for all, so that
+// they are not looked up anew behind each store.
+fn raise_in(words: &mut [u64], from: usize, bits: u64)
+    requires { from + MAX_CLIENTS ≤ length words.old }
+    ensures long { length words.new ≡ length words.old }
+    ensures raised { (k : ℕ) → k < MAX_CLIENTS → slice_index words.new (from + k) ≡ bit_or (slice_index words.old (from + k)) bits }
+    ensures before { (i : ℕ) → i < from → slice_index words.new i ≡ slice_index words.old i }
+    ensures behind { (i : ℕ) → from + MAX_CLIENTS ≤ i → slice_index words.new i ≡ slice_index words.old i }
+{
+    for client in 0..MAX_CLIENTS as usize {
+        words[from + client] |= bits;
+    }
 }
 
 impl Model for PlainLanes {
@@ -101,6 +115,20 @@ impl PlainLanes {
         ensures log { (log : List LaneEvent) → StandsFor self.old log → StandsFor self.new (Raised client object bits ∷ log) }
     {
         self.words[mask_word(client, object)] |= u64::from(bits);
+    }
+
+    /// Raises bits of an object for every client, as `raise` does for one after another. All 16 are there.
+    pub fn raise_for_all(&mut self, object: u32, bits: u32)
+        requires clients { self.old.clients ≡ MAX_CLIENTS }
+        requires object { object < self.old.objects }
+        requires bits { bits < 2 ^ MAX_FIELDS }
+        ensures raised { (c : ℕ) → c < MAX_CLIENTS → mask_at self.new c object ≡ bit_or (mask_at self.old c object) bits }
+        ensures masks { (c o : ℕ) → c < MAX_CLIENTS → o ≢ object → mask_at self.new c o ≡ mask_at self.old c o }
+        ensures fields { FieldsStay self.old self.new }
+        ensures sizes { SizesStay self.old self.new }
+        ensures log { (log : List LaneEvent) → StandsFor self.old log → StandsFor self.new (raised_for MAX_CLIENTS object bits ++ log) }
+    {
+        raise_in(&mut self.words, mask_word(0, object), u64::from(bits));
     }
 
     /// Takes the bits that were raised for a client since it last drained the object.

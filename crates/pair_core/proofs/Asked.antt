@@ -1,7 +1,9 @@
 -- Fields that are asked for one after another.
-use Rattle.std.proofs.Common.{◌≡◌, ℕ, suc, ◌+◌, Bool, true, false, not, cond, arith, ◌&&◌, ◌||◌, ◌==◌, List, [], ◌∷◌, ◌++◌, ◌∙◌, Option, refl, sym, ap, subst, append_assoc, append-nil}
+use Rattle.std.proofs.Common.{◌≡◌, ℕ, zero, suc, ◌+◌, ◌-◌, ◌*◌, ◌/◌, ◌<◌, ◌≤◌, ◌^◌, eqb, Bool, true, false, not, cond, arith, ◌&&◌, ◌||◌, ◌==◌, List, [], ◌∷◌, ◌++◌, ◌∙◌, Option, refl, sym, ap, subst, append_assoc, append-nil}
 use Rattle.std.specs.Prelude.{ℤ, ◌≤ℤ◌, IfSome, map, filter}
 use Rattle.std.proofs.lemmas.List.{map-append}
+use Rattle.std.proofs.lemmas.Nat.{pow_pos}
+use Rattle.std.proofs.lemmas.Nat.Bits.{bit_at_above}
 use Rattle.std.proofs.lemmas.List.Elements.{filter-append}
 use Rattle.tn_types.specs.BitWords.{has_bit}
 use Rattle.tn_types.specs.declared.choices.Choice.{Choice}
@@ -95,6 +97,24 @@ fields-next n mask f =
     go : (b : Bool) → map {B = ℕ × ℕ} (λ f. (n, f)) (cond b (f ∷ []) []) ≡ cond b ((n, f) ∷ []) []
     go true = refl
     go false = refl
+
+-- from the width of the mask on there is none
+fields-above : (n mask k j : ℕ) → mask < 2 ^ k → map {B = ℕ × ℕ} (λ f. (n, f)) (filter (has_bit mask) (upto (k + j))) ≡ map {B = ℕ × ℕ} (λ f. (n, f)) (filter (has_bit mask) (upto k))
+fields-above n mask k zero below = ap (λ i. map {B = ℕ × ℕ} (λ f. (n, f)) (filter (has_bit mask) (upto i))) (let e : k + 0 ≡ k = omega arith in e)
+fields-above n mask k (suc j) below =
+    let out : has_bit mask (k + j) ≡ false = ap (λ (x : ℕ). eqb x 1) (bit_at_above mask k (k + j) below (omega arith)) in
+    ap (λ i. map {B = ℕ × ℕ} (λ f. (n, f)) (filter (has_bit mask) (upto i))) (let e : k + suc j ≡ k + j + 1 = omega arith in e)
+    ∙ fields-next n mask (k + j)
+    ∙ ap (λ (b : Bool). map {B = ℕ × ℕ} (λ f. (n, f)) (filter (has_bit mask) (upto (k + j))) ++ cond b ((n, k + j) ∷ []) []) out
+    ∙ append-nil (map {B = ℕ × ℕ} (λ f. (n, f)) (filter (has_bit mask) (upto (k + j))))
+    ∙ fields-above n mask k j below
+
+pub fields-rest : (n mask k : ℕ) → k ≤ 16 → mask / 2 ^ k ≡ 0 → map {B = ℕ × ℕ} (λ f. (n, f)) (filter (has_bit mask) (upto k)) ≡ map {B = ℕ × ℕ} (λ f. (n, f)) (filter (has_bit mask) (upto 16))
+fields-rest n mask k le none =
+    let above : 0 < 2 ^ k = pow_pos k in
+    let zero_times : 2 ^ k * (mask / 2 ^ k) ≡ 2 ^ k * 0 = ap (λ (q : ℕ). 2 ^ k * q) none in
+    let below : mask < 2 ^ k = omega (arith, zero_times, above) in
+    sym (ap (λ i. map {B = ℕ × ℕ} (λ f. (n, f)) (filter (has_bit mask) (upto i))) (let e : 16 ≡ k + (16 - k) = omega (arith, le) in e) ∙ fields-above n mask k (16 - k) below)
 
 pub all-push : (cs : List Choice) (c : Choice) → asked_by_all (cs ++ c ∷ []) ≡ asked_by_all cs ++ asked_by c
 all-push [] c = append-nil (asked_by c)

@@ -34,6 +34,10 @@ fn ask_fields<V: Values>(choice: &Choice, values: &mut V, noted: &mut Vec<Read>)
     ensures room { vec_capacity noted.new ≡ vec_capacity noted.old }
 {
     'fields: for field in 0..MAX_FIELDS as u8 {
+        if choice.mask >> field == 0 {
+            // no bit is left
+            return;
+        }
         if has_field(choice.mask, field) {
             noted.push_reserved(values.value(choice.n, field));
         }

@@ -4,7 +4,7 @@ use Rattle.tn_types.specs.BitWords.{has_bit}
 use Rattle.tn_types.specs.declared.choices.Read.{Read}
 use Rattle.ghost_model.specs.Words.{upto}
 use Rattle.pair_core.specs.Asking.{AreAsked}
-use Rattle.pair_core.proofs.Asked.{asked-none, asked-one, asked-then, fields-next, fields-first}
+use Rattle.pair_core.proofs.Asked.{asked-none, asked-one, asked-then, fields-next, fields-first, fields-rest}
 use Rattle.pair_core.proofs.asking.ask_fields.Goals as goal
 use Rattle.pair_core.proofs.asking.ask_fields.Goals.{then-has_field, else-has_field}
 
@@ -20,6 +20,14 @@ pub value-requires : goal.value-requires
 value-requires g c =
     let set : has_bit c.args.choice.now.mask c.fields.field ≡ true = sym c.has_field.ensures ∙ c.if-has_field.true in
     subst (λ o. IsSome o) (sym (c.fields.invariant.told.asks.ranges_kept c.args.choice.now.n c.fields.field)) (c.requires.ranged c.fields.field c.fields-test.true set)
+
+pub returns-then-choice-field-eq0 : goal.returns-then-choice-field-eq0
+returns-then-choice-field-eq0 g c = record {
+  told = subst (λ (fs : List (ℕ × ℕ)). AreAsked g.V.Values.ranges g.V.Values.stands g.V.Values.owes g.V.Values.same c.args.values.now c.fields.values fs c.args.noted.now.items c.fields.noted.items)
+      (fields-rest c.args.choice.now.n c.args.choice.now.mask c.fields.field (omega (arith, c.fields-test.true)) c.if-choice-field-eq0.true) c.fields.invariant.told;
+  few = omega (arith, c.fields.invariant.few, c.fields-test.true);
+  room = c.fields.invariant.room;
+}
 
 pub fields-preserved : goal.fields-preserved
 fields-preserved g c = elim c.if-has_field.branch [
