@@ -14,5 +14,5 @@ pub mod ClientFormat
 pub mod Steps
 pub mod GhostFormat
 pub mod Levels
-mod Filled
 mod ReadChosen
+mod MaskSteps

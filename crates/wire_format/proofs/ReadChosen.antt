@@ -1,7 +1,7 @@
 -- Reading the levels of the fields in a mask, one after the other.
 use Rattle.std.proofs.Common.{◌≡◌, ℕ, zero, suc, ◌+◌, ◌/◌, ◌%◌, ◌≤◌, ◌<◌, List, [], ◌∷◌, ◌++◌, length, get_or, drop, Result, Ok, Err, refl, sym, ap, ◌∙◌, arith}
 use Rattle.std.specs.Prelude.{map}
-use Rattle.std.proofs.lemmas.List.{append-nil, drop_more, drop_all, length_push}
+use Rattle.std.proofs.lemmas.List.{append-nil, drop_more, length_push}
 use Rattle.quantised_fields.specs.declared.field.FieldSpec.{FieldSpec}
 use Rattle.bit_stream.specs.Reading.{Unread}
 use Rattle.wire_format.specs.declared.fault.BitsFault.{BitsFault}
@@ -12,7 +12,7 @@ use Rattle.wire_format.proofs.Counted.{with_front, regroup, came, none_came}
 chosen_next : (ws : List ℕ) (mask i : ℕ) → i < length ws → mask % 2 ≡ 1 → chosen mask (drop i ws) ≡ get_or ws i 0 ∷ chosen (mask / 2) (drop (i + 1) ws)
 chosen_next ws mask i lt odd = rw (drop_more ws i 0 lt, odd) refl
 
-chosen_later : (ws : List ℕ) (mask i : ℕ) → i < length ws → mask % 2 ≡ 0 → chosen mask (drop i ws) ≡ chosen (mask / 2) (drop (i + 1) ws)
+pub chosen_later : (ws : List ℕ) (mask i : ℕ) → i < length ws → mask % 2 ≡ 0 → chosen mask (drop i ws) ≡ chosen (mask / 2) (drop (i + 1) ws)
 chosen_later ws mask i lt even = rw (drop_more ws i 0 lt, even) refl
 
 -- the level of a field in the mask was read behind the others
@@ -33,15 +33,15 @@ chosen_fails front ws mask i s e total lt odd read so_far =
     let one : with_front front (levels_at (chosen mask (drop i ws)) s) ≡ Err e = rw (chosen_next ws mask i lt odd, fault) refl in
     sym so_far ∙ one
 
--- a field that isn't in the mask
-pub chosen_past : (front ws : List ℕ) (mask i : ℕ) (s : Unread) (total : Result (List ℕ × Unread) BitsFault) → i < length ws → mask % 2 ≡ 0
-    → with_front front (levels_at (chosen mask (drop i ws)) s) ≡ total → with_front front (levels_at (chosen (mask / 2) (drop (i + 1) ws)) s) ≡ total
-chosen_past front ws mask i s total lt even so_far = ap (λ (w : List ℕ). with_front front (levels_at w s)) (sym (chosen_later ws mask i lt even)) ∙ so_far
+-- no field is left
+chosen_none : (ws : List ℕ) → chosen 0 ws ≡ []
+chosen_none [] = refl
+chosen_none (w ∷ ws) = chosen_none ws
 
-pub chosen_is_read : (front ws : List ℕ) (mask i : ℕ) (s : Unread) (total : Result (List ℕ × Unread) BitsFault) → length ws ≤ i → with_front front (levels_at (chosen mask (drop i ws)) s) ≡ total → total ≡ Ok (front, s)
+pub chosen_is_read : (front ws : List ℕ) (s : Unread) (total : Result (List ℕ × Unread) BitsFault) → with_front front (levels_at (chosen 0 ws) s) ≡ total → total ≡ Ok (front, s)
 unfolding levels_at
-chosen_is_read front ws mask i s total le so_far =
-    let one : with_front front (levels_at (chosen mask (drop i ws)) s) ≡ Ok (front, s) = rw (drop_all i ws le) (ap (λ (ls : List ℕ). Ok (ls, s)) (append-nil front)) in
+chosen_is_read front ws s total so_far =
+    let one : with_front front (levels_at (chosen 0 ws) s) ≡ Ok (front, s) = rw (chosen_none ws) (ap (λ (ls : List ℕ). Ok (ls, s)) (append-nil front)) in
     sym so_far ∙ one
 
 pub width_at : (fields : List FieldSpec) (i : ℕ) (d : FieldSpec) → i < length fields → (get_or fields i d).bits ≡ get_or (map (λ f. f.bits) fields) i 0

@@ -1,5 +1,5 @@
 //! How a ghost of a packet is read: where it is to lie, so that the levels of an update are copied nowhere.
-ghost use Rattle.std.specs.Prelude.{◌≡◌, ◌<◌, ◌≤◌, All, length, map};
+ghost use Rattle.std.specs.Prelude.{◌≡◌, ◌<◌, ◌≤◌, ◌^◌, [], All, length, map, IfOk};
 ghost use Rattle.bit_stream.specs.Reading.{Gives};
 ghost use Rattle.wire_format.specs.Ghosts.{ghost_at, kind_number_at, field_mask_at, create_at, update_at, with_levels, levels_at, widths, chosen};
 ghost use Rattle.wire_format.specs.Reading.{Fills, behind, part_at};
@@ -12,6 +12,7 @@ use crate::widths::{
 };
 use bit_stream::BitReader;
 use quantised_fields::{FieldSpec, KindTable};
+use std::mem;
 use tn_types::{MAX_FIELD_BITS, MAX_FIELDS, MAX_WORD_BITS};
 
 /// What an update says before its levels: its slot, its kind, and the mask of the fields that it carries.
@@ -56,6 +57,7 @@ fn read_kind(reader: &mut BitReader<'_>, kinds: &KindTable) -> Result<u8, BitsFa
 fn read_mask(reader: &mut BitReader<'_>, width: u32) -> Result<u32, BitsFault>
     requires { width ≤ MAX_WORD_BITS }
     ensures read { Gives result reader.new (field_mask_at width reader.old) }
+    ensures fits { IfOk result (λ n. n < 2 ^ width) }
 {
     let place = reader.place();
     let mask = part(reader, width)?;
@@ -87,7 +89,9 @@ fn read_levels(
     Ok(())
 }
 
-/// Reads what stands behind the op of a create, or gives its first fault.
+/// Reads what stands behind the op of a create, or gives its first fault. Not inlined: its list would be set to zero for each
+/// item.
+#[inline(never)]
 #[tactic(auto, unfolding(crate::specs::Ghosts::create_at))]
 fn read_create(
     reader: &mut BitReader<'_>,
@@ -133,20 +137,37 @@ fn read_chosen(
 ) -> Result<(), BitsFault>
     requires few { length fields.now ≤ MAX_FIELDS }
     requires narrow { All (λ f. f.bits ≤ MAX_FIELD_BITS) fields.now }
+    requires mask { mask < 2 ^ length fields.now }
     ensures { Fills result levels.new reader.new (levels_at (chosen mask (map (λ f. f.bits) fields.now)) reader.old) }
 {
     levels.clear();
     let mut rest = mask;
-    for field in fields {
-        if rest % 2 == 1 {
-            read_level(reader, field.bits, levels)?;
-        }
-        rest /= 2;
+    let mut field = 0;
+    while rest != 0 {
+        let skipped = rest.trailing_zeros();
+        field += skipped as usize;
+        read_level(reader, fields[field].bits, levels)?;
+        field += 1;
+        rest = (rest >> skipped) >> 1;
     }
     Ok(())
 }
 
-/// Reads the levels of an update, where its levels lie if an update lay there already.
+/// Makes an update of an item that is none.
+#[cold]
+#[inline(never)]
+fn make_update(item: &mut GhostItem)
+    ensures { item.new ≡ GhostItem.Update 0 0 0 [] }
+{
+    *item = GhostItem::Update {
+        slot: 0,
+        kind: 0,
+        mask: 0,
+        levels: Levels::new(),
+    };
+}
+
+/// Reads the levels of an update where those of the last one lie.
 fn fill_update(
     reader: &mut BitReader<'_>,
     fields: &[FieldSpec],
@@ -155,30 +176,27 @@ fn fill_update(
 ) -> Result<(), BitsFault>
     requires few { length fields.now ≤ MAX_FIELDS }
     requires narrow { All (λ f. f.bits ≤ MAX_FIELD_BITS) fields.now }
+    requires mask { named.now.mask < 2 ^ length fields.now }
     ensures { Fills result item.new reader.new
         (with_levels named.now (levels_at (chosen named.now.mask (map (λ f. f.bits) fields.now)) reader.old)) }
 {
-    if let GhostItem::Update {
+    match item {
+        GhostItem::Update { .. } => {}
+        _ => make_update(item),
+    }
+    let GhostItem::Update {
         slot,
         kind,
         mask,
         levels,
     } = item
-    {
-        *slot = named.slot;
-        *kind = named.kind;
-        *mask = named.mask;
-        return read_chosen(reader, fields, named.mask, levels);
-    }
-    let mut levels = Levels::new();
-    read_chosen(reader, fields, named.mask, &mut levels)?;
-    *item = GhostItem::Update {
-        slot: named.slot,
-        kind: named.kind,
-        mask: named.mask,
-        levels,
+    else {
+        unreachable!()
     };
-    Ok(())
+    *slot = named.slot;
+    *kind = named.kind;
+    *mask = named.mask;
+    read_chosen(reader, fields, named.mask, levels)
 }
 
 /// Reads what stands behind the op of an update, or gives its first fault.
@@ -206,11 +224,16 @@ pub(crate) fn read_ghost(
 ) -> Result<(), BitsFault>
     ensures { Fills result item.new reader.new (ghost_at kinds.now reader.old) }
 {
-    let slot = part(reader, SLOT_WIDTH)? as u8;
-    let op = within(reader, BitsCause::OpBits, KILL, UPDATE, OP_WIDTH)?;
+    // the reader lies in a place of its own meanwhile, so that its parts stay in registers
+    let mut own = mem::replace(reader, BitReader::new(&[]));
+    let slot = part(&mut own, SLOT_WIDTH)? as u8;
+    let op = within(&mut own, BitsCause::OpBits, KILL, UPDATE, OP_WIDTH)?;
     if op == UPDATE {
-        return read_update(reader, kinds, slot, item);
+        read_update(&mut own, kinds, slot, item)?;
+        *reader = own;
+        return Ok(());
     }
+    *reader = own;
     *item = if op == CREATE {
         read_create(reader, kinds, slot)?
     } else {
