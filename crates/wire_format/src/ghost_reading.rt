@@ -1,7 +1,7 @@
 //! How a ghost of a packet is read: where it is to lie, so that the levels of an update are copied nowhere.
 ghost use Rattle.std.specs.Prelude.{◌≡◌, ◌<◌, ◌≤◌, ◌^◌, [], All, length, map, IfOk};
 ghost use Rattle.bit_stream.specs.Reading.{Gives};
-ghost use Rattle.wire_format.specs.Ghosts.{ghost_at, kind_number_at, field_mask_at, create_at, update_at, with_levels, levels_at, widths, chosen};
+ghost use Rattle.wire_format.specs.Ghosts.{ghost_at, kind_number_at, field_mask_at, create_at, update_at, by_op, with_levels, levels_at, widths, chosen};
 ghost use Rattle.wire_format.specs.Reading.{Fills, behind, part_at};
 
 use crate::fault::{BitsCause, BitsFault};
@@ -89,9 +89,7 @@ fn read_levels(
     Ok(())
 }
 
-/// Reads what stands behind the op of a create, or gives its first fault. Not inlined: its list would be set to zero for each
-/// item.
-#[inline(never)]
+/// Reads what stands behind the op of a create, or gives its first fault.
 #[tactic(auto, unfolding(crate::specs::Ghosts::create_at))]
 fn read_create(
     reader: &mut BitReader<'_>,
@@ -215,6 +213,27 @@ fn read_update(
     fill_update(reader, fields, &Named { slot, kind, mask }, item)
 }
 
+/// Reads what stands behind the op of a create or a kill, or gives its first fault. Not inlined: the item that it makes would
+/// be set to zero once for each update.
+#[inline(never)]
+fn read_other(
+    reader: &mut BitReader<'_>,
+    kinds: &KindTable,
+    slot: u8,
+    op: u32,
+    item: &mut GhostItem,
+) -> Result<(), BitsFault>
+    requires { op < UPDATE }
+    ensures { Fills result item.new reader.new (by_op kinds.now slot op reader.old) }
+{
+    *item = if op == CREATE {
+        read_create(reader, kinds, slot)?
+    } else {
+        GhostItem::Kill { slot }
+    };
+    Ok(())
+}
+
 /// Reads a ghost in place of this one, or gives its first fault.
 #[tactic(auto, unfolding(crate::specs::Ghosts::ghost_at))]
 pub(crate) fn read_ghost(
@@ -234,10 +253,5 @@ pub(crate) fn read_ghost(
         return Ok(());
     }
     *reader = own;
-    *item = if op == CREATE {
-        read_create(reader, kinds, slot)?
-    } else {
-        GhostItem::Kill { slot }
-    };
-    Ok(())
+    read_other(reader, kinds, slot, op, item)
 }
