@@ -130,6 +130,18 @@ impl<'a> BitReader<'a> {
         }
     }
 
+    /// A reader that stands where this one does.
+    pub fn copy(&self) -> BitReader<'a>
+        ensures { result ≡ self.now }
+    {
+        BitReader {
+            rest: self.rest,
+            pending: self.pending,
+            count: self.count,
+            place: self.place,
+        }
+    }
+
     /// The number of bits read so far, which is the place of the next bit.
     pub fn place(&self) -> u32
         ensures { result ≡ self.now.place }
