@@ -16,3 +16,4 @@ pub mod GhostFormat
 pub mod Levels
 mod ReadChosen
 mod MaskSteps
+mod AtOnce

@@ -1,7 +1,7 @@
 //! How a ghost of a packet is read: where it is to lie, so that the levels of an update are copied nowhere.
-ghost use Rattle.std.specs.Prelude.{◌≡◌, ◌<◌, ◌≤◌, ◌^◌, [], All, length, map, IfOk};
+ghost use Rattle.std.specs.Prelude.{◌≡◌, ◌<◌, ◌≤◌, ◌^◌, ◌/◌, ◌%◌, [], All, length, map, IfOk, IfSome};
 ghost use Rattle.bit_stream.specs.Reading.{Gives};
-ghost use Rattle.wire_format.specs.Ghosts.{ghost_at, kind_number_at, field_mask_at, create_at, update_at, by_op, with_levels, levels_at, widths, chosen};
+ghost use Rattle.wire_format.specs.Ghosts.{ghost_at, kind_number_at, field_mask_at, create_at, update_at, masked_at, with_levels, levels_at, widths, chosen};
 ghost use Rattle.wire_format.specs.Reading.{Fills, behind, part_at};
 
 use crate::fault::{BitsCause, BitsFault};
@@ -12,8 +12,10 @@ use crate::widths::{
 };
 use bit_stream::BitReader;
 use quantised_fields::{FieldSpec, KindTable};
-use std::mem;
 use tn_types::{MAX_FIELD_BITS, MAX_FIELDS, MAX_WORD_BITS};
+
+/// The bits of a ghost up to its kind.
+const FRONT_WIDTH: u32 = SLOT_WIDTH + OP_WIDTH + KIND_NUMBER_WIDTH;
 
 /// What an update says before its levels: its slot, its kind, and the mask of the fields that it carries.
 #[derive(Drop)]
@@ -197,8 +199,23 @@ fn fill_update(
     read_chosen(reader, fields, named.mask, levels)
 }
 
+/// Reads what stands behind the kind of an update, or gives its first fault.
+fn read_masked(
+    reader: &mut BitReader<'_>,
+    kinds: &KindTable,
+    slot: u8,
+    kind: u8,
+    item: &mut GhostItem,
+) -> Result<(), BitsFault>
+    ensures { Fills result item.new reader.new (masked_at kinds.now slot kind reader.old) }
+{
+    let fields = fields_of(kinds, kind);
+    let mask = read_mask(reader, fields.len() as u32)?;
+    fill_update(reader, fields, &Named { slot, kind, mask }, item)
+}
+
 /// Reads what stands behind the op of an update, or gives its first fault.
-#[tactic(auto, unfolding(crate::specs::Ghosts::update_at, crate::specs::Ghosts::updated_at))]
+#[tactic(auto, using(crate::proofs::AtOnce::behind_kind), unfolding(crate::specs::Ghosts::update_at, crate::specs::Ghosts::updated_at))]
 fn read_update(
     reader: &mut BitReader<'_>,
     kinds: &KindTable,
@@ -208,24 +225,25 @@ fn read_update(
     ensures { Fills result item.new reader.new (update_at kinds.now slot reader.old) }
 {
     let kind = read_kind(reader, kinds)?;
-    let fields = fields_of(kinds, kind);
-    let mask = read_mask(reader, fields.len() as u32)?;
-    fill_update(reader, fields, &Named { slot, kind, mask }, item)
+    read_masked(reader, kinds, slot, kind, item)
 }
 
-/// Reads what stands behind the op of a create or a kill, or gives its first fault. Not inlined: the item that it makes would
-/// be set to zero once for each update.
+/// Reads a ghost part by part in place of this one, or gives its first fault. Not inlined: the item that it makes would be set
+/// to zero once for each update.
 #[inline(never)]
-fn read_other(
+#[tactic(auto, unfolding(crate::specs::Ghosts::ghost_at))]
+fn read_slowly(
     reader: &mut BitReader<'_>,
     kinds: &KindTable,
-    slot: u8,
-    op: u32,
     item: &mut GhostItem,
 ) -> Result<(), BitsFault>
-    requires { op < UPDATE }
-    ensures { Fills result item.new reader.new (by_op kinds.now slot op reader.old) }
+    ensures { Fills result item.new reader.new (ghost_at kinds.now reader.old) }
 {
+    let slot = part(reader, SLOT_WIDTH)? as u8;
+    let op = within(reader, BitsCause::OpBits, KILL, UPDATE, OP_WIDTH)?;
+    if op == UPDATE {
+        return read_update(reader, kinds, slot, item);
+    }
     *item = if op == CREATE {
         read_create(reader, kinds, slot)?
     } else {
@@ -234,8 +252,25 @@ fn read_other(
     Ok(())
 }
 
-/// Reads a ghost in place of this one, or gives its first fault.
-#[tactic(auto, unfolding(crate::specs::Ghosts::ghost_at))]
+/// The slot and the kind of an update of a kind of the table, whose bits up to the kind are this number.
+fn front_of(front: u32, kinds: &KindTable) -> Option<(u8, u8)>
+    requires { front < 2 ^ FRONT_WIDTH }
+    ensures slot { IfSome result (λ r. r.0 ≡ front % 256) }
+    ensures op { IfSome result (λ _. front / 256 % 4 ≡ UPDATE) }
+    ensures kind { IfSome result (λ r. r.1 ≡ front / 256 / 4) }
+    ensures known { IfSome result (λ r. r.1 < length kinds.now) }
+{
+    let op = front / 256 % 4;
+    let kind = (front / 256 / 4) as u8;
+    if op == UPDATE && kinds.kind(kind).is_some() {
+        Some(((front % 256) as u8, kind))
+    } else {
+        None
+    }
+}
+
+/// Reads a ghost in place of this one, or gives its first fault. An update, as most ghosts are, is read at once up to its kind,
+/// with a copy of the reader, whose parts stay in registers meanwhile.
 pub(crate) fn read_ghost(
     reader: &mut BitReader<'_>,
     kinds: &KindTable,
@@ -243,15 +278,13 @@ pub(crate) fn read_ghost(
 ) -> Result<(), BitsFault>
     ensures { Fills result item.new reader.new (ghost_at kinds.now reader.old) }
 {
-    // the reader lies in a place of its own meanwhile, so that its parts stay in registers
-    let mut own = mem::replace(reader, BitReader::new(&[]));
-    let slot = part(&mut own, SLOT_WIDTH)? as u8;
-    let op = within(&mut own, BitsCause::OpBits, KILL, UPDATE, OP_WIDTH)?;
-    if op == UPDATE {
-        read_update(&mut own, kinds, slot, item)?;
-        *reader = own;
-        return Ok(());
+    let mut own = reader.copy();
+    if let Ok(front) = own.take(FRONT_WIDTH) {
+        if let Some((slot, kind)) = front_of(front, kinds) {
+            read_masked(&mut own, kinds, slot, kind, item)?;
+            *reader = own;
+            return Ok(());
+        }
     }
-    *reader = own;
-    read_other(reader, kinds, slot, op, item)
+    read_slowly(reader, kinds, item)
 }
