@@ -1,5 +1,5 @@
 -- The front of an update up to its kind, read as one number of 14 bits.
-use Rattle.std.proofs.Common.{◌≡◌, ℕ, ◌+◌, ◌*◌, ◌/◌, ◌%◌, ◌^◌, ◌<◌, ◌≤◌, true, false, List, Bool, ◌++◌, length, Result, Ok, Err, refl, sym, ap, subst, ◌∙◌, append_assoc, arith}
+use Rattle.std.proofs.Common.{◌≡◌, ℕ, ◌+◌, ◌/◌, ◌%◌, ◌^◌, ◌<◌, true, List, Bool, ◌++◌, length, Result, Ok, Err, refl, sym, ap, subst, ◌∙◌, append_assoc, arith}
 use Rattle.std.specs.Prelude.{nat_lt}
 use Rattle.std.proofs.lemmas.Nat.{shr_below, mod_below, pow_pos}
 use Rattle.std.proofs.lemmas.Bool.{lt-ltb}
@@ -11,7 +11,6 @@ use Rattle.bit_stream.proofs.Numbers.{number-split, length-number}
 use Rattle.bit_stream.proofs.Reading.{number_at-again, number_at-takes}
 use Rattle.wire_format.specs.declared.fault.BitsFault.{BitsFault}
 use Rattle.wire_format.specs.declared.ghosts.GhostItem.{GhostItem}
-use Rattle.wire_format.specs.declared.ghosts.GhostItem.TheVariants.{Update}
 use Rattle.wire_format.specs.Reading.{◌>>=◌, part_at, such_at}
 use Rattle.wire_format.specs.Ghosts.{ghost_at, update_at, updated_at, kind_number_at, field_mask_at, levels_at, masked_at, widths, chosen}
 
