@@ -8,8 +8,9 @@ use Rattle.wire_format.specs.declared.ghosts.GhostItem.{GhostItem}
 use Rattle.wire_format.specs.declared.ghosts.GhostItem.TheVariants.{Kill, Create, Update}
 use Rattle.wire_format.specs.Ghosts.{AreLevels, chosen, widths, IsGhostInRange, slot_named}
 use Rattle.ghost_client.specs.declared.copy.GhostCopy.{GhostCopy}
-use Rattle.ghost_client.specs.State.{copy_in, after, applied, IsInRange, AreInRange, FitsCopy}
+use Rattle.ghost_client.specs.State.{copy_in, after, applied, IsInRange, AreInRange, FitsCopy, FitsLevels}
 use Rattle.ghost_client.proofs.Merged.{merged_fits}
+use Rattle.ghost_client.proofs.MergeStep.{as_many, levels_count}
 
 by_one : (n : ℕ) → n ≡ n / 2 ^ 0
 by_one n = omega arith
@@ -30,3 +31,14 @@ applied_in_range kinds slots item old range fits lt t = elim (cases_eq t (slot_n
       (after_in_range kinds item (copy_in slots (slot_named item)) (old (slot_named item)) range fits)
   | inr other ↦ subst (λ o. IfSome o (IsInRange kinds)) (sym (get_or-set_other slots (slot_named item) t (after item (copy_in slots (slot_named item))) None other)) (old t)
 ]
+
+-- an update that fits the copy's kind fits its levels
+pub levels_fit : (kinds : List Kind) (item : GhostItem) (o : Option GhostCopy) → IfSome o (IsInRange kinds) → IsGhostInRange kinds item → FitsCopy item o → FitsLevels item o
+levels_fit kinds (Kill s) o old range fits = tt
+levels_fit kinds (Create s kind block levels) o old range fits = tt
+levels_fit kinds (Update s kind mask levels) None old range fits = tt
+levels_fit kinds (Update s kind mask levels) (Some c) old range fits =
+    let count : length c.levels ≡ length (widths kinds kind) = levels_count (widths kinds c.kind) c.levels old.levels ∙ ap (λ k. length (widths kinds k)) fits in (
+      subst (λ (n : ℕ). mask < 2 ^ n) (sym count) range.1,
+      levels_count (chosen mask (widths kinds kind)) levels range.3 ∙ as_many mask (widths kinds kind) c.levels (sym count),
+    )

@@ -8,7 +8,7 @@ ghost use Rattle.wire_format.specs.declared.ghosts.GhostItem.{GhostItem};
 ghost use Rattle.wire_format.specs.Ghosts.{IsGhostInRange, slot_named};
 ghost use Rattle.tn_types.specs.BitWords.{has_bit};
 ghost use Rattle.ghost_client.specs.Copies.{copy_of};
-ghost use Rattle.ghost_client.specs.State.{copy_in, after, applied, field_value, value_of, IsInRange, FitsCopy};
+ghost use Rattle.ghost_client.specs.State.{copy_in, after, applied, field_value, value_of, IsInRange, FitsCopy, FitsLevels};
 ghost use Rattle.ghost_client.specs.Faults.{fault_of, item_fault};
 ghost use Rattle.tn_types.specs.Checks.{first_fault};
 ghost use Rattle.ghost_client.specs.StandsFor.{StandsFor, taken};
@@ -218,6 +218,7 @@ fn create_in(slot: &mut Option<GhostCopy>, kind: u8, block: u8, levels: &Levels)
 
 // Does what an item says to the copy of its slot.
 fn apply_to(item: &GhostItem, slot: &mut Option<GhostCopy>)
+    requires { FitsLevels item.now slot.old }
     ensures { slot.new ≡ after item.now slot.old }
 {
     match item {

@@ -14,6 +14,6 @@ pub mod ClientFormat
 pub mod Steps
 pub mod GhostFormat
 pub mod Levels
-mod ReadChosen
-mod MaskSteps
+pub mod ReadChosen
+pub mod MaskSteps
 mod AtOnce
