@@ -4,7 +4,6 @@ use Rattle.std.proofs.lemmas.List.{get_or_default}
 use Rattle.ghost_client.specs.State.{State, copy_in, after, applied, FitsCopy, FitsLevels}
 use Rattle.wire_format.specs.Ghosts.{IsGhostInRange, slot_named}
 use Rattle.ghost_client.proofs.Range.{applied_in_range, levels_fit}
-use Rattle.ghost_client.proofs.copies.Copies.apply.Given as given
 use Rattle.ghost_client.proofs.copies.Copies.apply.Goals as goal
 use Rattle.ghost_client.proofs.copies.Copies.apply.Goals.{After-self-1}
 
