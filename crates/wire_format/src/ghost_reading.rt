@@ -5,7 +5,7 @@ ghost use Rattle.wire_format.specs.Ghosts.{ghost_at, kind_number_at, field_mask_
 ghost use Rattle.wire_format.specs.Reading.{Fills, behind, part_at};
 
 use crate::fault::{BitsCause, BitsFault};
-use crate::ghosts::{GhostItem, Levels, kind_widths};
+use crate::ghosts::{GhostItem, Levels, chosen_widths, kind_widths};
 use crate::parts::{part, within};
 use crate::widths::{
     BLOCK_NUMBER_WIDTH, CREATE, KILL, KIND_NUMBER_WIDTH, OP_WIDTH, SLOT_WIDTH, UPDATE,
@@ -199,7 +199,8 @@ fn fill_update(
     read_chosen(reader, fields, named.mask, levels)
 }
 
-/// Reads what stands behind the kind of an update, or gives its first fault.
+/// Reads what stands behind the kind of an update, or gives its first fault. Called once, so that it is inlined and the parts
+/// of the reader stay in registers.
 fn read_masked(
     reader: &mut BitReader<'_>,
     kinds: &KindTable,
@@ -215,21 +216,30 @@ fn read_masked(
 }
 
 /// Reads what stands behind the op of an update, or gives its first fault.
-#[tactic(auto, using(crate::proofs::AtOnce::behind_kind), unfolding(crate::specs::Ghosts::update_at, crate::specs::Ghosts::updated_at))]
+#[tactic(auto, unfolding(crate::specs::Ghosts::update_at, crate::specs::Ghosts::updated_at))]
 fn read_update(
     reader: &mut BitReader<'_>,
     kinds: &KindTable,
     slot: u8,
-    item: &mut GhostItem,
-) -> Result<(), BitsFault>
-    ensures { Fills result item.new reader.new (update_at kinds.now slot reader.old) }
+) -> Result<GhostItem, BitsFault>
+    ensures { Gives result reader.new (update_at kinds.now slot reader.old) }
 {
     let kind = read_kind(reader, kinds)?;
-    read_masked(reader, kinds, slot, kind, item)
+    let widths = kind_widths(kinds, kind);
+    let mask = read_mask(reader, widths.len() as u32)?;
+    let chosen = chosen_widths(widths.as_slice(), mask);
+    let mut levels = Levels::new();
+    read_levels(reader, chosen.as_slice(), &mut levels)?;
+    Ok(GhostItem::Update {
+        slot,
+        kind,
+        mask,
+        levels,
+    })
 }
 
-/// Reads a ghost part by part in place of this one, or gives its first fault. Not inlined: the item that it makes would be set
-/// to zero once for each update.
+/// Reads a ghost part by part in place of this one, or gives its first fault: each create and kill, and an update that has a
+/// fault up to its kind. Not inlined: the item that it makes would be set to zero once for each update.
 #[inline(never)]
 #[tactic(auto, unfolding(crate::specs::Ghosts::ghost_at))]
 fn read_slowly(
@@ -241,10 +251,9 @@ fn read_slowly(
 {
     let slot = part(reader, SLOT_WIDTH)? as u8;
     let op = within(reader, BitsCause::OpBits, KILL, UPDATE, OP_WIDTH)?;
-    if op == UPDATE {
-        return read_update(reader, kinds, slot, item);
-    }
-    *item = if op == CREATE {
+    *item = if op == UPDATE {
+        read_update(reader, kinds, slot)?
+    } else if op == CREATE {
         read_create(reader, kinds, slot)?
     } else {
         GhostItem::Kill { slot }
