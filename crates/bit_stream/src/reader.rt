@@ -1,4 +1,4 @@
-ghost use Rattle.std.specs.Prelude.{◌≡◌, ◌+◌, ◌-◌, ◌*◌, ◌/◌, ◌%◌, ◌^◌, ◌<◌, ◌≤◌, ◌↔◌, ◌++◌, length, IsErr, OnErr, IfOk};
+ghost use Rattle.std.specs.Prelude.{◌≡◌, ◌+◌, ◌-◌, ◌*◌, ◌/◌, ◌%◌, ◌^◌, ◌<◌, ◌≤◌, ◌↔◌, ◌++◌, length, IsErr, OnErr, IfOk, IsNone, IfSome};
 ghost use Rattle.bit_stream.specs.Bits.{number, bits_of};
 ghost use Rattle.bit_stream.specs.Reading.{number_at, end_at, Gives};
 
@@ -77,27 +77,31 @@ fn fill_by_bytes(rest: &[u8], pending: u64, count: u32, width: u32) -> (&[u8], u
 }
 
 /// Sees to it that there are `width` pending bits: takes the next four bytes where there are not so many, and the last bytes
-/// one by one.
-fn fill(rest: &[u8], pending: u64, count: u32, width: u32) -> (&[u8], u64, u32)
+/// one by one. None exactly where fewer bits are left, which is only asked where fewer are pending.
+fn fill(rest: &[u8], pending: u64, count: u32, width: u32) -> Option<(&[u8], u64, u32)>
     requires below { pending < 2 ^ count }
     requires few { count < 2 * MAX_WORD_BITS }
     requires narrow { width ≤ MAX_WORD_BITS }
-    requires enough { width ≤ count + 8 * length rest.now }
-    ensures bits { number result.2 result.1 ++ bits_of result.0.now ≡ number count pending ++ bits_of rest.now }
-    ensures below { result.1 < 2 ^ result.2 }
-    ensures enough { width ≤ result.2 }
-    ensures few { result.2 < 2 * MAX_WORD_BITS }
-    ensures len { result.2 + 8 * length result.0.now ≡ count + 8 * length rest.now }
+    requires fits { length rest.now ≤ MAX_READ_BYTES }
+    ensures short { IsNone result ↔ (count + 8 * length rest.now < width) }
+    ensures bits { IfSome result (λ r. number r.2 r.1 ++ bits_of r.0.now ≡ number count pending ++ bits_of rest.now) }
+    ensures below { IfSome result (λ r. r.1 < 2 ^ r.2) }
+    ensures enough { IfSome result (λ r. width ≤ r.2) }
+    ensures few { IfSome result (λ r. r.2 < 2 * MAX_WORD_BITS) }
+    ensures len { IfSome result (λ r. r.2 + 8 * length r.0.now ≡ count + 8 * length rest.now) }
 {
     if width <= count {
-        return (rest, pending, count);
+        return Some((rest, pending, count));
+    }
+    if (count as usize + 8 * rest.len()) < width as usize {
+        return None;
     }
     match rest.split_first_chunk::<WORD_BYTES>() {
         Some((word, others)) => {
             let more = joined(pending, count, word_of(word), MAX_WORD_BITS);
-            (others, more, count + MAX_WORD_BITS)
+            Some((others, more, count + MAX_WORD_BITS))
         }
-        None => fill_by_bytes(rest, pending, count, width),
+        None => Some(fill_by_bytes(rest, pending, count, width)),
     }
 }
 
@@ -126,6 +130,18 @@ impl<'a> BitReader<'a> {
         }
     }
 
+    /// A reader that stands where this one does.
+    pub fn copy(&self) -> BitReader<'a>
+        ensures { result ≡ self.now }
+    {
+        BitReader {
+            rest: self.rest,
+            pending: self.pending,
+            count: self.count,
+            place: self.place,
+        }
+    }
+
     /// The number of bits read so far, which is the place of the next bit.
     pub fn place(&self) -> u32
         ensures { result ≡ self.now.place }
@@ -143,10 +159,9 @@ impl<'a> BitReader<'a> {
         ensures fits { IfOk result (λ n. n < 2 ^ width) }
         ensures err { OnErr result (self.new ≡ self.old) }
     {
-        if (self.count as usize + 8 * self.rest.len()) < width as usize {
+        let Some((rest, pending, count)) = fill(self.rest, self.pending, self.count, width) else {
             return Err(Short { place: self.place });
-        }
-        let (rest, pending, count) = fill(self.rest, self.pending, self.count, width);
+        };
         let (low, high) = split(pending, width);
         self.rest = rest;
         self.pending = high;

@@ -1,5 +1,6 @@
 pub mod Merged
 mod MergeStep
+mod MergeBits
 pub mod After
 pub mod Range
 pub mod Packet

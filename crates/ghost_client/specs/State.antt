@@ -1,12 +1,12 @@
 -- What contracts see of the copies: the table of kinds, and for each of the 256 slots its copy, if there is one.
-use Rattle.std.specs.Prelude.{ℕ, suc, List, [], ◌∷◌, ◌≡◌, ◌<◌, Option, Some, None, drop, length, if◌then◌else◌, slice_index_or, slice_get, slice_set, IfSome}
+use Rattle.std.specs.Prelude.{ℕ, suc, List, [], ◌∷◌, ◌≡◌, ◌<◌, ◌^◌, Option, Some, None, drop, length, if◌then◌else◌, slice_index_or, slice_get, slice_set, IfSome}
 use Rattle.std.specs.Option.{option_map, option_and_then}
 use Rattle.std.specs.Prelude.{ℤ}
 use Rattle.quantised_fields.specs.declared.kind.Kind.{Kind}
 use Rattle.quantised_fields.specs.Levels.{shown_of}
 use Rattle.wire_format.specs.declared.ghosts.GhostItem.{GhostItem}
 use Rattle.wire_format.specs.declared.ghosts.GhostItem.TheVariants.{Kill, Create, Update}
-use Rattle.wire_format.specs.Ghosts.{AreLevels, widths, slot_named}
+use Rattle.wire_format.specs.Ghosts.{AreLevels, chosen, widths, slot_named}
 use Rattle.ghost_client.specs.declared.copy.GhostCopy.{GhostCopy}
 use Rattle.tn_types.specs.BitWords.{has_bit}
 
@@ -56,3 +56,9 @@ abbrev pub FitsCopy : GhostItem → Option GhostCopy → Type 0
 FitsCopy (Kill slot) copy = Unit {0}
 FitsCopy (Create slot kind block levels) copy = Unit {0}
 FitsCopy (Update slot kind mask levels) copy = IfSome copy (λ c. c.kind ≡ kind)
+
+-- an update has a level for each field in its mask, and the copy has these fields
+abbrev pub FitsLevels : GhostItem → Option GhostCopy → Type 0
+FitsLevels (Kill slot) copy = Unit {0}
+FitsLevels (Create slot kind block levels) copy = Unit {0}
+FitsLevels (Update slot kind mask levels) copy = IfSome copy (λ c. (mask < 2 ^ length c.levels) × (length levels ≡ length (chosen mask c.levels)))

@@ -8,7 +8,7 @@ ghost use Rattle.wire_format.specs.declared.ghosts.GhostItem.{GhostItem};
 ghost use Rattle.wire_format.specs.Ghosts.{IsGhostInRange, slot_named};
 ghost use Rattle.tn_types.specs.BitWords.{has_bit};
 ghost use Rattle.ghost_client.specs.Copies.{copy_of};
-ghost use Rattle.ghost_client.specs.State.{copy_in, after, applied, field_value, value_of, IsInRange, FitsCopy};
+ghost use Rattle.ghost_client.specs.State.{copy_in, after, applied, field_value, value_of, IsInRange, FitsCopy, FitsLevels};
 ghost use Rattle.ghost_client.specs.Faults.{fault_of, item_fault};
 ghost use Rattle.tn_types.specs.Checks.{first_fault};
 ghost use Rattle.ghost_client.specs.StandsFor.{StandsFor, taken};
@@ -20,7 +20,7 @@ use quantised_fields::{KindTable, shown};
 use std::alloc::{AllocError, Global};
 use std::marker::Model;
 use tn_types::{MAX_BLOCKS, MAX_SLOTS, NoMemory};
-use wire_format::{GhostItem, GhostList};
+use wire_format::{GhostItem, GhostList, Levels};
 
 /// The copies of one client, by slot.
 #[derive(Drop)]
@@ -122,10 +122,22 @@ impl Copies {
         ensures taken { OnOk result ((items : List GhostItem) → StandsFor self.old items → StandsFor self.new (taken list.now items)) }
     {
         self.check(list, held)?;
+        self.take_checked(list, held);
+        Ok(())
+    }
+
+    /// Takes the ghosts of a packet in which [`check`](Self::check) finds no fault, `held` as there.
+    pub fn take_checked(&mut self, list: &GhostList, held: u64)
+        requires range { AllByRecursion (IsGhostInRange self.old.kinds) list.now }
+        requires none { first_fault (item_fault (copy_in self.old.slots) held) [] list.now ≡ None }
+        ensures kinds { self.new.kinds ≡ self.old.kinds }
+        ensures taken { (items : List GhostItem) → StandsFor self.old items → StandsFor self.new (taken list.now items) }
+    {
+        // the datablocks that are held matter to the check alone
+        let _ = held;
         for item in list.as_slice() {
             self.apply(item);
         }
-        Ok(())
     }
 
     // Does what an item says to its slot.
@@ -192,8 +204,21 @@ fn slot_named(item: &GhostItem) -> u8
     }
 }
 
+// Puts a copy into the slot. Not inlined: its list would be set to zero for each item.
+#[inline(never)]
+fn create_in(slot: &mut Option<GhostCopy>, kind: u8, block: u8, levels: &Levels)
+    ensures { slot.new ≡ Some (record { kind = kind; block = block; levels = levels.now }) }
+{
+    *slot = Some(GhostCopy {
+        kind,
+        block,
+        levels: copied(levels),
+    });
+}
+
 // Does what an item says to the copy of its slot.
 fn apply_to(item: &GhostItem, slot: &mut Option<GhostCopy>)
+    requires { FitsLevels item.now slot.old }
     ensures { slot.new ≡ after item.now slot.old }
 {
     match item {
@@ -204,11 +229,7 @@ fn apply_to(item: &GhostItem, slot: &mut Option<GhostCopy>)
             levels,
             ..
         } => {
-            *slot = Some(GhostCopy {
-                kind: *kind,
-                block: *block,
-                levels: copied(levels),
-            });
+            create_in(slot, *kind, *block, levels);
         }
         GhostItem::Update { mask, levels, .. } => {
             if let Some(copy) = slot {

@@ -1,9 +1,7 @@
 -- The parts of a data packet, written one after the other: they have room in its datagram, and are its bits.
-use Rattle.std.proofs.Common.{◌≡◌, ℕ, ℤ, ◌+◌, ◌-◌, ◌*◌, ◌≤◌, Bool, List, [], ◌++◌, Option, Some, None, if◌then◌else◌, length, refl, sym, ap, ◌∙◌, subst, arith}
+use Rattle.std.proofs.Common.{◌≡◌, ℕ, ℤ, ◌+◌, ◌≤◌, Bool, List, [], ◌++◌, Option, Some, None, if◌then◌else◌, length, refl, sym, ap, ◌∙◌, arith}
 use Rattle.std.specs.Prelude.{sum_by, is_some}
-use Rattle.bit_stream.specs.Bits.{number}
 use Rattle.tn_types.specs.declared.moves.Move.{Move}
-use Rattle.quantised_fields.specs.declared.kind.Kind.{Kind}
 use Rattle.ghost_model.specs.Ghosts.{scope_log}
 use Rattle.ghost_model.specs.Scope.{control_slot}
 use Rattle.ghost_masks.specs.Carried.{ghosts_for}
@@ -27,7 +25,6 @@ use Rattle.stream_manager.specs.End.{data_head, events_for}
 use Rattle.stream_manager.specs.Server.{ServerEvent, server_end, accepted_at, ghost_log, planned, blocks_at, event_room, data_body}
 use Rattle.stream_manager.specs.Client.{ClientEvent, client_end, sample_log, client_body}
 use Rattle.stream_manager.specs.Client.{event_room as client_event_room}
-use Rattle.stream_manager.proofs.Plans.{whole-fits}
 
 -- ---- the server
 

@@ -390,6 +390,6 @@ fn take_body(
     let _ = common.take(false, &body.head, &body.events);
     let _ = moves.acked(body.accepted);
     take_blocks(blocks, &body.blocks);
-    let _ = copies.take(&body.ghosts, blocks.held());
+    copies.take_checked(&body.ghosts, blocks.held());
     *control = body.control;
 }

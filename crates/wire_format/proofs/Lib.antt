@@ -14,5 +14,6 @@ pub mod ClientFormat
 pub mod Steps
 pub mod GhostFormat
 pub mod Levels
-mod Filled
-mod ReadChosen
+pub mod ReadChosen
+pub mod MaskSteps
+mod AtOnce

@@ -117,6 +117,13 @@ update_at kinds slot s = do
   u ← updated_at kinds s
   Ok (Update slot u.0.kind u.0.mask u.0.levels, u.1)
 
+-- what stands behind the kind of an update
+abbrev pub masked_at : List Kind → ℕ → ℕ → Unread → Result (GhostItem × Unread) BitsFault
+masked_at kinds slot kind s = do
+  mask ← field_mask_at (length (widths kinds kind)) s
+  ls ← levels_at (chosen mask.0 (widths kinds kind)) mask.1
+  Ok (Update slot kind mask.0 ls.0, ls.1)
+
 abbrev pub by_op : List Kind → ℕ → ℕ → Unread → Result (GhostItem × Unread) BitsFault
 by_op kinds slot op s =
     if op == KILL then Ok (Kill slot, s)

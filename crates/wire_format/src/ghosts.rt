@@ -86,7 +86,7 @@ pub(crate) fn kind_widths(kinds: &KindTable, kind: u8) -> Widths
 }
 
 /// Those of the widths whose bit is set in a mask.
-fn chosen_widths(widths: &[u32], mask: u32) -> Widths
+pub(crate) fn chosen_widths(widths: &[u32], mask: u32) -> Widths
     requires few { length widths.now ≤ MAX_FIELDS }
     requires narrow { All (λ w. w ≤ MAX_FIELD_BITS) widths.now }
     ensures value { result ≡ chosen mask widths.now }

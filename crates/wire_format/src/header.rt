@@ -36,15 +36,17 @@ impl Header {
     }
 }
 
-/// Reads a header, or gives its first fault.
+/// Reads a header, or gives its first fault. The reader is copied, so that its parts stay in registers meanwhile.
 #[tactic(auto, unfolding(crate::specs::Header::header_at))]
 pub(crate) fn read_header(reader: &mut BitReader<'_>) -> Result<Header, BitsFault>
     ensures { Gives result reader.new (header_at reader.old) }
 {
-    let client = part(reader, CLIENT_WIDTH)?;
-    let seq = within(reader, BitsCause::ZeroSeq, 1, MAX_NUMBER, NUMBER_WIDTH)?;
-    let horizon = part(reader, NUMBER_WIDTH)?;
-    let mask = part(reader, MASK_WIDTH)?;
+    let mut own = reader.copy();
+    let client = part(&mut own, CLIENT_WIDTH)?;
+    let seq = within(&mut own, BitsCause::ZeroSeq, 1, MAX_NUMBER, NUMBER_WIDTH)?;
+    let horizon = part(&mut own, NUMBER_WIDTH)?;
+    let mask = part(&mut own, MASK_WIDTH)?;
+    *reader = own;
     Ok(Header {
         client: client as u8,
         seq,

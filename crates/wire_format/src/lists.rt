@@ -62,13 +62,14 @@ fn read_at<T: Item, const N: usize>(
     ensures kept { OnErr result (count ≤ length places.new.items) }
     ensures few { length places.new.items ≤ N }
 {
-    if let Some(place) = places.get_mut(count) {
-        return place.read(reader, context);
+    // one call for both cases, so that it is inlined
+    if count == places.len() {
+        places.push(T::default());
     }
-    let mut item = T::default();
-    item.read(reader, context)?;
-    places.push(item);
-    Ok(())
+    let Some(place) = places.get_mut(count) else {
+        unreachable!()
+    };
+    place.read(reader, context)
 }
 
 impl<T: Item, const N: usize> ItemList<T, N> {

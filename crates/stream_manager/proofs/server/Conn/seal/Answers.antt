@@ -1,13 +1,12 @@
-use Rattle.std.proofs.Common.{◌≡◌, ℕ, ℤ, ◌+◌, ◌-◌, ◌*◌, ◌≤◌, ◌++◌, [], List, if◌then◌else◌, length, length-append, map, refl, sym, ◌∙◌, ap, subst, ◌∷◌, arith}
-use Rattle.std.specs.Prelude.{sum_by, is_some, IsSome, IfSome}
+use Rattle.std.proofs.Common.{◌≡◌, ℕ, ◌+◌, ◌-◌, ◌*◌, ◌≤◌, ◌++◌, List, if◌then◌else◌, length, length-append, map, refl, sym, ◌∙◌, ap, subst, ◌∷◌, arith}
+use Rattle.std.specs.Prelude.{sum_by, is_some, IsSome}
 use Rattle.bit_stream.specs.Bits.{datagram}
 use Rattle.tn_types.specs.declared.choices.Choice.{Choice}
 use Rattle.wire_format.specs.declared.header.Header.{Header}
 use Rattle.wire_format.specs.Blocks.{block_size, spell_blocks}
 use Rattle.wire_format.specs.Events.{event_size, spell_events}
 use Rattle.wire_format.specs.Ghosts.{spell_ghosts}
-use Rattle.wire_format.specs.Server.{server_front}
-use Rattle.wire_format.proofs.PartSizes.{length-server_front, length-spell_blocks, length-spell_events}
+use Rattle.wire_format.proofs.PartSizes.{length-server_front, length-spell_blocks}
 use Rattle.ghost_masks.specs.Plan.{item_bits}
 use Rattle.ghost_masks.specs.Carried.{ghosts_for}
 use Rattle.stream_manager.specs.declared.config.Config.{Config}
