@@ -23,8 +23,8 @@ use Rattle.world_rules.specs.Next.{Moment, object_next, by_kind}
 use Rattle.world_sim.specs.declared.found.Found.{Found}
 use Rattle.world_sim.specs.Found.{AreFound, is_ending, is_players, is_players_part}
 use Rattle.world_sim.specs.Turns.{is_quiet, is_quiet_part, stepped_to}
-use Rattle.world_sim.specs.Lines.{GridParts}
-use Rattle.world_sim.specs.Cells.{IsGrid}
+use Rattle.world_cells.specs.Lines.{GridParts}
+use Rattle.world_cells.specs.Cells.{IsGrid}
 use Rattle.world_sim.specs.declared.rows.Row.{Row}
 use Rattle.world_sim.specs.Rows.{values_of, row_versions, as_number}
 use Rattle.world_sim.specs.RowsNext.{row_values, row_next, rows_updated}

@@ -11,9 +11,9 @@ use Rattle.world_rules.specs.Players.{fired}
 use Rattle.world_rules.specs.Next.{object_next, Moment}
 use Rattle.world_sim.specs.Rows.{values_of, fresh_versions, row_versions, versions_next, world_writes, differs}
 use Rattle.world_sim.proofs.Kept.{first_values, first_counts}
-use Rattle.world_sim.specs.Grid.{numbers, lasts}
-use Rattle.world_sim.specs.Lines.{GridParts}
-use Rattle.world_sim.specs.Cells.{IsGrid}
+use Rattle.world_cells.specs.Grid.{numbers, lasts}
+use Rattle.world_cells.specs.Lines.{GridParts}
+use Rattle.world_cells.specs.Cells.{IsGrid}
 use Rattle.world_sim.specs.declared.glance.Glance.{Glance}
 use Rattle.world_sim.specs.Glances.{glance_of}
 use Rattle.world_sim.proofs.Lasting.{lasting_next}

@@ -16,9 +16,9 @@ use Rattle.world_sim.specs.declared.rows.Write.{Write}
 use Rattle.world_sim.specs.declared.rows.Row.{Row}
 use Rattle.world_sim.specs.Rows.{values_of, fresh_versions, versions_next, world_writes}
 use Rattle.world_sim.specs.RowsNext.{row_values}
-use Rattle.world_sim.specs.Grid.{numbers, lasts, place_told}
-use Rattle.world_sim.specs.Cells.{IsGrid}
-use Rattle.world_sim.specs.Lines.{GridParts}
+use Rattle.world_cells.specs.Grid.{numbers, lasts, place_told}
+use Rattle.world_cells.specs.Cells.{IsGrid}
+use Rattle.world_cells.specs.Lines.{GridParts}
 use Rattle.world_sim.specs.declared.glance.Glance.{Glance}
 use Rattle.world_sim.specs.Glances.{glance_of}
 

@@ -8,16 +8,16 @@ ghost use Rattle.world_rules.specs.Flags.{captures, is_player};
 ghost use Rattle.world_rules.specs.Identity.{LivesOn};
 ghost use Rattle.world_rules.specs.Ranges.{PlaceFits, ObjectFits};
 ghost use Rattle.world_sim.specs.Searches.{AreWatched};
-ghost use Rattle.world_sim.specs.Cells.{IsGrid};
+ghost use Rattle.world_cells.specs.Cells.{IsGrid};
 ghost use Rattle.world_sim.specs.Found.{is_triggered_by, is_flag, is_players, PlayersFirst, IsPlayersEnd, AreFound};
 ghost use Rattle.world_sim.specs.Glances.{glance_of};
 
-use crate::cells::Cells;
 use crate::glance::Glance;
 use crate::near::any_target_round;
 use crate::watch::{PLOTS, is_watched, watch_all};
 use std::alloc::{AllocError, Global};
 use tn_types::MAX_OBJECTS;
+use world_cells::Cells;
 use world_rules::flags::{is_captured, is_player};
 use world_rules::measures::MINE_REACH;
 use world_rules::{Object, State};

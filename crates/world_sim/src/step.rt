@@ -10,16 +10,16 @@ ghost use Rattle.world_rules.specs.Next.{object_next};
 ghost use Rattle.world_rules.specs.Mines.{is_armed_part, mine_next};
 ghost use Rattle.world_sim.specs.Rows.{values_of, row_writes, as_number};
 ghost use Rattle.world_sim.specs.RowsNext.{row_values, row_next, rows_updated, rows_writes, IsSoundRow};
-ghost use Rattle.world_sim.specs.Cells.{IsGrid};
+ghost use Rattle.world_cells.specs.Cells.{IsGrid};
 ghost use Rattle.world_sim.specs.Found.{AreFound, is_ending};
 ghost use Rattle.world_sim.specs.Glances.{glance_of};
 ghost use Rattle.world_sim.specs.Turns.{IsOld, is_quiet, moment};
 
-use crate::cells::{Cells, spot};
 use crate::found::{Found, count_near, count_of};
 use crate::glance::{Glance, glance_of};
 use crate::rows::{Row, Write, change_row, change_three};
 use tn_types::{MAX_OBJECTS, Move};
+use world_cells::{Cells, spot};
 use world_rules::fire::move_of;
 use world_rules::flags::{clock_next, flag_next};
 use world_rules::measures::{DISC_HARM, DISC_REACH, MINE_HARM, MINE_REACH};

@@ -7,16 +7,15 @@ ghost use Rattle.world_rules.specs.Spawning.{first_objects, SetupFits};
 ghost use Rattle.world_rules.specs.Ranges.{ObjectFits};
 ghost use Rattle.world_rules.specs.Identity.{IsPeopled, LivesOn};
 ghost use Rattle.world_sim.specs.Worlds.{WasCounted, next, added, first_world, alive_at, kind_at, block_at, values_at, version_at, identity_at, player_of, place_at};
-ghost use Rattle.world_sim.specs.Grid.{numbers, lasts, lies_at, lies_between};
-ghost use Rattle.world_sim.specs.Lines.{AreBits};
+ghost use Rattle.world_cells.specs.Grid.{numbers, lasts, lies_at, lies_between};
+ghost use Rattle.world_cells.specs.Lines.{AreBits};
 ghost use Rattle.world_sim.specs.Facts.{IsWriteOf, ValuesFit};
 ghost use Rattle.world_sim.specs.Rows.{values_of, world_writes};
-ghost use Rattle.world_sim.specs.Cells.{IsGrid};
+ghost use Rattle.world_cells.specs.Cells.{IsGrid};
 ghost use Rattle.world_sim.specs.Found.{AreFound, PlayersFirst};
 ghost use Rattle.world_sim.specs.Glances.{glance_of};
 ghost use Rattle.world_sim.specs.RowsNext.{fresh_row, row_values, row_counts, rows_next, IsSoundRow};
 
-use crate::cells::{CELLS_ACROSS, Cells, has_place};
 use crate::found::{Found, captures_of, find_all, nothing, place_of_player};
 use crate::glance::{Glance, glance_of};
 use crate::rows::{Row, Write, fresh_row};
@@ -27,6 +26,7 @@ use std::marker::Model;
 use std::mem;
 use std::sync::ledger::Ledger;
 use tn_types::{MAX_CLIENTS, MAX_OBJECTS, Move, NoMemory, Steps};
+use world_cells::{CELLS_ACROSS, Cells, has_place};
 use world_rules::fire::fired;
 use world_rules::{Object, Setup};
 
@@ -383,7 +383,7 @@ impl World {
 
     /// The numbers of the living objects in a cell of the field, rising: those with `x / 4096` equal to `cx` and
     /// `y / 4096` equal to `cy` (docs/world.md, "Cells"). Clocks lie in no cell.
-    #[tactic(auto, using(crate::proofs::Lasting::cell_tells))]
+    #[tactic(auto, using(world_cells::proofs::Columns::cell_tells))]
     pub fn cell(&self, cx: u8, cy: u8) -> &[u32]
         requires column { cx < CELLS_ACROSS }
         requires row { cy < CELLS_ACROSS }
@@ -394,7 +394,7 @@ impl World {
 
     /// Which of the 64 objects from number `64 * word` on are alive and lie in the cells between two columns and two rows,
     /// the last left out, as bits, the lowest for the first. Clocks lie in no cell.
-    #[tactic(auto, using(crate::proofs::Between::between_tells))]
+    #[tactic(auto, using(world_cells::proofs::Between::between_tells))]
     pub fn between(&self, columns: (u8, u8), rows: (u8, u8), word: usize) -> u64
         requires word { word < 16 }
         requires column_first { columns.0 ≤ CELLS_ACROSS }

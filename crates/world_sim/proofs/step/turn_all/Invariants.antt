@@ -3,7 +3,7 @@ use Rattle.world_rules.specs.Next.{object_next}
 use Rattle.world_sim.specs.Turns.{moment, stepped_to}
 use Rattle.world_sim.specs.RowsNext.{rows_updated, rows_writes}
 use Rattle.world_sim.specs.Glances.{glance_of}
-use Rattle.world_sim.specs.Cells.{IsGrid}
+use Rattle.world_cells.specs.Cells.{IsGrid}
 use Rattle.world_sim.proofs.RowLoops.{row_writes_from}
 use Rattle.world_sim.proofs.step.turn_all.Given as goal
 

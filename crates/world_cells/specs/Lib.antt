@@ -1,0 +1,4 @@
+pub mod Rising
+pub mod Grid
+pub mod Lines
+pub mod Cells
