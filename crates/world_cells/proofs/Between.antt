@@ -1,5 +1,5 @@
 -- Which objects lie between two columns and two rows, by the bits of both.
-use Rattle.std.proofs.Common.{◌≡◌, ℕ, zero, suc, ◌+◌, ◌-◌, ◌*◌, ◌/◌, ◌%◌, ◌<◌, ◌≤◌, min, Bool, true, false, cond, ◌&&◌, nat_eq, nat_lt, nat_le, List, [], ◌∷◌, refl, sym, ap, ◌∙◌, arith, Some, None, Option, bit_and}
+use Rattle.std.proofs.Common.{◌≡◌, ℕ, zero, suc, ◌+◌, ◌-◌, ◌*◌, ◌/◌, ◌%◌, ◌<◌, ◌≤◌, min, Bool, true, false, cond, ◌&&◌, List, [], ◌∷◌, refl, sym, ap, ◌∙◌, arith, Some, None, Option, bit_and}
 use Rattle.std.specs.Prelude.{slice_get, option_and_then}
 use Rattle.std.specs.Int.{bit_at}
 use Rattle.std.specs.Option.{option_map_or}
@@ -10,7 +10,7 @@ use Rattle.world_rules.specs.declared.object.Object.{Object}
 use Rattle.world_rules.specs.Ranges.{ObjectFits}
 use Rattle.world_cells.specs.Grid.{has_place, is_between, lies_between}
 use Rattle.world_cells.specs.Lines.{GridParts, has, is_before, AreBits}
-use Rattle.world_cells.specs.Cells.{spot, spot_at, cell_of, column_in, row_in, AreLines, IsGrid}
+use Rattle.world_cells.specs.Cells.{spot, spot_at, column_in, row_in, IsGrid}
 
 abbrev bit : Bool → ℕ
 bit b = cond b 1 0

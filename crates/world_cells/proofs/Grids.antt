@@ -1,5 +1,5 @@
 -- One object's change, in the cells and in the bits of their columns and rows.
-use Rattle.std.proofs.Common.{◌≡◌, ℕ, zero, suc, ◌+◌, ◌<◌, ◌≤◌, Bool, true, false, cond, List, [], ◌∷◌, ◌++◌, length, refl, sym, ap, ◌∙◌, arith, Some, None, Option, get_or, inl, inr, take, drop, append_assoc}
+use Rattle.std.proofs.Common.{◌≡◌, ℕ, zero, suc, ◌+◌, ◌<◌, ◌≤◌, cond, List, [], ◌∷◌, ◌++◌, length, refl, sym, ap, ◌∙◌, arith, None, Option, get_or, inl, inr, take, drop, append_assoc}
 use Rattle.std.proofs.lemmas.List.{take_more, drop_more, length-take}
 use Rattle.std.proofs.lemmas.Bool.Decides.{nat_tests, eqb_tells}
 use Rattle.world_rules.specs.declared.object.Object.{Object}

@@ -5,3 +5,4 @@ pub mod LineBits
 pub mod Between
 pub mod Numbers
 pub mod Columns
+pub mod SetBits

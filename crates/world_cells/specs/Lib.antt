@@ -2,3 +2,4 @@ pub mod Rising
 pub mod Grid
 pub mod Lines
 pub mod Cells
+pub mod NumberSet

@@ -5,5 +5,7 @@ mod cell;
 mod cell_lists;
 mod cells;
 mod lines;
+mod number_set;
 
 pub use cells::{CELL_SIDE, CELLS_ACROSS, Cells, has_place, spot};
+pub use number_set::NumberSet;

@@ -31,7 +31,7 @@ impl Model for Lines {
 }
 
 // A word with or without the bit of this place.
-fn with_bit(word: u64, place: usize, has: bool) -> u64
+pub(crate) fn with_bit(word: u64, place: usize, has: bool) -> u64
     requires { place < 64 }
     ensures { (k : ℕ) → k < 64 → bit_at result k ≡ (if k == place then if has then 1 else 0 else bit_at word k) }
 {

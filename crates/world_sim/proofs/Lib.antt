@@ -13,3 +13,4 @@ pub mod InRange
 pub mod Kept
 pub mod Glancing
 pub mod Histories
+pub mod Going

@@ -206,7 +206,7 @@ grid_turn cells next xs n was x l e g step =
 
 -- ---- rows
 
-same_values : {A B C : Type 0} (f : A → C) (g : B → C) (xs : List A) (ys : List B) (n : ℕ) (a : A) (b : B) → map f xs ≡ map g ys → n < length xs → f (get_or xs n a) ≡ g (get_or ys n b)
+pub same_values : {A B C : Type 0} (f : A → C) (g : B → C) (xs : List A) (ys : List B) (n : ℕ) (a : A) (b : B) → map f xs ≡ map g ys → n < length xs → f (get_or xs n a) ≡ g (get_or ys n b)
 same_values f g [] ys n a b e l = absurd (omega arith)
 same_values f g (x ∷ xs) [] n a b e l = absurd (cc)
 same_values f g (x ∷ xs) (y ∷ ys) zero a b e l = cc

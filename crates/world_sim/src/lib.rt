@@ -1,6 +1,7 @@
 //! The world of a match, tick by tick. Its rules stand in docs/world.md.
 #![tactic(auto)]
 
+mod discs;
 mod found;
 mod glance;
 pub mod laws;

@@ -1,4 +1,4 @@
-use Rattle.std.proofs.Common.{◌∙◌, ap, min, ◌+◌, ◌*◌, ◌-◌, ℕ, List}
+use Rattle.std.proofs.Common.{ap, min, ◌+◌, ◌*◌, ◌-◌, ℕ, List}
 use Rattle.world_cells.specs.Lines.{has}
 use Rattle.world_cells.proofs.LineBits.{has_word}
 use Rattle.world_cells.proofs.lines.Lines.between.Goals as goal

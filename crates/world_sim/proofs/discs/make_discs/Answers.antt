@@ -2,7 +2,7 @@ use Rattle.std.proofs.Common.{◌≡◌, arith}
 use Rattle.world_rules.specs.Players.{fired}
 use Rattle.world_sim.specs.Worlds.{added}
 use Rattle.world_sim.proofs.Made.{added_at}
-use Rattle.world_sim.proofs.world.make_discs.Goals as goal
+use Rattle.world_sim.proofs.discs.make_discs.Goals as goal
 
 pub loop-o-preserved : goal.loop-o-preserved
 loop-o-preserved c =
