@@ -27,6 +27,14 @@ impl Model for NumberSet {
     ghost invariant = { λ a. length a.words.items ≡ 16 };
 }
 
+// Whether a word has the bit of this place.
+fn has_bit(word: u64, place: u32) -> bool
+    requires { place < 64 }
+    ensures { result ≡ (bit_at word place == 1) }
+{
+    word >> place & 1 == 1
+}
+
 // The first place from this one on where a word has a bit; 64 where there is none.
 fn first_in(word: u64, from: u32) -> u32
     requires { from < 64 }
@@ -61,8 +69,31 @@ impl NumberSet {
         self.words[n / 64] = with_bit(self.words[n / 64], n % 64, false);
     }
 
-    /// The first number from this one on and before an end; the end where there is none.
+    // Whether a number is in the set.
+    fn has(&self, number: usize) -> bool
+        requires { number < MAX_OBJECTS }
+        ensures { result ≡ (bit_of self.now number == 1) }
+    {
+        has_bit(self.words[number / 64], (number % 64) as u32)
+    }
+
+    /// The first number from this one on and before an end; the end where there is none. Where most numbers are there it is
+    /// mostly this one, which takes one look.
     pub fn next(&self, from: usize, end: usize) -> usize
+        requires order { from ≤ end }
+        requires most { end ≤ MAX_OBJECTS }
+        ensures order { from ≤ result }
+        ensures most { result ≤ end }
+        ensures none { (n : ℕ) → from ≤ n → n < result → bit_of self.now n ≡ 0 }
+        ensures first { result < end → bit_of self.now result ≡ 1 }
+    {
+        if from < end && self.has(from) {
+            return from;
+        }
+        self.search(from, end)
+    }
+
+    fn search(&self, from: usize, end: usize) -> usize
         requires order { from ≤ end }
         requires most { end ≤ MAX_OBJECTS }
         ensures order { from ≤ result }

@@ -1,6 +1,6 @@
 use Rattle.std.proofs.Common.{◌≡◌, ℕ, ◌-◌, ◌<◌, ◌≤◌}
 use Rattle.world_cells.specs.NumberSet.{bit_of}
-use Rattle.world_cells.proofs.number_set.NumberSet.next.Given as goal
+use Rattle.world_cells.proofs.number_set.NumberSet.search.Given as goal
 
 abbrev pub invariant-loop-at : goal.invariant-loop-at
 invariant-loop-at l = record {
