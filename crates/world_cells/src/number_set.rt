@@ -1,6 +1,5 @@
-//! A set of the numbers of objects, a bit for each, that tells its numbers one after the other.
-ghost use Rattle.std.specs.Prelude.{◌≡◌, ℕ, ◌<◌, ◌≤◌, IfOk, ◌==◌, if◌then◌else◌};
-ghost use Rattle.std.specs.Int.{bit_at};
+//! A set of the numbers of objects, a bit for each, whose words without a number are passed over.
+ghost use Rattle.std.specs.Prelude.{◌≡◌, ℕ, ◌<◌, ◌≤◌, IfOk, ◌%◌, ◌==◌, if◌then◌else◌};
 ghost use Rattle.world_cells.specs.NumberSet.{bit_of};
 
 use crate::lines::with_bit;
@@ -27,29 +26,6 @@ impl Model for NumberSet {
     ghost invariant = { λ a. length a.words.items ≡ 16 };
 }
 
-// Whether a word has the bit of this place.
-fn has_bit(word: u64, place: u32) -> bool
-    requires { place < 64 }
-    ensures { result ≡ (bit_at word place == 1) }
-{
-    word >> place & 1 == 1
-}
-
-// The first place from this one on where a word has a bit; 64 where there is none.
-fn first_in(word: u64, from: u32) -> u32
-    requires { from < 64 }
-    ensures order { from ≤ result }
-    ensures few { result ≤ 64 }
-    ensures none { (k : ℕ) → from ≤ k → k < result → bit_at word k ≡ 0 }
-    ensures first { result < 64 → bit_at word result ≡ 1 }
-{
-    let rest = word >> from;
-    if rest == 0 {
-        return 64;
-    }
-    from + rest.trailing_zeros()
-}
-
 impl NumberSet {
     /// All numbers.
     pub fn all(alloc: Global) -> Result<NumberSet, AllocError>
@@ -69,46 +45,34 @@ impl NumberSet {
         self.words[n / 64] = with_bit(self.words[n / 64], n % 64, false);
     }
 
-    // Whether a number is in the set.
-    fn has(&self, number: usize) -> bool
-        requires { number < MAX_OBJECTS }
-        ensures { result ≡ (bit_of self.now number == 1) }
-    {
-        has_bit(self.words[number / 64], (number % 64) as u32)
-    }
-
-    /// The first number from this one on and before an end; the end where there is none. Where most numbers are there it is
-    /// mostly this one, which takes one look.
+    /// A number from this one on, at most the end, before which none is in the set: this one within a word of 64 numbers, and
+    /// at its start behind all words that have none.
     pub fn next(&self, from: usize, end: usize) -> usize
         requires order { from ≤ end }
         requires most { end ≤ MAX_OBJECTS }
         ensures order { from ≤ result }
         ensures most { result ≤ end }
         ensures none { (n : ℕ) → from ≤ n → n < result → bit_of self.now n ≡ 0 }
-        ensures first { result < end → bit_of self.now result ≡ 1 }
     {
-        if from < end && self.has(from) {
+        if from % 64 != 0 {
             return from;
         }
-        self.search(from, end)
+        self.next_word(from, end)
     }
 
-    fn search(&self, from: usize, end: usize) -> usize
+    // The start of the first word with a number, from the word that starts here on.
+    fn next_word(&self, from: usize, end: usize) -> usize
         requires order { from ≤ end }
         requires most { end ≤ MAX_OBJECTS }
+        requires start { from % 64 ≡ 0 }
         ensures order { from ≤ result }
         ensures most { result ≤ end }
         ensures none { (n : ℕ) → from ≤ n → n < result → bit_of self.now n ≡ 0 }
-        ensures first { result < end → bit_of self.now result ≡ 1 }
     {
         let mut at = from;
-        while at < end {
-            let found = first_in(self.words[at / 64], (at % 64) as u32) as usize;
-            if found < 64 {
-                return (at / 64 * 64 + found).min(end);
-            }
-            at = (at / 64 + 1) * 64;
+        while at < end && self.words[at / 64] == 0 {
+            at += 64;
         }
-        end
+        at.min(end)
     }
 }

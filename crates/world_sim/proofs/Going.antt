@@ -38,6 +38,11 @@ over_quiet b alive (Clock c) e = absurd (cc)
 pub over_stays : (os : List Object) (moves : List (Option Move)) (t : Moment) (o : Object) → is_over o ≡ true → o ≡ object_next os moves t o
 over_stays os moves t o e = quiet_stays os moves t o (is_ending os o) (over_quiet (is_ending os o) o.alive o.state e) refl
 
+pub over_for_good : (os : List Object) (moves : List (Option Move)) (t : Moment) (o now : Object) (place : Option Object) → place ≡ Some o → now ≡ object_next os moves t o → option_map_or is_over place false ≡ true → is_over now ≡ true
+over_for_good os moves t o now place at e h =
+    let over : is_over o ≡ true = ap (λ (x : Option Object). option_map_or is_over x false) (sym at) ∙ h in
+    ap is_over (e ∙ sym (over_stays os moves t o over)) ∙ over
+
 dead_by : (alive : Bool) → not alive ≡ true → alive ≡ false
 dead_by false e = refl
 dead_by true e = absurd (cc)
@@ -99,10 +104,12 @@ going_left was now number os o over l taken going = λ n few z.
           ap (λ (x : Option Object). option_map_or is_over x false) (slice_set_other os number n o w.1) ∙ going n few bit
     ]
 
-pub going_on : (was : List ℕ) (number : ℕ) (os : List Object) (o : Object) → bit_of was number ≡ 1 → HasGoing was os → HasGoing was (set os number o)
-going_on was number os o one going = λ n few z.
+pub going_on : (was : List ℕ) (number : ℕ) (os : List Object) (o : Object) → number < length os → (option_map_or is_over (slice_get os number) false ≡ true → is_over o ≡ true) → HasGoing was os → HasGoing was (set os number o)
+going_on was number os o l stays going = λ n few z.
     elim (eqb_tells n number) [
-      | inl w ↦ absurd (let e : bit_of was n ≡ 1 = ap (bit_of was) w.1 ∙ one in omega (arith, e, z))
+      | inl w ↦
+          let over : option_map_or is_over (slice_get os number) false ≡ true = ap (λ j. option_map_or is_over (slice_get os j) false) (sym w.1) ∙ going n few z in
+          ap (λ (x : Option Object). option_map_or is_over x false) (ap (slice_get (set os number o)) w.1 ∙ slice_set_same os number o l) ∙ stays over
       | inr w ↦ ap (λ (x : Option Object). option_map_or is_over x false) (slice_set_other os number n o w.1) ∙ going n few z
     ]
 

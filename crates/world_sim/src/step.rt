@@ -1,5 +1,5 @@
 //! Each object's tick, in place, by what the tick found of all of them before anything changed.
-ghost use Rattle.std.specs.Prelude.{◌≡◌, ℕ, ◌<◌, ◌≤◌, ◌-◌, ◌+◌, ◌*◌, ◌++◌, ◌∷◌, [], List, map, length, filter, slice_get, slice_set, Some, true, vec_capacity};
+ghost use Rattle.std.specs.Prelude.{◌≡◌, ℕ, ◌<◌, ◌≤◌, ◌-◌, ◌+◌, ◌*◌, ◌++◌, ◌∷◌, [], List, map, length, filter, slice_get, slice_set, Some, true, false, vec_capacity};
 ghost use Rattle.std.specs.List.{AllByRecursion};
 ghost use Rattle.world_rules.specs.declared.object.Object.{Object};
 ghost use Rattle.world_rules.specs.declared.object.State.TheVariants.{Drone as drone_of, Mine as mine_of};
@@ -13,8 +13,8 @@ ghost use Rattle.world_sim.specs.RowsNext.{row_values, row_next, rows_updated, r
 ghost use Rattle.world_cells.specs.Cells.{IsGrid};
 ghost use Rattle.world_sim.specs.Found.{AreFound, is_ending};
 ghost use Rattle.world_sim.specs.Glances.{glance_of};
-ghost use Rattle.world_sim.specs.Turns.{IsOld, HasGoing, is_quiet, moment};
-ghost use Rattle.world_cells.specs.NumberSet.{bit_of};
+ghost use Rattle.world_sim.specs.Turns.{IsOld, HasGoing, is_over, is_quiet, moment};
+ghost use Rattle.std.specs.Option.{option_map_or};
 
 use crate::found::{Found, count_near, count_of};
 use crate::glance::{Glance, glance_of};
@@ -284,8 +284,9 @@ fn turn(
 // Takes an object that is over out of those that may still change.
 fn leave_over(number: u32, glance: &Glance, going: &mut NumberSet)
     requires { number < MAX_OBJECTS }
-    ensures { (objects : List Object) (o : Object) → glance.now ≡ glance_of o → bit_of going.old number ≡ 1
-        → number < length objects → HasGoing going.old objects → HasGoing going.new (slice_set objects number o) }
+    ensures { (objects : List Object) (o : Object) → glance.now ≡ glance_of o → number < length objects
+        → (option_map_or is_over (slice_get objects number) false ≡ true → is_over o ≡ true)
+        → HasGoing going.old objects → HasGoing going.new (slice_set objects number o) }
 {
     if glance.is_over() {
         going.remove(number);

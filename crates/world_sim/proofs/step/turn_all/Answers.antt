@@ -15,7 +15,7 @@ use Rattle.world_sim.proofs.RowLoops.{sound_now, update_more, updated_at, length
 use Rattle.world_sim.proofs.Gathered.{hitting_few, triggered_few, mark_at}
 use Rattle.world_sim.proofs.Glancing.{as_many_glances, glance_at, set_glances}
 use Rattle.world_sim.proofs.Turns.{standing_found, row_of_old, stepped_more, stepped_at, stepped_length, stepped_all, grid_turn}
-use Rattle.world_sim.proofs.Going.{Turned, over_between, over_before, turned_passed, none_turned}
+use Rattle.world_sim.proofs.Going.{Turned, over_for_good, over_between, over_before, turned_passed, none_turned}
 use Rattle.world_sim.proofs.step.turn_all.Goals as goal
 
 pub turn-requires-clause-discs : goal.turn-requires-clause-discs
@@ -122,13 +122,12 @@ loop-i-preserved c =
     } in
     let to = c.next-i-in-loop-i.result in
     let most : to ≤ length os = omega (arith, c.next-i-in-loop-i.ensures.most, c.len-many.ensures, c.args.objects.now.ok) in
-    let going : HasGoing c.leave_over.new.going (set objects i made) = c.leave_over.ensures objects made c.turn.ensures.glance (c.loop-i.invariant.here l) long c.loop-i.invariant.going in
+    let going : HasGoing c.leave_over.new.going (set objects i made) = c.leave_over.ensures objects made c.turn.ensures.glance long (over_for_good os c.args.old.now.moves.now (moment c.args.old.now) was made (slice_get objects i) (got objects i was long c.index_mut-object.ensures.value) new) c.loop-i.invariant.going in
     let over = over_between c.leave_over.new.going (set objects i made) (i + 1) to (omega (arith, most, c.requires.old.few)) going c.next-i-in-loop-i.ensures.none in
     record {
       turned = turned_passed os c.args.old.now.moves.now (moment c.args.old.now) rows (i + 1) to (set objects i made) (set c.loop-i.rows.items i c.turn.new.row) c.turn.new.writes.items c.requires.values c.requires.sound many c.next-i-in-loop-i.ensures.order most
           (over_before os (set objects i made) next (i + 1) (i + 1) to turned.objects_are (omega arith) over) turned;
       most = most;
-      here = λ h. c.next-i-in-loop-i.ensures.first (omega (arith, h, c.len-many.ensures, c.args.objects.now.ok));
       glances = set_glances objects c.loop-i.glances.items i made c.turn.new.glance c.loop-i.invariant.glances c.turn.ensures.glance;
       grid = grid_turn c.loop-i.cells c.turn.new.cells objects i was made long c.index_mut-object.ensures.value c.loop-i.invariant.grid c.turn.ensures.grid;
       going = going;
@@ -151,7 +150,6 @@ loop-i-init c =
     record {
       turned = turned_passed os c.args.old.now.moves.now (moment c.args.old.now) rows 0 to os rows c.args.writes.now.items c.requires.values c.requires.sound many c.next-i.ensures.order most over (none_turned os next rows c.args.writes.now.items c.requires.none);
       most = most;
-      here = λ h. c.next-i.ensures.first (omega (arith, h, c.len-many.ensures, c.args.objects.now.ok));
       glances = c.requires.glances;
       grid = c.requires.grid;
       going = c.requires.going;

@@ -1,6 +1,5 @@
-use Rattle.std.proofs.Common.{◌≡◌, ◌≤◌, ◌<◌, ◌-◌, ◌*◌, length, map, vec_capacity}
+use Rattle.std.proofs.Common.{◌≡◌, ◌≤◌, ◌-◌, ◌*◌, length, map, vec_capacity}
 use Rattle.world_rules.specs.Next.{object_next}
-use Rattle.world_cells.specs.NumberSet.{bit_of}
 use Rattle.world_cells.specs.Cells.{IsGrid}
 use Rattle.world_sim.specs.Turns.{moment, HasGoing}
 use Rattle.world_sim.specs.Glances.{glance_of}
@@ -14,7 +13,6 @@ invariant-loop-i l =
     record {
       turned : Turned os next l.initial.rows.items l.i l.objects.items l.rows.items l.writes.items;
       most : l.i ≤ length os;
-      here : l.i < length os → bit_of l.going l.i ≡ 1;
       glances : l.glances.items ≡ map glance_of l.objects.items;
       grid : IsGrid l.cells l.objects.items;
       going : HasGoing l.going l.objects.items;

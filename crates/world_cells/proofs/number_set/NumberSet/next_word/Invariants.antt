@@ -1,10 +1,11 @@
-use Rattle.std.proofs.Common.{◌≡◌, ℕ, ◌-◌, ◌<◌, ◌≤◌}
+use Rattle.std.proofs.Common.{◌≡◌, ℕ, ◌-◌, ◌%◌, ◌<◌, ◌≤◌}
 use Rattle.world_cells.specs.NumberSet.{bit_of}
-use Rattle.world_cells.proofs.number_set.NumberSet.search.Given as goal
+use Rattle.world_cells.proofs.number_set.NumberSet.next_word.Given as goal
 
 abbrev pub invariant-loop-at : goal.invariant-loop-at
 invariant-loop-at l = record {
   order : l.from ≤ l.at;
+  start : l.at % 64 ≡ 0;
   none : (n : ℕ) → l.from ≤ n → n < l.at → bit_of l.self n ≡ 0;
 }
 
