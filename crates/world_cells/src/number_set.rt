@@ -1,5 +1,5 @@
 //! A set of the numbers of objects, a bit for each, whose words without a number are passed over.
-ghost use Rattle.std.specs.Prelude.{◌≡◌, ℕ, ◌<◌, ◌≤◌, IfOk, ◌%◌, ◌==◌, if◌then◌else◌};
+ghost use Rattle.std.specs.Prelude.{◌≡◌, ℕ, ◌<◌, ◌≤◌, IfOk, ◌/◌, ◌%◌, ◌==◌, if◌then◌else◌, slice_index_or};
 ghost use Rattle.world_cells.specs.NumberSet.{bit_of};
 
 use crate::lines::with_bit;
@@ -46,13 +46,15 @@ impl NumberSet {
     }
 
     /// A number from this one on, at most the end, before which none is in the set: this one within a word of 64 numbers, and
-    /// at its start behind all words that have none.
+    /// at its start that of the first word that has one.
     pub fn next(&self, from: usize, end: usize) -> usize
         requires order { from ≤ end }
         requires most { end ≤ MAX_OBJECTS }
         ensures order { from ≤ result }
         ensures most { result ≤ end }
         ensures none { (n : ℕ) → from ≤ n → n < result → bit_of self.now n ≡ 0 }
+        ensures within { 0 < from % 64 → result ≡ from }
+        ensures word { from % 64 ≡ 0 → result < end → 0 < slice_index_or self.now (result / 64) 0 }
     {
         if from % 64 != 0 {
             return from;
@@ -68,6 +70,7 @@ impl NumberSet {
         ensures order { from ≤ result }
         ensures most { result ≤ end }
         ensures none { (n : ℕ) → from ≤ n → n < result → bit_of self.now n ≡ 0 }
+        ensures word { result < end → 0 < slice_index_or self.now (result / 64) 0 }
     {
         let mut at = from;
         while at < end && self.words[at / 64] == 0 {
