@@ -5,8 +5,8 @@ use Rattle.std.specs.List.{filter_map, enumerate_from}
 use Rattle.std.proofs.lemmas.Bool.Decides.{nat_tests, eqb_tells}
 use Rattle.world_rules.specs.declared.object.Object.{Object}
 use Rattle.world_scope.specs.Scope.{Look, seen}
-use Rattle.world_sim.specs.Grid.{numbers}
-use Rattle.world_sim.proofs.Numbers.{found_in}
+use Rattle.world_cells.specs.Grid.{numbers}
+use Rattle.world_cells.proofs.Numbers.{found_in}
 use Rattle.world_sim.specs.declared.glance.Glance.{Glance}
 use Rattle.world_sim.specs.Glances.{glance_of}
 use Rattle.world_sim.proofs.Glancing.{glance_is}

@@ -3,7 +3,7 @@ use Rattle.std.proofs.Common.{◌≡◌, ℕ, suc, ◌+◌, Bool, true, false, c
 use Rattle.std.specs.List.{AllByRecursion}
 use Rattle.std.proofs.lemmas.List.Sums.{sum_by-cons}
 use Rattle.world_rules.specs.declared.object.Object.{Object}
-use Rattle.world_sim.specs.Grid.{numbers}
+use Rattle.world_cells.specs.Grid.{numbers}
 
 -- ---- how many
 

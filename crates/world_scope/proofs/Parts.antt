@@ -7,7 +7,7 @@ use Rattle.std.proofs.lemmas.Bool.Decides.{nat_tests}
 use Rattle.world_rules.specs.declared.object.Object.{Object}
 use Rattle.world_rules.specs.declared.object.Place.{Place}
 use Rattle.world_rules.specs.Ranges.{ObjectFits}
-use Rattle.world_sim.specs.Grid.{has_place, lies_at, is_between, lies_between}
+use Rattle.world_cells.specs.Grid.{has_place, lies_at, is_between, lies_between}
 use Rattle.world_scope.specs.Scope.{Look}
 use Rattle.world_scope.specs.Square.{is_round}
 use Rattle.world_scope.specs.Marks.{IsExact, AreExact, is_in_row}

@@ -13,7 +13,7 @@ use Rattle.world_rules.specs.declared.object.Object.{Object}
 use Rattle.world_rules.specs.Flags.{is_player}
 use Rattle.world_sim.specs.Worlds.{Worlds, alive_at}
 use Rattle.world_scope.specs.declared.viewer.Seen.{Seen}
-use Rattle.world_sim.specs.Grid.{is_always}
+use Rattle.world_cells.specs.Grid.{is_always}
 use Rattle.world_scope.specs.Sight.{distance}
 use Rattle.world_scope.specs.Scope.{Look, player_sees, is_visible, quarter, level, seen, seen_at, look_of, visible_list}
 

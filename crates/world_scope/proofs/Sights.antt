@@ -12,7 +12,7 @@ use Rattle.world_rules.specs.declared.object.State.{State}
 use Rattle.world_rules.specs.declared.object.State.TheVariants.{Player, Disc, Mine, Drone, Flag, Clock}
 use Rattle.world_rules.specs.Flags.{is_player, is_player_part}
 use Rattle.world_rules.specs.Identity.{owner_in, owners, OwnersRise, HaveNoOwner, IsPeopled}
-use Rattle.world_sim.specs.Grid.{has_place, is_always, lasts}
+use Rattle.world_cells.specs.Grid.{has_place, is_always, lasts}
 use Rattle.world_sim.specs.Worlds.{Worlds}
 use Rattle.world_scope.specs.Sight.{distance}
 use Rattle.world_scope.specs.Scope.{Look, look_of, is_visible, player_sees, seen, visible_list}

@@ -9,7 +9,7 @@ use Rattle.std.proofs.lemmas.Option.{slice_get_within}
 use Rattle.std.proofs.lemmas.Bool.{cases_lt}
 use Rattle.std.proofs.lemmas.Bool.Decides.{eqb_tells}
 use Rattle.world_rules.specs.declared.object.Object.{Object}
-use Rattle.world_sim.specs.Lines.{AreBits}
+use Rattle.world_cells.specs.Lines.{AreBits}
 use Rattle.world_scope.specs.Scope.{Look}
 use Rattle.world_scope.specs.Marks.{IsExact, AreExact, AreKept}
 use Rattle.world_scope.proofs.Numbers.{one, count_cons}

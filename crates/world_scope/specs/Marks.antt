@@ -1,8 +1,8 @@
 -- How a scan keeps what it has found: a mark for each number, 0 for what isn't seen (yet) and else one more than the level.
 use Rattle.std.specs.Prelude.{◌≡◌, ℕ, ◌-◌, ◌/◌, ◌⊎◌, Bool, true, false, ◌==◌, ◌&&◌, List, Option, Some, None, slice_get, slice_index_or, if◌then◌else◌}
 use Rattle.world_rules.specs.declared.object.Object.{Object}
-use Rattle.world_sim.specs.declared.cells.TheConstants.{CELL_SIDE}
-use Rattle.world_sim.specs.Grid.{has_place, is_between}
+use Rattle.world_cells.specs.declared.cells.TheConstants.{CELL_SIDE}
+use Rattle.world_cells.specs.Grid.{has_place, is_between}
 use Rattle.world_scope.specs.declared.viewer.Seen.{Seen}
 use Rattle.world_scope.specs.Scope.{Look, seen}
 use Rattle.world_scope.specs.Square.{is_round}

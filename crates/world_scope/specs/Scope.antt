@@ -4,7 +4,7 @@ use Rattle.std.specs.Prelude.{ℕ, ◌+◌, ◌*◌, ◌/◌, List, Bool, false,
 use Rattle.std.specs.List.{filter_map, enumerate_from}
 use Rattle.world_rules.specs.declared.object.Object.{Object}
 use Rattle.world_rules.specs.Flags.{is_player}
-use Rattle.world_sim.specs.Grid.{is_always}
+use Rattle.world_cells.specs.Grid.{is_always}
 use Rattle.world_sim.specs.Worlds.{Worlds}
 use Rattle.world_scope.specs.declared.viewer.Seen.{Seen}
 use Rattle.world_scope.specs.Sight.{distance, is_hidden}

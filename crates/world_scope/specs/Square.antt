@@ -4,8 +4,8 @@ use Rattle.std.specs.Prelude.{ℕ, ◌+◌, ◌-◌, ◌/◌, Bool, ◌&&◌, na
 use Rattle.world_rules.specs.declared.object.Place.{Place}
 use Rattle.world_rules.specs.declared.object.Object.{Object}
 use Rattle.world_rules.specs.Flags.{is_player}
-use Rattle.world_sim.specs.declared.cells.TheConstants.{CELL_SIDE}
-use Rattle.world_sim.specs.Grid.{has_place, lasts}
+use Rattle.world_cells.specs.declared.cells.TheConstants.{CELL_SIDE}
+use Rattle.world_cells.specs.Grid.{has_place, lasts}
 use Rattle.world_sim.specs.Worlds.{Worlds}
 
 -- the cells of two coordinates are at most so far apart that the square touches the second

@@ -3,7 +3,7 @@ ghost use Rattle.std.specs.Prelude.{◌≡◌, ℕ, ◌≤◌, ◌+◌, ◌*◌,
 ghost use Rattle.std.specs.Option.{option_copied};
 ghost use Rattle.world_rules.specs.Flags.{is_player};
 ghost use Rattle.world_rules.specs.declared.object.Object.{Object};
-ghost use Rattle.world_sim.specs.Grid.{is_always};
+ghost use Rattle.world_cells.specs.Grid.{is_always};
 ghost use Rattle.world_sim.specs.Glances.{glance_of};
 ghost use Rattle.world_scope.specs.Sight.{distance, is_hidden};
 

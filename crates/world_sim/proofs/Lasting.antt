@@ -1,11 +1,9 @@
--- What every client sees stays the same, and the numbers of those that pass a test, object by object.
-use Rattle.std.proofs.Common.{◌≡◌, ℕ, zero, suc, ◌-◌, ◌+◌, ◌*◌, ◌/◌, ◌%◌, ◌<◌, ◌≤◌, Bool, true, false, cond, ◌&&◌, List, [], ◌∷◌, ◌++◌, length, map, get_or, drop, take, refl, sym, ap, ◌∙◌, arith, add-one, append_assoc, Option, Some, None, nat_eq}
+-- What every client sees stays the same.
+use Rattle.std.proofs.Common.{◌≡◌, ℕ, zero, suc, ◌-◌, Bool, true, false, cond, ◌&&◌, List, [], ◌∷◌, ◌++◌, length, map, take, refl, sym, ap, ◌∙◌, Option, Some, None}
 use Rattle.std.specs.Prelude.{slice_get}
 use Rattle.std.specs.List.{AllByRecursion, filter_map, cons_option}
 use Rattle.std.specs.Option.{option_map_or}
-use Rattle.std.proofs.lemmas.List.{drop_more, drop_all, append-nil}
 use Rattle.std.proofs.Math.Bool.{and-false}
-use Rattle.std.proofs.lemmas.Bool.Decides.{nat_tests}
 use Rattle.tn_types.specs.declared.moves.Move.{Move}
 use Rattle.world_rules.specs.declared.object.Object.{Object}
 use Rattle.world_rules.specs.declared.object.State.{State}
@@ -14,28 +12,9 @@ use Rattle.world_rules.specs.Kinds.{match_kinds}
 use Rattle.world_rules.specs.Identity.{Identity, LivesOn, IsPeopled}
 use Rattle.world_rules.specs.Players.{fired, fired_by, fired_part}
 use Rattle.world_rules.specs.Next.{object_next, objects_next, discs_made, Moment}
-use Rattle.world_rules.specs.Ranges.{ObjectFits}
 use Rattle.world_rules.proofs.Identities.{stays_itself}
 use Rattle.world_rules.proofs.Peopled.{peopled_next}
-use Rattle.world_sim.specs.Grid.{numbers, lasts, is_always, lies_at, has_place}
-use Rattle.world_sim.specs.Lines.{GridParts}
-use Rattle.world_sim.specs.Cells.{IsGrid, lies_in, is_cell}
-
--- ---- numbers
-
-same_numbers_by : (p q : Object → Bool) (k : ℕ) (os : List Object) → AllByRecursion (λ o. p o ≡ q o) os → numbers p k os ≡ numbers q k os
-same_numbers_by p q k [] a = refl
-same_numbers_by p q k (o ∷ os) a = rw (a.0, same_numbers_by p q (suc k) os a.1) refl
-
-abbrev pub numbers_from : (Object → Bool) → List ℕ → ℕ → List Object → List ℕ
-numbers_from p front i os = front ++ numbers p i (drop i os)
-
-pub numbers_more : (p : Object → Bool) (front : List ℕ) (i : ℕ) (os : List Object) (o : Object) (b : Bool) → i < length os → o ≡ get_or os i o → p o ≡ b → numbers_from p front i os ≡ numbers_from p (cond b (front ++ i ∷ []) front) (i + 1) os
-numbers_more p front i os o true l e h = rw (drop_more os i o l, ← e, h, add-one, append_assoc) refl
-numbers_more p front i os o false l e h = rw (drop_more os i o l, ← e, h, add-one) refl
-
-pub numbers_end : (p : Object → Bool) (front : List ℕ) (i : ℕ) (os : List Object) → length os ≤ i → numbers_from p front i os ≡ front
-numbers_end p front i os l = rw (drop_all i os l, append-nil) refl
+use Rattle.world_cells.specs.Grid.{numbers, lasts, is_always}
 
 -- ---- what every client sees
 
@@ -105,25 +84,3 @@ lasting_next clients os moves t h =
     all_lasting 0 (objects_next os moves t) (peopled_next clients os moves t h).alive
     ∙ always_next os moves t 0 os (discs_made os moves) (take_not (1024 - length os) _ (all_not moves os))
     ∙ sym (all_lasting 0 os h.alive)
-
--- ---- a cell by its column and row
-
-pair_cell : (x y cx cy : ℕ) → x < 16 → y < 16 → cx < 16 → cy < 16 → nat_eq (y % 16 * 16 + x % 16) (cy * 16 + cx) ≡ (nat_eq x cx && nat_eq y cy)
-pair_cell x y cx cy a b c d = grind (arith, nat_tests)
-
-lies_by : (cx cy : ℕ) (o : Object) → cx < 16 → cy < 16 → ObjectFits o → lies_in (cy * 16 + cx) o ≡ lies_at cx cy o
-lies_by cx cy o a b fits = by_life o.alive (has_place o.state) (cy * 16 + cx) _ _ (pair_cell (o.place.x / 4096) (o.place.y / 4096) cx cy (omega (arith, fits.place.0)) (omega (arith, fits.place.1)) a b)
-  where
-    by_life : (alive placed : Bool) (c d : ℕ) (e : Bool) → nat_eq d c ≡ e → is_cell c (cond (alive && placed) (Some d) None) ≡ (alive && (placed && e))
-    by_life false placed c d e h = refl
-    by_life true false c d e h = refl
-    by_life true true c d e h = h
-
-all_lie : (cx cy : ℕ) (os : List Object) → cx < 16 → cy < 16 → AllByRecursion ObjectFits os → AllByRecursion (λ o. lies_in (cy * 16 + cx) o ≡ lies_at cx cy o) os
-all_lie cx cy [] a b fits = tt
-all_lie cx cy (o ∷ os) a b fits = (lies_by cx cy o a b fits.0, all_lie cx cy os a b fits.1)
-
-pub cell_tells : (grid : GridParts) (os : List Object) (cx cy : ℕ) → IsGrid grid os → AllByRecursion ObjectFits os → cx < 16 → cy < 16 → get_or grid.cells (cy * 16 + cx) [] ≡ numbers (lies_at cx cy) 0 os
-cell_tells grid os cx cy g fits a b =
-    g.exact (cy * 16 + cx) (omega arith)
-    ∙ same_numbers_by (lies_in (cy * 16 + cx)) (lies_at cx cy) 0 os (all_lie cx cy os a b fits)

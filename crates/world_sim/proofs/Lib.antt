@@ -1,15 +1,9 @@
-pub mod Places
-pub mod Changes
-pub mod Grids
-pub mod LineBits
-pub mod Between
 pub mod Lasting
 pub mod RowFields
 pub mod RowLoops
 pub mod Made
 pub mod WorldLaws
 pub mod Started
-pub mod Numbers
 pub mod Searches
 pub mod Watching
 pub mod Gathered
@@ -19,3 +13,4 @@ pub mod InRange
 pub mod Kept
 pub mod Glancing
 pub mod Histories
+pub mod Going

@@ -12,10 +12,10 @@ use Rattle.world_rules.specs.Places.{apart, is_within}
 use Rattle.world_rules.specs.Near.{is_target, is_standing_part, is_drone_part, is_other_near, is_target_near}
 use Rattle.world_rules.specs.Identity.{lives_on, LivesOn}
 use Rattle.world_rules.specs.Ranges.{ObjectFits}
-use Rattle.world_sim.specs.Grid.{has_place, numbers}
-use Rattle.world_sim.specs.Cells.{lies_in, cell_of}
+use Rattle.world_cells.specs.Grid.{has_place, numbers}
+use Rattle.world_cells.specs.Cells.{lies_in, cell_of}
 use Rattle.world_sim.specs.Searches.{IsNoTarget}
-use Rattle.world_sim.proofs.Numbers.{found_in}
+use Rattle.world_cells.proofs.Numbers.{found_in}
 
 pub any_at : (p : Object → Bool) (os : List Object) (i : ℕ) (o : Object) → slice_get os i ≡ Some o → p o ≡ true → list_any p os ≡ true
 any_at p [] i o e h = absurd (cc)

@@ -23,8 +23,8 @@ use Rattle.world_rules.specs.Next.{Moment, object_next, by_kind}
 use Rattle.world_sim.specs.declared.found.Found.{Found}
 use Rattle.world_sim.specs.Found.{AreFound, is_ending, is_players, is_players_part}
 use Rattle.world_sim.specs.Turns.{is_quiet, is_quiet_part, stepped_to}
-use Rattle.world_sim.specs.Lines.{GridParts}
-use Rattle.world_sim.specs.Cells.{IsGrid}
+use Rattle.world_cells.specs.Lines.{GridParts}
+use Rattle.world_cells.specs.Cells.{IsGrid}
 use Rattle.world_sim.specs.declared.rows.Row.{Row}
 use Rattle.world_sim.specs.Rows.{values_of, row_versions, as_number}
 use Rattle.world_sim.specs.RowsNext.{row_values, row_next, rows_updated}
@@ -206,7 +206,7 @@ grid_turn cells next xs n was x l e g step =
 
 -- ---- rows
 
-same_values : {A B C : Type 0} (f : A → C) (g : B → C) (xs : List A) (ys : List B) (n : ℕ) (a : A) (b : B) → map f xs ≡ map g ys → n < length xs → f (get_or xs n a) ≡ g (get_or ys n b)
+pub same_values : {A B C : Type 0} (f : A → C) (g : B → C) (xs : List A) (ys : List B) (n : ℕ) (a : A) (b : B) → map f xs ≡ map g ys → n < length xs → f (get_or xs n a) ≡ g (get_or ys n b)
 same_values f g [] ys n a b e l = absurd (omega arith)
 same_values f g (x ∷ xs) [] n a b e l = absurd (cc)
 same_values f g (x ∷ xs) (y ∷ ys) zero a b e l = cc

@@ -1,10 +1,6 @@
 pub mod Rows
 pub mod RowsNext
-pub mod Rising
-pub mod Grid
-pub mod Lines
 pub mod Glances
-pub mod Cells
 pub mod Worlds
 pub mod Found
 pub mod Turns

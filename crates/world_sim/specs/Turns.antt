@@ -1,5 +1,6 @@
 -- What the rules read of the world before a tick, and which objects a tick leaves as they are.
-use Rattle.std.specs.Prelude.{◌≡◌, ◌≤◌, ℕ, ◌&&◌, ◌||◌, ◌==◌, not, Bool, false, List, [], ◌∷◌, length, zero, suc}
+use Rattle.std.specs.Prelude.{◌≡◌, ◌≤◌, ◌<◌, ℕ, ◌&&◌, ◌||◌, ◌==◌, not, Bool, true, false, List, [], ◌∷◌, length, slice_get, zero, suc}
+use Rattle.std.specs.Option.{option_map_or}
 use Rattle.tn_types.specs.declared.limits.TheConstants.{MAX_OBJECTS}
 use Rattle.world_rules.specs.declared.object.TheConstants.{MAX_AGE}
 use Rattle.world_rules.specs.declared.object.Object.{Object}
@@ -7,6 +8,7 @@ use Rattle.world_rules.specs.declared.object.State.{State}
 use Rattle.world_rules.specs.declared.object.State.TheVariants.{Disc, Mine, Drone}
 use Rattle.world_rules.specs.Flags.{captures}
 use Rattle.world_rules.specs.Next.{Moment}
+use Rattle.world_cells.specs.NumberSet.{bit_of}
 use Rattle.world_sim.specs.declared.step.Old.{Old}
 use Rattle.world_sim.specs.Found.{AreFound}
 
@@ -30,6 +32,20 @@ is_quiet_part ending alive _ = false
 
 abbrev pub is_quiet : Bool → Object → Bool
 is_quiet ending o = is_quiet_part ending o.alive o.state
+
+-- dead, and of a kind that no tick brings back
+abbrev pub is_over_part : Bool → State → Bool
+is_over_part alive (Disc d) = not alive
+is_over_part alive (Drone d) = not alive
+is_over_part alive (Mine m) = not alive
+is_over_part alive _ = false
+
+abbrev pub is_over : Object → Bool
+is_over o = is_over_part o.alive o.state
+
+-- a set has each number but those of objects that are over
+abbrev pub HasGoing : List ℕ → List Object → Type 0
+HasGoing set os = (n : ℕ) → n < MAX_OBJECTS → bit_of set n ≡ 0 → option_map_or is_over (slice_get os n) false ≡ true
 
 -- the first objects after a step each, the others as they were
 abbrev pub stepped_to : ℕ → (Object → Object) → List Object → List Object

@@ -8,16 +8,17 @@ ghost use Rattle.world_rules.specs.Flags.{captures, is_player};
 ghost use Rattle.world_rules.specs.Identity.{LivesOn};
 ghost use Rattle.world_rules.specs.Ranges.{PlaceFits, ObjectFits};
 ghost use Rattle.world_sim.specs.Searches.{AreWatched};
-ghost use Rattle.world_sim.specs.Cells.{IsGrid};
+ghost use Rattle.world_cells.specs.Cells.{IsGrid};
 ghost use Rattle.world_sim.specs.Found.{is_triggered_by, is_flag, is_players, PlayersFirst, IsPlayersEnd, AreFound};
 ghost use Rattle.world_sim.specs.Glances.{glance_of};
+ghost use Rattle.world_sim.specs.Turns.{HasGoing};
 
-use crate::cells::Cells;
 use crate::glance::Glance;
 use crate::near::any_target_round;
 use crate::watch::{PLOTS, is_watched, watch_all};
 use std::alloc::{AllocError, Global};
 use tn_types::MAX_OBJECTS;
+use world_cells::{Cells, NumberSet};
 use world_rules::flags::{is_captured, is_player};
 use world_rules::measures::MINE_REACH;
 use world_rules::{Object, State};
@@ -235,12 +236,14 @@ fn find_one(
     }
 }
 
-// The flags, the discs that hit and the mines that are triggered, with a mark for each that ends.
+// The flags, the discs that hit and the mines that are triggered, with a mark for each that ends: only among those that may
+// still change.
 #[tactic(auto, using(crate::proofs::Gathered::filter_more, crate::proofs::Watching::place_fits))]
 fn gather_ending(
     cells: &Cells,
     objects: &[Object],
     glances: &[Glance],
+    going: &NumberSet,
     watched: &[bool],
     standing: &[Object],
     flags: &mut Vec<Object>,
@@ -249,6 +252,8 @@ fn gather_ending(
     marks: &mut Vec<bool>,
 ) -> Result<(), AllocError>
     requires glances { glances.now ≡ map glance_of objects.now }
+    requires going { HasGoing going.now objects.now }
+    requires most { length objects.now ≤ MAX_OBJECTS }
     requires grid { IsGrid cells.now objects.now }
     requires alive { AllByRecursion LivesOn objects.now }
     requires fits { AllByRecursion ObjectFits objects.now }
@@ -265,10 +270,12 @@ fn gather_ending(
     triggered.clear();
     marks.clear();
     marks.resize(objects.len(), false)?;
-    for (i, o) in objects.iter().enumerate() {
+    let many = objects.len();
+    let mut i = going.next(0, many);
+    while i < many {
         find_one(
             i,
-            o,
+            &objects[i],
             &glances[i],
             cells,
             objects,
@@ -279,6 +286,7 @@ fn gather_ending(
             triggered,
             marks,
         )?;
+        i = going.next(i + 1, many);
     }
     Ok(())
 }
@@ -289,9 +297,12 @@ pub fn find_all(
     cells: &Cells,
     objects: &[Object],
     glances: &[Glance],
+    going: &NumberSet,
     found: &mut Found,
 ) -> Result<(), AllocError>
     requires glances { glances.now ≡ map glance_of objects.now }
+    requires going { HasGoing going.now objects.now }
+    requires most { length objects.now ≤ MAX_OBJECTS }
     requires first { PlayersFirst objects.now }
     requires grid { IsGrid cells.now objects.now }
     requires alive { AllByRecursion LivesOn objects.now }
@@ -309,6 +320,7 @@ pub fn find_all(
         cells,
         objects,
         glances,
+        going,
         &watched,
         &found.standing,
         &mut found.flags,

@@ -3,7 +3,7 @@ ghost use Rattle.std.specs.Prelude.{◌≡◌, true, false, length};
 ghost use Rattle.world_rules.specs.declared.object.Object.{Object};
 ghost use Rattle.world_sim.specs.Glances.{mine_role, role_of, glance_of, is_armed_role, may_matter};
 ghost use Rattle.world_sim.specs.Found.{is_players};
-ghost use Rattle.world_sim.specs.Turns.{is_quiet};
+ghost use Rattle.world_sim.specs.Turns.{is_quiet, is_over};
 
 use crate::watch::{PLOTS, is_watched};
 use world_rules::object::MAX_AGE;
@@ -92,6 +92,17 @@ impl Glance {
             self.role,
             Role::Disc | Role::YoungMine | Role::ArmedMine | Role::OldMine | Role::Drone
         )
+    }
+
+    // Whether it is dead and of a kind that no tick brings back.
+    pub(crate) fn is_over(&self) -> bool
+        ensures { (o : Object) → self.now ≡ glance_of o → result ≡ true → is_over o ≡ true }
+    {
+        !self.alive
+            && matches!(
+                self.role,
+                Role::Disc | Role::YoungMine | Role::ArmedMine | Role::OldMine | Role::Drone
+            )
     }
 
     // Whether it is an armed mine.

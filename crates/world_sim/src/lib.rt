@@ -1,13 +1,10 @@
 //! The world of a match, tick by tick. Its rules stand in docs/world.md.
 #![tactic(auto)]
 
-mod cell;
-mod cell_lists;
-mod cells;
+mod discs;
 mod found;
 mod glance;
 pub mod laws;
-mod lines;
 mod near;
 mod rows;
 mod start;
@@ -15,7 +12,7 @@ mod step;
 mod watch;
 mod world;
 
-pub use cells::{CELL_SIDE, CELLS_ACROSS};
 pub use glance::{Glance, Role};
 pub use rows::{Row, Write};
 pub use world::World;
+pub use world_cells::{CELL_SIDE, CELLS_ACROSS};

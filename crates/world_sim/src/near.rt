@@ -6,10 +6,10 @@ ghost use Rattle.world_rules.specs.declared.object.Object.{Object};
 ghost use Rattle.world_rules.specs.Near.{is_target_near};
 ghost use Rattle.world_rules.specs.Identity.{LivesOn};
 ghost use Rattle.world_rules.specs.Ranges.{ObjectFits};
-ghost use Rattle.world_sim.specs.Cells.{IsGrid, lies_in};
+ghost use Rattle.world_cells.specs.Cells.{IsGrid, lies_in};
 ghost use Rattle.world_sim.specs.Searches.{IsNoTarget};
 
-use crate::cells::{CELL_SIDE, CELLS_ACROSS, Cells};
+use world_cells::{CELL_SIDE, CELLS_ACROSS, Cells};
 use world_rules::Object;
 use world_rules::measures::DISC_REACH;
 

@@ -1,7 +1,7 @@
 //! What a world starts with: its first objects, their rows and glances, and what every client sees.
 ghost use Rattle.std.specs.Prelude.{◌≡◌, ◌≤◌, length, map, IfOk};
 ghost use Rattle.world_rules.specs.Spawning.{first_objects};
-ghost use Rattle.world_sim.specs.Grid.{numbers, lasts, is_always};
+ghost use Rattle.world_cells.specs.Grid.{numbers, lasts, is_always};
 ghost use Rattle.world_sim.specs.RowsNext.{fresh_row};
 ghost use Rattle.world_sim.specs.Glances.{glance_of};
 
@@ -55,7 +55,7 @@ fn is_always(o: &Object) -> bool
 }
 
 // The numbers of those that every client sees.
-#[tactic(auto, using(crate::proofs::Lasting::numbers_more, crate::proofs::Lasting::numbers_end))]
+#[tactic(auto, using(world_cells::proofs::Numbers::numbers_more, world_cells::proofs::Numbers::numbers_end))]
 pub fn lasting(alloc: Global, objects: &[Object]) -> Result<Vec<u32>, AllocError>
     requires { length objects.now ≤ MAX_OBJECTS }
     ensures { IfOk result (λ v. v.items ≡ numbers lasts 0 objects.now) }

@@ -1,5 +1,5 @@
 //! Each object's tick, in place, by what the tick found of all of them before anything changed.
-ghost use Rattle.std.specs.Prelude.{◌≡◌, ℕ, ◌<◌, ◌≤◌, ◌-◌, ◌+◌, ◌*◌, ◌++◌, ◌∷◌, [], List, map, length, filter, slice_get, Some, true, vec_capacity};
+ghost use Rattle.std.specs.Prelude.{◌≡◌, ℕ, ◌<◌, ◌≤◌, ◌-◌, ◌+◌, ◌*◌, ◌++◌, ◌∷◌, [], List, map, length, filter, slice_get, slice_set, Some, true, false, vec_capacity};
 ghost use Rattle.std.specs.List.{AllByRecursion};
 ghost use Rattle.world_rules.specs.declared.object.Object.{Object};
 ghost use Rattle.world_rules.specs.declared.object.State.TheVariants.{Drone as drone_of, Mine as mine_of};
@@ -10,16 +10,17 @@ ghost use Rattle.world_rules.specs.Next.{object_next};
 ghost use Rattle.world_rules.specs.Mines.{is_armed_part, mine_next};
 ghost use Rattle.world_sim.specs.Rows.{values_of, row_writes, as_number};
 ghost use Rattle.world_sim.specs.RowsNext.{row_values, row_next, rows_updated, rows_writes, IsSoundRow};
-ghost use Rattle.world_sim.specs.Cells.{IsGrid};
+ghost use Rattle.world_cells.specs.Cells.{IsGrid};
 ghost use Rattle.world_sim.specs.Found.{AreFound, is_ending};
 ghost use Rattle.world_sim.specs.Glances.{glance_of};
-ghost use Rattle.world_sim.specs.Turns.{IsOld, is_quiet, moment};
+ghost use Rattle.world_sim.specs.Turns.{IsOld, HasGoing, is_over, is_quiet, moment};
+ghost use Rattle.std.specs.Option.{option_map_or};
 
-use crate::cells::{Cells, spot};
 use crate::found::{Found, count_near, count_of};
 use crate::glance::{Glance, glance_of};
 use crate::rows::{Row, Write, change_row, change_three};
 use tn_types::{MAX_OBJECTS, Move};
+use world_cells::{Cells, NumberSet, spot};
 use world_rules::fire::move_of;
 use world_rules::flags::{clock_next, flag_next};
 use world_rules::measures::{DISC_HARM, DISC_REACH, MINE_HARM, MINE_REACH};
@@ -280,13 +281,26 @@ fn turn(
     step_any(old, number, ending, object, row, glance, cells, writes);
 }
 
-/// Each object after the tick, with its row, its cell and the writes.
+// Takes an object that is over out of those that may still change.
+fn leave_over(number: u32, glance: &Glance, going: &mut NumberSet)
+    requires { number < MAX_OBJECTS }
+    ensures { (objects : List Object) (o : Object) → glance.now ≡ glance_of o → number < length objects
+        → (option_map_or is_over (slice_get objects number) false ≡ true → is_over o ≡ true)
+        → HasGoing going.old objects → HasGoing going.new (slice_set objects number o) }
+{
+    if glance.is_over() {
+        going.remove(number);
+    }
+}
+
+/// Each object after the tick, with its row, its cell and the writes. What is over has no turn.
 pub fn turn_all(
     old: &Old<'_, '_>,
     objects: &mut Vec<Object>,
     rows: &mut Vec<Row>,
     glances: &mut Vec<Glance>,
     cells: &mut Cells,
+    going: &mut NumberSet,
     writes: &mut Vec<Write>,
 )
     requires old { IsOld objects.old.items old.now }
@@ -294,6 +308,7 @@ pub fn turn_all(
     requires sound { AllByRecursion IsSoundRow rows.old.items }
     requires glances { glances.old.items ≡ map glance_of objects.old.items }
     requires grid { IsGrid cells.old objects.old.items }
+    requires going { HasGoing going.old objects.old.items }
     requires none { writes.old.items ≡ [] }
     requires room { 5 * MAX_OBJECTS ≤ vec_capacity writes.old }
     ensures objects { objects.new.items ≡ map (object_next objects.old.items old.now.moves.now (moment old.now)) objects.old.items }
@@ -301,15 +316,20 @@ pub fn turn_all(
     ensures writes { writes.new.items ≡ rows_writes 0 rows.old.items objects.new.items }
     ensures glances { glances.new.items ≡ map glance_of objects.new.items }
     ensures grid { IsGrid cells.new objects.new.items }
+    ensures going { HasGoing going.new objects.new.items }
     ensures kept { vec_capacity objects.old ≤ vec_capacity objects.new }
     ensures rows_kept { vec_capacity rows.old ≤ vec_capacity rows.new }
     ensures glances_kept { vec_capacity glances.old ≤ vec_capacity glances.new }
 {
-    for i in 0..objects.len() {
+    let many = objects.len();
+    let mut i = going.next(0, many);
+    while i < many {
         let ending = old.found.marks[i];
         let object = &mut objects[i];
         let row = &mut rows[i];
         let glance = &mut glances[i];
         turn(old, i as u32, ending, object, row, glance, cells, writes);
+        leave_over(i as u32, glance, going);
+        i = going.next(i + 1, many);
     }
 }

@@ -1,22 +1,22 @@
 //! The world and its ticks.
-ghost use Rattle.std.specs.Prelude.{◌≡◌, ℕ, vec_capacity, ◌<◌, ◌≤◌, ◌+◌, ◌-◌, ◌*◌, ◌^◌, ◌++◌, List, length, map, take, OnOk, OnErr, [], IfOk, IfSome, slice_get, Some};
-ghost use Rattle.std.specs.List.{filter_map, AllByRecursion};
-ghost use Rattle.world_rules.specs.Players.{fired};
+ghost use Rattle.std.specs.Prelude.{◌≡◌, ℕ, vec_capacity, ◌<◌, ◌≤◌, ◌+◌, ◌-◌, ◌*◌, ◌^◌, ◌++◌, List, length, map, OnOk, OnErr, [], IfOk, IfSome, slice_get, Some};
+ghost use Rattle.std.specs.List.{AllByRecursion};
 ghost use Rattle.world_rules.specs.Next.{objects_next, discs_made};
 ghost use Rattle.world_rules.specs.Spawning.{first_objects, SetupFits};
 ghost use Rattle.world_rules.specs.Ranges.{ObjectFits};
 ghost use Rattle.world_rules.specs.Identity.{IsPeopled, LivesOn};
-ghost use Rattle.world_sim.specs.Worlds.{WasCounted, next, added, first_world, alive_at, kind_at, block_at, values_at, version_at, identity_at, player_of, place_at};
-ghost use Rattle.world_sim.specs.Grid.{numbers, lasts, lies_at, lies_between};
-ghost use Rattle.world_sim.specs.Lines.{AreBits};
+ghost use Rattle.world_sim.specs.Worlds.{WasCounted, next, first_world, alive_at, kind_at, block_at, values_at, version_at, identity_at, player_of, place_at};
+ghost use Rattle.world_cells.specs.Grid.{numbers, lasts, lies_at, lies_between};
+ghost use Rattle.world_cells.specs.Lines.{AreBits};
 ghost use Rattle.world_sim.specs.Facts.{IsWriteOf, ValuesFit};
 ghost use Rattle.world_sim.specs.Rows.{values_of, world_writes};
-ghost use Rattle.world_sim.specs.Cells.{IsGrid};
+ghost use Rattle.world_cells.specs.Cells.{IsGrid};
 ghost use Rattle.world_sim.specs.Found.{AreFound, PlayersFirst};
 ghost use Rattle.world_sim.specs.Glances.{glance_of};
+ghost use Rattle.world_sim.specs.Turns.{HasGoing};
 ghost use Rattle.world_sim.specs.RowsNext.{fresh_row, row_values, row_counts, rows_next, IsSoundRow};
 
-use crate::cells::{CELLS_ACROSS, Cells, has_place};
+use crate::discs::make_discs;
 use crate::found::{Found, captures_of, find_all, nothing, place_of_player};
 use crate::glance::{Glance, glance_of};
 use crate::rows::{Row, Write, fresh_row};
@@ -27,7 +27,7 @@ use std::marker::Model;
 use std::mem;
 use std::sync::ledger::Ledger;
 use tn_types::{MAX_CLIENTS, MAX_OBJECTS, Move, NoMemory, Steps};
-use world_rules::fire::fired;
+use world_cells::{CELLS_ACROSS, Cells, NumberSet, has_place};
 use world_rules::{Object, Setup};
 
 // Writes of a tick at the most: five fields of each object.
@@ -51,7 +51,6 @@ fn workroom(alloc: Global) -> Result<Work, AllocError> {
 
 /// The objects of a match, tick by tick. A tick first finds what its rules read and makes all room that it needs, and then
 /// changes each object in place, so every rule reads the world before it, and want of memory leaves it unchanged.
-#[derive(Drop)]
 pub struct World {
     seed: u32,
     clients: u8,
@@ -67,7 +66,29 @@ pub struct World {
     cells: Cells,
     // The numbers of what every client sees. No tick makes or ends one.
     always: Vec<u32>,
+    // The numbers of all that may still change.
+    going: NumberSet,
     work: Work,
+}
+
+// Written out, so that a function above that lets a world go calls this, and doesn't prove again how each of its parts is let go.
+impl Drop for World {
+    fn drop(self) {
+        let World {
+            seed: _seed,
+            clients: _clients,
+            radius: _radius,
+            ticks: _ticks,
+            objects: _objects,
+            rows: _rows,
+            writes: _writes,
+            glances: _glances,
+            cells: _cells,
+            always: _always,
+            going: _going,
+            work: _work,
+        } = self;
+    }
 }
 
 impl Model for World {
@@ -95,37 +116,7 @@ impl Model for World {
       objects = w.objects.items;
       versions = map row_counts w.rows.items;
       writes = w.writes.items;
-    }) w.rows.items w.glances.items w.cells w.always.items };
-}
-
-// Adds a disc that is made, if there is a place.
-fn add_disc(made: Option<Object>, room: usize, discs: &mut Vec<Object>) -> Result<(), AllocError>
-    ensures { OnOk result (discs.new.items ≡ added room discs.old.items made) }
-{
-    if let Some(disc) = made {
-        if discs.len() < room {
-            discs.push(disc)?;
-        }
-    }
-    Ok(())
-}
-
-// The discs that are made, as long as there are places.
-#[tactic(auto, using(crate::proofs::Made::made_few))]
-fn make_discs(
-    objects: &[Object],
-    moves: &[Option<Move>],
-    room: usize,
-    discs: &mut Vec<Object>,
-) -> Result<(), AllocError>
-    ensures made { OnOk result (discs.new.items ≡ take room (filter_map (fired moves.now) objects.now)) }
-    ensures few { OnOk result (length discs.new.items ≤ room) }
-{
-    discs.clear();
-    for o in objects {
-        add_disc(fired(moves, o), room, discs)?;
-    }
-    Ok(())
+    }) w.rows.items w.glances.items w.cells w.always.items w.going };
 }
 
 // What a tick goes by: what is found, the discs that are made, and the room that it needs.
@@ -134,10 +125,12 @@ fn prepare(
     rows: &mut Vec<Row>,
     glances: &mut Vec<Glance>,
     cells: &Cells,
+    going: &NumberSet,
     moves: &[Option<Move>],
     work: &mut Work,
 ) -> Result<(), AllocError>
     requires few { length objects.old.items ≤ MAX_OBJECTS }
+    requires going { HasGoing going.now objects.old.items }
     requires grid { IsGrid cells.now objects.old.items }
     requires glances { glances.old.items ≡ map glance_of objects.old.items }
     requires first { PlayersFirst objects.old.items }
@@ -155,7 +148,7 @@ fn prepare(
     ensures glances_room { OnOk result (length glances.old.items + length work.new.made.items ≤ vec_capacity glances.new) }
     ensures writes_room { OnOk result (5 * MAX_OBJECTS ≤ vec_capacity work.new.after_writes) }
 {
-    find_all(cells, objects, glances, &mut work.found)?;
+    find_all(cells, objects, glances, going, &mut work.found)?;
     let room = MAX_OBJECTS - objects.len();
     make_discs(&work.found.standing, moves, room, &mut work.made)?;
     objects.reserve(work.made.len())?;
@@ -199,12 +192,14 @@ fn advance(
     rows: &mut Vec<Row>,
     glances: &mut Vec<Glance>,
     cells: &mut Cells,
+    going: &mut NumberSet,
     moves: &[Option<Move>],
     seed: u32,
     tick: u32,
     work: &mut Work,
 ) -> Result<(), AllocError>
     requires few { length objects.old.items ≤ MAX_OBJECTS }
+    requires going { HasGoing going.old objects.old.items }
     requires kept { map row_values rows.old.items ≡ map values_of objects.old.items }
     requires sound { AllByRecursion IsSoundRow rows.old.items }
     requires grid { IsGrid cells.old objects.old.items }
@@ -219,12 +214,14 @@ fn advance(
         ≡ world_writes 0 objects.old.items objects.new.items (map row_counts rows.old.items)) }
     ensures glances { OnOk result (glances.new.items ≡ map glance_of objects.new.items) }
     ensures grid { OnOk result (IsGrid cells.new objects.new.items) }
+    ensures going { OnOk result (HasGoing going.new objects.new.items) }
     ensures same { OnErr result (objects.new.items ≡ objects.old.items) }
     ensures rows_same { OnErr result (rows.new.items ≡ rows.old.items) }
     ensures glances_same { OnErr result (glances.new.items ≡ glances.old.items) }
     ensures cells_same { OnErr result (cells.new ≡ cells.old) }
+    ensures going_same { OnErr result (going.new ≡ going.old) }
 {
-    prepare(objects, rows, glances, cells, moves, work)?;
+    prepare(objects, rows, glances, cells, going, moves, work)?;
     let red = captures_of(objects, &work.found.flags, 0) as u32;
     let blue = captures_of(objects, &work.found.flags, 1) as u32;
     let old = Old {
@@ -235,7 +232,15 @@ fn advance(
         seed,
         tick,
     };
-    turn_all(&old, objects, rows, glances, cells, &mut work.after_writes);
+    turn_all(
+        &old,
+        objects,
+        rows,
+        glances,
+        cells,
+        going,
+        &mut work.after_writes,
+    );
     add_made(&work.made, objects, rows, glances, cells);
     Ok(())
 }
@@ -264,6 +269,7 @@ impl World {
         let glances = first_glances(alloc, &objects)?;
         let writes = Vec::with_capacity(alloc, MAX_WRITES)?;
         let always = lasting(alloc, &objects)?;
+        let going = NumberSet::all(alloc)?;
         let mut cells = Cells::new(alloc)?;
         let work = workroom(alloc)?;
         cells.settle_from(0, &objects);
@@ -278,6 +284,7 @@ impl World {
             glances,
             cells,
             always,
+            going,
             work,
         })
     }
@@ -314,6 +321,7 @@ impl World {
             &mut self.rows,
             &mut self.glances,
             &mut self.cells,
+            &mut self.going,
             moves,
             self.seed,
             self.ticks + 1,
@@ -383,7 +391,7 @@ impl World {
 
     /// The numbers of the living objects in a cell of the field, rising: those with `x / 4096` equal to `cx` and
     /// `y / 4096` equal to `cy` (docs/world.md, "Cells"). Clocks lie in no cell.
-    #[tactic(auto, using(crate::proofs::Lasting::cell_tells))]
+    #[tactic(auto, using(world_cells::proofs::Columns::cell_tells))]
     pub fn cell(&self, cx: u8, cy: u8) -> &[u32]
         requires column { cx < CELLS_ACROSS }
         requires row { cy < CELLS_ACROSS }
@@ -394,7 +402,7 @@ impl World {
 
     /// Which of the 64 objects from number `64 * word` on are alive and lie in the cells between two columns and two rows,
     /// the last left out, as bits, the lowest for the first. Clocks lie in no cell.
-    #[tactic(auto, using(crate::proofs::Between::between_tells))]
+    #[tactic(auto, using(world_cells::proofs::Between::between_tells))]
     pub fn between(&self, columns: (u8, u8), rows: (u8, u8), word: usize) -> u64
         requires word { word < 16 }
         requires column_first { columns.0 ≤ CELLS_ACROSS }

@@ -1,7 +1,7 @@
 use Rattle.std.proofs.Common.{◌∙◌, ◌+◌, ap}
-use Rattle.world_sim.specs.Grid.{lasts}
+use Rattle.world_cells.specs.Grid.{lasts}
 use Rattle.world_scope.specs.Views.{look}
-use Rattle.world_sim.proofs.Numbers.{all_there}
+use Rattle.world_cells.proofs.Numbers.{all_there}
 use Rattle.world_scope.proofs.Numbers.{many_numbers}
 use Rattle.world_scope.proofs.Marking.{all_found}
 use Rattle.world_scope.proofs.marks.mark_always.Goals as goal

@@ -1,5 +1,5 @@
 use Rattle.std.proofs.Common.{◌≡◌, ◌+◌, length, count_by}
-use Rattle.world_sim.specs.Grid.{lies_between}
+use Rattle.world_cells.specs.Grid.{lies_between}
 use Rattle.world_scope.specs.Views.{look}
 use Rattle.world_scope.specs.Marks.{AreExact, AreKept}
 use Rattle.world_scope.proofs.marks.mark_cells.Given as goal

@@ -1,8 +1,8 @@
 use Rattle.std.proofs.Common.{◌≡◌, ◌≤◌, arith, count_by, length}
-use Rattle.world_sim.specs.Grid.{lies_at}
+use Rattle.world_cells.specs.Grid.{lies_at}
 use Rattle.world_scope.specs.Views.{look}
 use Rattle.world_scope.specs.Marks.{AreExact}
-use Rattle.world_sim.proofs.Numbers.{all_there}
+use Rattle.world_cells.proofs.Numbers.{all_there}
 use Rattle.world_scope.proofs.Numbers.{many_numbers}
 use Rattle.world_scope.proofs.Marking.{all_found, all_stay, kept_on, kept_none}
 use Rattle.world_scope.proofs.Parts.{row_none, row_more, row_counts}

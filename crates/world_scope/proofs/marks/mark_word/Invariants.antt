@@ -1,7 +1,7 @@
 use Rattle.std.proofs.Common.{◌≡◌, ℕ, Bool, ◌+◌, ◌<◌, length, drop, count_by}
 use Rattle.std.specs.Int.{bit_at}
 use Rattle.world_rules.specs.declared.object.Object.{Object}
-use Rattle.world_sim.specs.Lines.{AreBits}
+use Rattle.world_cells.specs.Lines.{AreBits}
 use Rattle.world_scope.specs.Views.{look}
 use Rattle.world_scope.specs.Marks.{IsExact, AreKept}
 use Rattle.world_scope.proofs.Words.{IsRest}

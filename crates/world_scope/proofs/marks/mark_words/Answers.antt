@@ -1,5 +1,5 @@
 use Rattle.std.proofs.Common.{◌≡◌, ◌≤◌, ◌*◌, ◌+◌, arith, length, ap, drop, count_by}
-use Rattle.world_sim.specs.Grid.{lies_between}
+use Rattle.world_cells.specs.Grid.{lies_between}
 use Rattle.world_scope.specs.Views.{look}
 use Rattle.world_scope.proofs.Marking.{kept_on, kept_none}
 use Rattle.world_scope.proofs.Words.{bit_there, none_yet, word_more, words_all, counted_all}

@@ -1,5 +1,5 @@
 use Rattle.std.proofs.Common.{◌≡◌, ◌+◌, ◌*◌, length, drop, count_by}
-use Rattle.world_sim.specs.Grid.{lies_between}
+use Rattle.world_cells.specs.Grid.{lies_between}
 use Rattle.world_scope.specs.Views.{look}
 use Rattle.world_scope.specs.Marks.{AreKept}
 use Rattle.world_scope.proofs.Words.{AreExactTo}

@@ -1,7 +1,7 @@
 use Rattle.std.proofs.Common.{◌≡◌, ◌∙◌}
-use Rattle.world_sim.specs.Grid.{numbers}
-use Rattle.world_sim.specs.Cells.{lies_in}
-use Rattle.world_sim.proofs.Numbers.{all_there}
+use Rattle.world_cells.specs.Grid.{numbers}
+use Rattle.world_cells.specs.Cells.{lies_in}
+use Rattle.world_cells.proofs.Numbers.{all_there}
 use Rattle.world_sim.proofs.Searches.{none_in}
 use Rattle.world_sim.proofs.near.any_target_in.Goals as goal
 

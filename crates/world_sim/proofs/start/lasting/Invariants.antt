@@ -1,6 +1,6 @@
 use Rattle.std.proofs.Common.{◌≡◌}
-use Rattle.world_sim.specs.Grid.{numbers, lasts}
-use Rattle.world_sim.proofs.Lasting.{numbers_from}
+use Rattle.world_cells.specs.Grid.{numbers, lasts}
+use Rattle.world_cells.proofs.Numbers.{numbers_from}
 use Rattle.world_sim.proofs.start.lasting.Given as goal
 
 abbrev pub invariant-loop-i : goal.invariant-loop-i

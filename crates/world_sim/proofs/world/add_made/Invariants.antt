@@ -1,7 +1,7 @@
 use Rattle.std.proofs.Common.{◌≡◌, ◌≤◌, ◌+◌, ◌++◌, length, take, map, vec_capacity}
 use Rattle.world_sim.specs.RowsNext.{fresh_row}
 use Rattle.world_sim.specs.Glances.{glance_of}
-use Rattle.world_sim.specs.Cells.{IsGrid}
+use Rattle.world_cells.specs.Cells.{IsGrid}
 use Rattle.world_sim.proofs.world.add_made.Given as goal
 
 abbrev pub invariant-loop-o : goal.invariant-loop-o

@@ -1,5 +1,0 @@
-use Rattle.world_sim.proofs.LineBits.{apart_bits}
-use Rattle.world_sim.proofs.lines.apart.Goals as goal
-
-pub returns : goal.returns
-returns c = λ k l. apart_bits c.args.word c.args.other k c.ranges.other.fits l
