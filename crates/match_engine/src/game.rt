@@ -12,6 +12,7 @@ use crate::lanes::raise_all;
 use crate::lines::line_on;
 use crate::serving::{Room, pack_for, scan_for, show_for};
 use crate::ticking::{living_of, take_moves};
+use crate::values::NOTES;
 use client_scope::Scope;
 use client_seat::Seat;
 use dirty_lanes::PlainLanes;
@@ -149,6 +150,7 @@ impl<'a> Game<'a> {
                 seen: Vec::new(alloc),
                 shows: Vec::new(alloc),
                 drains: Vec::new(alloc),
+                places: [0; NOTES],
             },
             done: 0,
         })
@@ -274,6 +276,7 @@ impl<'a> Game<'a> {
             &mut self.lanes,
             client,
             &mut self.room.drains,
+            &mut self.room.places,
         )
     }
 

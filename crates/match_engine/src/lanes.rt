@@ -9,7 +9,7 @@ ghost use Rattle.match_engine.specs.Serving.{OthersStay, AreApart, marked, is_of
 use client_scope::ShownPeriod;
 use dirty_lanes::PlainLanes;
 use std::alloc::AllocError;
-use tn_types::{Drain, MAX_CLIENTS, MAX_FIELDS};
+use tn_types::{Drain, MAX_FIELDS};
 use world_scope::Seen;
 use world_sim::Write;
 
@@ -80,9 +80,7 @@ fn raise_one(lanes: &mut PlainLanes, write: &Write)
         ≡ (if write.now.object == o then bit_or (mask_at lanes.old d o) (2 ^ write.now.field) else mask_at lanes.old d o) }
     ensures sizes { SizesStay lanes.old lanes.new }
 {
-    for client in 0..MAX_CLIENTS {
-        lanes.raise(client, write.object, 1 << write.field);
-    }
+    lanes.raise_for_all(write.object, 1 << write.field);
 }
 
 /// Every client is to hear of these writes.

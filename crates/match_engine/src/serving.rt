@@ -12,7 +12,7 @@ ghost use Rattle.match_laws.specs.Report.{told_after};
 ghost use Rattle.match_engine.specs.Serving.{Serves, OthersStay};
 
 use crate::lanes::{clear_all, drain_all, written_of};
-use crate::values::WorldValues;
+use crate::values::{Places, WorldValues, note_all};
 use client_scope::Scope;
 use client_seat::Seat;
 use dirty_lanes::PlainLanes;
@@ -56,6 +56,7 @@ pub(crate) fn pack_for(
     lanes: &mut PlainLanes,
     client: u8,
     drains: &mut Vec<Drain>,
+    places: &mut Places,
 ) -> Result<Told, NoMemory>
     requires serves { (h : Head) × (past : List OneLine) × Serves seat.old scope.now world.now lanes.old client h past
         × (length past < MAX_COUNTED_LINES) }
@@ -68,10 +69,12 @@ pub(crate) fn pack_for(
     let Ok(()) = drains_for(seat, scope, lanes, client, drains) else {
         return Err(NoMemory);
     };
+    let shown = scope.shown();
+    note_all(places, shown);
     let mut values = WorldValues {
         world,
-        shown: scope.shown(),
-        last: 0,
+        shown,
+        places,
     };
     seat.pack(alloc, client, drains, &mut values)
 }
@@ -157,4 +160,5 @@ pub(crate) struct Room {
     pub(crate) seen: Vec<Seen>,
     pub(crate) shows: Vec<Showing>,
     pub(crate) drains: Vec<Drain>,
+    pub(crate) places: Places,
 }

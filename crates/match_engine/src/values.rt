@@ -13,9 +13,25 @@ use world_sim::World;
 pub(crate) struct WorldValues<'a> {
     pub(crate) world: &'a World,
     pub(crate) shown: &'a [ShownPeriod],
-    // where the period stands that was asked for last
-    pub(crate) last: usize,
+    // where shown periods stand
+    pub(crate) places: &'a Places,
     ghost rising: { Rise shown.now },
+}
+
+/// So many places are noted, each by the last bits of a period's number.
+pub(crate) const NOTES: usize = 256;
+
+// More than any place of a shown period.
+const NO_PLACE: usize = 65_536;
+
+/// Where shown periods stand, as far as noted: looked at first, and nothing rests on it.
+pub(crate) type Places = [u16; NOTES];
+
+/// Notes where these periods stand.
+pub(crate) fn note_all(places: &mut Places, shown: &[ShownPeriod]) {
+    for at in 0..shown.len() {
+        places[shown[at].n as usize % NOTES] = (at % NO_PLACE) as u16;
+    }
 }
 
 // Where the shown period of this number stands.
@@ -27,14 +43,15 @@ fn place(shown: &[ShownPeriod], n: u32) -> Option<usize>
     shown.binary_search_by_key(&n, |p| p.n).ok()
 }
 
-// The same. It is looked for at this place first.
-fn place_from(shown: &[ShownPeriod], last: usize, n: u32) -> Option<usize>
+// The same. Where it stands as noted, it is found at once.
+fn place_noted(shown: &[ShownPeriod], places: &Places, n: u32) -> Option<usize>
     requires rising { Rise shown.now }
     ensures found { IfSome result (IsAt shown.now n) }
     ensures absent { result ≡ None → period_of shown.now n ≡ None }
 {
-    if last < shown.len() && shown[last].n == n {
-        return Some(last);
+    let at = places[n as usize % NOTES] as usize;
+    if at < shown.len() && shown[at].n == n {
+        return Some(at);
     }
     place(shown, n)
 }
@@ -66,8 +83,7 @@ impl<'a> Values for WorldValues<'a> {
     ghost same = { λ a b. (b.world.now ≡ a.world.now) × (b.shown.now ≡ a.shown.now) };
 
     fn value(&mut self, n: u32, field: u8) -> Read {
-        let place = place_from(self.shown, self.last, n);
-        self.last = place.unwrap_or(0);
+        let place = place_noted(self.shown, self.places, n);
         let Some(period) = period_of(self.shown, place, n) else {
             unreachable!()
         };

@@ -16,7 +16,7 @@ use Rattle.match_engine.proofs.serving.pack_for.Goals as goal
 pub invariant_of-values : goal.invariant_of-values
 invariant_of-values c =
     let h = c.requires.serves in
-    record { rising = subst Rise (sym c.shown.ensures) (shown_rises c.args.seat.now c.args.scope.now c.args.world.now c.args.lanes.now c.args.client h.0 h.1 h.2) }
+    record { rising = subst Rise (sym c.shown-shown.ensures) (shown_rises c.args.seat.now c.args.scope.now c.args.world.now c.args.lanes.now c.args.client h.0 h.1 h.2) }
 
 pub pack-requires-clause-few : goal.pack-requires-clause-few
 pack-requires-clause-few c =
@@ -26,7 +26,7 @@ pub pack-requires-clause-may : goal.pack-requires-clause-may
 pack-requires-clause-may c =
     let h = c.requires.serves in
     let is : c.deref.result.now ≡ drains_of (client_terms h.0 c.args.client) (kept_by h.0 (after h.0 h.1) c.args.client) = c.deref.ensures.value ∙ c.in-Ok.ensures.drains c.args.world.now h.0 h.1 h.2 in
-    subst (λ (ps : List ShownPeriod). MayPack c.args.seat.now.pair c.deref.result.now (ranges c.args.world.now ps)) (sym c.shown.ensures)
+    subst (λ (ps : List ShownPeriod). MayPack c.args.seat.now.pair c.deref.result.now (ranges c.args.world.now ps)) (sym c.shown-shown.ensures)
     (may_pack c.args.seat.now c.args.scope.now c.args.world.now c.args.lanes.now c.args.client h.0 h.1 h.2 c.deref.result.now is)
 
 -- what was asked of values that are those of this world and of these periods
@@ -39,7 +39,7 @@ returns-clause-told c =
     map_if_ok c.pack.result _ _
     (λ told x h past s.
     let is : c.deref.result.now ≡ drains_of (client_terms h c.args.client) (kept_by h (after h past) c.args.client) = c.deref.ensures.value ∙ c.in-Ok.ensures.drains c.args.world.now h past s in
-    let newest = newest_here c.pack.new.values.world.now c.args.world.now c.pack.new.values.shown.now c.args.scope.now.shown x.2.alike.0 (x.2.alike.1 ∙ c.shown.ensures) x.0 x.2.stand in
+    let newest = newest_here c.pack.new.values.world.now c.args.world.now c.pack.new.values.shown.now c.args.scope.now.shown x.2.alike.0 (x.2.alike.1 ∙ c.shown-shown.ensures) x.0 x.2.stand in
     let reads = reads_are c.args.seat.now c.args.scope.now c.args.world.now c.args.lanes.now c.args.client h past s c.deref.result.now x.0 is
     (x.1.read (client_terms h c.args.client) (kept_by h (after h past) c.args.client).course s.holds.course) newest in
     packed_tells c.args.seat.now c.args.scope.now c.args.world.now c.args.lanes.now c.args.client h past s c.deref.result.now x.0 told c.pack.new.self is reads x.1)
@@ -54,7 +54,7 @@ returns-clause-serves c =
     serves_if c.pack.result _ _
     (λ told x h past s few.
     let is : c.deref.result.now ≡ drains_of (client_terms h c.args.client) (kept_by h (after h past) c.args.client) = c.deref.ensures.value ∙ c.in-Ok.ensures.drains c.args.world.now h past s in
-    let newest = newest_here c.pack.new.values.world.now c.args.world.now c.pack.new.values.shown.now c.args.scope.now.shown x.2.alike.0 (x.2.alike.1 ∙ c.shown.ensures) x.0 x.2.stand in
+    let newest = newest_here c.pack.new.values.world.now c.args.world.now c.pack.new.values.shown.now c.args.scope.now.shown x.2.alike.0 (x.2.alike.1 ∙ c.shown-shown.ensures) x.0 x.2.stand in
     let reads = reads_are c.args.seat.now c.args.scope.now c.args.world.now c.args.lanes.now c.args.client h past s c.deref.result.now x.0 is
     (x.1.read (client_terms h c.args.client) (kept_by h (after h past) c.args.client).course s.holds.course) newest in
     packed_serves c.args.seat.now c.args.scope.now c.args.world.now c.args.lanes.now c.args.client h past s c.deref.result.now x.0 told c.pack.new.self c.drains_for.new.lanes is reads x.1
