@@ -77,6 +77,7 @@ impl Draft {
     }
 
     /// Appends these bytes to the line.
+    #[inline(always)]
     pub(crate) fn push(&mut self, bytes: &[u8]) -> Result<(), AllocError>
         ensures line { OnOk result (self.new.line ≡ self.old.line ++ bytes.now) }
         ensures before { self.new.before ≡ self.old.before }
@@ -85,6 +86,7 @@ impl Draft {
     }
 
     /// Appends a word.
+    #[inline(always)]
     pub(crate) fn push_str(&mut self, word: &str) -> Result<(), AllocError>
         ensures line { OnOk result (self.new.line ≡ self.old.line ++ word.now) }
         ensures before { self.new.before ≡ self.old.before }
@@ -113,6 +115,7 @@ impl Draft {
     }
 
     /// Appends a number. Most numbers of a report have one digit.
+    #[inline(always)]
     pub(crate) fn push_number(&mut self, number: u64) -> Result<(), AllocError>
         ensures line { OnOk result (self.new.line ≡ self.old.line ++ decimal number) }
         ensures before { self.new.before ≡ self.old.before }

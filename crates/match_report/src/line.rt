@@ -40,6 +40,7 @@ fn class_word(class: Class) -> &'static str
 }
 
 // Appends a word and a number.
+#[inline(always)]
 fn put(text: &mut Draft, word: &str, number: u32) -> Result<(), AllocError>
     ensures line { OnOk result (text.new.line ≡ text.old.line ++ word.now ++ decimal number) }
     ensures before { text.new.before ≡ text.old.before }
@@ -49,6 +50,7 @@ fn put(text: &mut Draft, word: &str, number: u32) -> Result<(), AllocError>
 }
 
 // Appends a word and a count.
+#[inline(always)]
 fn put_count(text: &mut Draft, word: &str, count: usize) -> Result<(), AllocError>
     ensures line { OnOk result (text.new.line ≡ text.old.line ++ word.now ++ decimal count) }
     ensures before { text.new.before ≡ text.old.before }
@@ -122,6 +124,7 @@ fn put_dropped(text: &mut Draft, dropped: &Option<Payload>) -> Result<(), AllocE
     }
 }
 
+#[inline(always)]
 fn put_two(text: &mut Draft, word: &str, first: u32, second: u32) -> Result<(), AllocError>
     ensures line { OnOk result (text.new.line ≡ text.old.line ++ two_numbers word.now first second) }
     ensures before { text.new.before ≡ text.old.before }

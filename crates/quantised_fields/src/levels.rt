@@ -11,6 +11,9 @@ ghost use Rattle.quantised_fields.specs.Levels.{is_sound, range_of, greatest_of,
 use crate::field::FieldSpec;
 use tn_types::{MAX_FIELD_BITS, MAX_WORD_BITS};
 
+// The range of a field with all values of 16 bits, as coordinates have.
+const WHOLE_WORDS: u64 = 65_535;
+
 // How far x is above lo.
 fn gap(lo: i64, x: i64) -> u64
     requires { lo ≤ℤ x }
@@ -57,6 +60,10 @@ fn nearest_level(distance: u64, range: u64, greatest: u64) -> u32
     if range == greatest {
         // each value has a level of its own
         return distance as u32;
+    }
+    if range == WHOLE_WORDS {
+        // the range of coordinates: the compiler needs no division for it
+        return ((2 * distance * greatest + WHOLE_WORDS) / (2 * WHOLE_WORDS)) as u32;
     }
     ((2 * distance * greatest + range) / (2 * range)) as u32
 }
