@@ -1,8 +1,7 @@
-pub mod Gathering
-pub mod MarkBits
 pub mod Numbers
-pub mod Marking
-pub mod Words
+pub mod Sets
 pub mod Parts
+pub mod Rests
 pub mod Sights
+pub mod Walking
 pub mod SeenList

@@ -1,5 +1,5 @@
 -- Parts of the field, cell by cell and row by row.
-use Rattle.std.proofs.Common.{◌≡◌, ℕ, zero, suc, ◌+◌, ◌-◌, ◌/◌, ◌<◌, ◌≤◌, ◌⊎◌, inl, inr, Bool, true, false, ◌&&◌, ◌==◌, nat_le, List, [], ◌∷◌, refl, sym, ◌∙◌, arith, min, Some, count_by}
+use Rattle.std.proofs.Common.{◌≡◌, ℕ, zero, suc, ◌+◌, ◌-◌, ◌/◌, ◌<◌, ◌≤◌, Bool, true, false, ◌&&◌, ◌||◌, ◌==◌, nat_le, List, [], ◌∷◌, refl, sym, ap, ◌∙◌, arith, min, Some, None}
 use Rattle.std.specs.Prelude.{slice_get}
 use Rattle.std.specs.List.{AllByRecursion}
 use Rattle.std.proofs.Math.Bool.{and-false, and-true}
@@ -8,10 +8,10 @@ use Rattle.world_rules.specs.declared.object.Object.{Object}
 use Rattle.world_rules.specs.declared.object.Place.{Place}
 use Rattle.world_rules.specs.Ranges.{ObjectFits}
 use Rattle.world_cells.specs.Grid.{has_place, lies_at, is_between, lies_between}
-use Rattle.world_scope.specs.Scope.{Look}
 use Rattle.world_scope.specs.Square.{is_round}
-use Rattle.world_scope.specs.Marks.{IsExact, AreExact, is_in_row}
-use Rattle.world_scope.proofs.Numbers.{one, count_split, count_same, count_none}
+use Rattle.world_scope.specs.Candidates.{AreThose, either, is_in_row, is_near}
+use Rattle.world_scope.proofs.Numbers.{one}
+use Rattle.world_scope.proofs.Sets.{those_same}
 
 between_more : (from c x : ℕ) → from ≤ c → one (is_between from (c + 1) x) ≡ one (is_between from c x) + one (x == c)
 between_more from c x h = grind (arith, nat_tests)
@@ -38,24 +38,18 @@ part_split : (a b from c : ℕ) → from ≤ c → (o : Object) → one (lies_be
 part_split a b from c h o =
     glue_row o.alive (has_place o.state) (is_between a b (o.place.x / 4096)) _ _ _ (between_more from c (o.place.y / 4096) h)
 
-either : (p q r : Bool) → one p ≡ one q + one r → p ≡ true → (q ≡ true) ⊎ (r ≡ true)
-either p true r e h = inl refl
-either p false true e h = inr refl
-either true false false e h = absurd (omega (arith, e))
-either false false false e h = absurd (cc)
+same_bits : (b c : Bool) → one c ≡ one b → b ≡ c
+same_bits true true e = refl
+same_bits false false e = refl
+same_bits true false e = absurd (omega (arith, e))
+same_bits false true e = absurd (omega (arith, e))
 
-joined_by : (v : Look) (os : List Object) (q r : Object → Bool) (marks : List ℕ) → AreExact v os q marks → AreExact v os r marks → (n : ℕ) (o : Object) → slice_get os n ≡ Some o → (q o ≡ true) ⊎ (r o ≡ true) → IsExact v os marks n
-joined_by v os q r marks x y n o at (inl h) = x n o at h
-joined_by v os q r marks x y n o at (inr h) = y n o at h
-
-joined : (v : Look) (os : List Object) (p q r : Object → Bool) (marks : List ℕ) → ((o : Object) → one (p o) ≡ one (q o) + one (r o)) → AreExact v os q marks → AreExact v os r marks → AreExact v os p marks
-joined v os p q r marks h x y = λ n o at t. joined_by v os q r marks x y n o at (either (p o) (q o) (r o) (h o) t)
-
-nothing : (false ≡ true) → ⊥
-nothing e = absurd (cc)
-
-none_exact : (v : Look) (os : List Object) (p : Object → Bool) (marks : List ℕ) → ((o : Object) → p o ≡ false) → AreExact v os p marks
-none_exact v os p marks h = λ n o at t. absurd (nothing (sym (h o) ∙ t))
+-- a test that is split into two tells the same as either
+split_is : (p a b c : Bool) → one c ≡ one a + one b → ((p || a) || b) ≡ (p || c)
+split_is true a b c e = refl
+split_is false true b true e = refl
+split_is false false b c e = same_bits b c (omega (arith, e))
+split_is false true b false e = absurd (omega (arith, e))
 
 between_none : (c x : ℕ) → is_between c c x ≡ false
 between_none c x = grind (arith, nat_tests)
@@ -66,25 +60,27 @@ empty_row row c o = rw (between_none c (o.place.x / 4096), and-false (o.place.y 
 empty_part : (a b c : ℕ) (o : Object) → lies_between a b c c o ≡ false
 empty_part a b c o = rw (between_none c (o.place.y / 4096), and-false (has_place o.state), and-false o.alive) refl
 
+none_is : (p a : Bool) → a ≡ false → p ≡ (p || a)
+none_is true a e = refl
+none_is false a e = sym e
+
 -- ---- for the loops
 
-pub row_none : (v : Look) (os : List Object) (marks : List ℕ) (row c : ℕ) → AreExact v os (is_in_row row c c) marks × (count_by (is_in_row row c c) os ≡ 0)
-row_none v os marks row c = (none_exact v os (is_in_row row c c) marks (empty_row row c), count_none (is_in_row row c c) os (empty_row row c))
+pub row_none : (words : List ℕ) (p : Object → Bool) (os : List Object) (row c : ℕ) → AreThose words p os → AreThose words (either p (is_in_row row c c)) os
+row_none words p os row c those = those_same words p (either p (is_in_row row c c)) os (λ n o at. none_is (p o) (is_in_row row c c o) (empty_row row c o)) those
 
-pub row_more : (v : Look) (os : List Object) (marks : List ℕ) (row from c : ℕ) → from ≤ c → AreExact v os (is_in_row row from c) marks → AreExact v os (lies_at c row) marks → AreExact v os (is_in_row row from (c + 1)) marks
-row_more v os marks row from c h x y = joined v os (is_in_row row from (c + 1)) (is_in_row row from c) (lies_at c row) marks (row_split row from c h) x y
+pub row_more : (words : List ℕ) (p : Object → Bool) (os : List Object) (row from c : ℕ) → from ≤ c → AreThose words (either (either p (is_in_row row from c)) (lies_at c row)) os → AreThose words (either p (is_in_row row from (c + 1))) os
+row_more words p os row from c h those =
+    those_same words (either (either p (is_in_row row from c)) (lies_at c row)) (either p (is_in_row row from (c + 1))) os
+    (λ n o at. split_is (p o) (is_in_row row from c o) (lies_at c row o) (is_in_row row from (c + 1) o) (row_split row from c h o)) those
 
-pub row_counts : (os : List Object) (row from c : ℕ) → from ≤ c → count_by (is_in_row row from (c + 1)) os ≡ count_by (is_in_row row from c) os + count_by (lies_at c row) os
-row_counts os row from c h = count_split (is_in_row row from (c + 1)) (is_in_row row from c) (lies_at c row) os (row_split row from c h)
+pub part_none : (words : List ℕ) (p : Object → Bool) (os : List Object) (a b c : ℕ) → AreThose words p os → AreThose words (either p (lies_between a b c c)) os
+part_none words p os a b c those = those_same words p (either p (lies_between a b c c)) os (λ n o at. none_is (p o) (lies_between a b c c o) (empty_part a b c o)) those
 
-pub part_none : (v : Look) (os : List Object) (marks : List ℕ) (a b c : ℕ) → AreExact v os (lies_between a b c c) marks × (count_by (lies_between a b c c) os ≡ 0)
-part_none v os marks a b c = (none_exact v os (lies_between a b c c) marks (empty_part a b c), count_none (lies_between a b c c) os (empty_part a b c))
-
-pub part_more : (v : Look) (os : List Object) (marks : List ℕ) (a b from c : ℕ) → from ≤ c → AreExact v os (lies_between a b from c) marks → AreExact v os (is_in_row c a b) marks → AreExact v os (lies_between a b from (c + 1)) marks
-part_more v os marks a b from c h x y = joined v os (lies_between a b from (c + 1)) (lies_between a b from c) (is_in_row c a b) marks (part_split a b from c h) x y
-
-pub part_counts : (os : List Object) (a b from c : ℕ) → from ≤ c → count_by (lies_between a b from (c + 1)) os ≡ count_by (lies_between a b from c) os + count_by (is_in_row c a b) os
-part_counts os a b from c h = count_split (lies_between a b from (c + 1)) (lies_between a b from c) (is_in_row c a b) os (part_split a b from c h)
+pub part_more : (words : List ℕ) (p : Object → Bool) (os : List Object) (a b from c : ℕ) → from ≤ c → AreThose words (either (either p (lies_between a b from c)) (is_in_row c a b)) os → AreThose words (either p (lies_between a b from (c + 1))) os
+part_more words p os a b from c h those =
+    those_same words (either (either p (lies_between a b from c)) (is_in_row c a b)) (either p (lies_between a b from (c + 1))) os
+    (λ n o at. split_is (p o) (lies_between a b from c o) (is_in_row c a b o) (lies_between a b from (c + 1) o) (part_split a b from c h o)) those
 
 -- ---- the square as columns and rows
 
@@ -104,17 +100,15 @@ round_is radius p o fits =
     let y : o.place.y / 4096 < 16 = omega (arith, fits.place.1) in
     rw (within ((p.x - radius) / 4096) ((p.x + radius) / 4096) (o.place.x / 4096) x, within ((p.y - radius) / 4096) ((p.y + radius) / 4096) (o.place.y / 4096) y) refl
 
-all_round : (radius : ℕ) (p : Place) (os : List Object) → AllByRecursion ObjectFits os → AllByRecursion (λ o. part_round radius p o ≡ is_round radius p o) os
-all_round radius p [] fits = tt
-all_round radius p (o ∷ os) fits = (round_is radius p o fits.0, all_round radius p os fits.1)
-
 pub fits_at : (os : List Object) (n : ℕ) (o : Object) → AllByRecursion ObjectFits os → slice_get os n ≡ Some o → ObjectFits o
 fits_at [] n o fits e = absurd (cc)
 fits_at (x ∷ os) zero o fits e = let same : x ≡ o = cc in rw (sym same) fits.0
 fits_at (x ∷ os) (suc n) o fits e = fits_at os n o fits.1 e
 
-pub round_exact : (v : Look) (os : List Object) (marks : List ℕ) (radius : ℕ) (p : Place) → AllByRecursion ObjectFits os → AreExact v os (part_round radius p) marks → AreExact v os (is_round radius p) marks
-round_exact v os marks radius p fits x = λ n o at t. x n o at (round_is radius p o (fits_at os n o fits at) ∙ t)
+pub round_those : (words : List ℕ) (p : Object → Bool) (os : List Object) (radius : ℕ) (place : Place) → AllByRecursion ObjectFits os → AreThose words (either p (part_round radius place)) os → AreThose words (either p (is_round radius place)) os
+round_those words p os radius place fits those =
+    those_same words (either p (part_round radius place)) (either p (is_round radius place)) os
+    (λ n o at. ap (λ b. p o || b) (round_is radius place o (fits_at os n o fits at))) those
 
-pub round_counts : (os : List Object) (radius : ℕ) (p : Place) → AllByRecursion ObjectFits os → count_by (part_round radius p) os ≡ count_by (is_round radius p) os
-round_counts os radius p fits = count_same (part_round radius p) (is_round radius p) os (all_round radius p os fits)
+pub near_none : (words : List ℕ) (p : Object → Bool) (os : List Object) (radius : ℕ) → AreThose words p os → AreThose words (either p (is_near radius None)) os
+near_none words p os radius those = those_same words p (either p (is_near radius None)) os (λ n o at. none_is (p o) false refl) those

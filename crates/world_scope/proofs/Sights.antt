@@ -1,12 +1,10 @@
 -- What a client sees is always seen or lies round its player.
-use Rattle.std.proofs.Common.{◌≡◌, ℕ, zero, suc, ◌+◌, ◌-◌, ◌/◌, ◌≤◌, ◌⊎◌, inl, inr, Bool, true, false, cond, ◌||◌, nat_le, List, [], ◌∷◌, length, get_or, take, replicate, refl, sym, ap, ◌∙◌, arith, Option, Some, None, count_by}
+use Rattle.std.proofs.Common.{◌≡◌, ℕ, zero, suc, ◌+◌, ◌-◌, ◌/◌, ◌≤◌, ◌<◌, ◌⊎◌, inl, inr, Bool, true, false, cond, ◌||◌, nat_le, nat_eq, List, [], ◌∷◌, length, map, get_or, refl, sym, ap, ◌∙◌, arith, Option, Some, None, count_by}
 use Rattle.std.specs.Prelude.{slice_get, find}
 use Rattle.std.specs.Int.{abs_diff}
 use Rattle.std.specs.List.{filter_map, enumerate_from}
-use Rattle.std.proofs.lemmas.List.{length-take, get_or-take}
 use Rattle.std.proofs.lemmas.Bool.{and_parts, leb-true, le-leb}
-use Rattle.std.proofs.lemmas.Bool.Decides.{eqb_tells}
-use Rattle.std.proofs.lemmas.Option.{slice_get_within}
+use Rattle.std.proofs.lemmas.Bool.Decides.{nat_tests, eqb_tells}
 use Rattle.world_rules.specs.declared.object.Object.{Object}
 use Rattle.world_rules.specs.declared.object.State.{State}
 use Rattle.world_rules.specs.declared.object.State.TheVariants.{Player, Disc, Mine, Drone, Flag, Clock}
@@ -15,10 +13,14 @@ use Rattle.world_rules.specs.Identity.{owner_in, owners, OwnersRise, HaveNoOwner
 use Rattle.world_cells.specs.Grid.{has_place, is_always, lasts}
 use Rattle.world_sim.specs.Worlds.{Worlds}
 use Rattle.world_scope.specs.Sight.{distance}
+use Rattle.world_sim.specs.declared.glance.Glance.{Glance}
+use Rattle.world_sim.specs.Glances.{glance_of}
+use Rattle.world_sim.proofs.Glancing.{glance_is}
+use Rattle.world_scope.specs.declared.viewer.Seen.{Seen}
 use Rattle.world_scope.specs.Scope.{Look, look_of, is_visible, player_sees, seen, visible_list}
 use Rattle.world_scope.specs.Square.{is_touched, is_round, many_round, most_looks}
-use Rattle.world_scope.specs.Marks.{told, AreExact, AreKept, IsExact, is_near}
-use Rattle.world_scope.proofs.Marking.{list_told}
+use Rattle.world_scope.specs.Candidates.{HasOnePlayer, either, is_near, may_see, told, seen_in}
+use Rattle.world_scope.proofs.Numbers.{one, count_cons}
 
 -- ---- the client's player is the only one of its client
 
@@ -112,54 +114,105 @@ sees_round radius None o alive placed e = absurd (cc)
 sees_round radius (Some p) o alive placed e =
     round radius p o alive placed (leb-true (distance p.place o.place) radius (and_parts _ (nat_le (distance p.place o.place) radius) e).1)
 
-near_by : (clients : ℕ) (w : Worlds) (client n : ℕ) (o : Object) → IsPeopled clients w.objects → slice_get w.objects n ≡ Some o → o.alive ≡ true → has_place o.state ≡ true → (is_player client o ≡ true) ⊎ (player_sees w.radius (find (is_player client) w.objects) o ≡ true) → is_near w.radius (find (is_player client) w.objects) o ≡ true
-near_by clients w client n o people at alive placed (inl h) =
-    let first = first_found clients 0 w.objects n o client people.owned at h in
-    let here : distance o.place o.place ≤ w.radius = omega arith in
-    rw first (round w.radius o o alive placed here)
-near_by clients w client n o people at alive placed (inr h) = sees_round w.radius (find (is_player client) w.objects) o alive placed h
+pub has_one : (clients : ℕ) (w : Worlds) (client : ℕ) → IsPeopled clients w.objects → HasOnePlayer (look_of w client) w.objects
+has_one clients w client people = λ n o at h. first_found clients 0 w.objects n o client people.owned at h
 
--- ---- so each mark is exact
+near_by : (v : Look) (os : List Object) (n : ℕ) (o : Object) → HasOnePlayer v os → slice_get os n ≡ Some o → o.alive ≡ true → has_place o.state ≡ true → (is_player v.client o ≡ true) ⊎ (player_sees v.radius v.player o ≡ true) → is_near v.radius v.player o ≡ true
+near_by v os n o owned at alive placed (inl h) =
+    let here : distance o.place o.place ≤ v.radius = omega arith in
+    rw (owned n o at h) (round v.radius o o alive placed here)
+near_by v os n o owned at alive placed (inr h) = sees_round v.radius v.player o alive placed h
 
-unseen : (v : Look) (os : List Object) (marks zeros : List ℕ) (n : ℕ) (o : Object) → (get_or marks n 0 ≡ get_or zeros n 0) ⊎ IsExact v os marks n → get_or zeros n 0 ≡ 0 → slice_get os n ≡ Some o → is_visible v o ≡ false → told (n, get_or marks n 0) ≡ seen v (n, o)
-unseen v os marks zeros n o (inl same) z at h = rw (same ∙ z, h) refl
-unseen v os marks zeros n o (inr x) z at h = x o at
+-- ---- so nobody else is seen
 
-record Scanned (w : Worlds) (client : ℕ) (zeros marks : List ℕ) : Type 0 where
-  empty : (n : ℕ) → get_or zeros n 0 ≡ 0
-  kept : AreKept (look_of w client) w.objects zeros marks
-  always : AreExact (look_of w client) w.objects lasts marks
-  near : AreExact (look_of w client) w.objects (is_near w.radius (find (is_player client) w.objects)) marks
+or_right : (a b : Bool) → b ≡ true → (a || b) ≡ true
+or_right true b e = refl
+or_right false b e = e
 
-exact_seen : (clients : ℕ) (w : Worlds) (client : ℕ) (zeros marks : List ℕ) → IsPeopled clients w.objects → Scanned w client zeros marks → (n : ℕ) (o : Object) (always : Bool) → slice_get w.objects n ≡ Some o → is_visible (look_of w client) o ≡ true → is_always o ≡ always → told (n, get_or marks n 0) ≡ seen (look_of w client) (n, o)
-exact_seen clients w client zeros marks people s n o true at e a =
+seen_by : (v : Look) (os : List Object) (n : ℕ) (o : Object) (always : Bool) → HasOnePlayer v os → slice_get os n ≡ Some o → is_visible v o ≡ true → is_always o ≡ always → may_see v o ≡ true
+seen_by v os n o true owned at e a =
     let alive = (and_parts o.alive _ e).0 in
-    s.always n o at (rw (alive, a) refl) o at
-exact_seen clients w client zeros marks people s n o false at e a =
+    let lives : lasts o ≡ true = rw (alive, a) refl in
+    ap (λ b. b || is_near v.radius v.player o) lives
+seen_by v os n o false owned at e a =
     let parts = and_parts o.alive _ e in
-    let by = which (is_player client o) (is_always o) (player_sees w.radius (find (is_player client) w.objects) o) parts.1 a in
-    s.near n o at (near_by clients w client n o people at parts.0 (placed_by o o.state refl a) by) o at
+    let by = which (is_player v.client o) (is_always o) (player_sees v.radius v.player o) parts.1 a in
+    or_right (lasts o) (is_near v.radius v.player o) (near_by v os n o owned at parts.0 (placed_by o o.state refl a) by)
 
-exact_by : (clients : ℕ) (w : Worlds) (client : ℕ) (zeros marks : List ℕ) → IsPeopled clients w.objects → Scanned w client zeros marks → (n : ℕ) (o : Object) (visible : Bool) → slice_get w.objects n ≡ Some o → is_visible (look_of w client) o ≡ visible → told (n, get_or marks n 0) ≡ seen (look_of w client) (n, o)
-exact_by clients w client zeros marks people s n o true at e = exact_seen clients w client zeros marks people s n o (is_always o) at e refl
-exact_by clients w client zeros marks people s n o false at e = unseen (look_of w client) w.objects marks zeros n o (s.kept n) (s.empty n) at e
+contradict : false ≡ true → ⊥
+contradict e = absurd (cc)
 
-abbrev pub no_marks : ℕ → List ℕ
-no_marks k = replicate k 0
+unseen : (v : Look) (os : List Object) (n : ℕ) (o : Object) (visible : Bool) → HasOnePlayer v os → slice_get os n ≡ Some o → may_see v o ≡ false → is_visible v o ≡ visible → is_visible v o ≡ false
+unseen v os n o true owned at e is = absurd (contradict (sym e ∙ seen_by v os n o (is_always o) owned at is refl))
+unseen v os n o false owned at e is = is
 
-zero_at : (k n : ℕ) → get_or (no_marks k) n 0 ≡ 0
-zero_at zero n = refl
-zero_at (suc k) zero = refl
-zero_at (suc k) (suc n) = zero_at k n
+pub nobody_else : (v : Look) (os : List Object) (n : ℕ) (o : Object) → HasOnePlayer v os → slice_get os n ≡ Some o → may_see v o ≡ false → is_visible v o ≡ false
+nobody_else v os n o owned at e = unseen v os n o (is_visible v o) owned at e refl
 
-pub scan_told : (clients : ℕ) (w : Worlds) (client : ℕ) (v : Look) (ms marks : List ℕ) → v ≡ look_of w client → IsPeopled clients w.objects → length w.objects ≤ length marks → AreKept v w.objects (no_marks 1024) marks → AreExact v w.objects lasts marks → AreExact v w.objects (is_near v.radius v.player) marks → ms ≡ take (length w.objects) marks → filter_map told (enumerate_from 0 ms) ≡ visible_list w client
+-- ---- what a glance tells
+
+object_at : (os : List Object) (n : ℕ) (o : Object) → slice_get os n ≡ Some o → get_or os n o ≡ o
+object_at [] n o e = absurd (cc)
+object_at (x ∷ os) zero o e = cc
+object_at (x ∷ os) (suc n) o e = object_at os n o e
+
+pub told_of : (n q : ℕ) → told (n, q + 1) ≡ Some (record { object = n; level = q })
+told_of n q =
+    let t : nat_eq (q + 1) 0 ≡ false = grind (arith, nat_tests) in
+    let e : q + 1 - 1 ≡ q = omega arith in
+    rw (t, e) refl
+
+missing : (os : List Object) (n : ℕ) → n < length os → slice_get os n ≡ None → ⊥
+missing [] n l e = absurd (omega (arith, l))
+missing (o ∷ os) zero l e = absurd (cc)
+missing (o ∷ os) (suc n) l e = missing os n (omega (arith, l)) e
+
+glanced : (v : Look) (os : List Object) (glances : List Glance) (n m : ℕ) (g : Glance) (made : Option Seen) (x : Option Object) → glances ≡ map glance_of os → n < length os → slice_get os n ≡ x → made ≡ told (n, m) → ((object : ℕ) (o : Object) → get_or glances n g ≡ glance_of o → told (object, m) ≡ seen v (object, o)) → made ≡ seen_in v os n
+glanced v os glances n m g made None same few at is h = absurd (missing os n few at)
+glanced v os glances n m g made (Some o) same few at is h =
+    let told_is : told (n, m) ≡ seen v (n, o) = h n o (glance_is os glances n o g same few ∙ ap glance_of (object_at os n o at)) in
+    is ∙ told_is ∙ rw at refl
+
+-- what the mark by a glance tells is what is seen of the object
+pub glance_tells : (v : Look) (os : List Object) (glances : List Glance) (n m : ℕ) (g : Glance) (made : Option Seen) → glances ≡ map glance_of os → n < length os → made ≡ told (n, m) → ((object : ℕ) (o : Object) → get_or glances n g ≡ glance_of o → told (object, m) ≡ seen v (object, o)) → made ≡ seen_in v os n
+glance_tells v os glances n m g made same few is h = glanced v os glances n m g made (slice_get os n) same few refl is h
+
+-- ---- the whole list
+
+pub look_is : (w : Worlds) (client radius : ℕ) (v : Look) (os : List Object) → v ≡ record { client = client; player = find (is_player client) os; radius = radius } → os ≡ w.objects → radius ≡ w.radius → v ≡ look_of w client
+look_is w client radius v os e f g = e ∙ rw (f, g) refl
+
+pub list_is : (w : Worlds) (client : ℕ) (v : Look) → v ≡ look_of w client → filter_map (seen v) (enumerate_from 0 w.objects) ≡ visible_list w client
 unfolding visible_list
-scan_told clients w client v ms marks is people few kept always near e =
-    let s : Scanned w client (no_marks 1024) marks = record { empty = zero_at 1024; kept = rw is at kept; always = rw is at always; near = rw is at near } in
-    let many : length ms ≡ length w.objects = let l = length-take (length w.objects) marks in ap (λ (xs : List ℕ). length xs) e ∙ omega (arith, l) in
-    list_told (look_of w client) ms w.objects many (λ n o at.
-    let here : get_or ms n 0 ≡ get_or marks n 0 = ap (λ (xs : List ℕ). get_or xs n 0) e ∙ get_or-take (length w.objects) marks n 0 (slice_get_within w.objects n o at) in
-    ap (λ m. told (n, m)) here ∙ exact_by clients w client (no_marks 1024) marks people s n o (is_visible (look_of w client) o) at refl)
+list_is w client v e = ap (λ (u : Look). filter_map (seen u) (enumerate_from 0 w.objects)) e
 
-pub looks_few : (w : Worlds) (client : ℕ) (v : Look) (before now : ℕ) → v ≡ look_of w client → now ≤ before + (count_by lasts w.objects + many_round v.radius v.player w.objects) → now ≤ before + most_looks w client
-looks_few w client v before now e h = let k = rw e at h in omega (arith, k)
+-- ---- looks
+
+one_or : (a b : Bool) → one (a || b) ≤ one a + one b
+one_or true b = omega arith
+one_or false b = omega arith
+
+either_few : (p q : Object → Bool) (os : List Object) → count_by (either p q) os ≤ count_by p os + count_by q os
+either_few p q [] = omega arith
+either_few p q (o ∷ os) =
+    let h = either_few p q os in
+    let a = count_cons (either p q) o os in
+    let b = count_cons p o os in
+    let c = count_cons q o os in
+    let d = one_or (p o) (q o) in
+    omega (arith, h, a, b, c, d)
+
+none_near : (radius : ℕ) (os : List Object) → count_by (is_near radius None) os ≡ 0
+none_near radius [] = refl
+none_near radius (o ∷ os) = let a = count_cons (is_near radius None) o os in let b = none_near radius os in omega (arith, a, b)
+
+near_many : (radius : ℕ) (player : Option Object) (os : List Object) → count_by (is_near radius player) os ≡ many_round radius player os
+near_many radius None os = none_near radius os
+near_many radius (Some player) os = refl
+
+pub looks_few : (w : Worlds) (client : ℕ) (v : Look) (before now : ℕ) → v ≡ look_of w client → now ≤ before + count_by (may_see v) w.objects → now ≤ before + most_looks w client
+looks_few w client v before now e h =
+    let k = rw e at h in
+    let a = either_few lasts (is_near w.radius (find (is_player client) w.objects)) w.objects in
+    let b = near_many w.radius (find (is_player client) w.objects) w.objects in
+    omega (arith, k, a, b)

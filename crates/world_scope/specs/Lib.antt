@@ -2,6 +2,5 @@ pub mod Sight
 pub mod Scope
 pub mod Views
 pub mod Square
-pub mod Marks
-pub mod MarkWords
+pub mod Candidates
 pub mod Examples

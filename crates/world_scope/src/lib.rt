@@ -1,8 +1,8 @@
 //! Which objects of a world a client sees, and how near they are. The rules stand in docs/world.md, "Scope".
 #![tactic(auto)]
 
-mod mark_table;
-mod marks;
+mod candidates;
+mod gather;
 mod scope;
 mod viewer;
 

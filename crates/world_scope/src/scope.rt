@@ -6,8 +6,8 @@ ghost use Rattle.world_sim.specs.Worlds.{alive_at};
 ghost use Rattle.world_scope.specs.Scope.{seen_at, visible_list};
 ghost use Rattle.world_scope.specs.Square.{most_looks};
 
-use crate::mark_table::MarkTable;
-use crate::marks::mark_seen;
+use crate::candidates::{WORDS, add_candidates};
+use crate::gather::gather;
 use crate::viewer::{Seen, Viewer};
 use std::alloc::Global;
 use std::marker::Brand;
@@ -93,11 +93,11 @@ pub fn visible_counted<L: Ledger>(
     ensures there { All (λ s. s.object < length world.now.objects) out.new.items }
     ensures alive { All (λ s. alive_at world.now s.object ≡ Some true) out.new.items }
 {
-    let viewer = Viewer::of(world, client);
     let objects = world.all_objects();
-    let mut marks = MarkTable::new();
-    mark_seen(&viewer, world, &mut marks, steps);
-    match marks.gather(objects.len(), out) {
+    let viewer = Viewer::of(client, world.radius(), objects);
+    let mut words = [0; WORDS];
+    add_candidates(&viewer, world, &mut words);
+    match gather(&viewer, world, &words, out, steps) {
         Ok(()) => Ok(()),
         Err(_) => {
             out.clear();

@@ -9,7 +9,7 @@ ghost use Rattle.world_scope.specs.Sight.{distance, is_hidden};
 
 use world_rules::flags::is_player;
 use world_rules::{Object, Place};
-use world_sim::{Glance, Role, World};
+use world_sim::{Glance, Role};
 
 /// An object that a client sees.
 #[derive(Clone, Copy, Debug, PartialEq, Eq)]
@@ -86,18 +86,18 @@ fn player_of(client: u8, objects: &[Object]) -> Option<&Object>
 }
 
 impl Viewer {
-    ghost use Rattle.world_scope.specs.Scope.{player_sees, quarter, seen, look_of};
+    ghost use Rattle.world_scope.specs.Scope.{player_sees, quarter, seen};
     ghost use Rattle.world_scope.specs.Views.{look};
-    ghost use Rattle.world_scope.specs.Marks.{told};
+    ghost use Rattle.world_scope.specs.Candidates.{told};
 
-    /// The look of a client at a world.
-    pub fn of(world: &World, client: u8) -> Viewer
-        ensures { look result ≡ look_of world.now client }
+    /// The look of a client at these objects, from its player among them.
+    pub fn of(client: u8, radius: u32, objects: &[Object]) -> Viewer
+        ensures { look result ≡ record { client = client; player = find (is_player client) objects.now; radius = radius } }
     {
         Viewer {
             client,
-            player: player_of(client, world.all_objects()).copied(),
-            radius: world.radius(),
+            player: player_of(client, objects).copied(),
+            radius,
         }
     }
 
@@ -109,7 +109,7 @@ impl Viewer {
     }
 
     // The mark of an object by what the client's player sees.
-    #[tactic(auto, using(crate::proofs::Marking::told_of))]
+    #[tactic(auto, using(crate::proofs::Sights::told_of))]
     fn mark_by_player(&self, g: &Glance) -> u8
         ensures { (object : ℕ) (o : Object) → g.now ≡ glance_of o
             → told (object, result) ≡ (if player_sees self.now.radius self.now.player o
@@ -127,7 +127,7 @@ impl Viewer {
     }
 
     /// The mark of an object as the client sees it, by a glance: 0 where it doesn't, and else one more than the level.
-    #[tactic(auto, using(crate::proofs::Marking::told_of))]
+    #[tactic(auto, using(crate::proofs::Sights::told_of))]
     pub fn mark(&self, g: &Glance) -> u8
         ensures { (object : ℕ) (o : Object) → g.now ≡ glance_of o → told (object, result) ≡ seen (look self.now) (object, o) }
     {

@@ -1,0 +1,224 @@
+-- A set of numbers, as it grows by single numbers, by lists and by words.
+use Rattle.std.proofs.Common.{◌≡◌, ℕ, zero, suc, ◌+◌, ◌-◌, ◌*◌, ◌/◌, ◌%◌, ◌^◌, ◌<◌, ◌≤◌, inl, inr, Bool, true, false, cond, nat_eq, ◌||◌, max, List, [], ◌∷◌, length, drop, get_or, set, replicate, refl, sym, ap, ◌∙◌, arith, get_or-set_same, get_or-set_other, Option, Some, None, bit_or}
+use Rattle.std.specs.Prelude.{slice_get}
+use Rattle.std.specs.Option.{option_map_or}
+use Rattle.std.specs.Int.{bit_at}
+use Rattle.std.proofs.lemmas.Nat.Bits.{bit_at_or, bit_at-lt, bit_at-zero}
+use Rattle.std.proofs.lemmas.List.{drop_more, drop_all, length-set}
+use Rattle.std.proofs.lemmas.Option.{slice_get_past}
+use Rattle.std.proofs.lemmas.Bool.{cases_lt}
+use Rattle.std.proofs.lemmas.Bool.Decides.{nat_tests, eqb_tells}
+use Rattle.world_rules.specs.declared.object.Object.{Object}
+use Rattle.world_cells.specs.Grid.{numbers}
+use Rattle.world_cells.specs.Lines.{AreBits}
+use Rattle.world_cells.specs.NumberSet.{bit_of}
+use Rattle.world_cells.proofs.LineBits.{set_bit}
+use Rattle.world_scope.specs.Candidates.{AreThose, either}
+use Rattle.world_scope.proofs.Numbers.{one}
+
+abbrev pub passes : (Object → Bool) → List Object → ℕ → Bool
+passes p os n = option_map_or p (slice_get os n) false
+
+-- ---- one number more
+
+pub one_more : (words : List ℕ) (number n : ℕ) → length words ≡ 16 → number < 1024 → bit_of (set words (number / 64) (bit_or (get_or words (number / 64) 0) (1 * 2 ^ (number % 64) % 2 ^ 64))) n ≡ cond (nat_eq n number) 1 (bit_of words n)
+one_more words number n many l =
+    let old = get_or words (number / 64) 0 in
+    let new = bit_or old (1 * 2 ^ (number % 64) % 2 ^ 64) in
+    let there : number / 64 < length words = omega (arith, many, l) in
+    elim (eqb_tells (n / 64) (number / 64)) [
+      | inl v ↦
+          let e = v.1 in
+          let got : get_or (set words (number / 64) new) (n / 64) 0 ≡ new = ap (λ (j : ℕ). get_or (set words (number / 64) new) j 0) e ∙ get_or-set_same words (number / 64) new 0 there in
+          let test : nat_eq (n % 64) (number % 64) ≡ nat_eq n number = grind (arith, nat_tests) in
+          ap (λ (w : ℕ). bit_at w (n % 64)) got
+          ∙ set_bit old (number % 64) (n % 64) (omega arith)
+          ∙ ap (λ b. cond b 1 (bit_at old (n % 64))) test
+          ∙ ap (λ (j : ℕ). cond (nat_eq n number) 1 (bit_at (get_or words j 0) (n % 64))) (sym e)
+      | inr v ↦
+          let other = v.1 in
+          let test : nat_eq n number ≡ false = elim (eqb_tells n number) [
+            | inl w ↦ absurd (other (ap (λ (k : ℕ). k / 64) w.1))
+            | inr w ↦ w.0
+          ] in
+          ap (λ (w : ℕ). bit_at w (n % 64)) (get_or-set_other words (number / 64) (n / 64) new 0 other)
+          ∙ sym (ap (λ b. cond b 1 (bit_of words n)) test)
+    ]
+
+-- ---- a list more
+
+-- 1 where the number is one of these
+abbrev pub among : ℕ → List ℕ → ℕ
+among n [] = 0
+among n (m ∷ ms) = cond (nat_eq n m) 1 (among n ms)
+
+few_by : (b : Bool) (k : ℕ) → k ≤ 1 → cond b 1 k ≤ 1
+few_by true k l = omega arith
+few_by false k l = l
+
+among_few : (n : ℕ) (ms : List ℕ) → among n ms ≤ 1
+among_few n [] = omega arith
+among_few n (m ∷ ms) = few_by (nat_eq n m) (among n ms) (among_few n ms)
+
+with_one : (b : Bool) (word later : ℕ) → word < 2 → later ≤ 1 → max (cond b 1 word) later ≡ max word (cond b 1 later)
+with_one true word later l m = omega (arith, l, m)
+with_one false word later l m = refl
+
+-- the numbers of the list up to a place are in, and those from there on are still to come
+pub IsUpTo : ℕ → List ℕ → List ℕ → List ℕ → Type 0
+IsUpTo i found old now = (n : ℕ) → n < 1024 → max (bit_of now n) (among n (drop i found)) ≡ max (bit_of old n) (among n found)
+
+pub up_to_none : (found old : List ℕ) → IsUpTo 0 found old old
+unfolding IsUpTo
+up_to_none found old = λ n l. refl
+
+pub up_to_more : (i : ℕ) (found old now new : List ℕ) → i < length found → ((n : ℕ) → n < 1024 → bit_of new n ≡ cond (nat_eq n (get_or found i 0)) 1 (bit_of now n)) → IsUpTo i found old now → IsUpTo (i + 1) found old new
+unfolding IsUpTo
+up_to_more i found old now new l put before = λ n m.
+    let x = get_or found i 0 in
+    let next : among n (drop i found) ≡ cond (nat_eq n x) 1 (among n (drop (i + 1) found)) = ap (among n) (drop_more found i 0 l) in
+    ap (λ (b : ℕ). max b (among n (drop (i + 1) found))) (put n m)
+    ∙ with_one (nat_eq n x) (bit_of now n) (among n (drop (i + 1) found)) (bit_at-lt _ _) (among_few n (drop (i + 1) found))
+    ∙ ap (λ (b : ℕ). max (bit_of now n) b) (sym next) ∙ before n m
+
+not_by : (n k : ℕ) (ns : List ℕ) (b : Bool) → n < k → among n ns ≡ 0 → among n (cond b (k ∷ ns) ns) ≡ 0
+not_by n k ns true l e = let t : nat_eq n k ≡ false = grind (arith, nat_tests) in rw t e
+not_by n k ns false l e = e
+
+not_among : (p : Object → Bool) (n k : ℕ) (os : List Object) → n < k → among n (numbers p k os) ≡ 0
+not_among p n k [] l = refl
+not_among p n k (o ∷ os) l = not_by n k (numbers p (suc k) os) (p o) l (not_among p n (suc k) os (omega (arith, l)))
+
+first_among : (p : Object → Bool) (k : ℕ) (os : List Object) (b : Bool) → among k (cond b (k ∷ numbers p (suc k) os) (numbers p (suc k) os)) ≡ one b
+first_among p k os true = let t : nat_eq k k ≡ true = grind (arith, nat_tests) in rw t refl
+first_among p k os false = not_among p k (suc k) os (omega arith)
+
+later_among : (n k : ℕ) (ns : List ℕ) (b : Bool) → k < n → among n (cond b (k ∷ ns) ns) ≡ among n ns
+later_among n k ns true l = let t : nat_eq n k ≡ false = grind (arith, nat_tests) in rw t refl
+later_among n k ns false l = refl
+
+among_numbers : (p : Object → Bool) (k : ℕ) (os : List Object) (n m : ℕ) → m ≡ k + n → among m (numbers p k os) ≡ one (passes p os n)
+among_numbers p k [] n m e = refl
+among_numbers p k (o ∷ os) zero m e =
+    let i : m ≡ k = omega (arith, e) in
+    rw i (first_among p k os (p o))
+among_numbers p k (o ∷ os) (suc n) m e =
+    later_among m k (numbers p (suc k) os) (p o) (omega (arith, e)) ∙ among_numbers p (suc k) os n m (omega (arith, e))
+
+-- ---- either of two tests
+
+passes_by : (p q : Object → Bool) (x : Option Object) → option_map_or (either p q) x false ≡ (option_map_or p x false || option_map_or q x false)
+passes_by p q None = refl
+passes_by p q (Some o) = refl
+
+greatest : (a b : Bool) → max (one a) (one b) ≡ one (a || b)
+greatest true true = refl
+greatest true false = refl
+greatest false b = omega arith
+
+pub joined : (p q : Object → Bool) (os : List Object) (n a b : ℕ) → a ≡ one (passes p os n) → b ≡ one (passes q os n) → max a b ≡ one (passes (either p q) os n)
+joined p q os n a b e f =
+    ap (λ (k : ℕ). max k b) e ∙ ap (λ (k : ℕ). max (one (passes p os n)) k) f
+    ∙ greatest (passes p os n) (passes q os n) ∙ sym (ap one (passes_by p q (slice_get os n)))
+
+pub up_to_all : (p q : Object → Bool) (os : List Object) (i : ℕ) (found old now : List ℕ) → length found ≤ i → IsUpTo i found old now → AreThose old p os → found ≡ numbers q 0 os → AreThose now (either p q) os
+unfolding IsUpTo
+up_to_all p q os i found old now end up those e = λ n l.
+    let none : among n (drop i found) ≡ 0 = ap (among n) (drop_all i found end) in
+    let is : among n found ≡ one (passes q os n) = ap (among n) e ∙ among_numbers q 0 os n n (omega arith) in
+    let now_is : max (bit_of now n) (among n (drop i found)) ≡ bit_of now n = omega (arith, none) in
+    sym now_is ∙ up n l ∙ joined p q os n (bit_of old n) (among n found) (those n l) is
+
+same_by : (p q : Object → Bool) (x : Option Object) → ((o : Object) → x ≡ Some o → p o ≡ q o) → option_map_or p x false ≡ option_map_or q x false
+same_by p q None h = refl
+same_by p q (Some o) h = h o refl
+
+-- a test that tells the same of each object
+pub those_same : (words : List ℕ) (p q : Object → Bool) (os : List Object) → ((n : ℕ) (o : Object) → slice_get os n ≡ Some o → p o ≡ q o) → AreThose words p os → AreThose words q os
+those_same words p q os h those = λ n l. those n l ∙ ap one (same_by p q (slice_get os n) (h n))
+
+-- ---- word by word
+
+-- the words before one have those of both tests, and the others are as they were
+pub record AreWordsTo (w : ℕ) (q : Object → Bool) (os : List Object) (old now : List ℕ) : Type 0 where
+  pub long : length now ≡ 16
+  pub done : (p : Object → Bool) → AreThose old p os → (n : ℕ) → n < 64 * w → n < 1024 → bit_of now n ≡ one (passes (either p q) os n)
+  pub left : (n : ℕ) → 64 * w ≤ n → bit_of now n ≡ bit_of old n
+
+pub no_words : (q : Object → Bool) (os : List Object) (old : List ℕ) → length old ≡ 16 → AreWordsTo 0 q os old old
+no_words q os old many = record {
+  long = many;
+  done = λ p those n l m. absurd (omega (arith, l));
+  left = λ n l. refl;
+}
+
+word_put : (words : List ℕ) (w found n : ℕ) → w < length words → n / 64 ≡ w → bit_of (set words w (bit_or (get_or words w 0) found)) n ≡ max (bit_of words n) (bit_at found (n % 64))
+word_put words w found n l e =
+    let new = bit_or (get_or words w 0) found in
+    let got : get_or (set words w new) (n / 64) 0 ≡ new = ap (λ (j : ℕ). get_or (set words w new) j 0) e ∙ get_or-set_same words w new 0 l in
+    ap (λ (x : ℕ). bit_at x (n % 64)) got ∙ bit_at_or (get_or words w 0) found (n % 64)
+    ∙ ap (λ (j : ℕ). max (bit_at (get_or words j 0) (n % 64)) (bit_at found (n % 64))) (sym e)
+
+word_kept : (words : List ℕ) (w new n : ℕ) → (n / 64 ≡ w → ⊥) → bit_of (set words w new) n ≡ bit_of words n
+word_kept words w new n other = ap (λ (x : ℕ). bit_at x (n % 64)) (get_or-set_other words w (n / 64) new 0 other)
+
+pub more_words : (w found : ℕ) (q : Object → Bool) (os : List Object) (old now : List ℕ) → w < 16 → AreBits found (64 * w) 64 q os → AreWordsTo w q os old now → AreWordsTo (w + 1) q os old (set now w (bit_or (get_or now w 0) found))
+more_words w found q os old now l bits before =
+    let there : w < length now = omega (arith, l, before.long) in
+    let new = bit_or (get_or now w 0) found in
+    record {
+      long = length-set now w new ∙ before.long;
+      done = λ p those n m few. elim (cases_lt n (64 * w)) [
+        | inl less ↦
+            let other : n / 64 ≡ w → ⊥ = λ e. omega (arith, e, less) in
+            word_kept now w new n other ∙ before.done p those n less few
+        | inr more ↦
+            let e : n / 64 ≡ w = omega (arith, more, m) in
+            let i : 64 * w + n % 64 ≡ n = omega (arith, more, m) in
+            let was : bit_of now n ≡ one (passes p os n) = before.left n more ∙ those n few in
+            let is : bit_at found (n % 64) ≡ one (passes q os n) = bits (n % 64) (omega arith) ∙ ap (λ (j : ℕ). one (passes q os j)) i in
+            word_put now w found n there e ∙ joined p q os n (bit_of now n) (bit_at found (n % 64)) was is
+      ];
+      left = λ n m.
+          let other : n / 64 ≡ w → ⊥ = λ e. omega (arith, e, m) in
+          word_kept now w new n other ∙ before.left n (omega (arith, m));
+    }
+
+past : (p : Object → Bool) (os : List Object) (n : ℕ) → length os ≤ n → passes p os n ≡ false
+past p os n l = ap (λ (x : Option Object). option_map_or p x false) (slice_get_past os n l)
+
+pub all_words : (w : ℕ) (p q : Object → Bool) (os : List Object) (old now : List ℕ) → length os ≤ 64 * w → AreWordsTo w q os old now → AreThose old p os → AreThose now (either p q) os
+all_words w p q os old now l words those = λ n few.
+    elim (cases_lt n (64 * w)) [
+      | inl less ↦ words.done p those n less few
+      | inr more ↦
+          words.left n more ∙ those n few ∙ ap one (past p os n (omega (arith, l, more)))
+          ∙ sym (ap one (past (either p q) os n (omega (arith, l, more))))
+    ]
+
+-- ---- the whole set
+
+abbrev pub zeros : ℕ → List ℕ
+zeros k = replicate k 0
+
+zero_at : (k n : ℕ) → get_or (zeros k) n 0 ≡ 0
+zero_at zero n = refl
+zero_at (suc k) zero = refl
+zero_at (suc k) (suc n) = zero_at k n
+
+none_passes : (x : Option Object) → option_map_or (λ (o : Object). false) x false ≡ false
+none_passes None = refl
+none_passes (Some o) = refl
+
+pub those_none : (words : List ℕ) (os : List Object) → words ≡ zeros 16 → AreThose words (λ o. false) os
+those_none words os e = λ n l.
+    let none : get_or words (n / 64) 0 ≡ 0 = ap (λ (ws : List ℕ). get_or ws (n / 64) 0) e ∙ zero_at 16 (n / 64) in
+    ap (λ (w : ℕ). bit_at w (n % 64)) none ∙ bit_at-zero (n % 64) ∙ sym (ap one (none_passes (slice_get os n)))
+
+-- a word of the set has the bits of 64 objects
+pub bits_in : (words : List ℕ) (p : Object → Bool) (os : List Object) (w : ℕ) → w < 16 → AreThose words p os → AreBits (get_or words w 0) (64 * w) 64 p os
+bits_in words p os w l those = λ k m.
+    let d : (64 * w + k) / 64 ≡ w = omega (arith, m) in
+    let r : (64 * w + k) % 64 ≡ k = omega (arith, m) in
+    ap (λ (j : ℕ). bit_at (get_or words j 0) k) (sym d) ∙ ap (bit_at (get_or words ((64 * w + k) / 64) 0)) (sym r)
+    ∙ those (64 * w + k) (omega (arith, l, m))

@@ -1,0 +1,122 @@
+//! The walk over the objects that a client may see: a look at each, and what is seen of them, by rising number.
+ghost use Rattle.std.specs.Prelude.{◌≡◌, ℕ, ◌≤◌, ◌<◌, ◌+◌, ◌++◌, [], OnOk, OnErr, length, drop, count_by, vec_capacity, nat_le, if◌then◌else◌};
+ghost use Rattle.std.specs.Int.{bit_at, trailing_zeros, w64};
+ghost use Rattle.std.specs.List.{cons_option, filter_map, enumerate_from};
+ghost use Rattle.world_cells.specs.Lines.{AreBits};
+ghost use Rattle.world_scope.specs.Scope.{seen};
+ghost use Rattle.world_scope.specs.Views.{look};
+ghost use Rattle.world_scope.specs.Candidates.{AreThose, HasOnePlayer, may_see, seen_in, to_come, told};
+
+use crate::candidates::{WORDS, words_of};
+use crate::viewer::{Seen, Viewer};
+use std::alloc::AllocError;
+use std::sync::ledger::Ledger;
+use tn_types::{MAX_OBJECTS, Steps};
+use world_sim::World;
+
+// What a mark tells of the object of this number.
+fn told(object: u32, mark: u8) -> Option<Seen>
+    ensures { result ≡ told (object, mark) }
+{
+    if mark == 0 {
+        return None;
+    }
+    Some(Seen {
+        object,
+        level: mark - 1,
+    })
+}
+
+// One more that is seen, if there is one.
+fn add(seen: Option<Seen>, out: &mut Vec<Seen>) -> Result<(), AllocError>
+    ensures ok { OnOk result (out.new.items ≡ out.old.items ++ cons_option seen []) }
+    ensures room { OnErr result (vec_capacity out.old < length (out.old.items ++ cons_option seen [])) }
+    ensures kept { vec_capacity out.old ≤ vec_capacity out.new }
+{
+    if let Some(seen) = seen {
+        out.push(seen)?;
+    }
+    Ok(())
+}
+
+// Looks at one object.
+fn look_at<L: Ledger>(
+    viewer: &Viewer,
+    world: &World,
+    object: u32,
+    steps: &mut Steps<L>,
+) -> Option<Seen>
+    requires there { object < length world.now.objects }
+    requires owned { HasOnePlayer (look viewer.now) world.now.objects }
+    ensures seen { result ≡ seen_in (look viewer.now) world.now.objects object }
+    ensures steps { steps.new ≡ steps.old + 1 }
+{
+    let _ = world.look(object, steps);
+    told(
+        object,
+        viewer.mark(&world.glances()[object as usize]),
+    )
+}
+
+// A word without its lowest bit.
+fn without_lowest(word: u64) -> u64
+    requires { 0 < word }
+    ensures less { result < word }
+    ensures bits { (k : ℕ) → bit_at result k ≡ (if nat_le k (trailing_zeros w64 word) then 0 else bit_at word k) }
+{
+    word & (word - 1)
+}
+
+// Looks at each of 64 objects from a number on that has a bit, the lowest for the first.
+fn gather_word<L: Ledger>(
+    viewer: &Viewer,
+    world: &World,
+    from: usize,
+    word: u64,
+    out: &mut Vec<Seen>,
+    steps: &mut Steps<L>,
+) -> Result<(), AllocError>
+    requires few { from + 64 ≤ MAX_OBJECTS }
+    requires bits { AreBits word from 64 (may_see (look viewer.now)) world.now.objects }
+    requires owned { HasOnePlayer (look viewer.now) world.now.objects }
+    ensures ok { OnOk result (out.new.items ++ to_come (look viewer.now) world.now.objects (from + 64)
+        ≡ out.old.items ++ to_come (look viewer.now) world.now.objects from) }
+    ensures room { OnErr result (vec_capacity out.old
+        < length (out.old.items ++ to_come (look viewer.now) world.now.objects from)) }
+    ensures kept { vec_capacity out.old ≤ vec_capacity out.new }
+    ensures steps { steps.new + count_by (may_see (look viewer.now)) (drop (from + 64) world.now.objects)
+        ≤ steps.old + count_by (may_see (look viewer.now)) (drop from world.now.objects) }
+{
+    let mut next = from;
+    let mut rest = word;
+    while rest != 0 {
+        let at = from + rest.trailing_zeros() as usize;
+        add(look_at(viewer, world, at as u32, steps), out)?;
+        next = at + 1;
+        rest = without_lowest(rest);
+    }
+    Ok(())
+}
+
+/// Looks at each object of the set, and puts those that are seen in place of what was in `out`.
+pub fn gather<L: Ledger>(
+    viewer: &Viewer,
+    world: &World,
+    words: &[u64; WORDS],
+    out: &mut Vec<Seen>,
+    steps: &mut Steps<L>,
+) -> Result<(), AllocError>
+    requires those { AreThose words.now (may_see (look viewer.now)) world.now.objects }
+    requires owned { HasOnePlayer (look viewer.now) world.now.objects }
+    ensures ok { OnOk result (out.new.items ≡ filter_map (seen (look viewer.now)) (enumerate_from 0 world.now.objects)) }
+    ensures room { OnErr result (vec_capacity out.old
+        < length (filter_map (seen (look viewer.now)) (enumerate_from 0 world.now.objects))) }
+    ensures kept { vec_capacity out.old ≤ vec_capacity out.new }
+    ensures steps { steps.new ≤ steps.old + count_by (may_see (look viewer.now)) world.now.objects }
+{
+    out.clear();
+    for w in 0..words_of(world) {
+        gather_word(viewer, world, 64 * w, words[w], out, steps)?;
+    }
+    Ok(())
+}
