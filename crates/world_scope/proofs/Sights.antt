@@ -1,8 +1,9 @@
 -- What a client sees is always seen or lies round its player.
-use Rattle.std.proofs.Common.{◌≡◌, ℕ, zero, suc, ◌+◌, ◌-◌, ◌/◌, ◌≤◌, ◌<◌, ◌⊎◌, inl, inr, Bool, true, false, cond, ◌||◌, nat_le, nat_eq, List, [], ◌∷◌, length, map, get_or, refl, sym, ap, ◌∙◌, arith, Option, Some, None, count_by}
+use Rattle.std.proofs.Common.{◌≡◌, ℕ, zero, suc, ◌+◌, ◌-◌, ◌*◌, ◌/◌, ◌≤◌, ◌<◌, ◌⊎◌, inl, inr, Bool, true, false, cond, ◌&&◌, ◌||◌, nat_le, nat_eq, List, [], ◌∷◌, length, map, get_or, refl, sym, ap, ◌∙◌, arith, Option, Some, None, count_by}
 use Rattle.std.specs.Prelude.{slice_get, find}
 use Rattle.std.specs.Int.{abs_diff}
 use Rattle.std.specs.List.{filter_map, enumerate_from}
+use Rattle.std.proofs.lemmas.Nat.{div_below}
 use Rattle.std.proofs.lemmas.Bool.{and_parts, leb-true, le-leb}
 use Rattle.std.proofs.lemmas.Bool.Decides.{nat_tests, eqb_tells}
 use Rattle.world_rules.specs.declared.object.Object.{Object}
@@ -12,14 +13,11 @@ use Rattle.world_rules.specs.Flags.{is_player, is_player_part}
 use Rattle.world_rules.specs.Identity.{owner_in, owners, OwnersRise, HaveNoOwner, IsPeopled}
 use Rattle.world_cells.specs.Grid.{has_place, is_always, lasts}
 use Rattle.world_sim.specs.Worlds.{Worlds}
-use Rattle.world_scope.specs.Sight.{distance}
-use Rattle.world_sim.specs.declared.glance.Glance.{Glance}
-use Rattle.world_sim.specs.Glances.{glance_of}
-use Rattle.world_sim.proofs.Glancing.{glance_is}
 use Rattle.world_scope.specs.declared.viewer.Seen.{Seen}
-use Rattle.world_scope.specs.Scope.{Look, look_of, is_visible, player_sees, seen, visible_list}
+use Rattle.world_scope.specs.Sight.{distance, is_hidden}
+use Rattle.world_scope.specs.Scope.{Look, look_of, is_visible, player_sees, quarter, seen, visible_list}
 use Rattle.world_scope.specs.Square.{is_touched, is_round, many_round, most_looks}
-use Rattle.world_scope.specs.Candidates.{HasOnePlayer, either, is_near, may_see, told, seen_in}
+use Rattle.world_scope.specs.Candidates.{HasOnePlayer, either, is_near, may_see}
 use Rattle.world_scope.proofs.Numbers.{one, count_cons}
 
 -- ---- the client's player is the only one of its client
@@ -125,6 +123,17 @@ near_by v os n o owned at alive placed (inr h) = sees_round v.radius v.player o 
 
 -- ---- so nobody else is seen
 
+round_lives : (radius : ℕ) (player : Option Object) (o : Object) → is_near radius player o ≡ true → o.alive ≡ true
+round_lives radius None o e = absurd (cc)
+round_lives radius (Some p) o e = (and_parts o.alive _ e).0
+
+lives_by : (radius : ℕ) (player : Option Object) (o : Object) (b : Bool) → lasts o ≡ b → (lasts o || is_near radius player o) ≡ true → o.alive ≡ true
+lives_by radius player o true l e = (and_parts o.alive _ l).0
+lives_by radius player o false l e = round_lives radius player o (rw l at e)
+
+pub lives : (v : Look) (o : Object) → may_see v o ≡ true → o.alive ≡ true
+lives v o e = lives_by v.radius v.player o (lasts o) refl e
+
 or_right : (a b : Bool) → b ≡ true → (a || b) ≡ true
 or_right true b e = refl
 or_right false b e = e
@@ -149,33 +158,53 @@ unseen v os n o false owned at e is = is
 pub nobody_else : (v : Look) (os : List Object) (n : ℕ) (o : Object) → HasOnePlayer v os → slice_get os n ≡ Some o → may_see v o ≡ false → is_visible v o ≡ false
 nobody_else v os n o owned at e = unseen v os n o (is_visible v o) owned at e refl
 
--- ---- what a glance tells
+-- ---- one object
 
-object_at : (os : List Object) (n : ℕ) (o : Object) → slice_get os n ≡ Some o → get_or os n o ≡ o
-object_at [] n o e = absurd (cc)
-object_at (x ∷ os) zero o e = cc
-object_at (x ∷ os) (suc n) o e = object_at os n o e
+-- an object as it is seen, by what is asked of it
+abbrev made : ℕ → Bool → Bool → Bool → Bool → ℕ → Option Seen
+made n alive own always sees level = cond (alive && (own || always || sees)) (Some (record { object = n; level = cond (own || always) 0 level })) None
 
-pub told_of : (n q : ℕ) → told (n, q + 1) ≡ Some (record { object = n; level = q })
-told_of n q =
-    let t : nat_eq (q + 1) 0 ≡ false = grind (arith, nat_tests) in
-    let e : q + 1 - 1 ≡ q = omega arith in
-    rw (t, e) refl
+made_always : (n : ℕ) (alive own always sees : Bool) (level : ℕ) → alive ≡ true → always ≡ true → made n alive own always sees level ≡ Some (record { object = n; level = 0 })
+made_always n alive true always sees level a b = rw a refl
+made_always n alive false always sees level a b = rw (a, b) refl
 
-missing : (os : List Object) (n : ℕ) → n < length os → slice_get os n ≡ None → ⊥
-missing [] n l e = absurd (omega (arith, l))
-missing (o ∷ os) zero l e = absurd (cc)
-missing (o ∷ os) (suc n) l e = missing os n (omega (arith, l)) e
+made_own : (n : ℕ) (alive own always sees : Bool) (level : ℕ) → alive ≡ true → own ≡ true → sees ≡ true → level ≡ 0 → made n alive own always sees level ≡ cond sees (Some (record { object = n; level = level })) None
+made_own n alive own always sees level a b c d = rw (a, b, c, d) refl
 
-glanced : (v : Look) (os : List Object) (glances : List Glance) (n m : ℕ) (g : Glance) (made : Option Seen) (x : Option Object) → glances ≡ map glance_of os → n < length os → slice_get os n ≡ x → made ≡ told (n, m) → ((object : ℕ) (o : Object) → get_or glances n g ≡ glance_of o → told (object, m) ≡ seen v (object, o)) → made ≡ seen_in v os n
-glanced v os glances n m g made None same few at is h = absurd (missing os n few at)
-glanced v os glances n m g made (Some o) same few at is h =
-    let told_is : told (n, m) ≡ seen v (n, o) = h n o (glance_is os glances n o g same few ∙ ap glance_of (object_at os n o at)) in
-    is ∙ told_is ∙ rw at refl
+made_other : (n : ℕ) (alive own always sees : Bool) (level : ℕ) → alive ≡ true → own ≡ false → always ≡ false → made n alive own always sees level ≡ cond sees (Some (record { object = n; level = level })) None
+made_other n alive own always sees level a b c = rw (a, b, c) refl
 
--- what the mark by a glance tells is what is seen of the object
-pub glance_tells : (v : Look) (os : List Object) (glances : List Glance) (n m : ℕ) (g : Glance) (made : Option Seen) → glances ≡ map glance_of os → n < length os → made ≡ told (n, m) → ((object : ℕ) (o : Object) → get_or glances n g ≡ glance_of o → told (object, m) ≡ seen v (object, o)) → made ≡ seen_in v os n
-glance_tells v os glances n m g made same few is h = glanced v os glances n m g made (slice_get os n) same few refl is h
+pub always_seen : (v : Look) (n : ℕ) (o : Object) → o.alive ≡ true → is_always o ≡ true → seen v (n, o) ≡ Some (record { object = n; level = 0 })
+always_seen v n o alive always = made_always n o.alive (is_player v.client o) (is_always o) (player_sees v.radius v.player o) (quarter v.radius v.player o) alive always
+
+div_none : (n : ℕ) → 0 < n → 4 * 0 / n ≡ 0
+div_none n l = let d = div_below 0 n 1 l (omega (arith, l)) in omega (arith, d)
+
+-- a player isn't hidden
+open_player : (client : ℕ) (o : Object) (s : State) → o.state ≡ s → is_player client o ≡ true → (team : ℕ) → is_hidden team o ≡ false
+open_player client o (Player p) e own team = rw e refl
+open_player client o (Disc d) e own team = rw e refl
+open_player client o (Mine m) e own team = absurd (let h = rw e at own in cc)
+open_player client o (Drone d) e own team = rw e refl
+open_player client o (Flag f) e own team = rw e refl
+open_player client o (Clock c) e own team = rw e refl
+
+own_sees : (radius client : ℕ) (player : Option Object) (o : Object) → player ≡ Some o → is_player client o ≡ true → (player_sees radius player o ≡ true) × (quarter radius player o ≡ 0)
+own_sees radius client player o e own =
+    let away : distance o.place o.place ≡ 0 = omega arith in
+    let near : nat_le (distance o.place o.place) radius ≡ true = grind (arith, nat_tests) in
+    let level : 4 * distance o.place o.place / (radius + 1) ≡ 0 = rw away (div_none (radius + 1) (omega arith)) in
+    rw e (rw (open_player client o o.state refl own o.team, near) refl, level)
+
+player_by : (v : Look) (n : ℕ) (o : Object) (own : Bool) → o.alive ≡ true → is_always o ≡ false → (is_player v.client o ≡ true → v.player ≡ Some o) → is_player v.client o ≡ own → seen v (n, o) ≡ cond (player_sees v.radius v.player o) (Some (record { object = n; level = quarter v.radius v.player o })) None
+player_by v n o true alive always owned own =
+    let sees = own_sees v.radius v.client v.player o (owned own) own in
+    made_own n o.alive (is_player v.client o) (is_always o) (player_sees v.radius v.player o) (quarter v.radius v.player o) alive own sees.0 sees.1
+player_by v n o false alive always owned own =
+    made_other n o.alive (is_player v.client o) (is_always o) (player_sees v.radius v.player o) (quarter v.radius v.player o) alive own always
+
+pub player_seen : (v : Look) (n : ℕ) (o : Object) → o.alive ≡ true → is_always o ≡ false → (is_player v.client o ≡ true → v.player ≡ Some o) → seen v (n, o) ≡ cond (player_sees v.radius v.player o) (Some (record { object = n; level = quarter v.radius v.player o })) None
+player_seen v n o alive always owned = player_by v n o (is_player v.client o) alive always owned refl
 
 -- ---- the whole list
 

@@ -1,6 +1,6 @@
 -- A walk over the bits of a word: how many objects are looked at, and what is seen of them.
 use Rattle.std.proofs.Common.{◌≡◌, ℕ, zero, suc, ◌+◌, ◌-◌, ◌^◌, ◌<◌, ◌≤◌, inl, inr, Bool, true, false, cond, List, [], ◌∷◌, ◌++◌, length, drop, refl, sym, ap, ◌∙◌, arith, Option, Some, None, count_by, append_assoc, length-append}
-use Rattle.std.specs.Prelude.{slice_get}
+use Rattle.std.specs.Prelude.{slice_get, option_map}
 use Rattle.std.specs.Option.{option_map_or}
 use Rattle.std.specs.Int.{bit_at, trailing_zeros, w64}
 use Rattle.std.specs.List.{cons_option}
@@ -8,13 +8,14 @@ use Rattle.std.proofs.lemmas.List.{drop_more, drop_all, append-nil}
 use Rattle.std.proofs.lemmas.Option.{slice_get_cases, slice_get_within}
 use Rattle.world_rules.specs.declared.object.Object.{Object}
 use Rattle.world_cells.specs.Lines.{AreBits}
+use Rattle.world_sim.specs.Worlds.{Worlds, alive_at}
 use Rattle.world_scope.specs.declared.viewer.Seen.{Seen}
 use Rattle.world_scope.specs.Scope.{Look, seen, is_visible}
 use Rattle.world_scope.specs.Candidates.{HasOnePlayer, may_see, seen_in, to_come}
 use Rattle.world_scope.proofs.Numbers.{one, count_cons}
 use Rattle.world_scope.proofs.Sets.{passes}
 use Rattle.world_scope.proofs.Rests.{IsRest, lowest, none_left}
-use Rattle.world_scope.proofs.Sights.{nobody_else}
+use Rattle.world_scope.proofs.Sights.{nobody_else, lives}
 
 -- ---- which objects have a bit
 
@@ -41,6 +42,14 @@ here word from rest next p os some range r bits =
 pub there : (word from rest next : ℕ) (p : Object → Bool) (os : List Object) → 0 < rest → rest < 2 ^ 64 → IsRest word from rest next → AreBits word from 64 p os → from + trailing_zeros w64 rest < length os
 there word from rest next p os some range r bits =
     there_by p os (from + trailing_zeros w64 rest) (slice_get os (from + trailing_zeros w64 rest)) refl (here word from rest next p os some range r bits)
+
+alive_by : (v : Look) (os : List Object) (n : ℕ) (x : Option Object) → slice_get os n ≡ x → option_map_or (may_see v) x false ≡ true → option_map (λ (o : Object). o.alive) (slice_get os n) ≡ Some true
+alive_by v os n None at e = absurd (apart e)
+alive_by v os n (Some o) at e = rw (at, lives v o e) refl
+
+pub alive_there : (word from rest next : ℕ) (v : Look) (w : Worlds) → 0 < rest → rest < 2 ^ 64 → IsRest word from rest next → AreBits word from 64 (may_see v) w.objects → alive_at w (from + trailing_zeros w64 rest) ≡ Some true
+alive_there word from rest next v w some range r bits =
+    alive_by v w.objects (from + trailing_zeros w64 rest) (slice_get w.objects (from + trailing_zeros w64 rest)) refl (here word from rest next (may_see v) w.objects some range r bits)
 
 -- none passes before the lowest bit that is left
 none_before : (word from rest next : ℕ) (p : Object → Bool) (os : List Object) → 0 < rest → rest < 2 ^ 64 → IsRest word from rest next → AreBits word from 64 p os → (j : ℕ) → j < from + trailing_zeros w64 rest - next → passes p os (next + j) ≡ false

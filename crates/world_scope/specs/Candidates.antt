@@ -1,5 +1,5 @@
 -- Which objects a scan looks at, as a set of numbers with a bit for each, and what its looks give.
-use Rattle.std.specs.Prelude.{◌≡◌, ℕ, ◌-◌, ◌/◌, ◌<◌, Bool, true, false, ◌==◌, ◌&&◌, ◌||◌, List, drop, Option, Some, None, slice_get, option_and_then, if◌then◌else◌}
+use Rattle.std.specs.Prelude.{◌≡◌, ℕ, ◌/◌, ◌<◌, Bool, true, false, ◌==◌, ◌&&◌, ◌||◌, List, drop, Option, Some, None, slice_get, option_and_then, if◌then◌else◌}
 use Rattle.std.specs.Option.{option_map_or}
 use Rattle.std.specs.List.{filter_map, enumerate_from}
 use Rattle.world_rules.specs.declared.object.Object.{Object}
@@ -35,10 +35,6 @@ may_see v o = lasts o || is_near v.radius v.player o
 -- the client has no player but the one that looks
 abbrev pub HasOnePlayer : Look → List Object → Type 0
 HasOnePlayer v os = (n : ℕ) (o : Object) → slice_get os n ≡ Some o → is_player v.client o ≡ true → v.player ≡ Some o
-
--- what a mark tells of an object: 0 where it isn't seen, and else one more than the level
-abbrev pub told : ℕ × ℕ → Option Seen
-told e = if e.1 == 0 then None else Some (record { object = e.0; level = e.1 - 1 })
 
 -- the object of this number as it is seen, if it is there and is seen
 abbrev pub seen_in : Look → List Object → ℕ → Option Seen

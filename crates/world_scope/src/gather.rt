@@ -1,11 +1,12 @@
 //! The walk over the objects that a client may see: a look at each, and what is seen of them, by rising number.
-ghost use Rattle.std.specs.Prelude.{◌≡◌, ℕ, ◌≤◌, ◌<◌, ◌+◌, ◌++◌, [], OnOk, OnErr, length, drop, count_by, vec_capacity, nat_le, if◌then◌else◌};
+ghost use Rattle.std.specs.Prelude.{◌≡◌, ℕ, ◌≤◌, ◌<◌, ◌+◌, ◌++◌, [], OnOk, OnErr, length, drop, count_by, vec_capacity, nat_le, Some, true, if◌then◌else◌};
 ghost use Rattle.std.specs.Int.{bit_at, trailing_zeros, w64};
 ghost use Rattle.std.specs.List.{cons_option, filter_map, enumerate_from};
 ghost use Rattle.world_cells.specs.Lines.{AreBits};
+ghost use Rattle.world_sim.specs.Worlds.{alive_at};
 ghost use Rattle.world_scope.specs.Scope.{seen};
 ghost use Rattle.world_scope.specs.Views.{look};
-ghost use Rattle.world_scope.specs.Candidates.{AreThose, HasOnePlayer, may_see, seen_in, to_come, told};
+ghost use Rattle.world_scope.specs.Candidates.{AreThose, HasOnePlayer, may_see, seen_in, to_come};
 
 use crate::candidates::{WORDS, words_of};
 use crate::viewer::{Seen, Viewer};
@@ -13,19 +14,6 @@ use std::alloc::AllocError;
 use std::sync::ledger::Ledger;
 use tn_types::{MAX_OBJECTS, Steps};
 use world_sim::World;
-
-// What a mark tells of the object of this number.
-fn told(object: u32, mark: u8) -> Option<Seen>
-    ensures { result ≡ told (object, mark) }
-{
-    if mark == 0 {
-        return None;
-    }
-    Some(Seen {
-        object,
-        level: mark - 1,
-    })
-}
 
 // One more that is seen, if there is one.
 fn add(seen: Option<Seen>, out: &mut Vec<Seen>) -> Result<(), AllocError>
@@ -39,7 +27,7 @@ fn add(seen: Option<Seen>, out: &mut Vec<Seen>) -> Result<(), AllocError>
     Ok(())
 }
 
-// Looks at one object.
+// Looks at one living object.
 fn look_at<L: Ledger>(
     viewer: &Viewer,
     world: &World,
@@ -47,15 +35,13 @@ fn look_at<L: Ledger>(
     steps: &mut Steps<L>,
 ) -> Option<Seen>
     requires there { object < length world.now.objects }
+    requires alive { alive_at world.now object ≡ Some true }
     requires owned { HasOnePlayer (look viewer.now) world.now.objects }
     ensures seen { result ≡ seen_in (look viewer.now) world.now.objects object }
     ensures steps { steps.new ≡ steps.old + 1 }
 {
     let _ = world.look(object, steps);
-    told(
-        object,
-        viewer.mark(&world.glances()[object as usize]),
-    )
+    viewer.sight(object, &world.glances()[object as usize])
 }
 
 // A word without its lowest bit.

@@ -1,5 +1,5 @@
 //! A client's look at one object.
-ghost use Rattle.std.specs.Prelude.{◌≡◌, ℕ, ◌≤◌, ◌+◌, ◌*◌, ◌/◌, ◌||◌, Some, None, find, nat_le, if◌then◌else◌};
+ghost use Rattle.std.specs.Prelude.{◌≡◌, ℕ, ◌≤◌, ◌+◌, ◌*◌, ◌/◌, true, Some, None, find, nat_le, if◌then◌else◌};
 ghost use Rattle.std.specs.Option.{option_copied};
 ghost use Rattle.world_rules.specs.Flags.{is_player};
 ghost use Rattle.world_rules.specs.declared.object.Object.{Object};
@@ -51,16 +51,6 @@ fn is_always(g: &Glance) -> bool
     matches!(g.role, Role::Flag | Role::Clock)
 }
 
-// Whether an object is this client's player.
-fn is_own(client: u8, g: &Glance) -> bool
-    ensures { (o : Object) → g.now ≡ glance_of o → result ≡ is_player client o }
-{
-    match g.role {
-        Role::Player(owner) => owner == client,
-        _ => false,
-    }
-}
-
 // 1 where the number is at least that, and else 0.
 fn reached(least: u64, number: u64) -> u8
     ensures { result ≡ if nat_le least number then 1 else 0 }
@@ -88,7 +78,6 @@ fn player_of(client: u8, objects: &[Object]) -> Option<&Object>
 impl Viewer {
     ghost use Rattle.world_scope.specs.Scope.{player_sees, quarter, seen};
     ghost use Rattle.world_scope.specs.Views.{look};
-    ghost use Rattle.world_scope.specs.Candidates.{told};
 
     /// The look of a client at these objects, from its player among them.
     pub fn of(client: u8, radius: u32, objects: &[Object]) -> Viewer
@@ -101,42 +90,36 @@ impl Viewer {
         }
     }
 
-    // Whether an object is seen wherever it is.
-    fn sees_anywhere(&self, g: &Glance) -> bool
-        ensures { (o : Object) → g.now ≡ glance_of o → result ≡ (is_player self.now.client o || is_always o) }
-    {
-        is_own(self.client, g) || is_always(g)
-    }
-
-    // The mark of an object by what the client's player sees.
-    #[tactic(auto, using(crate::proofs::Sights::told_of))]
-    fn mark_by_player(&self, g: &Glance) -> u8
-        ensures { (object : ℕ) (o : Object) → g.now ≡ glance_of o
-            → told (object, result) ≡ (if player_sees self.now.radius self.now.player o
+    // An object as the client's player sees it, if there is a player and it does.
+    fn seen_by_player(&self, object: u32, g: &Glance) -> Option<Seen>
+        ensures { (o : Object) → g.now ≡ glance_of o → result ≡ (if player_sees self.now.radius self.now.player o
             then Some (record { object = object; level = quarter self.now.radius self.now.player o }) else None) }
     {
         match &self.player {
-            None => 0,
+            None => None,
             Some(player) => {
                 let away = distance(&player.place, &g.place);
-                let sees = !is_hidden(player.team, g) & (away <= self.radius);
-                let level = quarter(self.radius, away);
-                if sees { level + 1 } else { 0 }
+                if is_hidden(player.team, g) | (away > self.radius) {
+                    return None;
+                }
+                Some(Seen {
+                    object,
+                    level: quarter(self.radius, away),
+                })
             }
         }
     }
 
-    /// The mark of an object as the client sees it, by a glance: 0 where it doesn't, and else one more than the level.
-    #[tactic(auto, using(crate::proofs::Sights::told_of))]
-    pub fn mark(&self, g: &Glance) -> u8
-        ensures { (object : ℕ) (o : Object) → g.now ≡ glance_of o → told (object, result) ≡ seen (look self.now) (object, o) }
+    /// A living object as the client sees it, by a glance, if it does. Nobody asks whose player it is: the client's own one is
+    /// where it looks from, so it sees itself at level 0.
+    #[tactic(auto, using(crate::proofs::Sights::always_seen, crate::proofs::Sights::player_seen))]
+    pub fn sight(&self, object: u32, g: &Glance) -> Option<Seen>
+        ensures { (o : Object) → g.now ≡ glance_of o → o.alive ≡ true
+            → (is_player self.now.client o ≡ true → self.now.player ≡ Some o) → result ≡ seen (look self.now) (object, o) }
     {
-        if !g.alive {
-            return 0;
+        if is_always(g) {
+            return Some(Seen { object, level: 0 });
         }
-        if self.sees_anywhere(g) {
-            return 1;
-        }
-        self.mark_by_player(g)
+        self.seen_by_player(object, g)
     }
 }

@@ -4,7 +4,7 @@ use Rattle.world_scope.specs.declared.viewer.Seen.{Seen}
 use Rattle.world_scope.specs.Views.{look}
 use Rattle.world_scope.specs.Candidates.{may_see, to_come}
 use Rattle.world_scope.proofs.Rests.{whole, lowest, rest_next}
-use Rattle.world_scope.proofs.Walking.{there, count_next, count_end, later_fewer, come_next, come_end, added_on, front_most}
+use Rattle.world_scope.proofs.Walking.{there, alive_there, count_next, count_end, later_fewer, come_next, come_end, added_on, front_most}
 use Rattle.world_scope.proofs.gather.gather_word.Goals as goal
 
 any_err : {A E P : Type 0} → (r : Result A E) → P → OnErr r P
@@ -16,6 +16,11 @@ look_at-requires-clause-there g c =
     let some : 0 < c.loop-rest.rest = omega (arith, c.loop-rest-test.true) in
     let small : c.loop-rest.rest < 2 ^ 64 = c.loop-rest.invariant.fits in
     there c.args.word c.args.from c.loop-rest.rest c.loop-rest.next (may_see (look c.args.viewer.now)) c.args.world.now.objects some small c.loop-rest.invariant.left c.requires.bits
+
+pub look_at-requires-clause-alive : goal.look_at-requires-clause-alive
+look_at-requires-clause-alive g c =
+    let some : 0 < c.loop-rest.rest = omega (arith, c.loop-rest-test.true) in
+    alive_there c.args.word c.args.from c.loop-rest.rest c.loop-rest.next (look c.args.viewer.now) c.args.world.now some c.loop-rest.invariant.fits c.loop-rest.invariant.left c.requires.bits
 
 pub returns-in_err-add-clause-room : goal.returns-in_err-add-clause-room
 returns-in_err-add-clause-room g c =
