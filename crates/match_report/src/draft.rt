@@ -1,5 +1,5 @@
 //! A line that is written where it is to stand: at the end of a text.
-ghost use Rattle.std.specs.Prelude.{◌≡◌, ◌++◌, ◌*◌, ◌<◌, [], OnOk, length, slice_index, if◌then◌else◌};
+ghost use Rattle.std.specs.Prelude.{◌≡◌, ◌++◌, ◌*◌, ◌+◌, ◌<◌, ◌≤◌, [], OnOk, length, slice_index, if◌then◌else◌};
 ghost use Rattle.std.specs.Result.{is_ok};
 ghost use Rattle.std.specs.Fmt.{decimal, signed_decimal};
 ghost use Rattle.hex.specs.Hex.{encode_lower, lower_digits};
@@ -35,6 +35,14 @@ fn digit(n: u8) -> u8
     ensures { result ≡ slice_index lower_digits n }
 {
     if n < 10 { b'0' + n } else { b'a' - 10 + n }
+}
+
+// The text of a number below 10.
+fn code(digit: u32) -> u8
+    requires { digit < 10 }
+    ensures { result ≡ 48 + digit }
+{
+    b'0' + digit as u8
 }
 
 // Two digits for each byte.
@@ -104,6 +112,47 @@ impl Draft {
         self.push(&[b'0' + number])
     }
 
+    // Appends the two digits of a number.
+    #[tactic(auto, using(crate::proofs::Digits::two_digits))]
+    fn push_two(&mut self, number: u32) -> Result<(), AllocError>
+        requires least { 10 ≤ number }
+        requires most { number < 100 }
+        ensures line { OnOk result (self.new.line ≡ self.old.line ++ decimal number) }
+        ensures before { self.new.before ≡ self.old.before }
+    {
+        self.push(&[code(number / 10), code(number % 10)])
+    }
+
+    // Appends the three digits of a number.
+    #[tactic(auto, using(crate::proofs::Digits::three_digits))]
+    fn push_three(&mut self, number: u32) -> Result<(), AllocError>
+        requires least { 100 ≤ number }
+        requires most { number < 1000 }
+        ensures line { OnOk result (self.new.line ≡ self.old.line ++ decimal number) }
+        ensures before { self.new.before ≡ self.old.before }
+    {
+        let front = number / 10;
+        self.push(&[code(front / 10), code(front % 10), code(number % 10)])
+    }
+
+    // Appends the four digits of a number.
+    #[tactic(auto, using(crate::proofs::Digits::four_digits))]
+    fn push_four(&mut self, number: u32) -> Result<(), AllocError>
+        requires least { 1000 ≤ number }
+        requires most { number < 10000 }
+        ensures line { OnOk result (self.new.line ≡ self.old.line ++ decimal number) }
+        ensures before { self.new.before ≡ self.old.before }
+    {
+        let front = number / 10;
+        let first = front / 10;
+        self.push(&[
+            code(first / 10),
+            code(first % 10),
+            code(front % 10),
+            code(number % 10),
+        ])
+    }
+
     // Appends a number by its text in a buffer.
     // Not inlined: its buffer would be set to zero once more for each call that its caller has.
     #[inline(never)]
@@ -114,7 +163,22 @@ impl Draft {
         self.push(Buffer::new().format(number).as_bytes())
     }
 
-    /// Appends a number. Most numbers of a report have one digit.
+    // Appends a number of two to four digits by its digits, and a longer one by its text.
+    #[inline(never)]
+    fn push_more(&mut self, number: u64) -> Result<(), AllocError>
+        requires { 10 ≤ number }
+        ensures line { OnOk result (self.new.line ≡ self.old.line ++ decimal number) }
+        ensures before { self.new.before ≡ self.old.before }
+    {
+        match number {
+            0..=99 => self.push_two(number as u32),
+            100..=999 => self.push_three(number as u32),
+            1000..=9999 => self.push_four(number as u32),
+            _ => self.push_long(number),
+        }
+    }
+
+    /// Appends a number. Nearly all numbers of a report have at most four digits, and most have one.
     #[inline(always)]
     pub(crate) fn push_number(&mut self, number: u64) -> Result<(), AllocError>
         ensures line { OnOk result (self.new.line ≡ self.old.line ++ decimal number) }
@@ -123,7 +187,7 @@ impl Draft {
         if number < 10 {
             self.push_digit(number as u8)
         } else {
-            self.push_long(number)
+            self.push_more(number)
         }
     }
 
