@@ -126,7 +126,7 @@ impl Viewer {
             then Some (record { object = object; level = quarter self.now.radius self.now.player o }) else None) }
     {
         let away = distance(&self.place, &g.place);
-        if is_hidden(self.team, g) | (u64::from(away) >= self.reach) {
+        if (u64::from(away) >= self.reach) | is_hidden(self.team, g) {
             return None;
         }
         Some(Seen {
