@@ -1,5 +1,5 @@
 -- What holds of each list of visible objects.
-use Rattle.std.proofs.Common.{◌≡◌, ℕ, zero, suc, inl, inr, ◌<◌, ◌≤◌, ◌+◌, ◌*◌, ◌/◌, Bool, true, false, cond, ◌||◌, List, [], ◌∷◌, length, map, get_or, refl, sym, ap, ◌∙◌, subst, arith, add-one, Option, Some, None}
+use Rattle.std.proofs.Common.{◌≡◌, ℕ, zero, suc, inl, inr, ◌<◌, ◌≤◌, ◌+◌, ◌-◌, ◌*◌, ◌/◌, Bool, true, false, cond, ◌||◌, List, [], ◌∷◌, length, map, get_or, refl, sym, ap, ◌∙◌, subst, arith, add-one, Option, Some, None}
 use Rattle.std.specs.Prelude.{slice_get, option_map, option_and_then, nat_le, ◌↔◌}
 use Rattle.std.specs.List.{All, AllByRecursion, Contains, filter_map, enumerate_from, cons_option}
 use Rattle.std.specs.List.Sorted.{IsStrictlyIncreasing}
@@ -48,7 +48,7 @@ two_reached w f l h = grind (arith, nat_tests)
 all_reached : (w f : ℕ) → 3 * w ≤ f → cond (nat_le w f) 1 0 + cond (nat_le (2 * w) f) 1 0 + cond (nat_le (3 * w) f) 1 0 ≡ 3
 all_reached w f l = grind (arith, nat_tests)
 
-pub quarter_reached : (radius away : ℕ) → away ≤ radius → cond (nat_le (radius + 1) (4 * away)) 1 0 + cond (nat_le (2 * (radius + 1)) (4 * away)) 1 0 + cond (nat_le (3 * (radius + 1)) (4 * away)) 1 0 ≡ 4 * away / (radius + 1)
+quarter_reached : (radius away : ℕ) → away ≤ radius → cond (nat_le (radius + 1) (4 * away)) 1 0 + cond (nat_le (2 * (radius + 1)) (4 * away)) 1 0 + cond (nat_le (3 * (radius + 1)) (4 * away)) 1 0 ≡ 4 * away / (radius + 1)
 quarter_reached radius away h =
     elim (cases_lt (4 * away) (radius + 1)) [
       | inl less ↦ none_reached (radius + 1) (4 * away) less ∙ quarter_is 0 radius away (omega arith) (omega (arith, less))
@@ -60,6 +60,11 @@ quarter_reached radius away h =
         ]
       ]
     ]
+
+pub reached_of : (whole away : ℕ) → away < whole → cond (nat_le whole (4 * away)) 1 0 + cond (nat_le (2 * whole) (4 * away)) 1 0 + cond (nat_le (3 * whole) (4 * away)) 1 0 ≡ 4 * away / whole
+reached_of whole away h =
+    let e : whole - 1 + 1 ≡ whole = omega (arith, h) in
+    rw e at (quarter_reached (whole - 1) away (omega (arith, h)))
 
 sight_few : (radius : ℕ) (player : Option Object) (o : Object) → player_sees radius player o ≡ true → quarter radius player o ≤ 3
 sight_few radius None o e = omega arith

@@ -1,12 +1,14 @@
 -- What a client sees is always seen or lies round its player.
-use Rattle.std.proofs.Common.{◌≡◌, ℕ, zero, suc, ◌+◌, ◌-◌, ◌*◌, ◌/◌, ◌≤◌, ◌<◌, ◌⊎◌, inl, inr, Bool, true, false, cond, ◌&&◌, ◌||◌, nat_le, nat_eq, List, [], ◌∷◌, length, map, get_or, refl, sym, ap, ◌∙◌, arith, Option, Some, None, count_by}
+use Rattle.std.proofs.Common.{◌≡◌, ℕ, zero, suc, ◌+◌, ◌-◌, ◌*◌, ◌/◌, ◌≤◌, ◌<◌, ◌⊎◌, inl, inr, Bool, true, false, cond, ◌&&◌, ◌||◌, nat_le, nat_lt, not, List, [], ◌∷◌, refl, sym, ap, ◌∙◌, arith, Option, Some, None, count_by}
 use Rattle.std.specs.Prelude.{slice_get, find}
 use Rattle.std.specs.Int.{abs_diff}
 use Rattle.std.specs.List.{filter_map, enumerate_from}
+use Rattle.std.proofs.Math.Bool.{and-false}
 use Rattle.std.proofs.lemmas.Nat.{div_below}
 use Rattle.std.proofs.lemmas.Bool.{and_parts, leb-true, le-leb}
 use Rattle.std.proofs.lemmas.Bool.Decides.{nat_tests, eqb_tells}
 use Rattle.world_rules.specs.declared.object.Object.{Object}
+use Rattle.world_rules.specs.declared.object.Place.{Place}
 use Rattle.world_rules.specs.declared.object.State.{State}
 use Rattle.world_rules.specs.declared.object.State.TheVariants.{Player, Disc, Mine, Drone, Flag, Clock}
 use Rattle.world_rules.specs.Flags.{is_player, is_player_part}
@@ -14,6 +16,8 @@ use Rattle.world_rules.specs.Identity.{owner_in, owners, OwnersRise, HaveNoOwner
 use Rattle.world_cells.specs.Grid.{has_place, is_always, lasts}
 use Rattle.world_sim.specs.Worlds.{Worlds}
 use Rattle.world_scope.specs.declared.viewer.Seen.{Seen}
+use Rattle.world_scope.specs.declared.viewer.Viewer.{Viewer}
+use Rattle.world_scope.specs.Views.{IsReady}
 use Rattle.world_scope.specs.Sight.{distance, is_hidden}
 use Rattle.world_scope.specs.Scope.{Look, look_of, is_visible, player_sees, quarter, seen, visible_list}
 use Rattle.world_scope.specs.Square.{is_touched, is_round, many_round, most_looks}
@@ -112,8 +116,11 @@ sees_round radius None o alive placed e = absurd (cc)
 sees_round radius (Some p) o alive placed e =
     round radius p o alive placed (leb-true (distance p.place o.place) radius (and_parts _ (nat_le (distance p.place o.place) radius) e).1)
 
+pub one_found : (clients : ℕ) (os : List Object) (client : ℕ) → IsPeopled clients os → (n : ℕ) (o : Object) → slice_get os n ≡ Some o → is_player client o ≡ true → find (is_player client) os ≡ Some o
+one_found clients os client people n o at h = first_found clients 0 os n o client people.owned at h
+
 pub has_one : (clients : ℕ) (w : Worlds) (client : ℕ) → IsPeopled clients w.objects → HasOnePlayer (look_of w client) w.objects
-has_one clients w client people = λ n o at h. first_found clients 0 w.objects n o client people.owned at h
+has_one clients w client people = one_found clients w.objects client people
 
 near_by : (v : Look) (os : List Object) (n : ℕ) (o : Object) → HasOnePlayer v os → slice_get os n ≡ Some o → o.alive ≡ true → has_place o.state ≡ true → (is_player v.client o ≡ true) ⊎ (player_sees v.radius v.player o ≡ true) → is_near v.radius v.player o ≡ true
 near_by v os n o owned at alive placed (inl h) =
@@ -205,6 +212,41 @@ player_by v n o false alive always owned own =
 
 pub player_seen : (v : Look) (n : ℕ) (o : Object) → o.alive ≡ true → is_always o ≡ false → (is_player v.client o ≡ true → v.player ≡ Some o) → seen v (n, o) ≡ cond (player_sees v.radius v.player o) (Some (record { object = n; level = quarter v.radius v.player o })) None
 player_seen v n o alive always owned = player_by v n o (is_player v.client o) alive always owned refl
+
+-- by the reach, which is 0 without a player
+sees_by : (radius reach team : ℕ) (place : Place) (player : Option Object) (o : Object) → (player ≡ None → reach ≡ 0) → ((p : Object) → player ≡ Some p → place ≡ p.place) → ((p : Object) → player ≡ Some p → team ≡ p.team) → ((p : Object) → player ≡ Some p → reach ≡ radius + 1) → player_sees radius player o ≡ (not (is_hidden team o) && nat_lt (distance place o.place) reach)
+sees_by radius reach team place None o alone at of far =
+    let none : nat_lt (distance place o.place) reach ≡ false = let z = alone refl in grind (arith, nat_tests) in
+    rw (none, and-false (not (is_hidden team o))) refl
+sees_by radius reach team place (Some p) o alone at of far =
+    let r : reach ≡ radius + 1 = far p refl in
+    let d : nat_lt (distance p.place o.place) (radius + 1) ≡ nat_le (distance p.place o.place) radius = grind (arith, nat_tests) in
+    rw (at p refl, of p refl, r, d) refl
+
+level_by : (radius reach : ℕ) (place : Place) (player : Option Object) (o : Object) → (player ≡ None → reach ≡ 0) → ((p : Object) → player ≡ Some p → place ≡ p.place) → ((p : Object) → player ≡ Some p → reach ≡ radius + 1) → distance place o.place < reach → 4 * distance place o.place / reach ≡ quarter radius player o
+level_by radius reach place None o alone at far l = let z = alone refl in absurd (omega (arith, z, l))
+level_by radius reach place (Some p) o alone at far l = rw (at p refl, far p refl) refl
+
+out_of_reach : (hidden : Bool) (away reach : ℕ) → reach ≤ away → (not hidden && nat_lt away reach) ≡ false
+out_of_reach hidden away reach l = let t : nat_lt away reach ≡ false = grind (arith, nat_tests) in rw (t, and-false (not hidden)) refl
+
+in_reach : (hidden : Bool) (away reach : ℕ) → hidden ≡ false → away < reach → (not hidden && nat_lt away reach) ≡ true
+in_reach hidden away reach h l = let t : nat_lt away reach ≡ true = grind (arith, nat_tests) in rw (h, t) refl
+
+abbrev pub seen_from : Viewer → ℕ → Object → Option Seen
+seen_from v n o = cond (player_sees v.radius v.player o) (Some (record { object = n; level = quarter v.radius v.player o })) None
+
+abbrev pub seen_at_level : ℕ → ℕ → Option Seen
+seen_at_level n q = Some (record { object = n; level = q })
+
+pub seen_none : (v : Viewer) (n : ℕ) (o : Object) → IsReady v → (is_hidden v.team o ≡ true) ⊎ (v.reach ≤ distance v.place o.place) → None ≡ seen_from v n o
+seen_none v n o r (inl h) = rw (sees_by v.radius v.reach v.team v.place v.player o r.alone r.place r.team r.reach, h) refl
+seen_none v n o r (inr l) = rw (sees_by v.radius v.reach v.team v.place v.player o r.alone r.place r.team r.reach, out_of_reach (is_hidden v.team o) (distance v.place o.place) v.reach l) refl
+
+pub seen_some : (v : Viewer) (n q : ℕ) (o : Object) → IsReady v → is_hidden v.team o ≡ false → distance v.place o.place < v.reach → q ≡ 4 * distance v.place o.place / v.reach → seen_at_level n q ≡ seen_from v n o
+seen_some v n q o r h l e =
+    let level : q ≡ quarter v.radius v.player o = e ∙ level_by v.radius v.reach v.place v.player o r.alone r.place r.reach l in
+    rw (sees_by v.radius v.reach v.team v.place v.player o r.alone r.place r.team r.reach, in_reach (is_hidden v.team o) (distance v.place o.place) v.reach h l, level) refl
 
 -- ---- the whole list
 

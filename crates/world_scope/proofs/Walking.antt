@@ -1,5 +1,5 @@
 -- A walk over the bits of a word: how many objects are looked at, and what is seen of them.
-use Rattle.std.proofs.Common.{◌≡◌, ℕ, zero, suc, ◌+◌, ◌-◌, ◌^◌, ◌<◌, ◌≤◌, inl, inr, Bool, true, false, cond, List, [], ◌∷◌, ◌++◌, length, drop, refl, sym, ap, ◌∙◌, arith, Option, Some, None, count_by, append_assoc, length-append}
+use Rattle.std.proofs.Common.{◌≡◌, ℕ, zero, suc, ◌+◌, ◌-◌, ◌^◌, ◌<◌, ◌≤◌, inl, inr, Bool, true, false, List, [], ◌∷◌, ◌++◌, length, drop, refl, sym, ap, ◌∙◌, arith, Option, Some, None, count_by, append_assoc, length-append}
 use Rattle.std.specs.Prelude.{slice_get, option_map}
 use Rattle.std.specs.Option.{option_map_or}
 use Rattle.std.specs.Int.{bit_at, trailing_zeros, w64}
@@ -10,7 +10,7 @@ use Rattle.world_rules.specs.declared.object.Object.{Object}
 use Rattle.world_cells.specs.Lines.{AreBits}
 use Rattle.world_sim.specs.Worlds.{Worlds, alive_at}
 use Rattle.world_scope.specs.declared.viewer.Seen.{Seen}
-use Rattle.world_scope.specs.Scope.{Look, seen, is_visible}
+use Rattle.world_scope.specs.Scope.{Look}
 use Rattle.world_scope.specs.Candidates.{HasOnePlayer, may_see, seen_in, to_come}
 use Rattle.world_scope.proofs.Numbers.{one, count_cons}
 use Rattle.world_scope.proofs.Sets.{passes}

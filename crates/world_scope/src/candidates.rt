@@ -136,14 +136,8 @@ fn add_round(world: &World, radius: u32, place: &Place, words: &mut [u64; WORDS]
     ensures { (p : Object → Bool) → AreThose words.old p world.now.objects
         → AreThose words.new (either p (is_round radius place.now)) world.now.objects }
 {
-    let columns = (
-        first_touched(radius, place.x),
-        touched_end(radius, place.x),
-    );
-    let rows = (
-        first_touched(radius, place.y),
-        touched_end(radius, place.y),
-    );
+    let columns = (first_touched(radius, place.x), touched_end(radius, place.x));
+    let rows = (first_touched(radius, place.y), touched_end(radius, place.y));
     add_part(world, columns, rows, words);
 }
 

@@ -5,7 +5,7 @@ ghost use Rattle.std.specs.List.{cons_option, filter_map, enumerate_from};
 ghost use Rattle.world_cells.specs.Lines.{AreBits};
 ghost use Rattle.world_sim.specs.Worlds.{alive_at};
 ghost use Rattle.world_scope.specs.Scope.{seen};
-ghost use Rattle.world_scope.specs.Views.{look};
+ghost use Rattle.world_scope.specs.Views.{look, IsReady};
 ghost use Rattle.world_scope.specs.Candidates.{AreThose, HasOnePlayer, may_see, seen_in, to_come};
 
 use crate::candidates::{WORDS, words_of};
@@ -37,6 +37,7 @@ fn look_at<L: Ledger>(
     requires there { object < length world.now.objects }
     requires alive { alive_at world.now object ≡ Some true }
     requires owned { HasOnePlayer (look viewer.now) world.now.objects }
+    requires ready { IsReady viewer.now }
     ensures seen { result ≡ seen_in (look viewer.now) world.now.objects object }
     ensures steps { steps.new ≡ steps.old + 1 }
 {
@@ -65,6 +66,7 @@ fn gather_word<L: Ledger>(
     requires few { from + 64 ≤ MAX_OBJECTS }
     requires bits { AreBits word from 64 (may_see (look viewer.now)) world.now.objects }
     requires owned { HasOnePlayer (look viewer.now) world.now.objects }
+    requires ready { IsReady viewer.now }
     ensures ok { OnOk result (out.new.items ++ to_come (look viewer.now) world.now.objects (from + 64)
         ≡ out.old.items ++ to_come (look viewer.now) world.now.objects from) }
     ensures room { OnErr result (vec_capacity out.old
@@ -94,6 +96,7 @@ pub fn gather<L: Ledger>(
 ) -> Result<(), AllocError>
     requires those { AreThose words.now (may_see (look viewer.now)) world.now.objects }
     requires owned { HasOnePlayer (look viewer.now) world.now.objects }
+    requires ready { IsReady viewer.now }
     ensures ok { OnOk result (out.new.items ≡ filter_map (seen (look viewer.now)) (enumerate_from 0 world.now.objects)) }
     ensures room { OnErr result (vec_capacity out.old
         < length (filter_map (seen (look viewer.now)) (enumerate_from 0 world.now.objects))) }

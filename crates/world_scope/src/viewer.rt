@@ -1,5 +1,5 @@
 //! A client's look at one object.
-ghost use Rattle.std.specs.Prelude.{◌≡◌, ℕ, ◌≤◌, ◌+◌, ◌*◌, ◌/◌, true, Some, None, find, nat_le, if◌then◌else◌};
+ghost use Rattle.std.specs.Prelude.{◌≡◌, ℕ, ◌≤◌, ◌<◌, ◌+◌, ◌*◌, ◌/◌, ◌^◌, true, Some, None, find, slice_get, nat_le, if◌then◌else◌};
 ghost use Rattle.std.specs.Option.{option_copied};
 ghost use Rattle.world_rules.specs.Flags.{is_player};
 ghost use Rattle.world_rules.specs.declared.object.Object.{Object};
@@ -21,12 +21,17 @@ pub struct Seen {
     pub level: u8,
 }
 
-/// Who looks: a client, its player if it has one, and how far players see, in centimetres.
+/// Who looks: a client, its player if it has one, and how far players see, in centimetres. Beside them is what each look asks of
+/// the player, so that none asks whether there is one.
 #[derive(Clone, Copy)]
 pub struct Viewer {
     pub client: u8,
     pub player: Option<Object>,
     pub radius: u32,
+    pub place: Place,
+    pub team: u8,
+    /// One more than the radius, and 0 without a player.
+    pub reach: u64,
 }
 
 // How far two places are from one another: the greater of the ways along x and along y.
@@ -58,62 +63,83 @@ fn reached(least: u64, number: u64) -> u8
     u8::from(least <= number)
 }
 
-// The quarter of the radius that lies so far away, with no branch: that of one object says little of the next.
-fn quarter(radius: u32, away: u32) -> u8
-    ensures value { away ≤ radius → result ≡ 4 * away / (radius + 1) }
+// The quarter of the reach that lies so far away, with no branch: that of one object says little of the next.
+fn quarter(whole: u64, away: u32) -> u8
+    requires { whole ≤ 2 ^ 32 }
+    ensures value { away < whole → result ≡ 4 * away / whole }
     ensures few { result ≤ 3 }
 {
-    let whole = u64::from(radius) + 1;
     let four = 4 * u64::from(away);
     reached(whole, four) + reached(2 * whole, four) + reached(3 * whole, four)
 }
 
-// The client's player.
+// The client's player: as a rule the object of the client's number.
 fn player_of(client: u8, objects: &[Object]) -> Option<&Object>
+    requires one { (n : ℕ) (o : Object) → slice_get objects.now n ≡ Some o → is_player client o ≡ true
+        → find (is_player client) objects.now ≡ Some o }
     ensures { option_copied result ≡ find (is_player client) objects.now }
 {
+    if let Some(first) = objects.get(usize::from(client)) {
+        if is_player(client, first) {
+            return Some(first);
+        }
+    }
     objects.iter().find(|o| is_player(client, o))
 }
 
 impl Viewer {
     ghost use Rattle.world_scope.specs.Scope.{player_sees, quarter, seen};
-    ghost use Rattle.world_scope.specs.Views.{look};
+    ghost use Rattle.world_scope.specs.Views.{look, IsReady};
 
     /// The look of a client at these objects, from its player among them.
     pub fn of(client: u8, radius: u32, objects: &[Object]) -> Viewer
-        ensures { look result ≡ record { client = client; player = find (is_player client) objects.now; radius = radius } }
+        requires one { (n : ℕ) (o : Object) → slice_get objects.now n ≡ Some o → is_player client o ≡ true
+            → find (is_player client) objects.now ≡ Some o }
+        ensures look { look result ≡ record { client = client; player = find (is_player client) objects.now; radius = radius } }
+        ensures ready { IsReady result }
     {
-        Viewer {
-            client,
-            player: player_of(client, objects).copied(),
-            radius,
+        match player_of(client, objects) {
+            Some(player) => Viewer {
+                client,
+                player: Some(*player),
+                radius,
+                place: player.place,
+                team: player.team,
+                reach: u64::from(radius) + 1,
+            },
+            None => Viewer {
+                client,
+                player: None,
+                radius,
+                place: Place { x: 0, y: 0 },
+                team: 0,
+                reach: 0,
+            },
         }
     }
 
     // An object as the client's player sees it, if there is a player and it does.
+    #[tactic(auto, using(crate::proofs::Sights::seen_none, crate::proofs::Sights::seen_some))]
     fn seen_by_player(&self, object: u32, g: &Glance) -> Option<Seen>
+        requires { IsReady self.now }
         ensures { (o : Object) → g.now ≡ glance_of o → result ≡ (if player_sees self.now.radius self.now.player o
             then Some (record { object = object; level = quarter self.now.radius self.now.player o }) else None) }
     {
-        match &self.player {
-            None => None,
-            Some(player) => {
-                let away = distance(&player.place, &g.place);
-                if is_hidden(player.team, g) | (away > self.radius) {
-                    return None;
-                }
-                Some(Seen {
-                    object,
-                    level: quarter(self.radius, away),
-                })
-            }
+        let away = distance(&self.place, &g.place);
+        if (u64::from(away) >= self.reach) | is_hidden(self.team, g) {
+            return None;
         }
+        Some(Seen {
+            object,
+            level: quarter(self.reach, away),
+        })
     }
 
     /// A living object as the client sees it, by a glance, if it does. Nobody asks whose player it is: the client's own one is
     /// where it looks from, so it sees itself at level 0.
     #[tactic(auto, using(crate::proofs::Sights::always_seen, crate::proofs::Sights::player_seen))]
     pub fn sight(&self, object: u32, g: &Glance) -> Option<Seen>
+        requires { IsReady self.now }
         ensures { (o : Object) → g.now ≡ glance_of o → o.alive ≡ true
             → (is_player self.now.client o ≡ true → self.now.player ≡ Some o) → result ≡ seen (look self.now) (object, o) }
     {

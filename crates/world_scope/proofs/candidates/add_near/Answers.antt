@@ -1,4 +1,4 @@
-use Rattle.std.proofs.Common.{◌≡◌, sym, subst, Option}
+use Rattle.std.proofs.Common.{sym, subst, Option}
 use Rattle.world_rules.specs.declared.object.Object.{Object}
 use Rattle.world_scope.specs.Candidates.{AreThose, either, is_near}
 use Rattle.world_scope.proofs.candidates.add_near.Goals as goal

@@ -1,5 +1,6 @@
-use Rattle.std.proofs.Common.{◌<◌, ◌≤◌, ◌+◌, ◌^◌, ◌++◌, length, OnErr, Result, Ok, Err, sym, ap, ◌∙◌, refl, arith, List}
+use Rattle.std.proofs.Common.{◌≡◌, ◌<◌, ◌+◌, ◌^◌, ◌++◌, length, OnErr, Result, Ok, Err, sym, ap, ◌∙◌, refl, arith, List}
 use Rattle.std.specs.Int.{trailing_zeros, w64}
+use Rattle.std.specs.List.{cons_option}
 use Rattle.world_scope.specs.declared.viewer.Seen.{Seen}
 use Rattle.world_scope.specs.Views.{look}
 use Rattle.world_scope.specs.Candidates.{may_see, to_come}
@@ -29,7 +30,7 @@ returns-in_err-add-clause-room g c =
     let some : 0 < c.loop-rest.rest = omega (arith, c.loop-rest-test.true) in
     let small : c.loop-rest.rest < 2 ^ 64 = c.loop-rest.invariant.fits in
     let come = come_next c.args.word c.args.from c.loop-rest.rest c.loop-rest.next v os c.look_at.result some small c.loop-rest.invariant.left c.requires.bits c.requires.owned c.look_at.ensures.seen in
-    let whole_is = ap (λ (ys : List Seen). c.loop-rest.out.items ++ ys) (sym come) ∙ c.loop-rest.invariant.so_far in
+    let whole_is : c.loop-rest.out.items ++ cons_option c.look_at.result (to_come v os (c.args.from + trailing_zeros w64 c.loop-rest.rest + 1)) ≡ c.args.out.now.items ++ to_come v os c.args.from = ap (λ (ys : List Seen). c.loop-rest.out.items ++ ys) (sym come) ∙ c.loop-rest.invariant.so_far in
     let most = front_most c.loop-rest.out.items (to_come v os (c.args.from + trailing_zeros w64 c.loop-rest.rest + 1)) c.look_at.result in
     any_err c.from_residual.result (omega (arith, c.in_err-add.ensures.room, c.loop-rest.invariant.room, most, ap (λ (ys : List Seen). length ys) whole_is))
 

@@ -1,4 +1,3 @@
-use Rattle.std.proofs.Common.{arith}
 use Rattle.world_scope.proofs.Rests.{cut}
 use Rattle.world_scope.proofs.gather.without_lowest.Goals as goal
 
