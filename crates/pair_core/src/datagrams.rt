@@ -1,11 +1,16 @@
 //! The datagrams that were sent one way.
-ghost use Rattle.std.specs.Prelude.{◌≡◌, true, false, ℕ, List, ◌+◌, ◌-◌, ◌<◌, ◌≤◌, ◌++◌, ◌∷◌, [], OnOk, OnErr, IfSome, IsNone, IsTrue, ◌↔◌, Some, None, length, take, drop, slice_get};
+ghost use Rattle.std.specs.Prelude.{◌≡◌, true, false, ℕ, List, ◌+◌, ◌-◌, ◌<◌, ◌≤◌, ◌++◌, ◌∷◌, [], OnOk, OnErr, IfOk, IfSome, IsNone, IsTrue, ◌↔◌, Some, None, length, take, drop, slice_get};
 ghost use Rattle.std.specs.Option.{option_copied};
 ghost use Rattle.pair_core.specs.Flat.{cut, Rise};
 
 use std::alloc::Global;
 use std::marker::Model;
 use tn_types::{MAX_DATAGRAM_BYTES, MAX_DATAGRAMS, NoMemory};
+
+/// The room for datagrams, and for their bytes, that a list begins with.
+const FIRST_DATAGRAMS: usize = 1_024;
+
+const FIRST_BYTES: usize = 131_072;
 
 /// Datagrams in the order in which they were sent, each kept once: their bytes one behind another, and where each ends.
 ///
@@ -32,14 +37,17 @@ impl Model for Datagrams {
 }
 
 impl Datagrams {
-    /// No datagram.
-    pub(crate) fn new(alloc: Global) -> Datagrams
-        ensures { result.list ≡ [] }
+    /// No datagram. There is room for those of a short match, so that the list seldom moves as it grows.
+    pub(crate) fn new(alloc: Global) -> Result<Datagrams, NoMemory>
+        ensures { IfOk result (λ d. d.list ≡ []) }
     {
-        Datagrams {
-            bytes: Vec::new(alloc),
-            ends: Vec::new(alloc),
-        }
+        let Ok(bytes) = Vec::with_capacity(alloc, FIRST_BYTES) else {
+            return Err(NoMemory);
+        };
+        let Ok(ends) = Vec::with_capacity(alloc, FIRST_DATAGRAMS) else {
+            return Err(NoMemory);
+        };
+        Ok(Datagrams { bytes, ends })
     }
 
     /// How many were sent.

@@ -87,11 +87,13 @@ impl Pair {
         let Ok(noted) = Vec::with_capacity(alloc, MAX_PACKET_VALUES) else {
             return Err(NoMemory);
         };
+        let down = Datagrams::new(alloc)?;
+        let up = Datagrams::new(alloc)?;
         Ok(Pair {
             conn,
             client,
-            down: Datagrams::new(alloc),
-            up: Datagrams::new(alloc),
+            down,
+            up,
             values,
             noted,
         })
