@@ -1,5 +1,5 @@
 -- Parts of the field, cell by cell and row by row.
-use Rattle.std.proofs.Common.{◌≡◌, ℕ, zero, suc, ◌+◌, ◌-◌, ◌/◌, ◌<◌, ◌≤◌, Bool, true, false, ◌&&◌, ◌||◌, ◌==◌, nat_le, List, [], ◌∷◌, refl, sym, ap, arith, min, Some, None}
+use Rattle.std.proofs.Common.{◌≡◌, ℕ, zero, suc, ◌+◌, ◌-◌, ◌/◌, ◌<◌, ◌≤◌, Bool, true, false, ◌&&◌, ◌||◌, ◌==◌, nat_le, List, [], ◌∷◌, refl, sym, ap, arith, min, Some}
 use Rattle.std.specs.Prelude.{slice_get}
 use Rattle.std.specs.List.{AllByRecursion}
 use Rattle.std.proofs.Math.Bool.{and-false, and-true}
@@ -9,7 +9,7 @@ use Rattle.world_rules.specs.declared.object.Place.{Place}
 use Rattle.world_rules.specs.Ranges.{ObjectFits}
 use Rattle.world_cells.specs.Grid.{has_place, lies_at, is_between, lies_between}
 use Rattle.world_scope.specs.Square.{is_round}
-use Rattle.world_scope.specs.Candidates.{AreThose, either, is_in_row, is_near}
+use Rattle.world_scope.specs.Candidates.{AreThose, either, is_in_row}
 use Rattle.world_scope.proofs.Numbers.{one}
 use Rattle.world_scope.proofs.Sets.{those_same}
 
@@ -87,9 +87,6 @@ part_more words p os a b from c h those =
 within : (f e x : ℕ) → x < 16 → is_between (min f 16) (min (e + 1) 16) x ≡ (nat_le f x && nat_le x e)
 within f e x h = grind (arith, nat_tests)
 
-pub columns_rise : (radius at : ℕ) → min ((at - radius) / 4096) 16 ≤ min ((at + radius) / 4096 + 1) 16
-columns_rise radius at = omega arith
-
 abbrev pub part_round : ℕ → Place → Object → Bool
 part_round radius p o =
     lies_between (min ((p.x - radius) / 4096) 16) (min ((p.x + radius) / 4096 + 1) 16) (min ((p.y - radius) / 4096) 16) (min ((p.y + radius) / 4096 + 1) 16) o
@@ -109,6 +106,3 @@ pub round_those : (words : List ℕ) (p : Object → Bool) (os : List Object) (r
 round_those words p os radius place fits those =
     those_same words (either p (part_round radius place)) (either p (is_round radius place)) os
     (λ n o at. ap (λ b. p o || b) (round_is radius place o (fits_at os n o fits at))) those
-
-pub near_none : (words : List ℕ) (p : Object → Bool) (os : List Object) (radius : ℕ) → AreThose words p os → AreThose words (either p (is_near radius None)) os
-near_none words p os radius those = those_same words p (either p (is_near radius None)) os (λ n o at. none_is (p o) false refl) those

@@ -191,7 +191,3 @@ unfolding visible_list
 objects_rise w client = increasing 0 _ (numbers_rise (look_of w client) 0 w.objects)
 
 -- ---- the list as the code has it
-
-pub is_list : (w : Worlds) (client : ℕ) (v : Look) (os : List Object) (listed : List Seen) → v ≡ look_of w client → os ≡ w.objects → listed ≡ filter_map (seen v) (enumerate_from 0 os) → listed ≡ visible_list w client
-unfolding visible_list
-is_list w client v os listed e f g = g ∙ rw (e, f) refl

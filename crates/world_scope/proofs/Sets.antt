@@ -214,11 +214,3 @@ pub those_none : (words : List ℕ) (os : List Object) → words ≡ zeros 16 �
 those_none words os e = λ n l.
     let none : get_or words (n / 64) 0 ≡ 0 = ap (λ (ws : List ℕ). get_or ws (n / 64) 0) e ∙ zero_at 16 (n / 64) in
     ap (λ (w : ℕ). bit_at w (n % 64)) none ∙ bit_at-zero (n % 64) ∙ sym (ap one (none_passes (slice_get os n)))
-
--- a word of the set has the bits of 64 objects
-pub bits_in : (words : List ℕ) (p : Object → Bool) (os : List Object) (w : ℕ) → w < 16 → AreThose words p os → AreBits (get_or words w 0) (64 * w) 64 p os
-bits_in words p os w l those = λ k m.
-    let d : (64 * w + k) / 64 ≡ w = omega (arith, m) in
-    let r : (64 * w + k) % 64 ≡ k = omega (arith, m) in
-    ap (λ (j : ℕ). bit_at (get_or words j 0) k) (sym d) ∙ ap (bit_at (get_or words ((64 * w + k) / 64) 0)) (sym r)
-    ∙ those (64 * w + k) (omega (arith, l, m))

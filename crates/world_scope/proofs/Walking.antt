@@ -177,9 +177,6 @@ come_end word from rest next v os z r bits owned =
     let e : next + (from + 64 - next) ≡ from + 64 = omega (arith, r.order) in
     come_skip v os next (from + 64 - next) owned (none_behind word from rest next (may_see v) os z r bits) ∙ ap (λ j. to_come v os j) e
 
-pub come_none : (v : Look) (os : List Object) (i : ℕ) → length os ≤ i → to_come v os i ≡ []
-come_none v os i l = rw (drop_all i os l) refl
-
 -- what is seen behind a list, and then what is still to come
 pub added_on : (front more : List Seen) (made : Option Seen) → (front ++ cons_option made []) ++ more ≡ front ++ cons_option made more
 added_on front more None = ap (λ (xs : List Seen). xs ++ more) (append-nil front)

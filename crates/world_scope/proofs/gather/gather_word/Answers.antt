@@ -64,13 +64,14 @@ loop-rest-preserved g c =
     let later = to_come v os (c.args.from + trailing_zeros w64 c.loop-rest.rest + 1) in
     let come = come_next c.args.word c.args.from c.loop-rest.rest c.loop-rest.next v os c.look_at.result some small c.loop-rest.invariant.left c.requires.bits c.requires.owned c.look_at.ensures.seen in
     let more = count_next c.args.word c.args.from c.loop-rest.rest c.loop-rest.next (may_see v) os some small c.loop-rest.invariant.left c.requires.bits in
+    let whole_is : c.loop-rest.out.items ++ cons_option c.look_at.result later ≡ c.args.out.now.items ++ to_come v os c.args.from = ap (λ (ys : List Seen). c.loop-rest.out.items ++ ys) (sym come) ∙ c.loop-rest.invariant.so_far in
     record {
       fits = omega (arith, small, c.without_lowest-rest.ensures.less);
       left = rest_next c.args.word c.args.from c.loop-rest.rest c.loop-rest.next c.without_lowest-rest.result some small c.loop-rest.invariant.left c.without_lowest-rest.ensures.bits;
       so_far =
           ap (λ (ys : List Seen). ys ++ later) c.in_ok-add.ensures.ok
           ∙ added_on c.loop-rest.out.items later c.look_at.result
-          ∙ ap (λ (ys : List Seen). c.loop-rest.out.items ++ ys) (sym come) ∙ c.loop-rest.invariant.so_far;
+          ∙ whole_is;
       room = omega (arith, c.loop-rest.invariant.room, c.in_ok-add.ensures.kept);
       steps = omega (arith, more, c.look_at.ensures.steps, c.loop-rest.invariant.steps);
     }
