@@ -13,6 +13,8 @@ use rand_pcg::Lcg64Xsh32;
 use std::alloc::Global;
 use tn_types::{Class, MIN_STEP, Move, NoMemory, Payload};
 
+// Inlined, so that a line is made where it is to stand.
+#[inline(always)]
 fn put(lines: &mut Vec<BodyLine>, line: BodyLine) -> Result<(), NoMemory>
     ensures { OnOk result (lines.new.items ≡ lines.old.items ++ line ∷ []) }
 {

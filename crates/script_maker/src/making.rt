@@ -1,15 +1,27 @@
 //! The making of a script.
-ghost use Rattle.std.specs.Prelude.{◌≡◌, ◌≤◌, IfOk};
+ghost use Rattle.std.specs.Prelude.{◌≡◌, ◌≤◌, [], IfOk};
 ghost use Rattle.match_script.specs.Ranges.{HasRanges};
 ghost use Rattle.script_maker.specs.Made.{first_lines, made};
 
 use crate::draws::generator;
 use crate::header::{head_with, objects};
 use crate::lines::put_round;
-use match_script::{Body, Script};
+use crate::numbers::MOST_LINES_OF_A_ROUND;
+use match_script::{Body, BodyLine, Script};
 use rand_pcg::Lcg64Xsh32;
 use std::alloc::Global;
 use tn_types::{MAX_BODY_LINES, MAX_CLIENTS, NoMemory};
+
+// No line, with room for so many, where a script may have them, and for what the last round has beyond them.
+fn room_for(alloc: Global, steps: u32) -> Result<Vec<BodyLine>, NoMemory>
+    ensures { IfOk result (λ lines. lines.items ≡ []) }
+{
+    let room = steps.min(MAX_BODY_LINES) as usize + MOST_LINES_OF_A_ROUND;
+    match Vec::with_capacity(alloc, room) {
+        Ok(lines) => Ok(lines),
+        Err(_) => Err(NoMemory),
+    }
+}
 
 // The first lines of the rounds.
 #[tactic(auto, unfolding(crate::specs::Made::first_lines))]
@@ -21,7 +33,7 @@ fn first_lines(
 ) -> Result<Body, NoMemory>
     ensures { IfOk result (λ body. body ≡ (first_lines clients steps rng.old).0) }
 {
-    let mut lines = Vec::new(alloc);
+    let mut lines = room_for(alloc, steps)?;
     let mut k = 0u32;
     'rounds: while lines.len() < steps as usize {
         put_round(alloc, &mut lines, rng, clients, k)?;

@@ -37,3 +37,7 @@ pub const PAYLOADS: u32 = 65_536;
 
 /// Chances of a delivery.
 pub const CHANCES: u32 = 10;
+
+/// Lines of a round at the most: its tick, and for each of 16 clients a move, a scan, a post, two packs, and two deliveries that
+/// bring two datagrams each.
+pub const MOST_LINES_OF_A_ROUND: usize = 145;

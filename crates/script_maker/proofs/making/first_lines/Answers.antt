@@ -9,7 +9,7 @@ use Rattle.script_maker.proofs.making.first_lines.Goals as goal
 
 pub rounds-init : goal.rounds-init
 rounds-init c = record {
-  rounds = subst (λ (xs : List BodyLine). Adds (each_below 0 (round c.args.clients)) [] c.args.rng.now xs c.args.rng.now) (sym c.new-lines.ensures.items) (adds_nothing (round c.args.clients) [] c.args.rng.now);
+  rounds = subst (λ (xs : List BodyLine). Adds (each_below 0 (round c.args.clients)) [] c.args.rng.now xs c.args.rng.now) (sym c.in_ok-lines.ensures) (adds_nothing (round c.args.clients) [] c.args.rng.now);
   few = omega arith;
   long = omega arith;
 }
