@@ -1,5 +1,5 @@
 -- The lines of a made script are in their ranges.
-use Rattle.std.proofs.Common.{◌≡◌, ℕ, ◌+◌, ◌-◌, ◌/◌, ◌%◌, ◌<◌, ◌≤◌, ◌^◌, ◌&&◌, ◌==◌, Bool, true, false, nat_lt, if◌then◌else◌, List, [], ◌∷◌, ◌++◌, length, take, refl, arith}
+use Rattle.std.proofs.Common.{ℕ, ◌-◌, ◌<◌, ◌≤◌, ◌^◌, ◌&&◌, ◌==◌, Bool, true, false, nat_lt, if◌then◌else◌, List, [], ◌∷◌, ◌++◌, length, arith}
 use Rattle.std.specs.List.{All}
 use Rattle.std.proofs.lemmas.List.{length-take}
 use Rattle.std.proofs.lemmas.List.Elements.{All-nil, All-cons, All-append, All-take}
@@ -9,7 +9,7 @@ use Rattle.match_script.specs.declared.types.BodyLine.{BodyLine}
 use Rattle.match_script.specs.declared.types.BodyLine.TheVariants.{Tick, Scan, Pack, ClientPack, Down, Up}
 use Rattle.match_script.specs.Ranges.{LineFits}
 use Rattle.script_maker.specs.declared.numbers.TheConstants.{CHANCES}
-use Rattle.script_maker.specs.Draws.{Drawn, just, draw, each_below}
+use Rattle.script_maker.specs.Draws.{just, draw}
 use Rattle.script_maker.specs.Lines.{sample, brought, delivery, event, post, client_lines, round}
 use Rattle.script_maker.specs.Made.{first_lines}
 use Rattle.script_maker.proofs.Drawing.{draw_below, all_drawn}

@@ -1,10 +1,10 @@
 -- A made script has the ranges of a script.
-use Rattle.std.proofs.Common.{◌≡◌, ℕ, ◌<◌, ◌≤◌, ◌^◌, List, [], ◌∷◌, length, replicate, refl, arith}
+use Rattle.std.proofs.Common.{ℕ, ◌<◌, ◌≤◌, ◌^◌, replicate, refl, arith}
 use Rattle.std.specs.List.{All}
 use Rattle.std.proofs.lemmas.List.Elements.{All-from_recursion, All-weaker}
 use Rattle.rand_pcg.specs.Lcg.{Lcg}
 use Rattle.tn_types.specs.declared.limits.TheConstants.{MAX_CLIENTS, MAX_BODY_LINES}
-use Rattle.world_rules.specs.Spawning.{SpawnFits, SetupFits}
+use Rattle.world_rules.specs.Spawning.{SpawnFits}
 use Rattle.match_script.specs.Ranges.{BlockFits, HeadFits, HasRanges}
 use Rattle.script_maker.specs.Draws.{generator}
 use Rattle.script_maker.specs.Header.{blocks, objects, head_with}

@@ -9,7 +9,7 @@ use Rattle.std.proofs.Math.Nat.{zero-add}
 use Rattle.rand_pcg.specs.Lcg.{Lcg}
 use Rattle.tn_types.specs.declared.limits.TheConstants.{MAX_CLIENTS}
 use Rattle.world_rules.specs.declared.setup.Spawn.{Spawn}
-use Rattle.world_rules.specs.Spawning.{SpawnFits, SetupFits}
+use Rattle.world_rules.specs.Spawning.{SpawnFits}
 use Rattle.world_rules.specs.Identity.{OwnersRise, HaveNoOwner}
 use Rattle.script_maker.specs.Draws.{Drawn, draw, each_below}
 use Rattle.script_maker.specs.Header.{player, fixed, other, objects}

@@ -1,9 +1,9 @@
-use Rattle.std.proofs.Common.{◌≡◌, ◌∷◌, ◌++◌, [], List, subst, sym, ◌∙◌, append_assoc, ℕ, arith}
+use Rattle.std.proofs.Common.{◌≡◌, ◌∷◌, ◌++◌, [], List, subst, sym, ℕ, arith}
 use Rattle.match_script.specs.declared.types.BodyLine.{BodyLine}
 use Rattle.match_script.specs.declared.types.BodyLine.TheVariants.{Tick}
 use Rattle.script_maker.specs.Adding.{Adds}
 use Rattle.script_maker.specs.Draws.{each_below}
-use Rattle.script_maker.specs.Lines.{client_lines, round}
+use Rattle.script_maker.specs.Lines.{client_lines}
 use Rattle.script_maker.proofs.Drawing.{adds_nothing, adds_next}
 use Rattle.script_maker.proofs.Rounds.{adds_round}
 use Rattle.script_maker.proofs.lines.put_round.Goals as goal

@@ -1,4 +1,4 @@
-use Rattle.std.proofs.Common.{◌≡◌, ◌≤◌, ◌+◌, ◌∷◌, [], List, length, subst, sym, ◌∙◌, arith}
+use Rattle.std.proofs.Common.{[], List, subst, sym, ◌∙◌, arith}
 use Rattle.match_script.specs.declared.types.BodyLine.{BodyLine}
 use Rattle.script_maker.specs.Adding.{Adds}
 use Rattle.script_maker.specs.Draws.{each_below}
