@@ -160,6 +160,18 @@ pub fn drone_next(r: u32, harm: u32, o: &Object, d: &Drone) -> Object
     }
 }
 
+/// The tick of a living drone that nothing hits, where it lies: it only drifts.
+#[tactic(auto, unfolding(crate::specs::Drones::drone_next))]
+pub fn drift_drone(r: u32, o: &mut Object, d: &Drone)
+    requires alive { o.old.alive ≡ true }
+    requires drone { o.old.state ≡ drone_of d.now }
+    requires whole { 0 < d.now.hp }
+    ensures { o.new ≡ drone_next r 0 o.old d.now }
+{
+    o.place.x = drifted(o.place.x, r % DRONE_WAYS);
+    o.place.y = drifted(o.place.y, r / DRONE_WAYS % DRONE_WAYS);
+}
+
 /// A living drone's tick, where it lies.
 #[tactic(auto, unfolding(crate::specs::Drones::drone_next))]
 pub fn turn_drone(r: u32, harm: u32, o: &mut Object, d: &Drone)

@@ -1,5 +1,5 @@
 -- What a glance at an object tells of it, and glances at all objects.
-use Rattle.std.proofs.Common.{◌≡◌, ℕ, zero, suc, ◌≤◌, ◌<◌, inl, inr, Bool, true, false, cond, not, nat_eq, ◌&&◌, List, [], ◌∷◌, length, map, take, filter, get_or, set, Option, Some, None, refl, sym, ap, ◌∙◌, arith}
+use Rattle.std.proofs.Common.{◌≡◌, ℕ, zero, suc, ◌≤◌, ◌<◌, inl, inr, Bool, true, false, cond, not, nat_eq, nat_lt, ◌&&◌, List, [], ◌∷◌, length, map, take, filter, get_or, set, Option, Some, None, refl, sym, ap, ◌∙◌, arith}
 use Rattle.std.specs.List.{list_any}
 use Rattle.std.proofs.Math.Bool.{and-false}
 use Rattle.std.proofs.lemmas.List.{length-map, get_or-map}
@@ -175,3 +175,9 @@ matters_not os standing watched o g w fits e m =
 pub drone_glance : (r lost : ℕ) (o now : Object) (g : Glance) (d : DronePart) → o.alive ≡ true → o.state ≡ Drone d → now ≡ drone_next r lost o d → g ≡ glance_of o → (let next : Glance = record { place = now.place; team = g.team; alive = now.alive; role = g.role } in next ≡ glance_of now)
 unfolding drone_next
 drone_glance r lost o now g d alive e f h = rw (f, h, alive, e) refl
+
+pub drift_glance : (r : ℕ) (o now : Object) (g : Glance) (d : DronePart) → o.alive ≡ true → o.state ≡ Drone d → 0 < d.hp → now ≡ drone_next r 0 o d → g ≡ glance_of o → (let next : Glance = record { place = now.place; team = g.team; alive = g.alive; role = g.role } in next ≡ glance_of now)
+unfolding drone_next
+drift_glance r o now g d alive e l f h =
+    let lives : nat_lt 0 d.hp ≡ true = grind (arith, l) in
+    rw (f, h, alive, e, lives) refl

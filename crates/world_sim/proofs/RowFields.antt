@@ -226,3 +226,40 @@ three_written ws o (x ∷ y ∷ z ∷ []) (v ∷ w ∷ []) a b c e f = absurd (o
 three_written ws o (x ∷ y ∷ z ∷ []) (v ∷ w ∷ k ∷ []) a b c e f =
     told_in_turn ws (field_writes o 0 x a v) (field_writes o 1 y b w) (field_writes o 2 z c k)
 three_written ws o (x ∷ y ∷ z ∷ []) (v ∷ w ∷ k ∷ j ∷ vs) a b c e f = absurd (omega (arith, f))
+
+-- ---- two fields in place, where the third stays
+
+pub two_are : (xs : List ℤ) (a b c : ℤ) → length xs ≡ 3 → get_or xs 2 (pos 0) ≡ c → set (set xs 0 a) 1 b ≡ a ∷ b ∷ c ∷ []
+two_are [] a b c e t = absurd (omega (arith, e))
+two_are (x ∷ []) a b c e t = absurd (omega (arith, e))
+two_are (x ∷ y ∷ []) a b c e t = absurd (omega (arith, e))
+two_are (x ∷ y ∷ z ∷ []) a b c e t = ap (λ (k : ℤ). a ∷ b ∷ k ∷ []) t
+two_are (x ∷ y ∷ z ∷ u ∷ xs) a b c e t = absurd (omega (arith, e))
+
+pub two_counted : (xs : List ℤ) (vs : List ℕ) (a b c : ℤ) → length xs ≡ 3 → length vs ≡ 3 → get_or xs 2 (pos 0) ≡ c → after_one (set xs 0 a) (after_one xs vs 0 a) 1 b ≡ row_versions xs (a ∷ b ∷ c ∷ []) vs
+unfolding row_versions
+two_counted [] vs a b c e f t = absurd (omega (arith, e))
+two_counted (x ∷ []) vs a b c e f t = absurd (omega (arith, e))
+two_counted (x ∷ y ∷ []) vs a b c e f t = absurd (omega (arith, e))
+two_counted (x ∷ y ∷ z ∷ u ∷ xs) vs a b c e f t = absurd (omega (arith, e))
+two_counted (x ∷ y ∷ z ∷ []) [] a b c e f t = absurd (omega (arith, f))
+two_counted (x ∷ y ∷ z ∷ []) (v ∷ []) a b c e f t = absurd (omega (arith, f))
+two_counted (x ∷ y ∷ z ∷ []) (v ∷ w ∷ []) a b c e f t = absurd (omega (arith, f))
+two_counted (x ∷ y ∷ z ∷ []) (v ∷ w ∷ k ∷ []) a b c e f t = rw (sym t, same_differs z) refl
+two_counted (x ∷ y ∷ z ∷ []) (v ∷ w ∷ k ∷ j ∷ vs) a b c e f t = absurd (omega (arith, f))
+
+told_twice : (ws first second : List Write) → (ws ++ first) ++ second ≡ ws ++ (first ++ (second ++ []))
+told_twice ws first second = append_assoc ws first second ∙ ap (λ (zs : List Write). ws ++ (first ++ zs)) (sym (append-nil second))
+
+pub two_written : (ws : List Write) (o : ℕ) (xs : List ℤ) (vs : List ℕ) (a b c : ℤ) → length xs ≡ 3 → length vs ≡ 3 → get_or xs 2 (pos 0) ≡ c → (ws ++ field_at o 0 a xs vs) ++ field_at o 1 b (set xs 0 a) (after_one xs vs 0 a) ≡ ws ++ row_writes o 0 xs (a ∷ b ∷ c ∷ []) vs
+unfolding row_writes
+two_written ws o [] vs a b c e f t = absurd (omega (arith, e))
+two_written ws o (x ∷ []) vs a b c e f t = absurd (omega (arith, e))
+two_written ws o (x ∷ y ∷ []) vs a b c e f t = absurd (omega (arith, e))
+two_written ws o (x ∷ y ∷ z ∷ u ∷ xs) vs a b c e f t = absurd (omega (arith, e))
+two_written ws o (x ∷ y ∷ z ∷ []) [] a b c e f t = absurd (omega (arith, f))
+two_written ws o (x ∷ y ∷ z ∷ []) (v ∷ []) a b c e f t = absurd (omega (arith, f))
+two_written ws o (x ∷ y ∷ z ∷ []) (v ∷ w ∷ []) a b c e f t = absurd (omega (arith, f))
+two_written ws o (x ∷ y ∷ z ∷ []) (v ∷ w ∷ k ∷ []) a b c e f t =
+    rw (sym t, same_differs z) (told_twice ws (field_writes o 0 x a v) (field_writes o 1 y b w))
+two_written ws o (x ∷ y ∷ z ∷ []) (v ∷ w ∷ k ∷ j ∷ vs) a b c e f t = absurd (omega (arith, f))

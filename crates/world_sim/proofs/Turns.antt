@@ -1,5 +1,5 @@
 -- One object's tick by what was found, and the ticks of all objects one after the other, in place.
-use Rattle.std.proofs.Common.{◌≡◌, ℕ, zero, suc, ◌+◌, ◌<◌, Bool, true, false, not, cond, ◌&&◌, ◌||◌, nat_le, nat_eq, min, List, [], ◌∷◌, ◌++◌, length, filter, map, take, drop, get_or, set, Option, Some, None, refl, sym, ap, ◌∙◌, arith, add-one, inl, inr}
+use Rattle.std.proofs.Common.{◌≡◌, ℕ, zero, suc, ◌+◌, ◌<◌, ◌/◌, Bool, true, false, not, cond, ◌&&◌, ◌||◌, nat_le, nat_lt, nat_eq, min, List, [], ◌∷◌, ◌++◌, length, filter, map, take, drop, get_or, set, Option, Some, None, refl, sym, ap, ◌∙◌, arith, add-one, inl, inr}
 use Rattle.std.specs.Prelude.{find, ℤ, pos, ◌-◌}
 use Rattle.std.specs.Option.{option_or}
 use Rattle.std.proofs.lemmas.List.{length-take}
@@ -24,7 +24,7 @@ use Rattle.world_sim.specs.declared.found.Found.{Found}
 use Rattle.world_sim.specs.Found.{AreFound, is_ending, is_players, is_players_part}
 use Rattle.world_sim.specs.Turns.{is_quiet, is_quiet_part, stepped_to}
 use Rattle.world_cells.specs.Lines.{GridParts}
-use Rattle.world_cells.specs.Cells.{IsGrid}
+use Rattle.world_cells.specs.Cells.{IsGrid, spot}
 use Rattle.world_sim.specs.declared.rows.Row.{Row}
 use Rattle.world_sim.specs.Rows.{values_of, row_versions, as_number}
 use Rattle.world_sim.specs.RowsNext.{row_values, row_next, rows_updated}
@@ -241,6 +241,19 @@ row_told row next now told e f g =
     let versions : next.versions.items ≡ row_versions row.values.items (values_of now) row.versions.items = g ∙ ap (λ (xs : List ℤ). row_versions row.values.items xs row.versions.items) (sym e) in
     let a : next ≡ row_of (values_of now) next.versions.items = ap (λ (xs : List ℤ). row_of xs next.versions.items) values in
     a ∙ ap (row_of (values_of now)) versions
+
+pub drift_told : (r : ℕ) (o now : Object) (d : DronePart) (xs : List ℤ) → o.alive ≡ true → o.state ≡ Drone d → now ≡ drone_next r 0 o d → xs ≡ values_of o → values_of now ≡ pos now.place.x ∷ pos now.place.y ∷ get_or xs 2 (pos 0) ∷ []
+drift_told r o now d xs a s e v =
+    let less : d.hp - 0 ≡ d.hp = omega arith in
+    let hp : get_or xs 2 (pos 0) ≡ pos (d.hp - 0) = rw (v, s, less) refl in
+    rw hp (drone_told r 0 (d.hp - 0) o now d a e refl)
+
+-- a drone that stays in its cell
+pub drift_spot : (r : ℕ) (o now : Object) (d : DronePart) → o.alive ≡ true → o.state ≡ Drone d → 0 < d.hp → now ≡ drone_next r 0 o d → o.place.x / 4096 ≡ now.place.x / 4096 → o.place.y / 4096 ≡ now.place.y / 4096 → spot o ≡ spot now
+unfolding drone_next
+drift_spot r o now d a s l e cx cy =
+    let alive : nat_lt 0 d.hp ≡ true = grind (arith, l) in
+    rw (cx, cy, e, a, s, alive) refl
 
 pub dead_drone : (o : Object) (d : DronePart) (ending : Bool) → o.state ≡ Drone d → o.alive ≡ false → is_quiet ending o ≡ true
 dead_drone o d ending e f = rw (e, f) refl

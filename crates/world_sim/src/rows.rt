@@ -271,6 +271,54 @@ fn change_slices(
     change_field(object, 2, third, values, versions, writes);
 }
 
+// The first two of three values of a row in place.
+fn change_pair(
+    object: u32,
+    first: u32,
+    second: u32,
+    values: &mut [i64],
+    versions: &mut [u32],
+    writes: &mut Vec<Write>,
+)
+    requires values { length values.old ≡ 3 }
+    requires versions { length versions.old ≡ 3 }
+    requires small { AllByRecursion (λ v. v < 2 ^ 32 - 1) versions.old }
+    requires room { length writes.old.items + 5 ≤ vec_capacity writes.old }
+    ensures values { values.new ≡ pos first ∷ pos second ∷ slice_index_or values.old 2 (pos 0) ∷ [] }
+    ensures versions { versions.new
+        ≡ row_versions values.old (pos first ∷ pos second ∷ slice_index_or values.old 2 (pos 0) ∷ []) versions.old }
+    ensures writes { writes.new.items ≡ writes.old.items
+        ++ row_writes object 0 values.old (pos first ∷ pos second ∷ slice_index_or values.old 2 (pos 0) ∷ []) versions.old }
+    ensures few { length writes.new.items ≤ length writes.old.items + 5 }
+    ensures kept { vec_capacity writes.old ≤ vec_capacity writes.new }
+{
+    change_field(object, 0, first, values, versions, writes);
+    change_field(object, 1, second, values, versions, writes);
+}
+
+/// The row of an object with three fields after a tick that gave the first two these values, with its writes.
+pub fn change_two(object: u32, row: &mut Row, first: u32, second: u32, writes: &mut Vec<Write>)
+    requires sound { IsSoundRow row.old }
+    requires three { length row.old.values.items ≡ 3 }
+    requires room { length writes.old.items + 5 ≤ vec_capacity writes.old }
+    ensures values { row.new.values.items ≡ pos first ∷ pos second ∷ slice_index_or row.old.values.items 2 (pos 0) ∷ [] }
+    ensures versions { row.new.versions.items ≡ row_versions row.old.values.items
+        (pos first ∷ pos second ∷ slice_index_or row.old.values.items 2 (pos 0) ∷ []) row.old.versions.items }
+    ensures writes { writes.new.items ≡ writes.old.items ++ row_writes object 0 row.old.values.items
+        (pos first ∷ pos second ∷ slice_index_or row.old.values.items 2 (pos 0) ∷ []) row.old.versions.items }
+    ensures few { length writes.new.items ≤ length writes.old.items + 5 }
+    ensures kept { vec_capacity writes.old ≤ vec_capacity writes.new }
+{
+    change_pair(
+        object,
+        first,
+        second,
+        row.values.as_mut_slice(),
+        row.versions.as_mut_slice(),
+        writes,
+    );
+}
+
 /// The row of an object with three fields after a tick that gave them these values, with its writes.
 pub fn change_three(
     object: u32,

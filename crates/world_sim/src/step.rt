@@ -1,5 +1,5 @@
 //! Each object's tick, in place, by what the tick found of all of them before anything changed.
-ghost use Rattle.std.specs.Prelude.{◌≡◌, ℕ, ◌<◌, ◌≤◌, ◌-◌, ◌+◌, ◌*◌, ◌++◌, ◌∷◌, [], List, map, length, filter, slice_get, slice_set, Some, true, false, vec_capacity};
+ghost use Rattle.std.specs.Prelude.{◌≡◌, ℕ, ◌<◌, ◌≤◌, ◌-◌, ◌+◌, ◌*◌, ◌/◌, ◌++◌, ◌∷◌, [], List, map, length, filter, slice_get, slice_set, Some, true, false, vec_capacity};
 ghost use Rattle.std.specs.List.{AllByRecursion};
 ghost use Rattle.world_rules.specs.declared.object.Object.{Object};
 ghost use Rattle.world_rules.specs.declared.object.State.TheVariants.{Drone as drone_of, Mine as mine_of};
@@ -8,9 +8,11 @@ ghost use Rattle.world_rules.specs.Discs.{harm, hits};
 ghost use Rattle.world_rules.specs.Players.{damage};
 ghost use Rattle.world_rules.specs.Next.{object_next};
 ghost use Rattle.world_rules.specs.Mines.{is_armed_part, mine_next};
+ghost use Rattle.world_rules.specs.Drones.{drone_next};
 ghost use Rattle.world_sim.specs.Rows.{values_of, row_writes, as_number};
 ghost use Rattle.world_sim.specs.RowsNext.{row_values, row_next, rows_updated, rows_writes, IsSoundRow};
-ghost use Rattle.world_cells.specs.Cells.{IsGrid};
+ghost use Rattle.world_cells.specs.Cells.{IsGrid, spot};
+ghost use Rattle.world_cells.specs.declared.cells.TheConstants.{CELL_SIDE};
 ghost use Rattle.world_sim.specs.Found.{AreFound, is_ending};
 ghost use Rattle.world_sim.specs.Glances.{glance_of};
 ghost use Rattle.world_sim.specs.Turns.{IsOld, HasGoing, is_over, is_quiet, moment};
@@ -18,14 +20,14 @@ ghost use Rattle.std.specs.Option.{option_map_or};
 
 use crate::found::{Found, count_near, count_of};
 use crate::glance::{Glance, glance_of};
-use crate::rows::{Row, Write, change_row, change_three};
+use crate::rows::{Row, Write, change_row, change_three, change_two};
 use tn_types::{MAX_OBJECTS, Move};
-use world_cells::{Cells, NumberSet, spot};
+use world_cells::{CELL_SIDE, Cells, NumberSet, spot};
 use world_rules::fire::move_of;
 use world_rules::flags::{clock_next, flag_next};
 use world_rules::measures::{DISC_HARM, DISC_REACH, MINE_HARM, MINE_REACH};
 use world_rules::movers::{
-    disc_next, drawn, drone_next, mine_next, player_next, turn_drone, turn_mine,
+    disc_next, drawn, drift_drone, drone_next, mine_next, player_next, turn_drone, turn_mine,
 };
 use world_rules::object::MAX_AGE;
 use world_rules::{Drone, Mine, Object, State};
@@ -108,7 +110,101 @@ fn is_quiet(ending: bool, o: &Object) -> bool
     }
 }
 
-// A drone's tick. Most of what moves in a field are drones, so each field of one is written where it lies.
+// The cells after an object came here from the spot of this place. Most stay in their cells.
+fn come_from(x: u32, y: u32, from: Option<u8>, number: u32, object: &Object, cells: &mut Cells)
+    requires number { number < MAX_OBJECTS }
+    ensures { (before behind : List Object) (was : Object) → length before ≡ number → spot was ≡ from
+        → (x / CELL_SIDE ≡ object.now.place.x / CELL_SIDE → y / CELL_SIDE ≡ object.now.place.y / CELL_SIDE → spot was ≡ spot object.now)
+        → IsGrid cells.old (before ++ was ∷ behind) → IsGrid cells.new (before ++ object.now ∷ behind) }
+{
+    if x / CELL_SIDE == object.place.x / CELL_SIDE && y / CELL_SIDE == object.place.y / CELL_SIDE {
+        return;
+    }
+    cells.shift(number, from, spot(object));
+}
+
+// A drone's tick where nothing hits it: it only drifts, and each field of its place is written where it lies.
+fn drift(
+    r: u32,
+    number: u32,
+    d: &Drone,
+    object: &mut Object,
+    row: &mut Row,
+    glance: &mut Glance,
+    cells: &mut Cells,
+    writes: &mut Vec<Write>,
+)
+    requires number { number < MAX_OBJECTS }
+    requires drone { object.old.state ≡ drone_of d.now }
+    requires alive { object.old.alive ≡ true }
+    requires sound { IsSoundRow row.old }
+    requires glance { glance.old ≡ glance_of object.old }
+    requires values { row.old.values.items ≡ values_of object.old }
+    requires room { length writes.old.items + 5 ≤ vec_capacity writes.old }
+    requires whole { 0 < d.now.hp }
+    ensures object { object.new ≡ drone_next r 0 object.old d.now }
+    ensures glance { glance.new ≡ glance_of object.new }
+    ensures row { row.new ≡ row_next row.old object.new }
+    ensures writes { writes.new.items ≡ writes.old.items
+        ++ row_writes number 0 row.old.values.items (values_of object.new) row.old.versions.items }
+    ensures grid { (before behind : List Object) → length before ≡ number → IsGrid cells.old (before ++ object.old ∷ behind)
+        → IsGrid cells.new (before ++ object.new ∷ behind) }
+    ensures few { length writes.new.items ≤ length writes.old.items + 5 }
+    ensures kept { vec_capacity writes.old ≤ vec_capacity writes.new }
+{
+    let from = spot(object);
+    let x = object.place.x;
+    let y = object.place.y;
+    drift_drone(r, object, d);
+    let now_x = object.place.x;
+    let now_y = object.place.y;
+    change_two(number, row, now_x, now_y, writes);
+    glance.place.x = now_x;
+    glance.place.y = now_y;
+    come_from(x, y, from, number, object, cells);
+}
+
+// A drone's tick where something hits it.
+#[inline(never)]
+fn hurt(
+    r: u32,
+    harm: u32,
+    number: u32,
+    d: &Drone,
+    object: &mut Object,
+    row: &mut Row,
+    glance: &mut Glance,
+    cells: &mut Cells,
+    writes: &mut Vec<Write>,
+)
+    requires number { number < MAX_OBJECTS }
+    requires drone { object.old.state ≡ drone_of d.now }
+    requires alive { object.old.alive ≡ true }
+    requires sound { IsSoundRow row.old }
+    requires glance { glance.old ≡ glance_of object.old }
+    requires values { row.old.values.items ≡ values_of object.old }
+    requires room { length writes.old.items + 5 ≤ vec_capacity writes.old }
+    ensures object { object.new ≡ drone_next r harm object.old d.now }
+    ensures glance { glance.new ≡ glance_of object.new }
+    ensures row { row.new ≡ row_next row.old object.new }
+    ensures writes { writes.new.items ≡ writes.old.items
+        ++ row_writes number 0 row.old.values.items (values_of object.new) row.old.versions.items }
+    ensures grid { (before behind : List Object) → length before ≡ number → IsGrid cells.old (before ++ object.old ∷ behind)
+        → IsGrid cells.new (before ++ object.new ∷ behind) }
+    ensures few { length writes.new.items ≤ length writes.old.items + 5 }
+    ensures kept { vec_capacity writes.old ≤ vec_capacity writes.new }
+{
+    let from = spot(object);
+    turn_drone(r, harm, object, d);
+    let hp = d.hp.saturating_sub(harm);
+    change_three(number, row, object.place.x, object.place.y, hp, writes);
+    glance.place.x = object.place.x;
+    glance.place.y = object.place.y;
+    glance.alive = object.alive;
+    cells.shift(number, from, spot(object));
+}
+
+// A drone's tick. Most of what moves in a field are drones, and most of them nothing hits.
 fn step_drone(
     old: &Old<'_, '_>,
     number: u32,
@@ -140,14 +236,11 @@ fn step_drone(
 {
     let r = drawn(old.seed, d.number, old.tick);
     let harm = harm(old, object);
-    let from = spot(object);
-    turn_drone(r, harm, object, &d);
-    let hp = d.hp.saturating_sub(harm);
-    change_three(number, row, object.place.x, object.place.y, hp, writes);
-    glance.place.x = object.place.x;
-    glance.place.y = object.place.y;
-    glance.alive = object.alive;
-    cells.shift(number, from, spot(object));
+    if harm > 0 || d.hp == 0 {
+        hurt(r, harm, number, &d, object, row, glance, cells, writes);
+    } else {
+        drift(r, number, &d, object, row, glance, cells, writes);
+    }
 }
 
 // Whether a mine is armed.
@@ -161,6 +254,7 @@ fn armed_number(o: &Object) -> u32
 }
 
 // A mine's tick, where it lies.
+#[inline(never)]
 fn step_mine(
     number: u32,
     ending: bool,
@@ -195,7 +289,8 @@ fn step_mine(
     cells.shift(number, from, spot(object));
 }
 
-// The tick of an object of any kind.
+// The tick of an object of any kind, which the loop of turns calls, so that it keeps what a drone's turn needs at hand.
+#[inline(never)]
 fn step_any(
     old: &Old<'_, '_>,
     number: u32,
@@ -294,6 +389,7 @@ fn leave_over(number: u32, glance: &Glance, going: &mut NumberSet)
 }
 
 /// Each object after the tick, with its row, its cell and the writes. What is over has no turn.
+#[inline(never)]
 pub fn turn_all(
     old: &Old<'_, '_>,
     objects: &mut Vec<Object>,
