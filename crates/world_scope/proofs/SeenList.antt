@@ -66,6 +66,13 @@ reached_of whole away h =
     let e : whole - 1 + 1 ≡ whole = omega (arith, h) in
     rw e at (quarter_reached (whole - 1) away (omega (arith, h)))
 
+-- a quarter begins at the least number of which four times reach it
+start_tells : (m away : ℕ) → nat_le ((m + 3) / 4) away ≡ nat_le m (4 * away)
+start_tells m away = grind (arith, nat_tests)
+
+pub starts_of : (whole away : ℕ) → away < whole → cond (nat_le ((whole + 3) / 4) away) 1 0 + cond (nat_le ((2 * whole + 3) / 4) away) 1 0 + cond (nat_le ((3 * whole + 3) / 4) away) 1 0 ≡ 4 * away / whole
+starts_of whole away h = rw (start_tells whole away, start_tells (2 * whole) away, start_tells (3 * whole) away) (reached_of whole away h)
+
 sight_few : (radius : ℕ) (player : Option Object) (o : Object) → player_sees radius player o ≡ true → quarter radius player o ≤ 3
 sight_few radius None o e = omega arith
 sight_few radius (Some p) o e =

@@ -243,6 +243,9 @@ pub seen_none : (v : Viewer) (n : ℕ) (o : Object) → IsReady v → (is_hidden
 seen_none v n o r (inl h) = rw (sees_by v.radius v.reach v.team v.place v.player o r.alone r.place r.team r.reach, h) refl
 seen_none v n o r (inr l) = rw (sees_by v.radius v.reach v.team v.place v.player o r.alone r.place r.team r.reach, out_of_reach (is_hidden v.team o) (distance v.place o.place) v.reach l) refl
 
+pub hidden_unseen : (v : Viewer) (n : ℕ) (o : Object) → IsReady v → is_hidden v.team o ≡ true → None ≡ seen_from v n o
+hidden_unseen v n o r h = seen_none v n o r (inl h)
+
 pub seen_some : (v : Viewer) (n q : ℕ) (o : Object) → IsReady v → is_hidden v.team o ≡ false → distance v.place o.place < v.reach → q ≡ 4 * distance v.place o.place / v.reach → seen_at_level n q ≡ seen_from v n o
 seen_some v n q o r h l e =
     let level : q ≡ quarter v.radius v.player o = e ∙ level_by v.radius v.reach v.place v.player o r.alone r.place r.reach l in

@@ -1,5 +1,5 @@
 //! A client's look at one object.
-ghost use Rattle.std.specs.Prelude.{◌≡◌, ℕ, ◌≤◌, ◌<◌, ◌+◌, ◌*◌, ◌/◌, ◌^◌, true, Some, None, find, slice_get, nat_le, if◌then◌else◌};
+ghost use Rattle.std.specs.Prelude.{◌≡◌, ℕ, ◌≤◌, ◌<◌, ◌+◌, ◌*◌, ◌/◌, ◌^◌, true, false, Some, None, find, slice_get, nat_le, if◌then◌else◌};
 ghost use Rattle.std.specs.Option.{option_copied};
 ghost use Rattle.world_rules.specs.Flags.{is_player};
 ghost use Rattle.world_rules.specs.declared.object.Object.{Object};
@@ -63,14 +63,28 @@ fn reached(least: u64, number: u64) -> u8
     u8::from(least <= number)
 }
 
-// The quarter of the reach that lies so far away, with no branch: that of one object says little of the next.
+// Whether an object may be always seen or hidden, by one test: most are neither.
+fn is_special(g: &Glance) -> bool
+    ensures always { (o : Object) → g.now ≡ glance_of o → result ≡ false → is_always o ≡ false }
+    ensures hidden { (o : Object) (team : ℕ) → g.now ≡ glance_of o → result ≡ false → is_hidden team o ≡ false }
+{
+    matches!(
+        g.role,
+        Role::ArmedMine | Role::OldMine | Role::Flag | Role::Clock
+    )
+}
+
+// The quarter of the reach that lies so far away, with no branch: that of one object says little of the next. Where the quarters
+// begin is the same for all objects of a scan.
 fn quarter(whole: u64, away: u32) -> u8
     requires { whole ≤ 2 ^ 32 }
     ensures value { away < whole → result ≡ 4 * away / whole }
     ensures few { result ≤ 3 }
 {
-    let four = 4 * u64::from(away);
-    reached(whole, four) + reached(2 * whole, four) + reached(3 * whole, four)
+    let away = u64::from(away);
+    let second = reached((whole + 3) / 4, away);
+    let third = reached((2 * whole + 3) / 4, away);
+    second + third + reached((3 * whole + 3) / 4, away)
 }
 
 // The client's player: as a rule the object of the client's number.
@@ -118,15 +132,16 @@ impl Viewer {
         }
     }
 
-    // An object as the client's player sees it, if there is a player and it does.
+    // An object that isn't hidden, as the client's player sees it, if there is a player and it does.
     #[tactic(auto, using(crate::proofs::Sights::seen_none, crate::proofs::Sights::seen_some))]
     fn seen_by_player(&self, object: u32, g: &Glance) -> Option<Seen>
         requires { IsReady self.now }
-        ensures { (o : Object) → g.now ≡ glance_of o → result ≡ (if player_sees self.now.radius self.now.player o
+        ensures { (o : Object) → g.now ≡ glance_of o → is_hidden self.now.team o ≡ false
+            → result ≡ (if player_sees self.now.radius self.now.player o
             then Some (record { object = object; level = quarter self.now.radius self.now.player o }) else None) }
     {
         let away = distance(&self.place, &g.place);
-        if (u64::from(away) >= self.reach) | is_hidden(self.team, g) {
+        if u64::from(away) >= self.reach {
             return None;
         }
         Some(Seen {
@@ -135,16 +150,32 @@ impl Viewer {
         })
     }
 
-    /// A living object as the client sees it, by a glance, if it does. Nobody asks whose player it is: the client's own one is
-    /// where it looks from, so it sees itself at level 0.
-    #[tactic(auto, using(crate::proofs::Sights::always_seen, crate::proofs::Sights::player_seen))]
-    pub fn sight(&self, object: u32, g: &Glance) -> Option<Seen>
+    // The same of one that may be hidden, or is always seen.
+    #[tactic(auto, using(crate::proofs::Sights::always_seen, crate::proofs::Sights::player_seen, crate::proofs::Sights::hidden_unseen))]
+    fn special_sight(&self, object: u32, g: &Glance) -> Option<Seen>
         requires { IsReady self.now }
         ensures { (o : Object) → g.now ≡ glance_of o → o.alive ≡ true
             → (is_player self.now.client o ≡ true → self.now.player ≡ Some o) → result ≡ seen (look self.now) (object, o) }
     {
         if is_always(g) {
             return Some(Seen { object, level: 0 });
+        }
+        if is_hidden(self.team, g) {
+            return None;
+        }
+        self.seen_by_player(object, g)
+    }
+
+    /// A living object as the client sees it, by a glance, if it does. Nobody asks whose player it is: the client's own one is
+    /// where it looks from, so it sees itself at level 0.
+    #[tactic(auto, using(crate::proofs::Sights::player_seen))]
+    pub fn sight(&self, object: u32, g: &Glance) -> Option<Seen>
+        requires { IsReady self.now }
+        ensures { (o : Object) → g.now ≡ glance_of o → o.alive ≡ true
+            → (is_player self.now.client o ≡ true → self.now.player ≡ Some o) → result ≡ seen (look self.now) (object, o) }
+    {
+        if is_special(g) {
+            return self.special_sight(object, g);
         }
         self.seen_by_player(object, g)
     }
