@@ -10,6 +10,7 @@ mod laws;
 mod reader;
 mod writer;
 
+pub use accumulator::joined;
 pub use laws::{bit_of_bytes, bits_come_back, number_comes_back};
 pub use reader::{BitReader, PaddingFault, Short};
 pub use writer::BitWriter;

@@ -142,6 +142,23 @@ impl BitWriter {
         self.count = count;
     }
 
+    /// Appends a number as `width` bits, at most 64, the least bit first, as [`put`](Self::put) does.
+    pub fn put_long(&mut self, value: u64, width: u32)
+        requires width { width ≤ 2 * MAX_WORD_BITS }
+        requires fits { value < 2 ^ width }
+        requires room { length self.old.bits + width ≤ 8 * self.old.size }
+        ensures bits { self.new.bits ≡ self.old.bits ++ number width value }
+        ensures len { length self.new.bits ≡ length self.old.bits + width }
+        ensures size { self.new.size ≡ self.old.size }
+    {
+        if width <= MAX_WORD_BITS {
+            self.put(value as u32, width);
+        } else {
+            self.put((value % WORDS) as u32, MAX_WORD_BITS);
+            self.put((value / WORDS) as u32, width - MAX_WORD_BITS);
+        }
+    }
+
     /// Fills the last byte with zero bits. All bytes of the datagram stand in the buffer then, and
     /// [`bytes`](Self::bytes) lends them.
     pub fn end(&mut self)

@@ -1,6 +1,7 @@
 //! The ghosts of the next packet, written where the packet is written.
 
 ghost use Rattle.std.specs.Prelude.{◌≡◌, ◌+◌, ◌*◌, ◌^◌, ◌<◌, ◌≤◌, ◌++◌, length, map, sum_by, All, IsSome, IsTrue, List};
+ghost use Rattle.bit_stream.specs.Bits.{number};
 ghost use Rattle.quantised_fields.specs.Kinds.{width_of};
 ghost use Rattle.quantised_fields.specs.Levels.{is_sound};
 ghost use Rattle.wire_format.specs.declared.ghosts.GhostItem.TheVariants as ghosts;
@@ -13,10 +14,13 @@ ghost use Rattle.ghost_masks.specs.Carried.{fields_carried, levels_for, ghost_fo
 use crate::Masks;
 use crate::packet_items::{carried, ghost_item};
 use crate::plan::UPDATE_BITS;
-use bit_stream::BitWriter;
+use bit_stream::{BitWriter, joined};
 use quantised_fields::{FieldSpec, KindTable, level};
-use tn_types::{Choice, MAX_FIELDS, Op};
-use wire_format::{GHOST_COUNT_WIDTH, put_ghost, put_ghost_count, put_update_front};
+use tn_types::{Choice, MAX_FIELDS, MAX_WORD_BITS, Op};
+use wire_format::{GHOST_COUNT_WIDTH, put_ghost, put_ghost_count, update_front};
+
+// As many bits are written at once.
+const LONG_BITS: u32 = 2 * MAX_WORD_BITS - 1;
 
 // Writes a count, and then each chosen item with the levels of its values, one for each carried field in the order of the
 // choices and rising field.
@@ -82,33 +86,78 @@ fn put_update(kinds: &KindTable, kind: u8, slot: u8, mask: u32, values: &[i64], 
     match kinds.kind(kind) {
         Some(known) => {
             let fields = known.fields.as_slice();
-            put_update_front(out, slot, kind, mask, fields.len() as u32);
-            put_levels(fields, mask, values, out);
+            let count = fields.len() as u32;
+            let front = update_front(slot, kind, mask, count);
+            put_levels(
+                u64::from(front),
+                UPDATE_BITS + count,
+                fields,
+                mask,
+                values,
+                out,
+            );
         }
         None => unreachable!(),
     }
 }
 
-// Writes the levels of these values, one for each of the fields whose bit is set in the mask.
-fn put_levels(fields: &[FieldSpec], mask: u32, values: &[i64], out: &mut BitWriter)
+// Makes room for `width` bits behind the `count` bits of a word: writes the word where they don't fit, and gives the word and
+// the bits that are left.
+fn with_room(out: &mut BitWriter, word: u64, count: u32, width: u32) -> (u64, u32)
+    requires below { word < 2 ^ count }
+    requires few { count ≤ LONG_BITS }
+    requires narrow { width ≤ LONG_BITS }
+    requires room { length out.old.bits + count ≤ 8 * out.old.size }
+    ensures bits { out.new.bits ++ number result.1 result.0 ≡ out.old.bits ++ number count word }
+    ensures len { length out.new.bits + result.1 ≡ length out.old.bits + count }
+    ensures size { out.new.size ≡ out.old.size }
+    ensures below { result.0 < 2 ^ result.1 }
+    ensures few { result.1 + width ≤ LONG_BITS }
+{
+    if count + width > LONG_BITS {
+        out.put_long(word, count);
+        return (0, 0);
+    }
+    (word, count)
+}
+
+// Writes the `count` bits of a number, and behind them the levels of these values, one for each of the fields whose bit is set
+// in the mask.
+fn put_levels(
+    front: u64,
+    count: u32,
+    fields: &[FieldSpec],
+    mask: u32,
+    values: &[i64],
+    out: &mut BitWriter,
+)
+    requires below { front < 2 ^ count }
+    requires few { count ≤ LONG_BITS }
     requires sound { All (λ f. IsTrue (is_sound f)) fields.now }
+    requires mask { mask < 2 ^ length fields.now }
     requires values { AreValues (masked mask fields.now) values.now }
-    requires room { length out.old.bits + width_of (masked mask fields.now) ≤ 8 * out.old.size }
+    requires room { length out.old.bits + (count + width_of (masked mask fields.now)) ≤ 8 * out.old.size }
     ensures bits { let chosen = masked mask fields.now in
-        out.new.bits ≡ out.old.bits ++ levels (map (λ f. f.bits) chosen) (levels_for chosen values.now) }
-    ensures len { length out.new.bits ≡ length out.old.bits + width_of (masked mask fields.now) }
+        out.new.bits ≡ out.old.bits ++ number count front ++ levels (map (λ f. f.bits) chosen) (levels_for chosen values.now) }
+    ensures len { length out.new.bits ≡ length out.old.bits + (count + width_of (masked mask fields.now)) }
     ensures size { out.new.size ≡ out.old.size }
 {
-    let mut mask = mask;
+    let mut word = front;
+    let mut used = count;
+    let mut rest = mask;
+    let mut field = 0;
     let mut left = values;
-    'fields: for field in fields {
-        let bit = mask % 2;
-        mask /= 2;
-        if bit == 0 {
-            continue 'fields;
-        }
-        out.put(level(field, left[0]), field.bits);
+    'fields: while rest != 0 {
+        let skipped = rest.trailing_zeros();
+        field += skipped as usize;
+        let spec = &fields[field];
+        let (held, place) = with_room(out, word, used, spec.bits);
+        word = joined(held, place, level(spec, left[0]), spec.bits);
+        used = place + spec.bits;
         let (_, later) = left.split_at(1);
         left = later;
+        field += 1;
+        rest = (rest >> skipped) >> 1;
     }
+    out.put_long(word, used);
 }

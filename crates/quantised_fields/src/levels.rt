@@ -16,10 +16,11 @@ const WHOLE_WORDS: u64 = 65_535;
 
 // How far x is above lo.
 fn gap(lo: i64, x: i64) -> u64
-    requires { lo ≤ℤ x }
+    requires order { lo ≤ℤ x }
+    requires small { int_gap lo x < 2 ^ MAX_WORD_BITS }
     ensures { result ≡ int_gap lo x }
 {
-    x.abs_diff(lo)
+    (x - lo) as u64
 }
 
 fn range(spec: &FieldSpec) -> u64

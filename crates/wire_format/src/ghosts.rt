@@ -278,25 +278,20 @@ pub fn put_ghost(out: &mut BitWriter, kinds: &KindTable, item: &GhostItem)
     }
 }
 
-/// Writes the front of an update in one number: its slot, what it does, its kind and its mask of so many fields. A level for
-/// each field in the mask follows.
-#[tactic(auto, using(crate::proofs::Lengths::lengths))]
-pub fn put_update_front(out: &mut BitWriter, slot: u8, kind: u8, mask: u32, fields: u32)
+/// The front of an update in one number: its slot, what it does, its kind and its mask of so many fields. A level for each field
+/// in the mask follows.
+pub fn update_front(slot: u8, kind: u8, mask: u32, fields: u32) -> u32
     requires kind { kind < 2 ^ KIND_NUMBER_WIDTH }
     requires few { fields ≤ MAX_FIELDS }
     requires mask { mask < 2 ^ fields }
-    requires room { length out.old.bits + (SLOT_WIDTH + OP_WIDTH + KIND_NUMBER_WIDTH + fields) ≤ 8 * out.old.size }
-    ensures bits { out.new.bits ≡ out.old.bits
-        ++ (number SLOT_WIDTH slot ++ (number OP_WIDTH UPDATE ++ (number KIND_NUMBER_WIDTH kind ++ number fields mask))) }
-    ensures len { length out.new.bits ≡ length out.old.bits + (SLOT_WIDTH + OP_WIDTH + KIND_NUMBER_WIDTH + fields) }
-    ensures size { out.new.size ≡ out.old.size }
+    ensures bits { number (SLOT_WIDTH + OP_WIDTH + KIND_NUMBER_WIDTH + fields) result
+        ≡ number SLOT_WIDTH slot ++ (number OP_WIDTH UPDATE ++ (number KIND_NUMBER_WIDTH kind ++ number fields mask)) }
+    ensures below { result < 2 ^ (SLOT_WIDTH + OP_WIDTH + KIND_NUMBER_WIDTH + fields) }
 {
     let named = joined(u32::from(slot), SLOT_WIDTH, UPDATE, OP_WIDTH);
     let place = SLOT_WIDTH + OP_WIDTH;
     let known = joined(named, place, u32::from(kind), KIND_NUMBER_WIDTH);
-    let place = place + KIND_NUMBER_WIDTH;
-    let front = joined(known, place, mask, fields);
-    out.put(front, place + fields);
+    joined(known, place + KIND_NUMBER_WIDTH, mask, fields)
 }
 
 /// Writes the ghosts of a packet, behind their count. The caller sees to it that each fits as [`put_ghost`] says and that

@@ -30,8 +30,7 @@ pub use client::{
 pub use events::{EventItem, EventList, event_bits, put_event, put_event_count, put_events};
 pub use fault::{BitsCause, BitsFault};
 pub use ghosts::{
-    GhostItem, GhostList, Levels, ghost_bits, put_ghost, put_ghost_count, put_ghosts,
-    put_update_front,
+    GhostItem, GhostList, Levels, ghost_bits, put_ghost, put_ghost_count, put_ghosts, update_front,
 };
 pub use header::{Header, put_ping};
 pub use kind::PacketKind;

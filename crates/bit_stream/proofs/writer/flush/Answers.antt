@@ -1,7 +1,4 @@
-use Rattle.std.proofs.Common.{◌≡◌, ◌+◌, ◌^◌, ◌<◌, ◌∙◌, ap, List, ℕ, ◌++◌, Bool, subst, sym, ◌-◌, ◌/◌, ◌%◌, arith}
-use Rattle.std.specs.Int.{w32, to_le_bytes}
-use Rattle.bit_stream.specs.Bits.{number, bits_of}
-use Rattle.tn_types.specs.Bytes.{AreBytes}
+use Rattle.std.proofs.Common.{◌^◌, ◌%◌, arith}
 use Rattle.bit_stream.proofs.Writing.{flushed_word, word_below, word_fits}
 use Rattle.bit_stream.proofs.writer.flush.Goals as goal
 
