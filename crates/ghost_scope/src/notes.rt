@@ -1,0 +1,20 @@
+//! Where entries stand, as far as it was noted. Nothing rests on a note: who looks there asks whether it is so.
+use crate::period::Period;
+
+/// So many places are noted, each by the last bits of a period's number.
+pub(crate) const NOTES: usize = 256;
+
+// More than any place of an entry.
+const NO_PLACE: usize = 65_536;
+
+/// Notes that the entry of this number stands at this place.
+pub(crate) fn note(places: &mut [u16; NOTES], n: u32, at: usize) {
+    places[n as usize % NOTES] = (at % NO_PLACE) as u16;
+}
+
+/// Notes where the entries from this place on stand.
+pub(crate) fn note_from(places: &mut [u16; NOTES], entries: &[Period], from: usize) {
+    for at in from..entries.len() {
+        note(places, entries[at].n, at);
+    }
+}
