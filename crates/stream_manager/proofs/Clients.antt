@@ -2,7 +2,6 @@
 use Rattle.std.proofs.Common.{◌≡◌, ℕ, ◌+◌, ◌<◌, ◌≤◌, false, nat_lt, refl, List, [], ◌++◌, Option, Some, None, Ok, Err, Result, ◌∙◌, ap, arith, length}
 use Rattle.std.specs.Prelude.{reverse, OnOk, OnErr}
 use Rattle.std.proofs.lemmas.Bool.Decides.{nat_tests}
-use Rattle.std.specs.Result.{result_err}
 use Rattle.std.specs.List.{All, AllByRecursion}
 use Rattle.quantised_fields.specs.declared.kind.Kind.{Kind}
 use Rattle.wire_format.specs.declared.blocks.BlockItem.{BlockItem}
@@ -74,11 +73,6 @@ module _ (kinds : List Kind) (p : ServerBody) (fits : IsServerBody kinds p) wher
     ghosts-passed is =
         ap ghosts_refused (control-same (copy_in c.copies.slots) came s.copies.copies p.control fits.control)
         ∙ ap (λ (f : Option GhostFault). ghosts_refused (option_or f (control_fault came p.control))) (is ∙ faults-told)
-
--- what is taken where nothing refuses it
-pub when_none : {T E P : Type 0} (r : Result T E) → result_err r ≡ None → OnOk r P → P
-when_none (Ok x) is p = p
-when_none (Err e) is p = cc
 
 pub acked-ok : (count : ℕ) (m : Sender) → count ≤ m.first + length m.waiting → acked_answer count m ≡ Ok tt
 acked-ok count m l = let t : nat_lt (m.first + length m.waiting) count ≡ false = grind (arith, nat_tests) in rw t refl
