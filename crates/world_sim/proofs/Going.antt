@@ -3,7 +3,7 @@ use Rattle.std.proofs.Common.{◌≡◌, ℕ, zero, suc, ◌+◌, ◌-◌, ◌<�
 use Rattle.std.specs.Prelude.{slice_get}
 use Rattle.std.specs.Option.{option_map_or}
 use Rattle.std.specs.List.{AllByRecursion}
-use Rattle.std.proofs.lemmas.Bool.Decides.{eqb_tells}
+use Rattle.std.proofs.lemmas.Bool.Decides.{eqb_tells, leb_tells}
 use Rattle.std.proofs.lemmas.List.{length-map, get_or-map}
 use Rattle.std.proofs.lemmas.Option.{slice_get_cases}
 use Rattle.tn_types.specs.declared.moves.Move.{Move}
@@ -17,12 +17,15 @@ use Rattle.world_sim.specs.declared.rows.Row.{Row}
 use Rattle.world_sim.specs.declared.rows.Write.{Write}
 use Rattle.world_sim.specs.Rows.{values_of, row_writes}
 use Rattle.world_sim.specs.RowsNext.{row_next, row_values, rows_updated, rows_writes, IsSoundRow}
-use Rattle.world_sim.specs.Found.{is_ending}
-use Rattle.world_sim.specs.Turns.{is_quiet_part, is_over, is_over_part, stepped_to, HasGoing}
+use Rattle.world_sim.specs.declared.found.Found.{Found}
+use Rattle.world_sim.specs.declared.glance.Glance.{Glance}
+use Rattle.world_sim.specs.Glances.{glance_of}
+use Rattle.world_sim.specs.Found.{AreFound, is_ending}
+use Rattle.world_sim.specs.Turns.{ArePassed, is_quiet, is_quiet_part, is_over, is_over_part, stepped_to, HasGoing}
 use Rattle.world_sim.proofs.RowFields.{row_stays, writes_nothing}
 use Rattle.world_sim.proofs.RowLoops.{row_writes_from, row_writes_at, sound_at}
-use Rattle.world_sim.proofs.Gathered.{marked, ending_now}
-use Rattle.world_sim.proofs.Glancing.{MattersNot}
+use Rattle.world_sim.proofs.Gathered.{marked, ending_now, mark_at}
+use Rattle.world_sim.proofs.Glancing.{MattersNot, as_many_glances, glance_is}
 use Rattle.world_sim.proofs.Turns.{quiet_stays, same_values}
 
 -- ---- one that is over
@@ -147,20 +150,24 @@ along P os from (suc k) l step h =
     subst P e (along P os (suc from) k (omega (arith, l)) (λ n o a b at was. step n o (omega (arith, a)) (omega (arith, b)) at was) next)
 
 -- what each step over one that is over keeps, holds still where the set has the next number
-pub passed : (P : ℕ → Type 0) (os : List Object) (from to : ℕ) → from ≤ to → to ≤ length os → AreOver from to os → ((n : ℕ) (o : Object) → n < length os → slice_get os n ≡ Some o → is_over o ≡ true → P n → P (suc n)) → P from → P to
-passed P os from to order l over step h =
+pub passed : (P : ℕ → Type 0) (Q : Object → Type 0) (os : List Object) (from to : ℕ) → from ≤ to → to ≤ length os → ((n : ℕ) (o : Object) → from ≤ n → n < to → slice_get os n ≡ Some o → Q o) → ((n : ℕ) (o : Object) → n < length os → slice_get os n ≡ Some o → Q o → P n → P (suc n)) → P from → P to
+passed P Q os from to order l over step h =
     let e : from + (to - from) ≡ to = omega (arith, order) in
     subst P e (along P os from (to - from) (omega (arith, e, l)) (λ n o a b at was. step n o (omega (arith, b, e, l)) at (over n o a (omega (arith, b, e)) at) was) h)
 
 pub filter_passed : (p : Object → Bool) (now : List Object) (os : List Object) (from to : ℕ) → from ≤ to → to ≤ length os → AreOver from to os → ((o : Object) → is_over o ≡ true → p o ≡ false) → now ≡ filter p (take from os) → now ≡ filter p (take to os)
 filter_passed p now os from to order l over none e =
-    passed (λ n. now ≡ filter p (take n os)) os from to order l over (λ n o m at dead was. was ∙ filter_still p os n o at (none o dead)) e
+    passed (λ n. now ≡ filter p (take n os)) (λ o. is_over o ≡ true) os from to order l over (λ n o m at dead was. was ∙ filter_still p os n o at (none o dead)) e
 
 pub marked_passed : (p : Object → Bool) (now : List Bool) (os : List Object) (from to : ℕ) → from ≤ to → to ≤ length os → AreOver from to os → ((o : Object) → is_over o ≡ true → p o ≡ false) → now ≡ marked from p os → now ≡ marked to p os
 marked_passed p now os from to order l over none e =
-    passed (λ n. now ≡ marked n p os) os from to order l over (λ n o m at dead was. was ∙ marked_still p os n o at (none o dead)) e
+    passed (λ n. now ≡ marked n p os) (λ o. is_over o ≡ true) os from to order l over (λ n o m at dead was. was ∙ marked_still p os n o at (none o dead)) e
 
 -- ---- turns
+
+-- a tick leaves these as they are
+abbrev pub AreQuiet : ℕ → ℕ → List Object → Type 0
+AreQuiet from to os = (n : ℕ) (o : Object) → from ≤ n → n < to → slice_get os n ≡ Some o → is_quiet (is_ending os o) o ≡ true
 
 stepped_still : (n : ℕ) (f : Object → Object) (os : List Object) (o : Object) → slice_get os n ≡ Some o → o ≡ f o → stepped_to n f os ≡ stepped_to (suc n) f os
 stepped_still n f [] o at e = absurd (cc)
@@ -194,11 +201,11 @@ row_here (x ∷ rows) (suc n) d l = row_here rows n d (omega arith)
 abbrev no_row : Row
 no_row = record { values = record { items = [] }; versions = record { items = [] } }
 
-turned_one : (os : List Object) (moves : List (Option Move)) (t : Moment) (first : List Row) (n : ℕ) (objects : List Object) (rows : List Row) (writes : List Write) (o : Object) → map row_values first ≡ map values_of os → AllByRecursion IsSoundRow first → n < length os → n < length first → slice_get os n ≡ Some o → is_over o ≡ true → Turned os (object_next os moves t) first n objects rows writes → Turned os (object_next os moves t) first (suc n) objects rows writes
+turned_one : (os : List Object) (moves : List (Option Move)) (t : Moment) (first : List Row) (n : ℕ) (objects : List Object) (rows : List Row) (writes : List Write) (o : Object) → map row_values first ≡ map values_of os → AllByRecursion IsSoundRow first → n < length os → n < length first → slice_get os n ≡ Some o → is_quiet (is_ending os o) o ≡ true → Turned os (object_next os moves t) first n objects rows writes → Turned os (object_next os moves t) first (suc n) objects rows writes
 turned_one os moves t first n objects rows writes o values sound l m at dead is =
     let f = object_next os moves t in
     let r = get_or first n no_row in
-    let stays : o ≡ f o = over_stays os moves t o dead in
+    let stays : o ≡ f o = quiet_stays os moves t o (is_ending os o) dead refl in
     let long : n < length (map f os) = (let k : length (map f os) ≡ length os = simp length-map in omega (arith, l, k)) in
     let at_o : o ≡ get_or (map f os) n o = stays ∙ ap f (same_at os n o at) ∙ sym (get_or-map f os n o o l) in
     let at_r : r ≡ get_or first n r = row_here first n no_row m in
@@ -213,20 +220,55 @@ turned_one os moves t first n objects rows writes o values sound l m at dead is 
       writes_are = is.writes_are ∙ row_writes_at writes writes n first (map f os) r o none at_r m long ∙ ap (λ (j : ℕ). row_writes_from writes j first (map f os)) e;
     }
 
-pub turned_passed : (os : List Object) (moves : List (Option Move)) (t : Moment) (first : List Row) (from to : ℕ) (objects : List Object) (rows : List Row) (writes : List Write) → map row_values first ≡ map values_of os → AllByRecursion IsSoundRow first → length first ≡ length os → from ≤ to → to ≤ length os → AreOver from to os → Turned os (object_next os moves t) first from objects rows writes → Turned os (object_next os moves t) first to objects rows writes
+pub turned_passed : (os : List Object) (moves : List (Option Move)) (t : Moment) (first : List Row) (from to : ℕ) (objects : List Object) (rows : List Row) (writes : List Write) → map row_values first ≡ map values_of os → AllByRecursion IsSoundRow first → length first ≡ length os → from ≤ to → to ≤ length os → AreQuiet from to os → Turned os (object_next os moves t) first from objects rows writes → Turned os (object_next os moves t) first to objects rows writes
 turned_passed os moves t first from to objects rows writes values sound many order l over is =
-    passed (λ n. Turned os (object_next os moves t) first n objects rows writes) os from to order l over
+    passed (λ n. Turned os (object_next os moves t) first n objects rows writes) (λ o. is_quiet (is_ending os o) o ≡ true) os from to order l over
     (λ n o m at dead was. turned_one os moves t first n objects rows writes o values sound m (omega (arith, m, many)) at dead was) is
 
 pub none_turned : (os : List Object) (f : Object → Object) (first : List Row) (writes : List Write) → writes ≡ [] → Turned os f first 0 os first writes
 none_turned os f first writes e = record { objects_are = refl; rows_are = refl; writes_are = rw e refl }
 
 -- those behind this place are as they were
-pub over_before : (os objects : List Object) (f : Object → Object) (i from to : ℕ) → objects ≡ stepped_to i f os → i ≤ from → AreOver from to objects → AreOver from to os
-over_before os objects f i from to e l over = λ n o a b at. over n o a b (ap (λ (xs : List Object). slice_get xs n) e ∙ behind i f os n (omega (arith, a, l)) ∙ at)
+behind : (i : ℕ) (f : Object → Object) (os : List Object) (n : ℕ) → i ≤ n → slice_get (stepped_to i f os) n ≡ slice_get os n
+behind zero f os n l = refl
+behind (suc i) f [] n l = refl
+behind (suc i) f (x ∷ os) zero l = absurd (omega arith)
+behind (suc i) f (x ∷ os) (suc n) l = behind i f os n (omega arith)
+
+pub quiet_before : (os objects : List Object) (f : Object → Object) (found : Found) (marks : List Bool) (i from to : ℕ) → objects ≡ stepped_to i f os → i ≤ from → to ≤ length os → AreFound os found → marks ≡ found.marks.items → ((n : ℕ) (o : Object) → from ≤ n → n < to → slice_get objects n ≡ Some o → is_quiet (get_or marks n false) o ≡ true) → AreQuiet from to os
+quiet_before os objects f found marks i from to e l most is told quiet = λ n o a b at.
+    let there : slice_get objects n ≡ Some o = ap (λ (xs : List Object). slice_get xs n) e ∙ behind i f os n (omega (arith, a, l)) ∙ at in
+    let mark : get_or marks n false ≡ is_ending os o = ap (λ (xs : List Bool). get_or xs n false) told ∙ mark_at os found n false o is (omega (arith, b, most)) ∙ ap (is_ending os) (sym (same_at os n o at)) in
+    ap (λ (b : Bool). is_quiet b o) (sym mark) ∙ quiet n o a b there
+
+-- ---- what is passed over
+
+pub passed_gap : (set : List ℕ) (glances : List Glance) (marks : List Bool) (from to : ℕ) → to ≤ 1024 → ((n : ℕ) → from ≤ n → n < to → bit_of set n ≡ 0) → ArePassed set glances marks from to
+passed_gap set glances marks from to l none = λ os e going n o a b at.
+    over_quiet (get_or marks n false) o.alive o.state (over_between set os from to l going none n o a b at)
+
+pub passed_more : (set : List ℕ) (glances : List Glance) (marks : List Bool) (from at to : ℕ) (g : Glance) (b : Bool) → to ≤ 1024 → at < length glances → at < length marks → ((o : Object) → get_or glances at g ≡ glance_of o → is_quiet (get_or marks at b) o ≡ true) → ((n : ℕ) → at + 1 ≤ n → n < to → bit_of set n ≡ 0) → ArePassed set glances marks from at → ArePassed set glances marks from to
+passed_more set glances marks from at to g d few many marked quiet none before = λ os e going n o a b is.
+    elim (leb_tells at n) [
+      | inr less ↦ before os e going n o a less.1 is
+      | inl more ↦ elim (eqb_tells n at) [
+        | inl same ↦
+            let there : slice_get os at ≡ Some o = ap (λ k. slice_get os k) (sym same.1) ∙ is in
+            let long : at < length os = omega (arith, many, as_many_glances os glances e) in
+            let seen : get_or glances at g ≡ glance_of o = glance_is os glances at o g e long ∙ ap glance_of (sym (same_at os at o there)) in
+            let its : get_or marks n false ≡ get_or marks at d = ap (λ k. get_or marks k false) same.1 ∙ got_same marks at false d marked in
+            ap (λ (x : Bool). is_quiet x o) its ∙ quiet o seen
+        | inr other ↦ passed_gap set glances marks (at + 1) to few none os e going n o (after at n more.1 other.1) b is
+      ]
+    ]
   where
-    behind : (i : ℕ) (f : Object → Object) (os : List Object) (n : ℕ) → i ≤ n → slice_get (stepped_to i f os) n ≡ slice_get os n
-    behind zero f os n l = refl
-    behind (suc i) f [] n l = refl
-    behind (suc i) f (x ∷ os) zero l = absurd (omega arith)
-    behind (suc i) f (x ∷ os) (suc n) l = behind i f os n (omega arith)
+    got_same : (marks : List Bool) (n : ℕ) (a b : Bool) → n < length marks → get_or marks n a ≡ get_or marks n b
+    got_same [] n a b l = absurd (omega arith)
+    got_same (x ∷ marks) zero a b l = refl
+    got_same (x ∷ marks) (suc n) a b l = got_same marks n a b (omega arith)
+
+    after : (at n : ℕ) → at ≤ n → (n ≡ at → ⊥) → at + 1 ≤ n
+    after at n l other = elim (leb_tells (at + 1) n) [
+      | inl more ↦ more.1
+      | inr less ↦ absurd (other (omega (arith, l, less.1)))
+    ]

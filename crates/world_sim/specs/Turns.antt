@@ -1,5 +1,5 @@
 -- What the rules read of the world before a tick, and which objects a tick leaves as they are.
-use Rattle.std.specs.Prelude.{◌≡◌, ◌≤◌, ◌<◌, ℕ, ◌&&◌, ◌||◌, ◌==◌, not, Bool, true, false, List, [], ◌∷◌, length, slice_get, zero, suc}
+use Rattle.std.specs.Prelude.{◌≡◌, ◌≤◌, ◌<◌, ℕ, ◌&&◌, ◌||◌, ◌==◌, not, Bool, true, false, List, [], ◌∷◌, length, map, slice_get, slice_index_or, Some, zero, suc}
 use Rattle.std.specs.Option.{option_map_or}
 use Rattle.tn_types.specs.declared.limits.TheConstants.{MAX_OBJECTS}
 use Rattle.world_rules.specs.declared.object.TheConstants.{MAX_AGE}
@@ -10,7 +10,9 @@ use Rattle.world_rules.specs.Flags.{captures}
 use Rattle.world_rules.specs.Next.{Moment}
 use Rattle.world_cells.specs.NumberSet.{bit_of}
 use Rattle.world_sim.specs.declared.step.Old.{Old}
+use Rattle.world_sim.specs.declared.glance.Glance.{Glance}
 use Rattle.world_sim.specs.Found.{AreFound}
+use Rattle.world_sim.specs.Glances.{glance_of}
 
 -- the moment of the tick
 abbrev pub moment : Old → Moment
@@ -46,6 +48,11 @@ is_over o = is_over_part o.alive o.state
 -- a set has each number but those of objects that are over
 abbrev pub HasGoing : List ℕ → List Object → Type 0
 HasGoing set os = (n : ℕ) → n < MAX_OBJECTS → bit_of set n ≡ 0 → option_map_or is_over (slice_get os n) false ≡ true
+
+-- a tick leaves those between two numbers as they are, by a set, their glances and the marks of what ends
+abbrev pub ArePassed : List ℕ → List Glance → List Bool → ℕ → ℕ → Type 0
+ArePassed set glances marks from to = (os : List Object) → glances ≡ map glance_of os → HasGoing set os → (n : ℕ) (o : Object)
+    → from ≤ n → n < to → slice_get os n ≡ Some o → is_quiet (slice_index_or marks n false) o ≡ true
 
 -- the first objects after a step each, the others as they were
 abbrev pub stepped_to : ℕ → (Object → Object) → List Object → List Object

@@ -85,13 +85,14 @@ impl Glance {
     pub(crate) fn is_still(&self) -> bool
         ensures { (o : Object) → self.now ≡ glance_of o → result ≡ true → is_quiet false o ≡ true }
     {
-        if self.alive {
-            return matches!(self.role, Role::OldMine);
+        if matches!(self.role, Role::OldMine) {
+            return true;
         }
-        matches!(
-            self.role,
-            Role::Disc | Role::YoungMine | Role::ArmedMine | Role::OldMine | Role::Drone
-        )
+        !self.alive
+            && matches!(
+                self.role,
+                Role::Disc | Role::YoungMine | Role::ArmedMine | Role::Drone
+            )
     }
 
     // Whether it is dead and of a kind that no tick brings back.

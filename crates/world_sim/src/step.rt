@@ -15,7 +15,7 @@ ghost use Rattle.world_cells.specs.Cells.{IsGrid, spot};
 ghost use Rattle.world_cells.specs.declared.cells.TheConstants.{CELL_SIDE};
 ghost use Rattle.world_sim.specs.Found.{AreFound, is_ending};
 ghost use Rattle.world_sim.specs.Glances.{glance_of};
-ghost use Rattle.world_sim.specs.Turns.{IsOld, HasGoing, is_over, is_quiet, moment};
+ghost use Rattle.world_sim.specs.Turns.{ArePassed, IsOld, HasGoing, is_over, is_quiet, moment};
 ghost use Rattle.std.specs.Option.{option_map_or};
 
 use crate::found::{Found, count_near, count_of};
@@ -357,9 +357,6 @@ fn turn(
     ensures few { length writes.new.items ≤ length writes.old.items + 5 }
     ensures kept { vec_capacity writes.old ≤ vec_capacity writes.new }
 {
-    if glance.is_still() && !ending {
-        return;
-    }
     if let State::Drone(d) = object.state {
         if object.alive {
             step_drone(old, number, d, object, row, glance, cells, writes);
@@ -386,6 +383,37 @@ fn leave_over(number: u32, glance: &Glance, going: &mut NumberSet)
     if glance.is_over() {
         going.remove(number);
     }
+}
+
+// Whether a tick leaves an object as it is.
+fn is_passed(glance: &Glance, ending: bool) -> bool
+    ensures { (o : Object) → glance.now ≡ glance_of o → result ≡ true → is_quiet ending o ≡ true }
+{
+    !ending && glance.is_still()
+}
+
+// The next number from this one on whose object may change in the tick, at most the end: all before it are passed over.
+#[inline(always)]
+fn next_turn(
+    going: &NumberSet,
+    glances: &[Glance],
+    marks: &[bool],
+    from: usize,
+    end: usize,
+) -> usize
+    requires order { from ≤ end }
+    requires most { end ≤ MAX_OBJECTS }
+    requires glances { end ≤ length glances.now }
+    requires marks { end ≤ length marks.now }
+    ensures order { from ≤ result }
+    ensures most { result ≤ end }
+    ensures passed { ArePassed going.now glances.now marks.now from result }
+{
+    let mut at = going.next(from, end);
+    while at < end && is_passed(&glances[at], marks[at]) {
+        at = going.next(at + 1, end);
+    }
+    at
 }
 
 /// Each object after the tick, with its row, its cell and the writes. What is over has no turn.
@@ -418,7 +446,7 @@ pub fn turn_all(
     ensures glances_kept { vec_capacity glances.old ≤ vec_capacity glances.new }
 {
     let many = objects.len();
-    let mut i = going.next(0, many);
+    let mut i = next_turn(going, glances, &old.found.marks, 0, many);
     while i < many {
         let ending = old.found.marks[i];
         let object = &mut objects[i];
@@ -426,6 +454,6 @@ pub fn turn_all(
         let glance = &mut glances[i];
         turn(old, i as u32, ending, object, row, glance, cells, writes);
         leave_over(i as u32, glance, going);
-        i = going.next(i + 1, many);
+        i = next_turn(going, glances, &old.found.marks, i + 1, many);
     }
 }

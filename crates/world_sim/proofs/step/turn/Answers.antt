@@ -1,5 +1,5 @@
-use Rattle.std.proofs.Common.{◌∙◌, sym, ap, Bool}
-use Rattle.world_sim.specs.Turns.{moment, is_quiet}
+use Rattle.std.proofs.Common.{◌∙◌, sym}
+use Rattle.world_sim.specs.Turns.{moment}
 use Rattle.world_sim.proofs.RowFields.{row_stays, writes_nothing}
 use Rattle.world_sim.proofs.Turns.{quiet_stays, dead_drone, mine_turn}
 use Rattle.world_sim.proofs.step.turn.Goals as goal
@@ -13,17 +13,6 @@ returns-then-is_quiet-clause-row c = row_stays c.args.row.now c.args.object.now 
 
 pub returns-then-is_quiet-clause-writes : goal.returns-then-is_quiet-clause-writes
 returns-then-is_quiet-clause-writes c = writes_nothing c.args.writes.now.items c.args.number c.args.row.now.values.items _ c.args.row.now.versions.items c.requires.values
-
-pub returns-then-not-ending-clause-object : goal.returns-then-not-ending-clause-object
-returns-then-not-ending-clause-object c = λ os i is at ending.
-    quiet_stays os c.args.old.now.moves.now (moment c.args.old.now) c.args.object.now c.args.ending
-    (ap (λ (b : Bool). is_quiet b c.args.object.now) c.if-not-ending.true ∙ c.is_still.ensures c.args.object.now c.requires.glance c.if-is_still.true) ending
-
-pub returns-then-not-ending-clause-row : goal.returns-then-not-ending-clause-row
-returns-then-not-ending-clause-row c = row_stays c.args.row.now c.args.object.now (sym c.requires.values) c.requires.sound.1
-
-pub returns-then-not-ending-clause-writes : goal.returns-then-not-ending-clause-writes
-returns-then-not-ending-clause-writes c = writes_nothing c.args.writes.now.items c.args.number c.args.row.now.values.items _ c.args.row.now.versions.items c.requires.values
 
 pub returns-else-object-clause-object : goal.returns-else-object-clause-object
 returns-else-object-clause-object c = λ os i is at ending.

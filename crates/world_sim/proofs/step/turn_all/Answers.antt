@@ -1,8 +1,9 @@
-use Rattle.std.proofs.Common.{◌≡◌, ◌∙◌, ◌<◌, ◌≤◌, ◌+◌, ◌++◌, ℕ, length, ap, arith, sym, subst, List, get_or, set, map, Some}
+use Rattle.std.proofs.Common.{◌≡◌, ◌∙◌, ◌<◌, ◌≤◌, ◌+◌, ◌++◌, ℕ, length, ap, arith, length-set, refl, sym, subst, List, get_or, set, map, Some}
 use Rattle.std.specs.Prelude.{slice_get}
 use Rattle.std.proofs.lemmas.List.{get_or-map, length-map}
 use Rattle.world_rules.specs.declared.object.Object.{Object}
 use Rattle.world_rules.specs.Next.{object_next}
+use Rattle.world_sim.specs.declared.glance.Glance.{Glance}
 use Rattle.world_sim.specs.declared.rows.Row.{Row}
 use Rattle.world_sim.specs.declared.rows.Write.{Write}
 use Rattle.world_sim.specs.Rows.{values_of, row_writes}
@@ -15,7 +16,7 @@ use Rattle.world_sim.proofs.RowLoops.{sound_now, update_more, updated_at, length
 use Rattle.world_sim.proofs.Gathered.{hitting_few, triggered_few, mark_at}
 use Rattle.world_sim.proofs.Glancing.{as_many_glances, glance_at, set_glances}
 use Rattle.world_sim.proofs.Turns.{standing_found, row_of_old, stepped_more, stepped_at, stepped_length, stepped_all, grid_turn}
-use Rattle.world_sim.proofs.Going.{Turned, over_for_good, over_between, over_before, turned_passed, none_turned}
+use Rattle.world_sim.proofs.Going.{Turned, over_for_good, quiet_before, turned_passed, none_turned}
 use Rattle.world_sim.proofs.step.turn_all.Goals as goal
 
 pub turn-requires-clause-discs : goal.turn-requires-clause-discs
@@ -120,18 +121,19 @@ loop-i-preserved c =
       rows_are = update_more i rows c.loop-i.rows.items (map next os) row c.turn.new.row made c.loop-i.invariant.turned.rows_are m mapped row_new;
       writes_are = c.loop-i.invariant.turned.writes_are ∙ row_writes_at c.loop-i.writes.items c.turn.new.writes.items i rows (map next os) row made written row_same m mapped;
     } in
-    let to = c.next-i-in-loop-i.result in
-    let most : to ≤ length os = omega (arith, c.next-i-in-loop-i.ensures.most, c.len-many.ensures, c.args.objects.now.ok) in
+    let to = c.next_turn-i-in-loop-i.result in
+    let most : to ≤ length os = omega (arith, c.next_turn-i-in-loop-i.ensures.most, c.len-many.ensures, c.args.objects.now.ok) in
     let going : HasGoing c.leave_over.new.going (set objects i made) = c.leave_over.ensures objects made c.turn.ensures.glance long (over_for_good os c.args.old.now.moves.now (moment c.args.old.now) was made (slice_get objects i) (got objects i was long c.index_mut-object.ensures.value) new) c.loop-i.invariant.going in
-    let over = over_between c.leave_over.new.going (set objects i made) (i + 1) to (omega (arith, most, c.requires.old.few)) going c.next-i-in-loop-i.ensures.none in
+    let glances = set_glances objects c.loop-i.glances.items i made c.turn.new.glance c.loop-i.invariant.glances c.turn.ensures.glance in
+    let quiet = c.next_turn-i-in-loop-i.ensures.passed (set objects i made) (c.deref-in-loop-i.ensures.value ∙ glances) going in
     record {
-      turned = turned_passed os c.args.old.now.moves.now (moment c.args.old.now) rows (i + 1) to (set objects i made) (set c.loop-i.rows.items i c.turn.new.row) c.turn.new.writes.items c.requires.values c.requires.sound many c.next-i-in-loop-i.ensures.order most
-          (over_before os (set objects i made) next (i + 1) (i + 1) to turned.objects_are (omega arith) over) turned;
+      turned = turned_passed os c.args.old.now.moves.now (moment c.args.old.now) rows (i + 1) to (set objects i made) (set c.loop-i.rows.items i c.turn.new.row) c.turn.new.writes.items c.requires.values c.requires.sound many c.next_turn-i-in-loop-i.ensures.order most
+          (quiet_before os (set objects i made) next c.args.old.now.found.now _ (i + 1) (i + 1) to turned.objects_are (omega arith) most c.requires.old.found_is c.deref-in-loop-i-2.ensures.value quiet) turned;
       most = most;
-      glances = set_glances objects c.loop-i.glances.items i made c.turn.new.glance c.loop-i.invariant.glances c.turn.ensures.glance;
+      glances = glances;
       grid = grid_turn c.loop-i.cells c.turn.new.cells objects i was made long c.index_mut-object.ensures.value c.loop-i.invariant.grid c.turn.ensures.grid;
       going = going;
-      few = omega (arith, c.turn.ensures.few, c.loop-i.invariant.few, c.next-i-in-loop-i.ensures.order);
+      few = omega (arith, c.turn.ensures.few, c.loop-i.invariant.few, c.next_turn-i-in-loop-i.ensures.order);
       room = omega (arith, c.turn.ensures.kept, c.loop-i.invariant.room);
       kept = c.loop-i.invariant.kept;
       rows_kept = c.loop-i.invariant.rows_kept;
@@ -144,11 +146,11 @@ loop-i-init c =
     let rows = c.args.rows.now.items in
     let next = object_next os c.args.old.now.moves.now (moment c.args.old.now) in
     let many : length rows ≡ length os = as_many rows os c.requires.values in
-    let to = c.next-i.result in
-    let most : to ≤ length os = omega (arith, c.next-i.ensures.most, c.len-many.ensures, c.args.objects.now.ok) in
-    let over = over_between c.args.going.now os 0 to (omega (arith, most, c.requires.old.few)) c.requires.going c.next-i.ensures.none in
+    let to = c.next_turn-i.result in
+    let most : to ≤ length os = omega (arith, c.next_turn-i.ensures.most, c.len-many.ensures, c.args.objects.now.ok) in
+    let quiet = quiet_before os os next c.args.old.now.found.now _ 0 0 to refl (omega arith) most c.requires.old.found_is c.deref-2.ensures.value (c.next_turn-i.ensures.passed os (c.deref.ensures.value ∙ c.requires.glances) c.requires.going) in
     record {
-      turned = turned_passed os c.args.old.now.moves.now (moment c.args.old.now) rows 0 to os rows c.args.writes.now.items c.requires.values c.requires.sound many c.next-i.ensures.order most over (none_turned os next rows c.args.writes.now.items c.requires.none);
+      turned = turned_passed os c.args.old.now.moves.now (moment c.args.old.now) rows 0 to os rows c.args.writes.now.items c.requires.values c.requires.sound many c.next_turn-i.ensures.order most quiet (none_turned os next rows c.args.writes.now.items c.requires.none);
       most = most;
       glances = c.requires.glances;
       grid = c.requires.grid;
@@ -194,3 +196,12 @@ returns-clause-writes c =
     let whole : c.loop-i.objects.items ≡ map next os = c.loop-i.invariant.turned.objects_are ∙ rw end (stepped_all next os) in
     sym (c.loop-i.invariant.turned.writes_are ∙ row_writes_end c.loop-i.writes.items i rows (map next os) (omega (arith, end, many)))
     ∙ ap (rows_writes 0 rows) (sym whole)
+
+pub next_turn-i-requires-in-loop-i-clause-glances : goal.next_turn-i-requires-in-loop-i-clause-glances
+next_turn-i-requires-in-loop-i-clause-glances c =
+    let os = c.args.objects.now.items in
+    let next = object_next os c.args.old.now.moves.now (moment c.args.old.now) in
+    let i = c.loop-i.i in
+    let many = as_many_glances c.loop-i.objects.items c.loop-i.glances.items c.loop-i.invariant.glances in
+    let same : length (set c.loop-i.glances.items i c.turn.new.glance) ≡ length c.loop-i.glances.items = length-set c.loop-i.glances.items i c.turn.new.glance in
+    omega (arith, c.len-many.ensures, c.args.objects.now.ok, ap (λ (xs : List Glance). length xs) c.deref-in-loop-i.ensures.value, same, many, ap (λ (xs : List Object). length xs) c.loop-i.invariant.turned.objects_are, stepped_length i next os)
