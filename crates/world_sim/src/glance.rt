@@ -9,7 +9,8 @@ use crate::watch::{PLOTS, is_watched};
 use world_rules::object::MAX_AGE;
 use world_rules::{Mine, Object, Place, State};
 
-/// What an object is to those that look at it.
+/// What an object is to those that look at it. Those that may be hidden and those that are always seen stand last, so that one
+/// comparison tells that an object is neither.
 #[derive(Clone, Copy, Debug, PartialEq, Eq)]
 pub enum Role {
     /// The player of this client.
@@ -17,11 +18,11 @@ pub enum Role {
     Disc,
     /// A mine that is not armed.
     YoungMine,
+    Drone,
     /// An armed mine that still grows older.
     ArmedMine,
     /// An armed mine that is as old as it gets.
     OldMine,
-    Drone,
     Flag,
     Clock,
 }
