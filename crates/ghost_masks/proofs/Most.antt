@@ -7,7 +7,7 @@ use Rattle.tn_types.specs.declared.choices.Op.TheVariants.{Kill, Create, Update}
 use Rattle.quantised_fields.specs.declared.field.FieldSpec.{FieldSpec}
 use Rattle.quantised_fields.specs.declared.kind.Kind.{Kind}
 use Rattle.quantised_fields.specs.Kinds.{table_fault, width_of}
-use Rattle.ghost_masks.specs.Plan.{bits_by, fields_in, fields_of, masked}
+use Rattle.ghost_masks.specs.Plan.{bits_by, fields_in, fields_of}
 use Rattle.ghost_masks.proofs.Chosen.{width-masked}
 
 pub most_at : (fs : List FieldSpec) (front most : ℕ) → 14 + length fs ≤ front → 20 ≤ front → front + width_of fs ≤ most → (op : Op) (mask : ℕ) → bits_by op mask fs ≤ most

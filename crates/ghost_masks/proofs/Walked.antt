@@ -1,5 +1,5 @@
 -- A walk over a list without repetition, as far as it came.
-use Rattle.std.proofs.Common.{◌≡◌, ℕ, zero, suc, ◌+◌, ◌<◌, ◌≤◌, List, [], ◌∷◌, ◌++◌, ◌∙◌, length, take, drop, Some, None, sym, ap, subst, arith}
+use Rattle.std.proofs.Common.{◌≡◌, ℕ, zero, suc, ◌+◌, ◌<◌, ◌≤◌, List, [], ◌∷◌, ◌++◌, ◌∙◌, length, take, drop, Some, None, refl, sym, ap, subst, arith}
 use Rattle.std.proofs.lemmas.List.{take-append-drop}
 use Rattle.work_list.specs.Work.{IsUnique, next_of, first_of}
 use Rattle.work_list.proofs.Walk.{next-append}
@@ -9,6 +9,12 @@ pub none_left : (xs : List ℕ) (i : ℕ) → first_of (drop i xs) ≡ None → 
 none_left [] i h = omega arith
 none_left (x ∷ xs) zero h = absurd (cc)
 none_left (x ∷ xs) (suc i) h = omega (arith, none_left xs i h)
+
+pub nothing_left : (xs : List ℕ) (i : ℕ) → length xs ≤ i → first_of (drop i xs) ≡ None
+nothing_left [] zero h = refl
+nothing_left [] (suc i) h = refl
+nothing_left (x ∷ xs) zero h = absurd (omega (arith, h))
+nothing_left (x ∷ xs) (suc i) h = nothing_left xs i (omega (arith, h))
 
 -- the next that is left
 record IsNext (xs : List ℕ) (i x : ℕ) : Type 0 where

@@ -1,9 +1,7 @@
-use Rattle.std.proofs.Common.{◌≡◌, ◌<◌, ◌≤◌, ◌∙◌, ℕ, Some, None, sym, ap, arith, inl, inr}
+use Rattle.std.proofs.Common.{◌≡◌, ◌∙◌, Some, None, sym, ap, arith, inl, inr}
 use Rattle.std.specs.Prelude.{slice_get}
 use Rattle.std.specs.Option.{option_copied}
 use Rattle.std.proofs.lemmas.Bool.{cases_lt}
-use Rattle.quantised_fields.specs.declared.kind.Kind.{Kind}
-use Rattle.ghost_masks.specs.Plan.{bits_by, fields_in, fields_of}
 use Rattle.ghost_masks.proofs.Most.{most_past, most_beyond}
 use Rattle.ghost_masks.proofs.plan.most_bits.Goals as goal
 
