@@ -9,6 +9,7 @@ use Rattle.tn_types.specs.BitWords.{has_bit}
 use Rattle.tn_types.specs.declared.choices.Choice.{Choice}
 use Rattle.ghost_model.specs.Words.{upto}
 use Rattle.tn_types.specs.declared.choices.Read.{Read}
+use Rattle.pair_core.specs.History.{values_of}
 use Rattle.pair_core.specs.Conditions.{field_of, asked_by, asked_by_all}
 use Rattle.pair_core.specs.Calls.{Asks, is_asked}
 use Rattle.pair_core.specs.Asking.{IsInRange, AreAsked}
@@ -35,21 +36,23 @@ module _ {V : Type 0} (ranges : V → ℕ → ℕ → Option (ℤ × ℤ)) (stan
   pub asks-none : (x : V) → same x x → Asks ranges stands owes same x x []
   asks-none x alike = record { stand = tt; kept = λ r h. h; owed = λ n f. and-not_false (owes x n f); ranges_kept = λ n f. refl; alike = alike }
 
-  pub asked-none : (x : V) (noted : List Read) → same x x → AreAsked ranges stands owes same x x [] noted noted
-  asked-none x noted alike = record {
+  pub asked-none : (noting : Bool) (x : V) (noted : List Read) (listed : List ℤ) → same x x → AreAsked ranges stands owes same noting x x [] noted noted listed listed
+  asked-none noting x noted listed alike = record {
     reads = [];
     of_fields = refl;
-    behind = sym (append-nil noted);
+    behind = λ _. sym (append-nil noted);
+    beside = sym (append-nil listed);
     fit = tt;
     asks = asks-none x alike;
   }
 
-  pub asked-one : (x y : V) (r : Read) (n f : ℕ) (noted : List Read) → r.n ≡ n → r.field ≡ f → IfSome (ranges x n f) (λ z. (z.0 ≤ℤ r.value) × (r.value ≤ℤ z.1)) → ((m k : ℕ) → ranges y m k ≡ ranges x m k) → stands y r
-      → ((q : Read) → stands x q → stands y q) → ((m k : ℕ) → owes y m k ≡ (owes x m k && not ((n == m) && (f == k)))) → same x y → AreAsked ranges stands owes same x y ((n, f) ∷ []) noted (noted ++ r ∷ [])
-  asked-one x y r n f noted is_n is_f range kept_ranges here kept owed alike = record {
+  pub asked-one : (noting : Bool) (x y : V) (r : Read) (n f : ℕ) (noted noted' : List Read) (listed listed' : List ℤ) → (noting ≡ true → noted' ≡ noted ++ r ∷ []) → listed' ≡ listed ++ r.value ∷ [] → r.n ≡ n → r.field ≡ f → IfSome (ranges x n f) (λ z. (z.0 ≤ℤ r.value) × (r.value ≤ℤ z.1)) → ((m k : ℕ) → ranges y m k ≡ ranges x m k) → stands y r
+      → ((q : Read) → stands x q → stands y q) → ((m k : ℕ) → owes y m k ≡ (owes x m k && not ((n == m) && (f == k)))) → same x y → AreAsked ranges stands owes same noting x y ((n, f) ∷ []) noted noted' listed listed'
+  asked-one noting x y r n f noted noted' listed listed' behind beside is_n is_f range kept_ranges here kept owed alike = record {
     reads = r ∷ [];
     of_fields = λ j. (is_n j, is_f j) ∷ [];
-    behind = refl;
+    behind = behind;
+    beside = beside;
     fit = (subst (λ (p : ℕ × ℕ). IfSome (ranges x p.0 p.1) (λ z. (z.0 ≤ℤ r.value) × (r.value ≤ℤ z.1))) (λ j. (sym is_n j, sym is_f j)) range, tt);
     asks = record {
       stand = (here, tt);
@@ -64,11 +67,12 @@ module _ {V : Type 0} (ranges : V → ℕ → ℕ → Option (ℤ × ℤ)) (stan
       or_false true = refl
       or_false false = refl
 
-  pub asked-then : (x y z : V) (fs gs : List (ℕ × ℕ)) (ones twos threes : List Read) → (same x y → same y z → same x z) → AreAsked ranges stands owes same x y fs ones twos → AreAsked ranges stands owes same y z gs twos threes → AreAsked ranges stands owes same x z (fs ++ gs) ones threes
-  asked-then x y z fs gs ones twos threes trans a b = record {
+  pub asked-then : (noting : Bool) (x y z : V) (fs gs : List (ℕ × ℕ)) (ones twos threes : List Read) (us vs ws : List ℤ) → (same x y → same y z → same x z) → AreAsked ranges stands owes same noting x y fs ones twos us vs → AreAsked ranges stands owes same noting y z gs twos threes vs ws → AreAsked ranges stands owes same noting x z (fs ++ gs) ones threes us ws
+  asked-then noting x y z fs gs ones twos threes us vs ws trans a b = record {
     reads = a.reads ++ b.reads;
     of_fields = map-append field_of a.reads b.reads ∙ (λ j. a.of_fields j ++ b.of_fields j);
-    behind = b.behind ∙ ap (λ (l : List Read). l ++ b.reads) a.behind ∙ append_assoc ones a.reads b.reads;
+    behind = λ e. b.behind e ∙ ap (λ (l : List Read). l ++ b.reads) (a.behind e) ∙ append_assoc ones a.reads b.reads;
+    beside = b.beside ∙ ap (λ (l : List ℤ). l ++ values_of b.reads) a.beside ∙ append_assoc us (values_of a.reads) (values_of b.reads) ∙ ap (λ (l : List ℤ). us ++ l) (sym (map-append (λ (r : Read). r.value) a.reads b.reads));
     fit = all-append (IsInRange (ranges x)) a.reads b.reads a.fit (all-map (IsInRange (ranges y)) (IsInRange (ranges x)) (λ r h. subst (λ o. IfSome o (λ z. (z.0 ≤ℤ r.value) × (r.value ≤ℤ z.1))) (a.asks.ranges_kept r.n r.field) h) b.reads b.fit);
     asks = record {
       stand = all-append (stands z) a.reads b.reads (all-map (stands y) (stands z) b.asks.kept a.reads a.asks.stand) b.asks.stand;

@@ -1,21 +1,25 @@
 -- What is known while a pack asks for the values of its packet one by one.
-use Rattle.std.specs.Prelude.{◌≡◌, ℕ, ℤ, ◌≤ℤ◌, Bool, Option, IfSome, List, ◌++◌, map}
+use Rattle.std.specs.Prelude.{◌≡◌, ℕ, ℤ, ◌≤ℤ◌, Bool, true, Option, IfSome, List, ◌++◌, map}
 use Rattle.std.specs.List.{AllByRecursion}
 use Rattle.tn_types.specs.declared.choices.Read.{Read}
 use Rattle.stream_manager.specs.Server.{ServerEvent}
 use Rattle.stream_manager.specs.Stands.{ConnState, ConnStandsFor, terms_of}
+use Rattle.pair_core.specs.History.{values_of}
 use Rattle.pair_core.specs.Conditions.{field_of, AreReads}
 use Rattle.pair_core.specs.Calls.{Asks}
 
 abbrev pub IsInRange : (ℕ → ℕ → Option (ℤ × ℤ)) → Read → Type 0
 IsInRange ranges r = IfSome (ranges r.n r.field) (λ x. (x.0 ≤ℤ r.value) × (r.value ≤ℤ x.1))
 
--- these fields were asked for in their order, and the reads stand behind those that were noted before
+-- these fields were asked for in their order; the reads stand behind those that were noted before, if they are to be noted, and
+-- their values behind those that were listed
 pub record AreAsked {V : Type 0} (ranges : V → ℕ → ℕ → Option (ℤ × ℤ)) (stands : V → Read → Type 0)
-    (owes : V → ℕ → ℕ → Bool) (same : V → V → Type 0) (before after : V) (fields : List (ℕ × ℕ)) (old new : List Read) : Type 0 where
+    (owes : V → ℕ → ℕ → Bool) (same : V → V → Type 0) (noting : Bool) (before after : V) (fields : List (ℕ × ℕ))
+    (old new : List Read) (listed listed' : List ℤ) : Type 0 where
   pub reads : List Read
   pub of_fields : map field_of reads ≡ fields
-  pub behind : new ≡ old ++ reads
+  pub behind : noting ≡ true → new ≡ old ++ reads
+  pub beside : listed' ≡ listed ++ values_of reads
   pub fit : AllByRecursion (IsInRange (ranges before)) reads
   pub asks : Asks ranges stands owes same before after reads
 

@@ -5,7 +5,7 @@ ghost use Rattle.stream_manager.specs.ConnCalls.{Becomes, Keeps as KeepsConn};
 ghost use Rattle.stream_manager.specs.Server.{ServerEvent, ghost_log};
 ghost use Rattle.stream_manager.specs.Stands.{ConnStandsFor, terms_of};
 ghost use Rattle.tn_types.specs.declared.choices.Read.{Read};
-ghost use Rattle.pair_core.specs.History.{absorbing, values_of};
+ghost use Rattle.pair_core.specs.History.{absorbing};
 ghost use Rattle.pair_core.specs.Conditions.{MayBeDrained};
 ghost use Rattle.pair_core.specs.Calls.{Asks};
 ghost use Rattle.pair_core.specs.Packing.{MayPackEnd, AnswersPack, PacksEnd};
@@ -32,24 +32,13 @@ fn absorb_all(conn: &mut Conn, drains: &[Drain])
     }
 }
 
-/// The values of these reads.
-fn list_values(noted: &[Read], values: &mut Vec<i64>)
-    requires room { length noted.now ≤ vec_capacity values.old }
-    ensures values { values.new.items ≡ values_of noted.now }
-    ensures room { vec_capacity values.new ≡ vec_capacity values.old }
-{
-    values.clear();
-    'reads: for read in noted {
-        values.push_reserved(read.value);
-    }
-}
-
-/// The server's end makes its next datagram, behind those that it sent. What was read for it is noted in place of what was
-/// noted before; the values that it carries are listed beside.
+/// The server's end makes its next datagram, behind those that it sent. The values that it carries are listed, and
+/// what was read for it is noted in place of what was noted before, if it is to be.
 fn pack_end<V: Values>(
     conn: &mut Conn,
     down: &mut Datagrams,
     listed: &mut Vec<i64>,
+    noting: bool,
     noted: &mut Vec<Read>,
     drains: &[Drain],
     values: &mut V,
@@ -60,8 +49,8 @@ fn pack_end<V: Values>(
     requires list_room { MAX_PACKET_VALUES ≤ vec_capacity listed.old }
     requires note_room { MAX_PACKET_VALUES ≤ vec_capacity noted.old }
     ensures answer { AnswersPack conn.old down.old.list drains.now result }
-    ensures packs { PacksEnd conn.old down.old.list drains.now noted.new.items conn.new down.new.list }
-    ensures asks { Asks V.ranges V.stands V.owes V.same values.old values.new noted.new.items }
+    ensures told { (reads : List Read) × PacksEnd conn.old down.old.list drains.now reads conn.new down.new.list
+        × Asks V.ranges V.stands V.owes V.same values.old values.new reads × (noting ≡ true → noted.new.items ≡ reads) }
     ensures keeps { KeepsConn conn.old conn.new }
     ensures few { length noted.new.items ≤ MAX_PACKET_VALUES }
     ensures list_room { vec_capacity listed.new ≡ vec_capacity listed.old }
@@ -70,6 +59,7 @@ fn pack_end<V: Values>(
     let place = down.len();
     let life = conn.config().life;
     noted.clear();
+    listed.clear();
     absorb_all(conn, drains);
     match conn.pack_state() {
         SendState::Held => {
@@ -80,8 +70,7 @@ fn pack_end<V: Values>(
         SendState::Worn => Answer::Worn { life },
         SendState::Room => {
             let blank = Blank::new(1);
-            plan_and_ask::<Brand, V>(conn, blank, values, noted);
-            list_values(noted.as_slice(), listed);
+            plan_and_ask::<Brand, V>(conn, blank, values, noting, noted, listed);
             let bytes = conn.seal(listed.as_slice());
             down.push(bytes);
             Answer::Packed { ping: false, place }
@@ -111,6 +100,7 @@ impl Pair {
             &mut self.conn,
             &mut self.down,
             &mut self.values,
+            false,
             &mut self.noted,
             drains,
             values,
@@ -140,6 +130,7 @@ impl Pair {
             &mut self.conn,
             &mut self.down,
             &mut self.values,
+            true,
             noted,
             drains,
             values,

@@ -22,7 +22,7 @@ pub struct Pair {
     pub(crate) up: Datagrams,
     // the values that the last pack was given
     pub(crate) values: Vec<i64>,
-    // and its reads, if nobody else notes them
+    // no pack notes its reads here
     pub(crate) noted: Vec<Read>,
 }
 
@@ -106,6 +106,9 @@ impl Pair {
         ensures stands { Stays self.old self.new }
     {
         let _alloc = alloc;
+        if self.is_prepared() {
+            return Ok(());
+        }
         self.down.prepare()?;
         self.up.prepare()
     }

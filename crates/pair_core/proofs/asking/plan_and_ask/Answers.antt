@@ -1,5 +1,5 @@
 use Rattle.std.proofs.Common.{◌≡◌, ◌∙◌, ℕ, ◌<◌, ◌++◌, List, ◌∷◌, length, true, sym, ap, subst, arith}
-use Rattle.std.specs.Prelude.{All, IsSome}
+use Rattle.std.specs.Prelude.{ℤ, All, IsSome}
 use Rattle.std.proofs.lemmas.List.Elements.{All-from_recursion}
 use Rattle.tn_types.specs.BitWords.{has_bit}
 use Rattle.tn_types.specs.declared.choices.Choice.{Choice}
@@ -38,6 +38,17 @@ ask_all-requires-clause-room g c =
     let room = c.requires.room in
     omega arith
 
+pub ask_all-requires-clause-list_room : goal.ask_all-requires-clause-list_room
+ask_all-requires-clause-list_room g c =
+    let log = c.requires.ranged.0 in
+    let s = c.requires.ranged.1 in
+    let short = plan_short c.args.conn.now.masks.kinds (received_at log) (Grant ∷ ghost_log log) (tt, s.masks.legal) s.masks.table (ghost_room (terms_of c.args.conn.now) log) in
+    let count = ap (λ (l : List Choice). length l) (c.plan-choices.ensures.choices log s) in
+    let none = ap (λ (l : List ℤ). length l) c.requires.list_empty in
+    let ok = c.args.listed.now.ok in
+    let room = c.requires.list_room in
+    omega arith
+
 pub returns-clause-told : goal.returns-clause-told
 returns-clause-told g c =
     let log = c.requires.ranged.0 in
@@ -48,17 +59,20 @@ returns-clause-told g c =
     let values : AreValues (all_carried c.args.conn.now.masks.kinds (Grant ∷ ghost_log log) (choices_at (terms_of c.args.conn.now) log)) (values_of told.reads) =
     reads-values c.args.conn.now.masks.kinds s.masks.table (Grant ∷ ghost_log log) (g.V.Values.ranges c.args.values.now) (choices_at (terms_of c.args.conn.now) log) told.reads items has
     (told.of_fields ∙ ap asked_by_all (c.plan-choices.ensures.choices log s)) told.fit in
-    let plan = c.plan-choices.follows.holds-at-none in
-    subst (IsReadForNext g.V.Values.ranges g.V.Values.stands g.V.Values.owes g.V.Values.same c.args.values.now c.ask_all.new.values c.args.conn.now) (sym (told.behind ∙ ap (λ (l : List Read). l ++ told.reads) c.requires.empty))
-    (record {
-      fit = λ other so. record {
-        asked = told.of_fields ∙ ap asked_by_all (c.plan-choices.ensures.choices other so);
-        fit = subst (λ (cs : List Choice). AreValues (all_carried c.args.conn.now.masks.kinds (Grant ∷ ghost_log other) cs) (values_of told.reads)) (sym (c.plan-choices.ensures.choices log s) ∙ c.plan-choices.ensures.choices other so)
-            (subst (λ fs. AreValues fs (values_of told.reads))
-            (same-carried c.plan-choices.follows.lender-at-none.masks.periods (plan.stands log s).masks.ordered c.args.conn.now.masks.kinds (Grant ∷ ghost_log log) (Grant ∷ ghost_log other) (plan.stands log s).masks.periods (plan.stands other so).masks.periods (choices_at (terms_of c.args.conn.now) log) items) values);
-      };
-      asks = told.asks;
-    })
+    let plan = c.plan-choices.follows.holds-at-none in (
+      told.reads,
+      record {
+        fit = λ other so. record {
+          asked = told.of_fields ∙ ap asked_by_all (c.plan-choices.ensures.choices other so);
+          fit = subst (λ (cs : List Choice). AreValues (all_carried c.args.conn.now.masks.kinds (Grant ∷ ghost_log other) cs) (values_of told.reads)) (sym (c.plan-choices.ensures.choices log s) ∙ c.plan-choices.ensures.choices other so)
+              (subst (λ fs. AreValues fs (values_of told.reads))
+              (same-carried c.plan-choices.follows.lender-at-none.masks.periods (plan.stands log s).masks.ordered c.args.conn.now.masks.kinds (Grant ∷ ghost_log log) (Grant ∷ ghost_log other) (plan.stands log s).masks.periods (plan.stands other so).masks.periods (choices_at (terms_of c.args.conn.now) log) items) values);
+        };
+        asks = told.asks;
+      },
+      λ on. told.behind on ∙ ap (λ (l : List Read). l ++ told.reads) c.requires.empty,
+      told.beside ∙ ap (λ (l : List ℤ). l ++ values_of told.reads) c.requires.list_empty,
+    )
 
 pub returns-clause-few : goal.returns-clause-few
 returns-clause-few g c =

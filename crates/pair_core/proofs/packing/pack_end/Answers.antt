@@ -29,10 +29,10 @@ plan_and_ask-requires-clause-ranged g c =
 pub seal-bytes-requires-clause-values : goal.seal-bytes-requires-clause-values
 seal-bytes-requires-clause-values g c other so =
     let r = c.requires.may.may in
-    let told = c.plan_and_ask.ensures.told in
+    let told = c.plan_and_ask.ensures.told.1 in
     let there = c.absorb_all.ensures.stands (history c.requires.may.may.terms c.requires.may.may.steps).server r.stands.conn in
-    subst (λ (vs : List ℤ). IfSome c.plan_and_ask.new.conn.masks.plan (λ cs. AreValues (all_carried c.plan_and_ask.new.conn.masks.kinds other cs) vs)) (sym (c.as_slice-in-Room.ensures.value ∙ c.list_values.ensures.values ∙ ap values_of c.as_slice.ensures.value))
-    (plan-fits c.absorb_all.new.conn c.plan_and_ask.new.conn (absorbing c.args.drains.now (history c.requires.may.may.terms c.requires.may.may.steps).server) c.plan_and_ask.new.noted.items there c.plan_and_ask.ensures.planning (told.fit (absorbing c.args.drains.now (history c.requires.may.may.terms c.requires.may.may.steps).server) there) other so)
+    subst (λ (vs : List ℤ). IfSome c.plan_and_ask.new.conn.masks.plan (λ cs. AreValues (all_carried c.plan_and_ask.new.conn.masks.kinds other cs) vs)) (sym (c.as_slice.ensures.value ∙ c.plan_and_ask.ensures.told.3))
+    (plan-fits c.absorb_all.new.conn c.plan_and_ask.new.conn (absorbing c.args.drains.now (history c.requires.may.may.terms c.requires.may.may.steps).server) c.plan_and_ask.ensures.told.0 there c.plan_and_ask.ensures.planning (told.fit (absorbing c.args.drains.now (history c.requires.may.may.terms c.requires.may.may.steps).server) there) other so)
 
 pub returns-in-Held-clause-answer : goal.returns-in-Held-clause-answer
 returns-in-Held-clause-answer g c other t steps s =
@@ -46,28 +46,30 @@ pub returns-in-Room-clause-answer : goal.returns-in-Room-clause-answer
 returns-in-Room-clause-answer g c other t steps s =
     packs-answer (pair_of c.args.conn.now c.args.down.now.list other) c.args.drains.now [] c.absorb_all.new.conn c.absorb_all.ensures.stands c.absorb_all.ensures.keeps Room c.len-place.result c.config.result.now.life c.in-Room.ensures.log c.len-place.ensures (ap (λ (k : Config). k.life) c.config.ensures.value) t steps s
 
-pub returns-in-Held-clause-packs : goal.returns-in-Held-clause-packs
-returns-in-Held-clause-packs g c other b =
-    subst (λ (rs : List Read). Packs (pair_of c.args.conn.now c.args.down.now.list other) c.args.drains.now rs (pair_of c.ping-bytes.follows.lender-at-none c.push.new.self.list (record { client = other.client; up = other.up; prepared = b }))) (sym c.clear.ensures.items)
-    (subst (λ (d : List (List ℕ)). Packs (pair_of c.args.conn.now c.args.down.now.list other) c.args.drains.now [] (pair_of c.ping-bytes.follows.lender-at-none d (record { client = other.client; up = other.up; prepared = b }))) (sym c.push.ensures)
-    (held-packs (pair_of c.args.conn.now c.args.down.now.list other) c.args.drains.now [] c.absorb_all.new.conn c.absorb_all.ensures.stands c.absorb_all.ensures.keeps b c.ping-bytes.follows.lender-at-none c.ping-bytes.result.now c.in-Held.ensures.log refl c.ping-bytes.follows.holds-at-none c.ping-bytes.ensures.bytes))
+pub returns-in-Held-clause-told : goal.returns-in-Held-clause-told
+returns-in-Held-clause-told g c = (
+  [],
+  λ other b. subst (λ (d : List (List ℕ)). Packs (pair_of c.args.conn.now c.args.down.now.list other) c.args.drains.now [] (pair_of c.ping-bytes.follows.lender-at-none d (record { client = other.client; up = other.up; prepared = b }))) (sym c.push.ensures)
+      (held-packs (pair_of c.args.conn.now c.args.down.now.list other) c.args.drains.now [] c.absorb_all.new.conn c.absorb_all.ensures.stands c.absorb_all.ensures.keeps b c.ping-bytes.follows.lender-at-none c.ping-bytes.result.now c.in-Held.ensures.log refl c.ping-bytes.follows.holds-at-none c.ping-bytes.ensures.bytes),
+  asks-none g.V.Values.ranges g.V.Values.stands g.V.Values.owes g.V.Values.same c.args.values.now (g.met.V.Values.same_refl c.args.values.now),
+  λ _. c.clear.ensures.items,
+)
 
-pub returns-in-Worn-clause-packs : goal.returns-in-Worn-clause-packs
-returns-in-Worn-clause-packs g c other b =
-    worn-packs (pair_of c.args.conn.now c.args.down.now.list other) c.args.drains.now c.clear.new.self.items c.absorb_all.new.conn c.absorb_all.ensures.stands c.absorb_all.ensures.keeps b c.in-Worn.ensures.log c.clear.ensures.items
+pub returns-in-Worn-clause-told : goal.returns-in-Worn-clause-told
+returns-in-Worn-clause-told g c = (
+  [],
+  λ other b. worn-packs (pair_of c.args.conn.now c.args.down.now.list other) c.args.drains.now [] c.absorb_all.new.conn c.absorb_all.ensures.stands c.absorb_all.ensures.keeps b c.in-Worn.ensures.log refl,
+  asks-none g.V.Values.ranges g.V.Values.stands g.V.Values.owes g.V.Values.same c.args.values.now (g.met.V.Values.same_refl c.args.values.now),
+  λ _. c.clear.ensures.items,
+)
 
-pub returns-in-Room-clause-packs : goal.returns-in-Room-clause-packs
-returns-in-Room-clause-packs g c other b =
-    subst (λ (d : List (List ℕ)). Packs (pair_of c.args.conn.now c.args.down.now.list other) c.args.drains.now c.plan_and_ask.new.noted.items (pair_of c.seal-bytes.follows.lender-at-none d (record { client = other.client; up = other.up; prepared = b }))) (sym c.push-in-Room.ensures)
-    (room-packs (pair_of c.args.conn.now c.args.down.now.list other) c.args.drains.now c.plan_and_ask.new.noted.items c.absorb_all.new.conn c.absorb_all.ensures.stands c.absorb_all.ensures.keeps b c.plan_and_ask.new.conn c.seal-bytes.follows.lender-at-none c.as_slice-in-Room.result.now c.seal-bytes.result.now
-    c.in-Room.ensures.log c.plan_and_ask.ensures.planning c.seal-bytes.follows.holds-at-none (c.as_slice-in-Room.ensures.value ∙ c.list_values.ensures.values ∙ ap values_of c.as_slice.ensures.value) c.plan_and_ask.ensures.told.fit c.seal-bytes.ensures.bytes)
-
-pub returns-in-Held-clause-asks : goal.returns-in-Held-clause-asks
-returns-in-Held-clause-asks g c =
-    subst (Asks g.V.Values.ranges g.V.Values.stands g.V.Values.owes g.V.Values.same c.args.values.now c.args.values.now) (sym c.clear.ensures.items)
-    (asks-none g.V.Values.ranges g.V.Values.stands g.V.Values.owes g.V.Values.same c.args.values.now (g.met.V.Values.same_refl c.args.values.now))
-
-pub returns-in-Worn-clause-asks : goal.returns-in-Worn-clause-asks
-returns-in-Worn-clause-asks g c =
-    subst (Asks g.V.Values.ranges g.V.Values.stands g.V.Values.owes g.V.Values.same c.args.values.now c.args.values.now) (sym c.clear.ensures.items)
-    (asks-none g.V.Values.ranges g.V.Values.stands g.V.Values.owes g.V.Values.same c.args.values.now (g.met.V.Values.same_refl c.args.values.now))
+pub returns-in-Room-clause-told : goal.returns-in-Room-clause-told
+returns-in-Room-clause-told g c =
+    let told = c.plan_and_ask.ensures.told in (
+      told.0,
+      λ other b. subst (λ (d : List (List ℕ)). Packs (pair_of c.args.conn.now c.args.down.now.list other) c.args.drains.now told.0 (pair_of c.seal-bytes.follows.lender-at-none d (record { client = other.client; up = other.up; prepared = b }))) (sym c.push-in-Room.ensures)
+          (room-packs (pair_of c.args.conn.now c.args.down.now.list other) c.args.drains.now told.0 c.absorb_all.new.conn c.absorb_all.ensures.stands c.absorb_all.ensures.keeps b c.plan_and_ask.new.conn c.seal-bytes.follows.lender-at-none c.as_slice.result.now c.seal-bytes.result.now
+          c.in-Room.ensures.log c.plan_and_ask.ensures.planning c.seal-bytes.follows.holds-at-none (c.as_slice.ensures.value ∙ told.3) told.1.fit c.seal-bytes.ensures.bytes),
+      told.1.asks,
+      told.2,
+    )

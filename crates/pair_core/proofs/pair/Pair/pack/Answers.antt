@@ -11,7 +11,7 @@ returns-clause-answer g c = answers-end c.args.self.now c.self.inside.conn c.sel
 
 pub returns-clause-told : goal.returns-clause-told
 returns-clause-told g c = (
-  c.pack_end.new.noted.items,
-  packs-end c.args.self.now c.self.inside.conn c.self.inside.down.list (record { client = c.self.inside.client; up = c.self.inside.up.list; prepared = c.self.inside.down.has_room && c.self.inside.up.has_room }) c.self.view_is c.args.drains.now c.pack_end.new.noted.items c.pack_end.new.conn c.pack_end.new.down.list (c.pack_end.new.down.has_room && c.self.inside.up.has_room) c.pack_end.ensures.packs,
-  c.pack_end.ensures.asks,
+  c.pack_end.ensures.told.0,
+  packs-end c.args.self.now c.self.inside.conn c.self.inside.down.list (record { client = c.self.inside.client; up = c.self.inside.up.list; prepared = c.self.inside.down.has_room && c.self.inside.up.has_room }) c.self.view_is c.args.drains.now c.pack_end.ensures.told.0 c.pack_end.new.conn c.pack_end.new.down.list (c.pack_end.new.down.has_room && c.self.inside.up.has_room) c.pack_end.ensures.told.1,
+  c.pack_end.ensures.told.2,
 )
