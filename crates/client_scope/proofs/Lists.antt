@@ -31,6 +31,13 @@ one_more f xs i d old new l e h = rw (h, e, mapped_more f xs i d l) refl
 pub few_more : {X Y : Type 0} (f : X → Option Y) (old new : List Y) (x : X) (i : ℕ) → length old ≤ i → new ≡ old ++ filter_map f (x ∷ []) → length new ≤ i + 1
 few_more f old new x i l h = rw h (mapped_few f old x i l)
 
+-- a walk over items that give nothing, and over items that give themselves
+pub stays_none : {X Y : Type 0} (f : X → Option Y) (xs : List X) (i : ℕ) (d : X) → i < length xs → filter_map f (take i xs) ≡ [] → f (get_or xs i d) ≡ None → filter_map f (take (i + 1) xs) ≡ []
+stays_none f xs i d l e h = let m = mapped_more f xs i d l in rw (m, e, h) refl
+
+pub stays_all : {X : Type 0} (f : X → Option X) (xs : List X) (i : ℕ) (d : X) → i < length xs → filter_map f (take i xs) ≡ take i xs → f (get_or xs i d) ≡ Some (get_or xs i d) → filter_map f (take (i + 1) xs) ≡ take (i + 1) xs
+stays_all f xs i d l e h = let m = mapped_more f xs i d l in let t = take_more xs i d l in rw (m, e, h, t) refl
+
 -- a walk that keeps what passes and numbers it
 pub passed : {X : Type 0} (p : X → Bool) (xs : List X) (i : ℕ) (d : X) (old new : List X) → i < length xs → old ≡ filter p (take i xs) → p (get_or xs i d) ≡ true → new ≡ old ++ get_or xs i d ∷ [] → new ≡ filter p (take (i + 1) xs)
 passed p xs i d old new l e t h = let m = filtered_more p xs i d l in rw (h, e, m, t) refl

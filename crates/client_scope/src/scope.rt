@@ -7,7 +7,7 @@ ghost use Rattle.client_scope.specs.StandsFor.{StandsFor};
 
 use crate::marks::mark_all;
 use crate::period::{Near, ShownPeriod};
-use crate::walks::{begin, part};
+use crate::walks::{begin, go_on};
 use std::alloc::{AllocError, Global};
 use std::marker::Model;
 use std::mem;
@@ -107,11 +107,12 @@ impl Scope {
         self.hides.reserve(self.shown.len())?;
         self.nears.reserve(self.shown.len())?;
         self.shows.reserve(seen.len())?;
+        self.shown.reserve(seen.len())?;
         self.kept.clear();
         self.kept.reserve(self.shown.len() + seen.len())?;
         mark_all(&mut self.fresh, seen);
-        part(
-            &self.shown,
+        go_on(
+            &mut self.shown,
             &self.fresh,
             &mut self.hides,
             &mut self.nears,
@@ -122,9 +123,8 @@ impl Scope {
             &self.marks,
             self.count,
             &mut self.shows,
-            &mut self.kept,
+            &mut self.shown,
         );
-        mem::swap(&mut self.shown, &mut self.kept);
         mem::swap(&mut self.marks, &mut self.fresh);
         Ok(())
     }

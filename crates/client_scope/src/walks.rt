@@ -1,5 +1,5 @@
 //! The two walks of a scan: over the periods that were shown, and over what it saw.
-ghost use Rattle.std.specs.Prelude.{◌≡◌, ◌<◌, ◌≤◌, ◌+◌, ◌^◌, ◌++◌, [], ◌∷◌, length, filter, vec_capacity};
+ghost use Rattle.std.specs.Prelude.{◌≡◌, ◌<◌, ◌≤◌, ◌+◌, ◌^◌, ◌++◌, [], ◌∷◌, ℕ, length, filter, true, vec_capacity};
 ghost use Rattle.std.specs.List.{All, filter_map};
 ghost use Rattle.client_scope.specs.Scans.{is_new};
 ghost use Rattle.client_scope.specs.Changes.{hidden, moved};
@@ -7,6 +7,7 @@ ghost use Rattle.client_scope.specs.Marks.{marked, goes_on, begun};
 
 use crate::marks::marked;
 use crate::period::{Near, ShownPeriod};
+use std::mem;
 use tn_types::MAX_OBJECTS;
 use world_scope::Seen;
 
@@ -44,7 +45,7 @@ fn part_one(
 }
 
 // Parts the periods that were shown: where the object isn't marked the period is hidden, else it goes on.
-pub(crate) fn part(
+fn part(
     shown: &[ShownPeriod],
     marks: &[u8],
     hides: &mut Vec<u32>,
@@ -68,6 +69,50 @@ pub(crate) fn part(
     for p in shown {
         part_one(p, marked(marks, p.object), hides, nears, kept);
     }
+}
+
+// Whether each period's object is marked with the period's level: then all go on as they are, as mostly.
+fn all_stay(shown: &[ShownPeriod], marks: &[u8]) -> bool
+    requires marks { length marks.now ≡ MAX_OBJECTS }
+    requires there { All (λ p. p.object < MAX_OBJECTS) shown.now }
+    ensures hides { result ≡ true → filter_map (hidden (marked marks.now)) shown.now ≡ [] }
+    ensures nears { result ≡ true → filter_map (moved (marked marks.now)) shown.now ≡ [] }
+    ensures kept { result ≡ true → filter_map (goes_on (marked marks.now)) shown.now ≡ shown.now }
+{
+    for p in shown {
+        if u32::from(marks[p.object as usize]) != u32::from(p.level) + 1 {
+            return false;
+        }
+    }
+    true
+}
+
+// The shown periods whose objects are marked go on, and the others are hidden.
+pub(crate) fn go_on(
+    shown: &mut Vec<ShownPeriod>,
+    marks: &[u8],
+    hides: &mut Vec<u32>,
+    nears: &mut Vec<Near>,
+    kept: &mut Vec<ShownPeriod>,
+)
+    requires marks { length marks.now ≡ MAX_OBJECTS }
+    requires there { All (λ p. p.object < MAX_OBJECTS) shown.old.items }
+    requires hides_room { length shown.old.items ≤ vec_capacity hides.old }
+    requires nears_room { length shown.old.items ≤ vec_capacity nears.old }
+    requires kept_room { length shown.old.items ≤ vec_capacity kept.old }
+    ensures hides { hides.new.items ≡ filter_map (hidden (marked marks.now)) shown.old.items }
+    ensures nears { nears.new.items ≡ filter_map (moved (marked marks.now)) shown.old.items }
+    ensures shown { shown.new.items ≡ filter_map (goes_on (marked marks.now)) shown.old.items }
+    ensures few { length shown.new.items ≤ length shown.old.items }
+    ensures room { (n : ℕ) → n ≤ vec_capacity shown.old → n ≤ vec_capacity kept.old → n ≤ vec_capacity shown.new }
+{
+    if all_stay(shown, marks) {
+        hides.clear();
+        nears.clear();
+        return;
+    }
+    part(shown, marks, hides, nears, kept);
+    mem::swap(shown, kept);
 }
 
 // Begins a period with each object that was seen and isn't marked, and tells the number of the next one.
