@@ -1,7 +1,8 @@
 -- A walk over a list without repetition, as far as it came.
-use Rattle.std.proofs.Common.{◌≡◌, ℕ, zero, suc, ◌+◌, ◌<◌, ◌≤◌, List, [], ◌∷◌, ◌++◌, ◌∙◌, length, take, drop, Some, None, refl, sym, ap, subst, arith}
+use Rattle.std.proofs.Common.{◌≡◌, ℕ, zero, suc, ◌+◌, ◌<◌, ◌≤◌, true, false, ◌||◌, List, [], ◌∷◌, ◌++◌, ◌∙◌, length, take, drop, Some, None, refl, sym, ap, subst, arith}
+use Rattle.std.proofs.lemmas.Bool.Decides.{nat_tests}
 use Rattle.std.proofs.lemmas.List.{take-append-drop}
-use Rattle.work_list.specs.Work.{IsUnique, next_of, first_of}
+use Rattle.work_list.specs.Work.{has, IsUnique, next_of, first_of}
 use Rattle.work_list.proofs.Walk.{next-append}
 
 -- nothing is left
@@ -47,3 +48,26 @@ goes_on xs i x u h =
       taken = ap (λ (k : ℕ). take k xs) one ∙ w.taken;
       next = ap (λ (l : List ℕ). next_of l (Some x)) split ∙ next-append (take i xs) (drop (suc i) xs) x (subst IsUnique split u) ∙ ap (λ (k : ℕ). first_of (drop k xs)) (sym one);
     }
+
+-- ---- the members that it came to
+
+has-append : (xs ys : List ℕ) (s : ℕ) → has (xs ++ ys) s ≡ (has xs s || has ys s)
+has-append [] ys s = refl
+has-append (x ∷ xs) ys s = grind (arith, nat_tests, has-append xs ys s)
+
+-- the next is none of them
+new_in : (xs ys : List ℕ) (x : ℕ) → IsUnique (xs ++ x ∷ ys) → has xs x ≡ false
+new_in [] ys x u = refl
+new_in (y ∷ xs) ys x u = grind (arith, nat_tests, new_in xs ys x u.1, u.0, has-append xs (x ∷ ys) y)
+
+pub is_new : (xs : List ℕ) (i x : ℕ) → IsUnique xs → first_of (drop i xs) ≡ Some x → has (take i xs) x ≡ false
+is_new xs i x u h =
+    let w = next_left xs i x h in
+    new_in (take i xs) (drop (suc i) xs) x (subst IsUnique (sym (take-append-drop i xs) ∙ ap (λ (l : List ℕ). take i xs ++ l) w.left) u)
+
+module _ (xs : List ℕ) (i x : ℕ) (gone : HasGone xs i x) where
+  pub come_before : (s : ℕ) → has (take i xs) s ≡ true → has (take (i + 1) xs) s ≡ true
+  come_before s h = ap (λ (l : List ℕ). has l s) gone.taken ∙ (let e : has (take i xs ++ x ∷ []) s ≡ true = grind (arith, nat_tests, h, has-append (take i xs) (x ∷ []) s) in e)
+
+  pub come_now : has (take (i + 1) xs) x ≡ true
+  come_now = ap (λ (l : List ℕ). has l x) gone.taken ∙ (let e : has (take i xs ++ x ∷ []) x ≡ true = grind (arith, nat_tests, has-append (take i xs) (x ∷ []) x) in e)
