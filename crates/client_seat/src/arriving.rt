@@ -76,7 +76,8 @@ impl Seat {
         answer
     }
 
-    // The same, with what is told of it.
+    // The same, with what is told of it. Inlined, so that this is copied less often.
+    #[inline(always)]
     fn arrive(
         &mut self,
         alloc: Global,

@@ -13,9 +13,24 @@ use pair_core::{Answer, Pair, PairStep};
 use std::alloc::Global;
 use tn_types::{Drain, MAX_DATAGRAM_BYTES, MAX_DATAGRAMS, NoMemory, RawBytes, Values};
 
+// These bytes, in room that was given back if there is any.
+fn refilled(alloc: Global, spare: Option<RawBytes>, bytes: &[u8]) -> Result<RawBytes, NoMemory>
+    requires { length bytes.now ≤ MAX_DATAGRAM_BYTES }
+    ensures { IfOk result (λ raw. raw ≡ bytes.now) }
+{
+    match spare {
+        Some(mut room) => {
+            room.refill(bytes)?;
+            Ok(room)
+        }
+        None => RawBytes::from_slice(alloc, bytes),
+    }
+}
+
 /// What is told of a datagram that was made.
 fn packed(
     alloc: Global,
+    spare: Option<RawBytes>,
     up: bool,
     client: u8,
     place: u32,
@@ -26,7 +41,7 @@ fn packed(
     ensures { IfOk result (λ told. (bytes : List ℕ) → option_copied datagram.entry ≡ Some bytes →
         told ≡ told_as.Packed up client place ping bytes) }
 {
-    let bytes = RawBytes::from_slice(alloc, datagram.unwrap_or(&[]))?;
+    let bytes = refilled(alloc, spare, datagram.unwrap_or(&[]))?;
     Ok(Told::Packed {
         up,
         client,
@@ -39,6 +54,7 @@ fn packed(
 /// What is told of a pack, by its answer.
 fn packed_by(
     alloc: Global,
+    spare: &mut Option<RawBytes>,
     up: bool,
     client: u8,
     answer: Answer,
@@ -54,6 +70,7 @@ fn packed_by(
         Answer::Worn { life } => Ok(Told::PackWorn { up, client, life }),
         Answer::Packed { ping, place } => packed(
             alloc,
+            spare.take(),
             up,
             client,
             place,
@@ -87,7 +104,7 @@ impl Seat {
     {
         self.pair.prepare(alloc)?;
         let answer = self.pair.pack(drains, values);
-        packed_by(alloc, false, client, answer, &self.pair)
+        packed_by(alloc, &mut self.spare, false, client, answer, &self.pair)
     }
 
     /// The client makes its next datagram.
@@ -99,6 +116,6 @@ impl Seat {
     {
         self.pair.prepare(alloc)?;
         let answer = self.pair.step(&PairStep::ClientPack);
-        packed_by(alloc, true, client, answer, &self.pair)
+        packed_by(alloc, &mut self.spare, true, client, answer, &self.pair)
     }
 }

@@ -12,7 +12,7 @@ use quantised_fields::KindTable;
 use std::alloc::Global;
 use std::marker::Model;
 use stream_manager::Config;
-use tn_types::{BlockBytes, MAX_BLOCKS, MAX_WAITING_MOVES, Move, NoMemory};
+use tn_types::{BlockBytes, MAX_BLOCKS, MAX_WAITING_MOVES, Move, NoMemory, RawBytes};
 
 /// A client's connection, and its accepted moves that wait for a tick, at most 32. No event waits between two calls.
 pub struct Seat {
@@ -21,6 +21,8 @@ pub struct Seat {
     pub(crate) waiting: HeapCircularBuffer<Move>,
     // accepted moves that ticks took
     pub(crate) taken: u32,
+    // the bytes of a datagram that was told and is told no more: the next one is told in their room
+    pub(crate) spare: Option<RawBytes>,
 }
 
 // Written out, so that a function above that lets a seat go calls this, and doesn't prove again how each of its parts is let go.
@@ -30,6 +32,7 @@ impl Drop for Seat {
             pair: _pair,
             waiting: _waiting,
             taken: _taken,
+            spare: _spare,
         } = self;
     }
 }
@@ -67,6 +70,7 @@ impl Seat {
                 pair,
                 waiting,
                 taken: 0,
+                spare: None,
             }),
             Err(_) => Err(NoMemory),
         }
@@ -91,6 +95,13 @@ impl Seat {
         ensures { Answers self.now (λ t k. server_state t.config (history t k.steps).server) result }
     {
         self.pair.conn().pack_state()
+    }
+
+    /// Gives back the bytes of a datagram of this connection that is told no more, so that the next one needs no memory.
+    pub fn give_back(&mut self, bytes: RawBytes)
+        ensures { self.new ≡ self.old }
+    {
+        self.spare = Some(bytes);
     }
 
     /// The oldest move that waits, which a tick takes.

@@ -22,7 +22,7 @@ use pair_core::Pair;
 use std::alloc::Global;
 use std::marker::Model;
 use stream_manager::Config;
-use tn_types::{MAX_CLIENTS, MAX_COUNTED_LINES, MAX_OBJECTS, Move, NoMemory};
+use tn_types::{MAX_CLIENTS, MAX_COUNTED_LINES, MAX_OBJECTS, Move, NoMemory, RawBytes};
 use world_rules::match_kinds;
 use world_sim::World;
 
@@ -162,6 +162,15 @@ impl<'a> Game<'a> {
         ensures { (d : SeatState) → result.now ≡ (slice_index_or self.now.seats client d).pair }
     {
         self.seats[client as usize].pair()
+    }
+
+    /// Gives back the bytes of a client's datagram that is told no more, so that the next one needs no memory.
+    pub(crate) fn give_back(&mut self, client: u8, bytes: RawBytes)
+        ensures { self.new ≡ self.old }
+    {
+        if let Some(seat) = self.seats.get_mut(client as usize) {
+            seat.give_back(bytes);
+        }
     }
 
     /// How many accepted moves of a client wait for a tick, at most 32.

@@ -15,7 +15,9 @@ use match_script::BodyLine;
 use std::alloc::Global;
 use tn_types::{MAX_DATAGRAMS, NoMemory};
 
-/// Does a line on the connection of the client that it names, and gives what the report tells of it.
+/// Does a line on the connection of the client that it names, and gives what the report tells of it. Inlined, so that what it
+/// tells is copied less often.
+#[inline(always)]
 pub fn line_on(alloc: Global, seat: &mut Seat, line: &BodyLine) -> Result<Told, NoMemory>
     requires direct { IsDirect line.now }
     requires stands { Stands seat.old }

@@ -1,5 +1,5 @@
 //! The match of a script, line by line.
-ghost use Rattle.std.specs.Prelude.{◌≡◌, ◌<◌, ◌≤◌, ◌+◌, ◌↔◌, List, [], IfOk, OnOk, Ok, Some, true, false, length, slice_get, slice_index_or};
+ghost use Rattle.std.specs.Prelude.{◌≡◌, ◌<◌, ◌≤◌, ◌+◌, ◌↔◌, List, [], IfOk, OnOk, Ok, Some, None, true, false, length, slice_get, slice_index_or};
 ghost use Rattle.std.specs.Option.{option_copied};
 ghost use Rattle.match_script.specs.Ranges.{HeadFits, HasRanges, LineFits};
 ghost use Rattle.client_scope.specs.StandsFor.{Table};
@@ -38,6 +38,11 @@ impl Drop for Match<'_> {
             told: _told,
         } = self;
     }
+}
+
+// Whether a datagram was told of: where not, nothing is to be given back, and nothing is moved.
+fn is_datagram(told: &Option<Told>) -> bool {
+    matches!(told, Some(Told::Packed { .. }))
 }
 
 impl<'a> Model for Match<'a> {
@@ -106,8 +111,32 @@ impl<'a> Match<'a> {
         ensures place { self.new.place ≡ self.old.place }
         ensures script { self.new.script ≡ self.old.script }
     {
+        self.let_go();
         self.told = Some(self.game.feed(alloc, line)?);
         Ok(())
+    }
+
+    // Where the last line told of a datagram, it is told no more, and its bytes go back to its connection.
+    fn let_go(&mut self)
+        ensures game { self.new.game ≡ self.old.game }
+        ensures place { self.new.place ≡ self.old.place }
+        ensures script { self.new.script ≡ self.old.script }
+    {
+        if !is_datagram(&self.told) {
+            return;
+        }
+        if let Some(
+            Told::Packed {
+                up: _,
+                client,
+                place: _,
+                ping: _,
+                bytes,
+            },
+        ) = self.told.take()
+        {
+            self.game.give_back(client, bytes);
+        }
     }
 
     /// What the last line tells: its line of the report. None exactly before the first one.

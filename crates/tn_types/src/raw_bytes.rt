@@ -1,5 +1,5 @@
 //! Bytes of a datagram that came from outside.
-ghost use Rattle.std.specs.Prelude.{◌≡◌, ◌≤◌, length, IfOk};
+ghost use Rattle.std.specs.Prelude.{◌≡◌, ◌≤◌, ◌<◌, [], length, IfOk, OnOk, OnErr};
 
 use crate::choices::NoMemory;
 use crate::limits::MAX_DATAGRAM_BYTES;
@@ -32,6 +32,21 @@ impl RawBytes {
     {
         match Vec::from_slice(alloc, bytes) {
             Ok(bytes) => Ok(RawBytes { bytes }),
+            Err(_) => Err(NoMemory),
+        }
+    }
+
+    /// These bytes in place of those that it had. Memory is taken only where they are more than it ever had; for want of it, none
+    /// are left.
+    pub fn refill(&mut self, bytes: &[u8]) -> Result<(), NoMemory>
+        requires { length bytes.now ≤ MAX_DATAGRAM_BYTES }
+        ensures ok { OnOk result (self.new ≡ bytes.now) }
+        ensures err { OnErr result (self.new ≡ []) }
+        ensures room { OnErr result (length self.old < length bytes.now) }
+    {
+        self.bytes.clear();
+        match self.bytes.extend_from_slice(bytes) {
+            Ok(()) => Ok(()),
             Err(_) => Err(NoMemory),
         }
     }
