@@ -3,3 +3,4 @@ pub mod Apart
 mod Marking
 pub mod Periods
 mod Standing
+mod Sifting

@@ -1,7 +1,7 @@
 -- Lists that grow by one at the end.
-use Rattle.std.proofs.Common.{◌≡◌, ℕ, ◌+◌, ◌<◌, ◌≤◌, List, [], ◌∷◌, ◌++◌, length, get_or, take, drop, filter, Bool, true, false, Option, Some, None, refl, ◌∙◌, arith, append_assoc, length-append, sym}
+use Rattle.std.proofs.Common.{◌≡◌, ℕ, ◌+◌, ◌<◌, ◌≤◌, List, [], ◌∷◌, ◌++◌, length, get_or, set, take, drop, map, filter, ap, Bool, true, false, Option, Some, None, refl, ◌∙◌, arith, append_assoc, length-append, sym}
 use Rattle.std.specs.List.{filter_map, cons_option}
-use Rattle.std.proofs.lemmas.List.{take_more, take_all, drop_all, append-nil}
+use Rattle.std.proofs.lemmas.List.{take_more, take_more_set, get_or-drop, drop-drop, map-append, take_all, drop_all, append-nil}
 use Rattle.std.proofs.lemmas.List.Elements.{filter_map-append, filter-append}
 use Rattle.world_scope.specs.declared.viewer.Seen.{Seen}
 use Rattle.client_scope.specs.declared.period.ShownPeriod.{ShownPeriod}
@@ -31,13 +31,6 @@ one_more f xs i d old new l e h = rw (h, e, mapped_more f xs i d l) refl
 pub few_more : {X Y : Type 0} (f : X → Option Y) (old new : List Y) (x : X) (i : ℕ) → length old ≤ i → new ≡ old ++ filter_map f (x ∷ []) → length new ≤ i + 1
 few_more f old new x i l h = rw h (mapped_few f old x i l)
 
--- a walk over items that give nothing, and over items that give themselves
-pub stays_none : {X Y : Type 0} (f : X → Option Y) (xs : List X) (i : ℕ) (d : X) → i < length xs → filter_map f (take i xs) ≡ [] → f (get_or xs i d) ≡ None → filter_map f (take (i + 1) xs) ≡ []
-stays_none f xs i d l e h = let m = mapped_more f xs i d l in rw (m, e, h) refl
-
-pub stays_all : {X : Type 0} (f : X → Option X) (xs : List X) (i : ℕ) (d : X) → i < length xs → filter_map f (take i xs) ≡ take i xs → f (get_or xs i d) ≡ Some (get_or xs i d) → filter_map f (take (i + 1) xs) ≡ take (i + 1) xs
-stays_all f xs i d l e h = let m = mapped_more f xs i d l in let t = take_more xs i d l in rw (m, e, h, t) refl
-
 -- a walk that keeps what passes and numbers it
 pub passed : {X : Type 0} (p : X → Bool) (xs : List X) (i : ℕ) (d : X) (old new : List X) → i < length xs → old ≡ filter p (take i xs) → p (get_or xs i d) ≡ true → new ≡ old ++ get_or xs i d ∷ [] → new ≡ filter p (take (i + 1) xs)
 passed p xs i d old new l e t h = let m = filtered_more p xs i d l in rw (h, e, m, t) refl
@@ -54,3 +47,18 @@ written_back now before len n l b w =
     let none : drop (length now) before ≡ [] = drop_all (length now) before (omega (arith, b, w)) in
     let all : length now ≤ len = omega (arith, l, b, w) in
     rw (none, append-nil) (take_all len now all)
+
+-- two lists that are the same from a place on
+pub same_there : {X : Type 0} (xs ys : List X) (i : ℕ) (d : X) → drop i xs ≡ drop i ys → get_or xs i d ≡ get_or ys i d
+same_there xs ys i d e =
+    let n : i + 0 ≡ i = omega arith in
+    let a : get_or (drop i xs) 0 d ≡ get_or xs i d = get_or-drop i xs 0 d ∙ rw n refl in
+    let b : get_or (drop i ys) 0 d ≡ get_or ys i d = get_or-drop i ys 0 d ∙ rw n refl in
+    sym a ∙ ap (λ zs. get_or zs 0 d) e ∙ b
+
+pub same_behind : {X : Type 0} (xs ys : List X) (i : ℕ) → drop i xs ≡ drop i ys → drop (i + 1) xs ≡ drop (i + 1) ys
+same_behind xs ys i e = sym (drop-drop 1 i xs) ∙ ap (drop 1) e ∙ drop-drop 1 i ys
+
+-- a walk that changes each item where it stands
+pub changed_more : {X : Type 0} (f : X → X) (xs ys : List X) (i : ℕ) (d x : X) → i < length xs → i < length ys → take i xs ≡ map f (take i ys) → x ≡ f (get_or ys i d) → take (i + 1) (set xs i x) ≡ map f (take (i + 1) ys)
+changed_more f xs ys i d x l m e h = rw (take_more_set xs i x l, e, take_more ys i d m, map-append f (take i ys) (get_or ys i d ∷ []), h) refl

@@ -7,7 +7,7 @@ use Rattle.world_scope.specs.declared.viewer.Seen.{Seen}
 use Rattle.client_scope.specs.Marks.{told, marked, AreOf}
 use Rattle.client_scope.proofs.Apart.{nobody, level_more, not_before}
 
-pub told_level : (level : ℕ) → told (level + 1) ≡ Some level
+told_level : (level : ℕ) → told (level + 1) ≡ Some level
 told_level level =
     let t : nat_eq (level + 1) 0 ≡ false = grind (arith, nat_tests) in
     let e : level + 1 - 1 ≡ level = omega arith in

@@ -1,9 +1,9 @@
 //! The two walks of a scan: over the periods that were shown, and over what it saw.
-ghost use Rattle.std.specs.Prelude.{◌≡◌, ◌<◌, ◌≤◌, ◌+◌, ◌^◌, ◌++◌, [], ◌∷◌, ℕ, length, filter, true, vec_capacity};
+ghost use Rattle.std.specs.Prelude.{◌≡◌, ◌<◌, ◌≤◌, ◌+◌, ◌^◌, ◌++◌, [], ◌∷◌, ℕ, length, map, filter, vec_capacity};
 ghost use Rattle.std.specs.List.{All, filter_map};
 ghost use Rattle.client_scope.specs.Scans.{is_new};
 ghost use Rattle.client_scope.specs.Changes.{hidden, moved};
-ghost use Rattle.client_scope.specs.Marks.{marked, goes_on, begun};
+ghost use Rattle.client_scope.specs.Marks.{told, marked, aged, stays, goes_on, begun};
 
 use crate::marks::marked;
 use crate::period::{Near, ShownPeriod};
@@ -11,80 +11,62 @@ use std::mem;
 use tn_types::MAX_OBJECTS;
 use world_scope::Seen;
 
-// One period of those that were shown, with the level at which its object is seen now, if it is.
-fn part_one(
-    p: &ShownPeriod,
-    level: Option<u8>,
-    hides: &mut Vec<u32>,
-    nears: &mut Vec<Near>,
-    kept: &mut Vec<ShownPeriod>,
-)
+// The level at which the object of one shown period is seen now, if it is.
+fn age_one(p: &mut ShownPeriod, mark: u8, hides: &mut Vec<u32>, nears: &mut Vec<Near>)
     requires hides_room { length hides.old.items < vec_capacity hides.old }
     requires nears_room { length nears.old.items < vec_capacity nears.old }
-    requires kept_room { length kept.old.items < vec_capacity kept.old }
-    ensures hides { hides.new.items ≡ hides.old.items ++ filter_map (hidden (λ _. level)) (p.now ∷ []) }
-    ensures nears { nears.new.items ≡ nears.old.items ++ filter_map (moved (λ _. level)) (p.now ∷ []) }
-    ensures kept { kept.new.items ≡ kept.old.items ++ filter_map (goes_on (λ _. level)) (p.now ∷ []) }
+    ensures hides { hides.new.items ≡ hides.old.items ++ filter_map (hidden (λ _. told mark)) (p.old ∷ []) }
+    ensures nears { nears.new.items ≡ nears.old.items ++ filter_map (moved (λ _. told mark)) (p.old ∷ []) }
+    ensures aged { p.new ≡ aged (λ _. told mark) p.old }
     ensures hides_same { vec_capacity hides.new ≡ vec_capacity hides.old }
     ensures nears_same { vec_capacity nears.new ≡ vec_capacity nears.old }
-    ensures kept_same { vec_capacity kept.new ≡ vec_capacity kept.old }
 {
-    let Some(level) = level else {
+    if mark == 0 {
         hides.push_reserved(p.n);
         return;
-    };
-    kept.push_reserved(ShownPeriod {
-        n: p.n,
-        object: p.object,
-        level,
-    });
+    }
+    let level = mark - 1;
     if level == p.level {
         return;
     }
+    p.level = level;
     nears.push_reserved(Near { n: p.n, level });
 }
 
-// Parts the periods that were shown: where the object isn't marked the period is hidden, else it goes on.
-fn part(
-    shown: &[ShownPeriod],
-    marks: &[u8],
-    hides: &mut Vec<u32>,
-    nears: &mut Vec<Near>,
-    kept: &mut Vec<ShownPeriod>,
-)
+// Gives the shown periods the levels at which their objects are marked, and tells which ones are hidden, as their objects aren't.
+fn age(shown: &mut [ShownPeriod], marks: &[u8], hides: &mut Vec<u32>, nears: &mut Vec<Near>)
     requires marks { length marks.now ≡ MAX_OBJECTS }
-    requires there { All (λ p. p.object < MAX_OBJECTS) shown.now }
-    requires hides_room { length shown.now ≤ vec_capacity hides.old }
-    requires nears_room { length shown.now ≤ vec_capacity nears.old }
-    requires kept_room { length shown.now ≤ vec_capacity kept.old }
-    ensures hides { hides.new.items ≡ filter_map (hidden (marked marks.now)) shown.now }
-    ensures nears { nears.new.items ≡ filter_map (moved (marked marks.now)) shown.now }
-    ensures kept { kept.new.items ≡ filter_map (goes_on (marked marks.now)) shown.now }
-    ensures few { length kept.new.items ≤ length shown.now }
-    ensures room { vec_capacity kept.new ≡ vec_capacity kept.old }
+    requires there { All (λ p. p.object < MAX_OBJECTS) shown.old }
+    requires hides_room { length shown.old ≤ vec_capacity hides.old }
+    requires nears_room { length shown.old ≤ vec_capacity nears.old }
+    ensures hides { hides.new.items ≡ filter_map (hidden (marked marks.now)) shown.old }
+    ensures nears { nears.new.items ≡ filter_map (moved (marked marks.now)) shown.old }
+    ensures aged { shown.new ≡ map (aged (marked marks.now)) shown.old }
+    ensures length { length shown.new ≡ length shown.old }
 {
     hides.clear();
     nears.clear();
-    kept.clear();
-    for p in shown {
-        part_one(p, marked(marks, p.object), hides, nears, kept);
+    for i in 0..shown.len() {
+        let mark = marks[shown[i].object as usize];
+        age_one(&mut shown[i], mark, hides, nears);
     }
 }
 
-// Whether each period's object is marked with the period's level: then all go on as they are, as mostly.
-fn all_stay(shown: &[ShownPeriod], marks: &[u8]) -> bool
+// The periods whose objects are marked.
+fn sift(shown: &[ShownPeriod], marks: &[u8], kept: &mut Vec<ShownPeriod>)
     requires marks { length marks.now ≡ MAX_OBJECTS }
     requires there { All (λ p. p.object < MAX_OBJECTS) shown.now }
-    ensures hides { result ≡ true → filter_map (hidden (marked marks.now)) shown.now ≡ [] }
-    ensures nears { result ≡ true → filter_map (moved (marked marks.now)) shown.now ≡ [] }
-    ensures kept { result ≡ true → filter_map (goes_on (marked marks.now)) shown.now ≡ shown.now }
+    requires kept_room { length shown.now ≤ vec_capacity kept.old }
+    ensures kept { kept.new.items ≡ filter (stays (marked marks.now)) shown.now }
+    ensures few { length kept.new.items ≤ length shown.now }
+    ensures room { vec_capacity kept.new ≡ vec_capacity kept.old }
 {
+    kept.clear();
     for p in shown {
-        if u32::from(marks[p.object as usize]) != u32::from(p.level) + 1 {
-            return false;
+        if marks[p.object as usize] != 0 {
+            kept.push_reserved(*p);
         }
     }
-    true
 }
 
 // The shown periods whose objects are marked go on, and the others are hidden.
@@ -106,12 +88,11 @@ pub(crate) fn go_on(
     ensures few { length shown.new.items ≤ length shown.old.items }
     ensures room { (n : ℕ) → n ≤ vec_capacity shown.old → n ≤ vec_capacity kept.old → n ≤ vec_capacity shown.new }
 {
-    if all_stay(shown, marks) {
-        hides.clear();
-        nears.clear();
+    age(shown, marks, hides, nears);
+    if hides.is_empty() {
         return;
     }
-    part(shown, marks, hides, nears, kept);
+    sift(shown, marks, kept);
     mem::swap(shown, kept);
 }
 
