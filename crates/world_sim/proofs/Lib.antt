@@ -1,5 +1,6 @@
 pub mod Lasting
 pub mod RowFields
+pub mod FiveFields
 pub mod RowLoops
 pub mod Made
 pub mod WorldLaws

@@ -179,7 +179,7 @@ refilled xs ws e =
 
 -- ---- three fields in place
 
-abbrev after_one : List ℤ → List ℕ → ℕ → ℤ → List ℕ
+abbrev pub after_one : List ℤ → List ℕ → ℕ → ℤ → List ℕ
 after_one xs vs f x = set vs f (version_next (get_or xs f (pos 0)) x (get_or vs f 0))
 
 abbrev pub three_values : List ℤ → ℤ → ℤ → ℤ → List ℤ

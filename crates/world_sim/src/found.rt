@@ -17,6 +17,7 @@ use crate::glance::Glance;
 use crate::near::any_target_round;
 use crate::watch::{PLOTS, is_watched, watch_all};
 use std::alloc::{AllocError, Global};
+use std::slice::from_ref;
 use tn_types::MAX_OBJECTS;
 use world_cells::{Cells, NumberSet};
 use world_rules::flags::{is_captured, is_player};
@@ -111,7 +112,7 @@ fn keep(passes: bool, o: &Object, list: &mut Vec<Object>) -> Result<(), AllocErr
     ensures { OnOk result (list.new.items ≡ list.old.items ++ (if passes then o.now ∷ [] else [])) }
 {
     if passes {
-        list.push(*o)?;
+        list.extend_from_slice(from_ref(o))?;
     }
     Ok(())
 }

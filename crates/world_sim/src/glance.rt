@@ -100,11 +100,13 @@ impl Glance {
     pub(crate) fn is_over(&self) -> bool
         ensures { (o : Object) → self.now ≡ glance_of o → result ≡ true → is_over o ≡ true }
     {
-        !self.alive
-            && matches!(
-                self.role,
-                Role::Disc | Role::YoungMine | Role::ArmedMine | Role::OldMine | Role::Drone
-            )
+        if self.alive {
+            return false;
+        }
+        matches!(
+            self.role,
+            Role::Disc | Role::YoungMine | Role::ArmedMine | Role::OldMine | Role::Drone
+        )
     }
 
     // Whether it is an armed mine.

@@ -185,29 +185,6 @@ fn note_row(object: u32, before: &[i64], now: &[i64], versions: &[u32], writes: 
     }
 }
 
-/// The row of an object after a tick that made this of it, with its writes.
-pub fn change_row(object: u32, row: &mut Row, now: &Object, writes: &mut Vec<Write>)
-    requires sound { IsSoundRow row.old }
-    requires room { length writes.old.items + 5 ≤ vec_capacity writes.old }
-    ensures row { row.new ≡ row_next row.old now.now }
-    ensures writes { writes.new.items ≡ writes.old.items
-        ++ row_writes object 0 row.old.values.items (values_of now.now) row.old.versions.items }
-    ensures few { length writes.new.items ≤ length writes.old.items + 5 }
-    ensures kept { vec_capacity writes.old ≤ vec_capacity writes.new }
-{
-    let values = values_of(now);
-    let before = row.values.as_slice();
-    note_row(
-        object,
-        before,
-        values.as_slice(),
-        row.versions.as_slice(),
-        writes,
-    );
-    count_row(before, values.as_slice(), &mut row.versions);
-    row.values = values;
-}
-
 // The value of a field in place, with its version and its write if it is another one than before.
 fn change_field(
     object: u32,
@@ -243,6 +220,85 @@ fn change_field(
             value: now,
         });
     }
+}
+
+// The five values of a row in place.
+fn change_five(
+    object: u32,
+    first: u32,
+    second: u32,
+    third: u32,
+    fourth: u32,
+    fifth: u32,
+    values: &mut [i64],
+    versions: &mut [u32],
+    writes: &mut Vec<Write>,
+)
+    requires values { length values.old ≡ 5 }
+    requires versions { length versions.old ≡ 5 }
+    requires small { AllByRecursion (λ v. v < 2 ^ 32 - 1) versions.old }
+    requires room { length writes.old.items + 5 ≤ vec_capacity writes.old }
+    ensures values { values.new ≡ pos first ∷ pos second ∷ pos third ∷ pos fourth ∷ pos fifth ∷ [] }
+    ensures versions { versions.new
+        ≡ row_versions values.old (pos first ∷ pos second ∷ pos third ∷ pos fourth ∷ pos fifth ∷ []) versions.old }
+    ensures writes { writes.new.items ≡ writes.old.items
+        ++ row_writes object 0 values.old (pos first ∷ pos second ∷ pos third ∷ pos fourth ∷ pos fifth ∷ []) versions.old }
+    ensures few { length writes.new.items ≤ length writes.old.items + 5 }
+    ensures kept { vec_capacity writes.old ≤ vec_capacity writes.new }
+{
+    change_field(object, 0, first, values, versions, writes);
+    change_field(object, 1, second, values, versions, writes);
+    change_field(object, 2, third, values, versions, writes);
+    change_field(object, 3, fourth, values, versions, writes);
+    change_field(object, 4, fifth, values, versions, writes);
+}
+
+// The row of an object of any kind after a tick that made this of it, with its writes.
+#[inline(never)]
+fn change_any(object: u32, row: &mut Row, now: &Object, writes: &mut Vec<Write>)
+    requires sound { IsSoundRow row.old }
+    requires room { length writes.old.items + 5 ≤ vec_capacity writes.old }
+    ensures row { row.new ≡ row_next row.old now.now }
+    ensures writes { writes.new.items ≡ writes.old.items
+        ++ row_writes object 0 row.old.values.items (values_of now.now) row.old.versions.items }
+    ensures few { length writes.new.items ≤ length writes.old.items + 5 }
+    ensures kept { vec_capacity writes.old ≤ vec_capacity writes.new }
+{
+    let values = values_of(now);
+    let before = row.values.as_slice();
+    note_row(
+        object,
+        before,
+        values.as_slice(),
+        row.versions.as_slice(),
+        writes,
+    );
+    count_row(before, values.as_slice(), &mut row.versions);
+    row.values = values;
+}
+
+/// The row of an object after a tick that made this of it, with its writes.
+pub fn change_row(object: u32, row: &mut Row, now: &Object, writes: &mut Vec<Write>)
+    requires sound { IsSoundRow row.old }
+    requires room { length writes.old.items + 5 ≤ vec_capacity writes.old }
+    ensures row { row.new ≡ row_next row.old now.now }
+    ensures writes { writes.new.items ≡ writes.old.items
+        ++ row_writes object 0 row.old.values.items (values_of now.now) row.old.versions.items }
+    ensures few { length writes.new.items ≤ length writes.old.items + 5 }
+    ensures kept { vec_capacity writes.old ≤ vec_capacity writes.new }
+{
+    if let State::Player(p) = &now.state {
+        if row.values.len() == 5 {
+            let values = row.values.as_mut_slice();
+            let versions = row.versions.as_mut_slice();
+            let place = now.place;
+            change_five(
+                object, place.x, place.y, p.hp, p.ammo, p.score, values, versions, writes,
+            );
+            return;
+        }
+    }
+    change_any(object, row, now, writes);
 }
 
 // The three values of a row in place.
