@@ -1,9 +1,10 @@
 //! The walk over the objects that a client may see: a look at each, and what is seen of them, by rising number.
-ghost use Rattle.std.specs.Prelude.{◌≡◌, ℕ, ◌≤◌, ◌<◌, ◌+◌, ◌++◌, [], OnOk, OnErr, length, drop, count_by, vec_capacity, nat_le, Some, true, if◌then◌else◌};
+ghost use Rattle.std.specs.Prelude.{◌≡◌, ℕ, ◌≤◌, ◌<◌, ◌+◌, ◌++◌, [], OnOk, OnErr, length, map, drop, count_by, vec_capacity, nat_le, Some, true, if◌then◌else◌};
 ghost use Rattle.std.specs.Int.{bit_at, trailing_zeros, w64};
 ghost use Rattle.std.specs.List.{cons_option, filter_map, enumerate_from};
 ghost use Rattle.world_cells.specs.Lines.{AreBits};
 ghost use Rattle.world_sim.specs.Worlds.{alive_at};
+ghost use Rattle.world_sim.specs.Glances.{glance_of};
 ghost use Rattle.world_scope.specs.Scope.{seen};
 ghost use Rattle.world_scope.specs.Views.{look, IsReady};
 ghost use Rattle.world_scope.specs.Candidates.{AreThose, HasOnePlayer, may_see, seen_in, to_come};
@@ -13,7 +14,7 @@ use crate::viewer::{Seen, Viewer};
 use std::alloc::AllocError;
 use std::sync::ledger::Ledger;
 use tn_types::{MAX_OBJECTS, Steps};
-use world_sim::World;
+use world_sim::{Glance, World};
 
 // One more that is seen, if there is one.
 fn add(seen: Option<Seen>, out: &mut Vec<Seen>) -> Result<(), AllocError>
@@ -31,9 +32,11 @@ fn add(seen: Option<Seen>, out: &mut Vec<Seen>) -> Result<(), AllocError>
 fn look_at<L: Ledger>(
     viewer: &Viewer,
     world: &World,
+    glances: &[Glance],
     object: u32,
     steps: &mut Steps<L>,
 ) -> Option<Seen>
+    requires glances { glances.now ≡ map glance_of world.now.objects }
     requires there { object < length world.now.objects }
     requires alive { alive_at world.now object ≡ Some true }
     requires owned { HasOnePlayer (look viewer.now) world.now.objects }
@@ -42,7 +45,7 @@ fn look_at<L: Ledger>(
     ensures steps { steps.new ≡ steps.old + 1 }
 {
     let _ = world.look(object, steps);
-    viewer.sight(object, &world.glances()[object as usize])
+    viewer.sight(object, &glances[object as usize])
 }
 
 // A word without its lowest bit.
@@ -58,11 +61,13 @@ fn without_lowest(word: u64) -> u64
 fn gather_word<L: Ledger>(
     viewer: &Viewer,
     world: &World,
+    glances: &[Glance],
     from: usize,
     word: u64,
     out: &mut Vec<Seen>,
     steps: &mut Steps<L>,
 ) -> Result<(), AllocError>
+    requires glances { glances.now ≡ map glance_of world.now.objects }
     requires few { from + 64 ≤ MAX_OBJECTS }
     requires bits { AreBits word from 64 (may_see (look viewer.now)) world.now.objects }
     requires owned { HasOnePlayer (look viewer.now) world.now.objects }
@@ -79,7 +84,7 @@ fn gather_word<L: Ledger>(
     let mut rest = word;
     while rest != 0 {
         let at = from + rest.trailing_zeros() as usize;
-        add(look_at(viewer, world, at as u32, steps), out)?;
+        add(look_at(viewer, world, glances, at as u32, steps), out)?;
         next = at + 1;
         rest = without_lowest(rest);
     }
@@ -104,8 +109,9 @@ pub fn gather<L: Ledger>(
     ensures steps { steps.new ≤ steps.old + count_by (may_see (look viewer.now)) world.now.objects }
 {
     out.clear();
+    let glances = world.glances();
     for w in 0..words_of(world) {
-        gather_word(viewer, world, 64 * w, words[w], out, steps)?;
+        gather_word(viewer, world, glances, 64 * w, words[w], out, steps)?;
     }
     Ok(())
 }
