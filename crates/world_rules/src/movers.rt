@@ -14,7 +14,7 @@ use crate::object::{
     Disc, Drone, MAX_AGE, MAX_AMMO, MAX_HP, MAX_SCORE, Mine, Object, Place, Player, State,
 };
 use crate::places::{along, is_in_field, spent, stepped};
-use tn_types::Move;
+use tn_types::{MAX_COORDINATE, Move};
 
 /// A player after the tick: `harm` is what it loses, `scored` how many of its discs hit.
 #[tactic(auto, unfolding(crate::specs::Players::player_next))]
@@ -195,5 +195,7 @@ fn drifted(x: u32, by: u32) -> u32
     requires { by < DRONE_WAYS }
     ensures { result ≡ clamp (pos x +ℤ (pos by -ℤ pos DRONE_DRIFT)) }
 {
-    along(x, i64::from(by) - i64::from(DRONE_DRIFT))
+    let at = u64::from(x) + u64::from(by);
+    at.saturating_sub(u64::from(DRONE_DRIFT))
+        .min(u64::from(MAX_COORDINATE)) as u32
 }
