@@ -121,6 +121,9 @@ impl Glance {
         requires { length watched.now ≡ PLOTS }
         ensures { result ≡ may_matter watched.now self.now }
     {
+        if matches!(self.role, Role::Drone) {
+            return false;
+        }
         if self.is_armed_mine() {
             return is_watched(watched, &self.place);
         }

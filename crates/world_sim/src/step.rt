@@ -111,13 +111,24 @@ fn is_quiet(ending: bool, o: &Object) -> bool
 }
 
 // The cells after an object came here from the spot of this place. Most stay in their cells.
-fn come_from(x: u32, y: u32, from: Option<u8>, number: u32, object: &Object, cells: &mut Cells)
+fn come_from(
+    x: u32,
+    y: u32,
+    now_x: u32,
+    now_y: u32,
+    from: Option<u8>,
+    number: u32,
+    object: &Object,
+    cells: &mut Cells,
+)
     requires number { number < MAX_OBJECTS }
+    requires column { now_x ≡ object.now.place.x }
+    requires row { now_y ≡ object.now.place.y }
     ensures { (before behind : List Object) (was : Object) → length before ≡ number → spot was ≡ from
         → (x / CELL_SIDE ≡ object.now.place.x / CELL_SIDE → y / CELL_SIDE ≡ object.now.place.y / CELL_SIDE → spot was ≡ spot object.now)
         → IsGrid cells.old (before ++ was ∷ behind) → IsGrid cells.new (before ++ object.now ∷ behind) }
 {
-    if x / CELL_SIDE == object.place.x / CELL_SIDE && y / CELL_SIDE == object.place.y / CELL_SIDE {
+    if x / CELL_SIDE == now_x / CELL_SIDE && y / CELL_SIDE == now_y / CELL_SIDE {
         return;
     }
     cells.shift(number, from, spot(object));
@@ -161,7 +172,7 @@ fn drift(
     change_two(number, row, now_x, now_y, writes);
     glance.place.x = now_x;
     glance.place.y = now_y;
-    come_from(x, y, from, number, object, cells);
+    come_from(x, y, now_x, now_y, from, number, object, cells);
 }
 
 // A drone's tick where something hits it.
