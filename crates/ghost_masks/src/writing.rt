@@ -66,8 +66,27 @@ fn put_item(masks: &Masks, choice: &Choice, values: &[i64], out: &mut BitWriter)
             values,
             out,
         ),
-        _ => put_ghost(out, masks.kinds(), &ghost_item(masks, choice, values)),
+        Op::Create | Op::Kill => put_made(masks, choice, values, out),
     }
+}
+
+// The same by a list of the levels, which is made first. It is rare, and the walk over updates isn't to bring room for such a
+// list along.
+#[inline(never)]
+fn put_made(masks: &Masks, choice: &Choice, values: &[i64], out: &mut BitWriter)
+    requires period { IsOfPeriod masks.now.periods choice.now }
+    requires item { (log : List GhostEvent) → StandsFor masks.now log → IsItem masks.now.kinds log choice.now }
+    requires values { (log : List GhostEvent) → StandsFor masks.now log
+        → AreValues (fields_carried masks.now.kinds log choice.now) values.now }
+    requires room { (log : List GhostEvent) × StandsFor masks.now log
+        × (length out.old.bits + item_bits masks.now.kinds log choice.now ≤ 8 * out.old.size) }
+    ensures bits { (log : List GhostEvent) → StandsFor masks.now log
+        → out.new.bits ≡ out.old.bits ++ spell_ghost masks.now.kinds (ghost_for masks.now.kinds log values.now choice.now) }
+    ensures len { (log : List GhostEvent) → StandsFor masks.now log
+        → length out.new.bits ≡ length out.old.bits + item_bits masks.now.kinds log choice.now }
+    ensures size { out.new.size ≡ out.old.size }
+{
+    put_ghost(out, masks.kinds(), &ghost_item(masks, choice, values));
 }
 
 // Writes an update of the fields in the mask, with the level of each of these values.
@@ -145,19 +164,15 @@ fn put_levels(
     let mut word = front;
     let mut used = count;
     let mut rest = mask;
-    let mut field = 0;
     let mut left = values;
     'fields: while rest != 0 {
-        let skipped = rest.trailing_zeros();
-        field += skipped as usize;
-        let spec = &fields[field];
+        let spec = &fields[rest.trailing_zeros() as usize];
         let (held, place) = with_room(out, word, used, spec.bits);
         word = joined(held, place, level(spec, left[0]), spec.bits);
         used = place + spec.bits;
         let (_, later) = left.split_at(1);
         left = later;
-        field += 1;
-        rest = (rest >> skipped) >> 1;
+        rest &= rest - 1;
     }
     out.put_long(word, used);
 }
