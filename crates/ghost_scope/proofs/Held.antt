@@ -1,15 +1,24 @@
 -- What is known of the entry of a period that holds a slot.
-use Rattle.std.proofs.Common.{◌≡◌, ℕ, ◌<◌, Bool, true, false, cond, ◌∙◌, Some, None, Option, sym, ap, arith}
+use Rattle.std.proofs.Common.{◌≡◌, ℕ, ◌<◌, Bool, true, false, cond, ◌∙◌, List, length, Some, None, Option, sym, ap, arith}
 use Rattle.std.specs.Prelude.{IfSome}
 use Rattle.std.specs.Option.{option_map, option_copied}
 use denote.Bor.{Bor}
 use Rattle.ghost_model.specs.Phases.{is_waiting, is_gone}
 use Rattle.ghost_model.specs.Scope.{phase, traits}
 use Rattle.ghost_scope.specs.declared.period.Period.{Period}
-use Rattle.ghost_scope.specs.Table.{Table, entry_of, phase_of, slot_of, slot_in, phase_or_gone, IsOrdered, IsInRange}
+use Rattle.ghost_scope.specs.Table.{Table, number_at, entry_of, phase_of, slot_of, slot_in, phase_or_gone, IsOrdered, IsInRange, IsSeat}
+use Rattle.ghost_scope.specs.Sound.{holder_at, IsSound}
 use Rattle.ghost_scope.specs.StandsFor.{Answers, traits_in}
-use Rattle.ghost_scope.proofs.Calls.{entry_where}
+use Rattle.ghost_scope.proofs.Calls.{entry_where, slot_held, held_slot}
 use Rattle.ghost_scope.proofs.Told.{phase_shown, found_alive, found_in_range, traits_told}
+
+-- the entry of the period that holds the slot
+pub seat_is : (es : List Period) (hs : List (Option ℕ)) (first shown : ℕ) → IsSound es hs first shown → (work : List ℕ) (slot at : ℕ) → slot < 256 → at < length es → holder_at hs slot ≡ Some (number_at es at) → IsSeat (record { shown = shown; entries = es; work = work }) slot at
+seat_is es hs first shown sound work slot at below in_range holds = record {
+  in_range = in_range;
+  holds = held_slot es hs first shown sound (number_at es at) slot below holds;
+  alone = λ n h. let e : Some n ≡ Some (number_at es at) = sym (slot_held es hs first shown sound n slot h) ∙ holds in cc;
+}
 
 -- an entry that was found by the number of the period that holds the slot
 pub record IsEntry (p : Table) (n at : ℕ) (e : Period) : Type 0 where

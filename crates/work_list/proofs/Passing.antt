@@ -1,5 +1,5 @@
 -- The slots that pass a test, by rising number: one more, one less, and the first from a slot on.
-use Rattle.std.proofs.Common.{◌≡◌, ◌≢◌, ℕ, zero, suc, ◌<◌, ◌≤◌, ◌+◌, ◌-◌, Bool, true, false, cond, List, [], ◌∷◌, Some, None, Option, refl, sym, ◌∙◌, ap, arith, eqb, inl, inr, nat_lt}
+use Rattle.std.proofs.Common.{◌≡◌, ◌≢◌, ℕ, zero, suc, ◌<◌, ◌≤◌, ◌+◌, Bool, true, false, cond, [], ◌∷◌, Some, refl, ◌∙◌, ap, arith, eqb, inl, inr, nat_lt}
 use Rattle.std.proofs.lemmas.Bool.Decides.{nat_tests, eqb_tells}
 use Rattle.work_list.specs.Work.{has, IsUnique, without, with_in, next_of, first_of}
 use Rattle.work_list.specs.Bits.{passing}
