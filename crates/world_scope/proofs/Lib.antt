@@ -1,4 +1,5 @@
 pub mod Numbers
+pub mod Marks
 pub mod Sets
 pub mod Parts
 pub mod Rests

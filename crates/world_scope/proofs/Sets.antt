@@ -1,10 +1,10 @@
 -- A set of numbers, as it grows by single numbers, by lists and by words.
-use Rattle.std.proofs.Common.{◌≡◌, ℕ, zero, suc, ◌+◌, ◌*◌, ◌/◌, ◌%◌, ◌^◌, ◌<◌, ◌≤◌, inl, inr, Bool, true, false, cond, nat_eq, ◌||◌, max, List, [], ◌∷◌, length, drop, get_or, set, replicate, refl, sym, ap, ◌∙◌, arith, get_or-set_same, get_or-set_other, Option, Some, None, bit_or}
+use Rattle.std.proofs.Common.{◌≡◌, ℕ, zero, suc, ◌+◌, ◌*◌, ◌/◌, ◌%◌, ◌<◌, ◌≤◌, inl, inr, Bool, true, false, cond, nat_eq, ◌||◌, max, List, [], ◌∷◌, length, drop, get_or, replicate, refl, sym, ap, ◌∙◌, arith, Option, Some, None}
 use Rattle.std.specs.Prelude.{slice_get}
 use Rattle.std.specs.Option.{option_map_or}
 use Rattle.std.specs.Int.{bit_at}
-use Rattle.std.proofs.lemmas.Nat.Bits.{bit_at_or, bit_at-lt, bit_at-zero}
-use Rattle.std.proofs.lemmas.List.{drop_more, drop_all, length-set}
+use Rattle.std.proofs.lemmas.Nat.Bits.{bit_at-lt, bit_at-zero}
+use Rattle.std.proofs.lemmas.List.{drop_more, drop_all}
 use Rattle.std.proofs.lemmas.Option.{slice_get_past}
 use Rattle.std.proofs.lemmas.Bool.{cases_lt}
 use Rattle.std.proofs.lemmas.Bool.Decides.{nat_tests, eqb_tells}
@@ -12,38 +12,11 @@ use Rattle.world_rules.specs.declared.object.Object.{Object}
 use Rattle.world_cells.specs.Grid.{numbers}
 use Rattle.world_cells.specs.Lines.{AreBits}
 use Rattle.world_cells.specs.NumberSet.{bit_of}
-use Rattle.world_cells.proofs.LineBits.{set_bit}
 use Rattle.world_scope.specs.Candidates.{AreThose, either}
 use Rattle.world_scope.proofs.Numbers.{one}
 
 abbrev pub passes : (Object → Bool) → List Object → ℕ → Bool
 passes p os n = option_map_or p (slice_get os n) false
-
--- ---- one number more
-
-pub one_more : (words : List ℕ) (number n : ℕ) → length words ≡ 16 → number < 1024 → bit_of (set words (number / 64) (bit_or (get_or words (number / 64) 0) (1 * 2 ^ (number % 64) % 2 ^ 64))) n ≡ cond (nat_eq n number) 1 (bit_of words n)
-one_more words number n many l =
-    let old = get_or words (number / 64) 0 in
-    let new = bit_or old (1 * 2 ^ (number % 64) % 2 ^ 64) in
-    let there : number / 64 < length words = omega (arith, many, l) in
-    elim (eqb_tells (n / 64) (number / 64)) [
-      | inl v ↦
-          let e = v.1 in
-          let got : get_or (set words (number / 64) new) (n / 64) 0 ≡ new = ap (λ (j : ℕ). get_or (set words (number / 64) new) j 0) e ∙ get_or-set_same words (number / 64) new 0 there in
-          let test : nat_eq (n % 64) (number % 64) ≡ nat_eq n number = grind (arith, nat_tests) in
-          ap (λ (w : ℕ). bit_at w (n % 64)) got
-          ∙ set_bit old (number % 64) (n % 64) (omega arith)
-          ∙ ap (λ b. cond b 1 (bit_at old (n % 64))) test
-          ∙ ap (λ (j : ℕ). cond (nat_eq n number) 1 (bit_at (get_or words j 0) (n % 64))) (sym e)
-      | inr v ↦
-          let other = v.1 in
-          let test : nat_eq n number ≡ false = elim (eqb_tells n number) [
-            | inl w ↦ absurd (other (ap (λ (k : ℕ). k / 64) w.1))
-            | inr w ↦ w.0
-          ] in
-          ap (λ (w : ℕ). bit_at w (n % 64)) (get_or-set_other words (number / 64) (n / 64) new 0 other)
-          ∙ sym (ap (λ b. cond b 1 (bit_of words n)) test)
-    ]
 
 -- ---- a list more
 
@@ -141,47 +114,50 @@ those_same words p q os h those = λ n l. those n l ∙ ap one (same_by p q (sli
 
 -- the words before one have those of both tests, and the others are as they were
 pub record AreWordsTo (w : ℕ) (q : Object → Bool) (os : List Object) (old now : List ℕ) : Type 0 where
-  pub long : length now ≡ 16
   pub done : (p : Object → Bool) → AreThose old p os → (n : ℕ) → n < 64 * w → n < 1024 → bit_of now n ≡ one (passes (either p q) os n)
   pub left : (n : ℕ) → 64 * w ≤ n → bit_of now n ≡ bit_of old n
 
-pub no_words : (q : Object → Bool) (os : List Object) (old : List ℕ) → length old ≡ 16 → AreWordsTo 0 q os old old
-no_words q os old many = record {
-  long = many;
+pub no_words : (q : Object → Bool) (os : List Object) (old : List ℕ) → AreWordsTo 0 q os old old
+no_words q os old = record {
   done = λ p those n l m. absurd (omega (arith, l));
   left = λ n l. refl;
 }
 
-word_put : (words : List ℕ) (w found n : ℕ) → w < length words → n / 64 ≡ w → bit_of (set words w (bit_or (get_or words w 0) found)) n ≡ max (bit_of words n) (bit_at found (n % 64))
-word_put words w found n l e =
-    let new = bit_or (get_or words w 0) found in
-    let got : get_or (set words w new) (n / 64) 0 ≡ new = ap (λ (j : ℕ). get_or (set words w new) j 0) e ∙ get_or-set_same words w new 0 l in
-    ap (λ (x : ℕ). bit_at x (n % 64)) got ∙ bit_at_or (get_or words w 0) found (n % 64)
-    ∙ ap (λ (j : ℕ). max (bit_at (get_or words j 0) (n % 64)) (bit_at found (n % 64))) (sym e)
+-- a set with some numbers more in one of its words
+abbrev pub IsJoined : ℕ → ℕ → List ℕ → List ℕ → Type 0
+IsJoined w found now new = (n : ℕ) → bit_of new n ≡ max (bit_of now n) (cond (nat_eq (n / 64) w) (bit_at found (n % 64)) 0)
 
-word_kept : (words : List ℕ) (w new n : ℕ) → (n / 64 ≡ w → ⊥) → bit_of (set words w new) n ≡ bit_of words n
-word_kept words w new n other = ap (λ (x : ℕ). bit_at x (n % 64)) (get_or-set_other words w (n / 64) new 0 other)
+joined_here : (w found n : ℕ) (now new : List ℕ) → n / 64 ≡ w → IsJoined w found now new → bit_of new n ≡ max (bit_of now n) (bit_at found (n % 64))
+joined_here w found n now new e put =
+    let t : nat_eq (n / 64) w ≡ true = grind (arith, nat_tests) in
+    put n ∙ ap (λ b. max (bit_of now n) (cond b (bit_at found (n % 64)) 0)) t
 
-pub more_words : (w found : ℕ) (q : Object → Bool) (os : List Object) (old now : List ℕ) → w < 16 → AreBits found (64 * w) 64 q os → AreWordsTo w q os old now → AreWordsTo (w + 1) q os old (set now w (bit_or (get_or now w 0) found))
-more_words w found q os old now l bits before =
-    let there : w < length now = omega (arith, l, before.long) in
-    let new = bit_or (get_or now w 0) found in
+joined_there : (w found n : ℕ) (now new : List ℕ) → (n / 64 ≡ w → ⊥) → IsJoined w found now new → bit_of new n ≡ bit_of now n
+joined_there w found n now new other put =
+    let t : nat_eq (n / 64) w ≡ false = elim (eqb_tells (n / 64) w) [
+      | inl v ↦ absurd (other v.1)
+      | inr v ↦ v.0
+    ] in
+    let e = put n ∙ ap (λ b. max (bit_of now n) (cond b (bit_at found (n % 64)) 0)) t in
+    omega (arith, e)
+
+pub more_words : (w found : ℕ) (q : Object → Bool) (os : List Object) (old now new : List ℕ) → AreBits found (64 * w) 64 q os → IsJoined w found now new → AreWordsTo w q os old now → AreWordsTo (w + 1) q os old new
+more_words w found q os old now new bits put before =
     record {
-      long = length-set now w new ∙ before.long;
       done = λ p those n m few. elim (cases_lt n (64 * w)) [
         | inl less ↦
             let other : n / 64 ≡ w → ⊥ = λ e. omega (arith, e, less) in
-            word_kept now w new n other ∙ before.done p those n less few
+            joined_there w found n now new other put ∙ before.done p those n less few
         | inr more ↦
             let e : n / 64 ≡ w = omega (arith, more, m) in
             let i : 64 * w + n % 64 ≡ n = omega (arith, more, m) in
             let was : bit_of now n ≡ one (passes p os n) = before.left n more ∙ those n few in
             let is : bit_at found (n % 64) ≡ one (passes q os n) = bits (n % 64) (omega arith) ∙ ap (λ (j : ℕ). one (passes q os j)) i in
-            word_put now w found n there e ∙ joined p q os n (bit_of now n) (bit_at found (n % 64)) was is
+            joined_here w found n now new e put ∙ joined p q os n (bit_of now n) (bit_at found (n % 64)) was is
       ];
       left = λ n m.
           let other : n / 64 ≡ w → ⊥ = λ e. omega (arith, e, m) in
-          word_kept now w new n other ∙ before.left n (omega (arith, m));
+          joined_there w found n now new other put ∙ before.left n (omega (arith, m));
     }
 
 past : (p : Object → Bool) (os : List Object) (n : ℕ) → length os ≤ n → passes p os n ≡ false

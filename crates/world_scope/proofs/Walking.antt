@@ -1,17 +1,20 @@
 -- A walk over the bits of a word: how many objects are looked at, and what is seen of them.
-use Rattle.std.proofs.Common.{◌≡◌, ℕ, zero, suc, ◌+◌, ◌-◌, ◌^◌, ◌<◌, ◌≤◌, inl, inr, Bool, true, false, List, [], ◌∷◌, ◌++◌, length, drop, refl, sym, ap, ◌∙◌, arith, Option, Some, None, count_by, append_assoc, length-append}
+use Rattle.std.proofs.Common.{◌≡◌, ℕ, zero, suc, ◌+◌, ◌-◌, ◌^◌, ◌<◌, ◌≤◌, inl, inr, Bool, true, false, List, [], ◌∷◌, ◌++◌, length, drop, refl, sym, ap, ◌∙◌, arith, Option, Some, None, count_by, append_assoc, length-append, ◌*◌, ◌/◌, ◌%◌, get_or}
 use Rattle.std.specs.Prelude.{slice_get, option_map}
 use Rattle.std.specs.Option.{option_map_or}
 use Rattle.std.specs.Int.{bit_at, trailing_zeros, w64}
 use Rattle.std.specs.List.{cons_option}
+use Rattle.std.proofs.lemmas.Nat.Bits.{bit_at-zero}
+use Rattle.std.proofs.lemmas.Bool.{cases_lt}
 use Rattle.std.proofs.lemmas.List.{drop_more, drop_all, append-nil}
 use Rattle.std.proofs.lemmas.Option.{slice_get_cases, slice_get_within}
 use Rattle.world_rules.specs.declared.object.Object.{Object}
 use Rattle.world_cells.specs.Lines.{AreBits}
+use Rattle.world_cells.specs.NumberSet.{bit_of}
 use Rattle.world_sim.specs.Worlds.{Worlds, alive_at}
 use Rattle.world_scope.specs.declared.viewer.Seen.{Seen}
 use Rattle.world_scope.specs.Scope.{Look}
-use Rattle.world_scope.specs.Candidates.{HasOnePlayer, may_see, seen_in, to_come}
+use Rattle.world_scope.specs.Candidates.{AreThose, HasOnePlayer, may_see, seen_in, to_come}
 use Rattle.world_scope.proofs.Numbers.{one, count_cons}
 use Rattle.world_scope.proofs.Sets.{passes}
 use Rattle.world_scope.proofs.Rests.{IsRest, lowest, none_left}
@@ -188,3 +191,64 @@ front_most front more made =
     let e : length ((front ++ cons_option made []) ++ more) ≡ length (front ++ cons_option made more) = ap (λ (xs : List Seen). length xs) (added_on front more made) in
     let l = length-append (front ++ cons_option made []) more in
     omega (arith, e, l)
+
+-- ---- a walk over words
+
+-- no number of an empty word passes
+empty_fails : (words : List ℕ) (p : Object → Bool) (os : List Object) (n : ℕ) → AreThose words p os → n < 1024 → get_or words (n / 64) 0 ≡ 0 → passes p os n ≡ false
+empty_fails words p os n those l e =
+    let none : bit_of words n ≡ 0 = ap (λ (w : ℕ). bit_at w (n % 64)) e ∙ bit_at-zero (n % 64) in
+    bit_false _ (sym (those n l) ∙ none)
+
+abbrev pub AreEmpty : List ℕ → ℕ → ℕ → Type 0
+AreEmpty words from to = (w : ℕ) → from ≤ w → w < to → get_or words w 0 ≡ 0
+
+all_fail : (words : List ℕ) (p : Object → Bool) (os : List Object) (from to j : ℕ) → AreThose words p os → to ≤ 16 → AreEmpty words from to → j < 64 * to - 64 * from → passes p os (64 * from + j) ≡ false
+all_fail words p os from to j those l empty m =
+    let w : from ≤ (64 * from + j) / 64 = omega arith in
+    let v : (64 * from + j) / 64 < to = omega (arith, m) in
+    empty_fails words p os (64 * from + j) those (omega (arith, l, m)) (empty ((64 * from + j) / 64) w v)
+
+pub count_words : (words : List ℕ) (p : Object → Bool) (os : List Object) (from to : ℕ) → AreThose words p os → from ≤ to → to ≤ 16 → AreEmpty words from to → count_by p (drop (64 * from) os) ≡ count_by p (drop (64 * to) os)
+count_words words p os from to those order l empty =
+    let e : 64 * from + (64 * to - 64 * from) ≡ 64 * to = omega (arith, order) in
+    count_skip p os (64 * from) (64 * to - 64 * from) (λ j m. all_fail words p os from to j those l empty m)
+    ∙ ap (λ j. count_by p (drop j os)) e
+
+pub come_words : (words : List ℕ) (v : Look) (os : List Object) (from to : ℕ) → AreThose words (may_see v) os → HasOnePlayer v os → from ≤ to → to ≤ 16 → AreEmpty words from to → to_come v os (64 * from) ≡ to_come v os (64 * to)
+come_words words v os from to those owned order l empty =
+    let e : 64 * from + (64 * to - 64 * from) ≡ 64 * to = omega (arith, order) in
+    come_skip v os (64 * from) (64 * to - 64 * from) owned (λ j m. all_fail words (may_see v) os from to j those l empty m)
+    ∙ ap (λ j. to_come v os j) e
+
+-- nothing comes behind all objects
+pub come_none : (v : Look) (os : List Object) → length os ≤ 1024 → to_come v os 1024 ≡ []
+come_none v os l =
+    let none : drop 1024 os ≡ [] = drop_all 1024 os l in
+    rw none refl
+
+-- the words from one on and before the next mark are empty, and so are those behind the last
+pub empty_before : (words : List ℕ) (marks rest next : ℕ) → 0 < rest → rest < 2 ^ 64 → IsRest marks 0 rest next → ((w : ℕ) → bit_at marks w ≡ 0 → get_or words w 0 ≡ 0) → AreEmpty words next (trailing_zeros w64 rest)
+empty_before words marks rest next some range r none w l m =
+    let low = lowest marks 0 rest next some range r in
+    none w (low.none w (omega (arith, l)) m)
+
+pub empty_behind : (words : List ℕ) (marks rest next : ℕ) → rest ≡ 0 → IsRest marks 0 rest next → ((w : ℕ) → bit_at marks w ≡ 0 → get_or words w 0 ≡ 0) → AreEmpty words next 16
+empty_behind words marks rest next z r none w l m = none w (none_left marks 0 rest next w z r (omega (arith, m)) (omega (arith, l)))
+
+-- a mark is that of one of 16 words
+pub mark_few : (marks rest next : ℕ) → 0 < rest → rest < 2 ^ 64 → IsRest marks 0 rest next → ((w : ℕ) → 16 ≤ w → bit_at marks w ≡ 0) → trailing_zeros w64 rest < 16
+mark_few marks rest next some range r few =
+    let low = lowest marks 0 rest next some range r in
+    elim (cases_lt (trailing_zeros w64 rest) 16) [
+      | inl l ↦ l
+      | inr l ↦ let none = few (trailing_zeros w64 rest) l in absurd (omega (arith, none, low.here))
+    ]
+
+pub word_bits : (words : List ℕ) (p : Object → Bool) (os : List Object) (w : ℕ) → AreThose words p os → w < 16 → AreBits (get_or words w 0) (64 * w) 64 p os
+word_bits words p os w those l = λ k m.
+    let i : (64 * w + k) / 64 ≡ w = omega (arith, m) in
+    let j : (64 * w + k) % 64 ≡ k = omega (arith, m) in
+    ap (λ (x : ℕ). bit_at (get_or words x 0) k) (sym i)
+    ∙ ap (λ (y : ℕ). bit_at (get_or words ((64 * w + k) / 64) 0) y) (sym j)
+    ∙ those (64 * w + k) (omega (arith, l, m))

@@ -3,4 +3,5 @@ pub mod Scope
 pub mod Views
 pub mod Square
 pub mod Candidates
+pub mod Marks
 pub mod Examples

@@ -11,35 +11,24 @@ ghost use Rattle.world_scope.specs.Square.{is_round};
 ghost use Rattle.world_scope.specs.Candidates.{AreThose, either, is_in_row, is_near, may_see};
 
 use crate::viewer::Viewer;
+use crate::word_set::{WORDS, WordSet, first_marks};
 use tn_types::MAX_OBJECTS;
 use world_rules::Place;
 use world_sim::{CELL_SIDE, CELLS_ACROSS, World};
 
-/// Words of 64 bits, one bit for each number of an object.
-pub const WORDS: usize = MAX_OBJECTS / 64;
-
-// Puts a number into the set.
-fn add_one(words: &mut [u64; WORDS], number: u32)
-    requires { number < MAX_OBJECTS }
-    ensures { (n : ℕ) → n < MAX_OBJECTS → bit_of words.new n ≡ (if n == number then 1 else bit_of words.old n) }
-{
-    let n = number as usize;
-    words[n / 64] |= 1 << (n % 64);
-}
-
 // Puts in each of these numbers.
-fn add_all(words: &mut [u64; WORDS], found: &[u32])
+fn add_all(words: &mut WordSet, found: &[u32])
     requires few { (k : ℕ) → k < length found.now → slice_index_or found.now k 0 < MAX_OBJECTS }
     ensures { (p q : Object → Bool) (os : List Object) → AreThose words.old p os → found.now ≡ numbers q 0 os
         → AreThose words.new (either p q) os }
 {
     for n in found {
-        add_one(words, *n);
+        words.put(*n);
     }
 }
 
 // Puts in those in a row of cells between two columns.
-fn add_row(world: &World, row: u8, columns: (u8, u8), words: &mut [u64; WORDS])
+fn add_row(world: &World, row: u8, columns: (u8, u8), words: &mut WordSet)
     requires few { length world.now.objects ≤ MAX_OBJECTS }
     requires row { row < CELLS_ACROSS }
     requires columns { columns.1 ≤ CELLS_ACROSS }
@@ -53,7 +42,7 @@ fn add_row(world: &World, row: u8, columns: (u8, u8), words: &mut [u64; WORDS])
 }
 
 // Puts in those in the cells between two columns and two rows, cell by cell: the shorter way where they are few.
-fn add_cells(world: &World, columns: (u8, u8), rows: (u8, u8), words: &mut [u64; WORDS])
+fn add_cells(world: &World, columns: (u8, u8), rows: (u8, u8), words: &mut WordSet)
     requires few { length world.now.objects ≤ MAX_OBJECTS }
     requires columns { columns.1 ≤ CELLS_ACROSS }
     requires column_order { columns.0 ≤ columns.1 }
@@ -76,7 +65,7 @@ pub fn words_of(world: &World) -> usize
 }
 
 // Puts in those in the cells between two columns and two rows, word by word: the shorter way where the cells are many.
-fn add_words(world: &World, columns: (u8, u8), rows: (u8, u8), words: &mut [u64; WORDS])
+fn add_words(world: &World, columns: (u8, u8), rows: (u8, u8), words: &mut WordSet)
     requires columns { columns.1 ≤ CELLS_ACROSS }
     requires column_order { columns.0 ≤ columns.1 }
     requires rows { rows.1 ≤ CELLS_ACROSS }
@@ -84,8 +73,10 @@ fn add_words(world: &World, columns: (u8, u8), rows: (u8, u8), words: &mut [u64;
     ensures { (p : Object → Bool) → AreThose words.old p world.now.objects
         → AreThose words.new (either p (lies_between columns.0 columns.1 rows.0 rows.1)) world.now.objects }
 {
-    for word in 0..words_of(world) {
-        words[word] |= world.between(columns, rows, word);
+    let many = words_of(world);
+    let marks = first_marks(many);
+    for word in 0..many {
+        words.join(word, world.between(columns, rows, word), many, marks);
     }
 }
 
@@ -99,7 +90,7 @@ fn are_few(columns: (u8, u8), rows: (u8, u8), words: usize) -> bool
 }
 
 // Puts in those in the cells between two columns and two rows.
-fn add_part(world: &World, columns: (u8, u8), rows: (u8, u8), words: &mut [u64; WORDS])
+fn add_part(world: &World, columns: (u8, u8), rows: (u8, u8), words: &mut WordSet)
     requires few { length world.now.objects ≤ MAX_OBJECTS }
     requires columns { columns.1 ≤ CELLS_ACROSS }
     requires column_order { columns.0 ≤ columns.1 }
@@ -130,7 +121,7 @@ fn touched_end(radius: u32, at: u32) -> u8
 }
 
 // Puts in those in the cells that the square round this place touches.
-fn add_round(world: &World, radius: u32, place: &Place, words: &mut [u64; WORDS])
+fn add_round(world: &World, radius: u32, place: &Place, words: &mut WordSet)
     requires few { length world.now.objects ≤ MAX_OBJECTS }
     requires fits { AllByRecursion ObjectFits world.now.objects }
     ensures { (p : Object → Bool) → AreThose words.old p world.now.objects
@@ -142,7 +133,7 @@ fn add_round(world: &World, radius: u32, place: &Place, words: &mut [u64; WORDS]
 }
 
 // Puts in those round the client's player, if there is one.
-fn add_near(viewer: &Viewer, world: &World, words: &mut [u64; WORDS])
+fn add_near(viewer: &Viewer, world: &World, words: &mut WordSet)
     requires few { length world.now.objects ≤ MAX_OBJECTS }
     requires fits { AllByRecursion ObjectFits world.now.objects }
     ensures { (p : Object → Bool) → AreThose words.old p world.now.objects
@@ -154,7 +145,7 @@ fn add_near(viewer: &Viewer, world: &World, words: &mut [u64; WORDS])
 }
 
 /// Puts all that the client may see into a set that is empty.
-pub fn add_candidates(viewer: &Viewer, world: &World, words: &mut [u64; WORDS])
+pub fn add_candidates(viewer: &Viewer, world: &World, words: &mut WordSet)
     requires few { length world.now.objects ≤ MAX_OBJECTS }
     requires fits { AllByRecursion ObjectFits world.now.objects }
     requires empty { words.old ≡ replicate WORDS 0 }

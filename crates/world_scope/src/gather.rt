@@ -9,8 +9,8 @@ ghost use Rattle.world_scope.specs.Scope.{seen};
 ghost use Rattle.world_scope.specs.Views.{look, IsReady};
 ghost use Rattle.world_scope.specs.Candidates.{AreThose, HasOnePlayer, may_see, seen_in, to_come};
 
-use crate::candidates::{WORDS, words_of};
 use crate::viewer::{Seen, Viewer};
+use crate::word_set::WordSet;
 use std::alloc::AllocError;
 use std::sync::ledger::Ledger;
 use tn_types::{MAX_OBJECTS, Steps};
@@ -95,11 +95,12 @@ fn gather_word<L: Ledger>(
 pub fn gather<L: Ledger>(
     viewer: &Viewer,
     world: &World,
-    words: &[u64; WORDS],
+    set: &WordSet,
     out: &mut Vec<Seen>,
     steps: &mut Steps<L>,
 ) -> Result<(), AllocError>
-    requires those { AreThose words.now (may_see (look viewer.now)) world.now.objects }
+    requires few { length world.now.objects ≤ MAX_OBJECTS }
+    requires those { AreThose set.now (may_see (look viewer.now)) world.now.objects }
     requires owned { HasOnePlayer (look viewer.now) world.now.objects }
     requires ready { IsReady viewer.now }
     ensures ok { OnOk result (out.new.items ≡ filter_map (seen (look viewer.now)) (enumerate_from 0 world.now.objects)) }
@@ -110,8 +111,21 @@ pub fn gather<L: Ledger>(
 {
     out.clear();
     let glances = world.glances();
-    for w in 0..words_of(world) {
-        gather_word(viewer, world, glances, 64 * w, words[w], out, steps)?;
+    let mut next = 0;
+    let mut rest = set.marks();
+    while rest != 0 {
+        let word = rest.trailing_zeros() as usize;
+        gather_word(
+            viewer,
+            world,
+            glances,
+            64 * word,
+            set.word(word),
+            out,
+            steps,
+        )?;
+        next = word + 1;
+        rest = without_lowest(rest);
     }
     Ok(())
 }

@@ -6,9 +6,10 @@ ghost use Rattle.world_sim.specs.Worlds.{alive_at};
 ghost use Rattle.world_scope.specs.Scope.{seen_at, visible_list};
 ghost use Rattle.world_scope.specs.Square.{most_looks};
 
-use crate::candidates::{WORDS, add_candidates};
+use crate::candidates::add_candidates;
 use crate::gather::gather;
 use crate::viewer::{Seen, Viewer};
+use crate::word_set::WordSet;
 use std::alloc::Global;
 use std::marker::Brand;
 use std::sync::ledger::{Blank, Ledger};
@@ -95,7 +96,7 @@ pub fn visible_counted<L: Ledger>(
 {
     let objects = world.all_objects();
     let viewer = Viewer::of(client, world.radius(), objects);
-    let mut words = [0; WORDS];
+    let mut words = WordSet::new();
     add_candidates(&viewer, world, &mut words);
     match gather(&viewer, world, &words, out, steps) {
         Ok(()) => Ok(()),

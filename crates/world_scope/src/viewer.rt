@@ -68,9 +68,9 @@ fn is_special(g: &Glance) -> bool
     ensures always { (o : Object) → g.now ≡ glance_of o → result ≡ false → is_always o ≡ false }
     ensures hidden { (o : Object) (team : ℕ) → g.now ≡ glance_of o → result ≡ false → is_hidden team o ≡ false }
 {
-    matches!(
+    !matches!(
         g.role,
-        Role::ArmedMine | Role::OldMine | Role::Flag | Role::Clock
+        Role::Player(_) | Role::Disc | Role::YoungMine | Role::Drone
     )
 }
 
