@@ -3,6 +3,7 @@ pub mod Marks
 pub mod Sets
 pub mod Parts
 pub mod Rests
+pub mod Shares
 pub mod Sights
 pub mod Walking
 pub mod SeenList

@@ -1,12 +1,10 @@
 -- What holds of each list of visible objects.
-use Rattle.std.proofs.Common.{◌≡◌, ℕ, zero, suc, inl, inr, ◌<◌, ◌≤◌, ◌+◌, ◌-◌, ◌*◌, ◌/◌, Bool, true, false, cond, ◌||◌, List, [], ◌∷◌, length, map, get_or, refl, sym, ap, ◌∙◌, subst, arith, add-one, Option, Some, None}
+use Rattle.std.proofs.Common.{◌≡◌, ℕ, zero, suc, ◌<◌, ◌≤◌, ◌+◌, ◌*◌, ◌/◌, Bool, true, false, cond, ◌||◌, List, [], ◌∷◌, length, map, get_or, refl, sym, ap, ◌∙◌, subst, arith, add-one, Option, Some, None}
 use Rattle.std.specs.Prelude.{slice_get, option_map, option_and_then, nat_le, ◌↔◌}
 use Rattle.std.specs.List.{All, AllByRecursion, Contains, filter_map, enumerate_from, cons_option}
 use Rattle.std.specs.List.Sorted.{IsStrictlyIncreasing}
-use Rattle.std.proofs.lemmas.Bool.{and_parts, leb-true, cases_lt}
-use Rattle.std.proofs.lemmas.Bool.Decides.{nat_tests}
+use Rattle.std.proofs.lemmas.Bool.{and_parts, leb-true}
 use Rattle.std.proofs.lemmas.Nat.{div_below}
-use Rattle.std.proofs.Math.Nat.{le-div_iff_mul-le}
 use Rattle.std.proofs.lemmas.List.Elements.{All-from_recursion, All-contains, Contains-append_right}
 use Rattle.std.proofs.lemmas.Option.{slice_get_within}
 use Rattle.world_rules.specs.declared.object.Object.{Object}
@@ -26,52 +24,8 @@ chosen false x y e = absurd (cc)
 seen_is : (v : Look) (m : ℕ) (o : Object) (s : Seen) → seen v (m, o) ≡ Some s → (is_visible v o ≡ true) × (record { object = m; level = level v o } ≡ s)
 seen_is v m o s e = chosen (is_visible v o) (record { object = m; level = level v o }) s e
 
-pub quarter_is : (q radius away : ℕ) → q * (radius + 1) ≤ 4 * away → 4 * away < (q + 1) * (radius + 1) → q ≡ 4 * away / (radius + 1)
-quarter_is q radius away h k =
-    let below : 4 * away / (radius + 1) < q + 1 = div_below (4 * away) (radius + 1) (q + 1) (omega arith) k in
-    let reached : q ≤ 4 * away / (radius + 1) = (le-div_iff_mul-le {k = radius + 1} {x = q} {y = 4 * away} (omega arith)).1 h in
-    omega (arith, below, reached)
-
 pub quarter_few : (radius away : ℕ) → away ≤ radius → 4 * away / (radius + 1) ≤ 3
 quarter_few radius away h = let q = div_below (4 * away) (radius + 1) 4 (omega arith) (omega arith) in omega (arith, q)
-
--- what is added up where the distance has reached one quarter, two and three
-none_reached : (w f : ℕ) → f < w → cond (nat_le w f) 1 0 + cond (nat_le (2 * w) f) 1 0 + cond (nat_le (3 * w) f) 1 0 ≡ 0
-none_reached w f h = grind (arith, nat_tests)
-
-one_reached : (w f : ℕ) → w ≤ f → f < 2 * w → cond (nat_le w f) 1 0 + cond (nat_le (2 * w) f) 1 0 + cond (nat_le (3 * w) f) 1 0 ≡ 1
-one_reached w f l h = grind (arith, nat_tests)
-
-two_reached : (w f : ℕ) → 2 * w ≤ f → f < 3 * w → cond (nat_le w f) 1 0 + cond (nat_le (2 * w) f) 1 0 + cond (nat_le (3 * w) f) 1 0 ≡ 2
-two_reached w f l h = grind (arith, nat_tests)
-
-all_reached : (w f : ℕ) → 3 * w ≤ f → cond (nat_le w f) 1 0 + cond (nat_le (2 * w) f) 1 0 + cond (nat_le (3 * w) f) 1 0 ≡ 3
-all_reached w f l = grind (arith, nat_tests)
-
-quarter_reached : (radius away : ℕ) → away ≤ radius → cond (nat_le (radius + 1) (4 * away)) 1 0 + cond (nat_le (2 * (radius + 1)) (4 * away)) 1 0 + cond (nat_le (3 * (radius + 1)) (4 * away)) 1 0 ≡ 4 * away / (radius + 1)
-quarter_reached radius away h =
-    elim (cases_lt (4 * away) (radius + 1)) [
-      | inl less ↦ none_reached (radius + 1) (4 * away) less ∙ quarter_is 0 radius away (omega arith) (omega (arith, less))
-      | inr one ↦ elim (cases_lt (4 * away) (2 * (radius + 1))) [
-        | inl less ↦ one_reached (radius + 1) (4 * away) one less ∙ quarter_is 1 radius away (omega (arith, one)) (omega (arith, less))
-        | inr two ↦ elim (cases_lt (4 * away) (3 * (radius + 1))) [
-          | inl less ↦ two_reached (radius + 1) (4 * away) two less ∙ quarter_is 2 radius away (omega (arith, two)) (omega (arith, less))
-          | inr three ↦ all_reached (radius + 1) (4 * away) three ∙ quarter_is 3 radius away (omega (arith, three)) (omega (arith, h))
-        ]
-      ]
-    ]
-
-pub reached_of : (whole away : ℕ) → away < whole → cond (nat_le whole (4 * away)) 1 0 + cond (nat_le (2 * whole) (4 * away)) 1 0 + cond (nat_le (3 * whole) (4 * away)) 1 0 ≡ 4 * away / whole
-reached_of whole away h =
-    let e : whole - 1 + 1 ≡ whole = omega (arith, h) in
-    rw e at (quarter_reached (whole - 1) away (omega (arith, h)))
-
--- a quarter begins at the least number of which four times reach it
-start_tells : (m away : ℕ) → nat_le ((m + 3) / 4) away ≡ nat_le m (4 * away)
-start_tells m away = grind (arith, nat_tests)
-
-pub starts_of : (whole away : ℕ) → away < whole → cond (nat_le ((whole + 3) / 4) away) 1 0 + cond (nat_le ((2 * whole + 3) / 4) away) 1 0 + cond (nat_le ((3 * whole + 3) / 4) away) 1 0 ≡ 4 * away / whole
-starts_of whole away h = rw (start_tells whole away, start_tells (2 * whole) away, start_tells (3 * whole) away) (reached_of whole away h)
 
 sight_few : (radius : ℕ) (player : Option Object) (o : Object) → player_sees radius player o ≡ true → quarter radius player o ≤ 3
 sight_few radius None o e = omega arith

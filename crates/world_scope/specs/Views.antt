@@ -1,6 +1,7 @@
 -- The look that a viewer keeps, and how it keeps what a look asks of its player.
-use Rattle.std.specs.Prelude.{◌≡◌, ◌≤◌, ◌+◌, ◌^◌, Some, None}
+use Rattle.std.specs.Prelude.{◌≡◌, ◌≤◌, ◌<◌, ◌+◌, ◌-◌, ◌/◌, ◌^◌, Some, None}
 use Rattle.world_rules.specs.declared.object.Object.{Object}
+use Rattle.world_rules.specs.Ranges.{PlaceFits}
 use Rattle.world_scope.specs.declared.viewer.Viewer.{Viewer}
 use Rattle.world_scope.specs.Scope.{Look}
 
@@ -14,3 +15,5 @@ pub record IsReady (v : Viewer) : Type 0 where
   pub place : (p : Object) → v.player ≡ Some p → v.place ≡ p.place
   pub team : (p : Object) → v.player ≡ Some p → v.team ≡ p.team
   pub reach : (p : Object) → v.player ≡ Some p → v.reach ≡ v.radius + 1
+  pub fits : PlaceFits v.place
+  pub share : 0 < v.reach → v.share ≡ (2 ^ 50 + (v.reach - 1)) / v.reach

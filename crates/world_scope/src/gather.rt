@@ -1,7 +1,8 @@
 //! The walk over the objects that a client may see: a look at each, and what is seen of them, by rising number.
 ghost use Rattle.std.specs.Prelude.{◌≡◌, ℕ, ◌≤◌, ◌<◌, ◌+◌, ◌++◌, [], OnOk, OnErr, length, map, drop, count_by, vec_capacity, nat_le, Some, true, if◌then◌else◌};
 ghost use Rattle.std.specs.Int.{bit_at, trailing_zeros, w64};
-ghost use Rattle.std.specs.List.{cons_option, filter_map, enumerate_from};
+ghost use Rattle.world_rules.specs.Ranges.{ObjectFits};
+ghost use Rattle.std.specs.List.{AllByRecursion, cons_option, filter_map, enumerate_from};
 ghost use Rattle.world_cells.specs.Lines.{AreBits};
 ghost use Rattle.world_sim.specs.Worlds.{alive_at};
 ghost use Rattle.world_sim.specs.Glances.{glance_of};
@@ -39,6 +40,7 @@ fn look_at<L: Ledger>(
     requires glances { glances.now ≡ map glance_of world.now.objects }
     requires there { object < length world.now.objects }
     requires alive { alive_at world.now object ≡ Some true }
+    requires fits { AllByRecursion ObjectFits world.now.objects }
     requires owned { HasOnePlayer (look viewer.now) world.now.objects }
     requires ready { IsReady viewer.now }
     ensures seen { result ≡ seen_in (look viewer.now) world.now.objects object }
@@ -69,6 +71,7 @@ fn gather_word<L: Ledger>(
 ) -> Result<(), AllocError>
     requires glances { glances.now ≡ map glance_of world.now.objects }
     requires few { from + 64 ≤ MAX_OBJECTS }
+    requires fits { AllByRecursion ObjectFits world.now.objects }
     requires bits { AreBits word from 64 (may_see (look viewer.now)) world.now.objects }
     requires owned { HasOnePlayer (look viewer.now) world.now.objects }
     requires ready { IsReady viewer.now }
@@ -100,6 +103,7 @@ pub fn gather<L: Ledger>(
     steps: &mut Steps<L>,
 ) -> Result<(), AllocError>
     requires few { length world.now.objects ≤ MAX_OBJECTS }
+    requires fits { AllByRecursion ObjectFits world.now.objects }
     requires those { AreThose set.now (may_see (look viewer.now)) world.now.objects }
     requires owned { HasOnePlayer (look viewer.now) world.now.objects }
     requires ready { IsReady viewer.now }

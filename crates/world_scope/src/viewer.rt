@@ -1,7 +1,10 @@
 //! A client's look at one object.
-ghost use Rattle.std.specs.Prelude.{◌≡◌, ℕ, ◌≤◌, ◌<◌, ◌+◌, ◌*◌, ◌/◌, ◌^◌, true, false, Some, None, find, slice_get, nat_le, if◌then◌else◌};
+ghost use Rattle.std.specs.Prelude.{◌≡◌, ℕ, ◌≤◌, ◌<◌, ◌+◌, ◌-◌, ◌*◌, ◌/◌, ◌^◌, true, false, Some, None, find, slice_get, nat_le, if◌then◌else◌};
 ghost use Rattle.std.specs.Option.{option_copied};
+ghost use Rattle.std.specs.List.{AllByRecursion};
 ghost use Rattle.world_rules.specs.Flags.{is_player};
+ghost use Rattle.world_rules.specs.Ranges.{ObjectFits, PlaceFits};
+ghost use Rattle.tn_types.specs.declared.limits.TheConstants.{MAX_COORDINATE};
 ghost use Rattle.world_rules.specs.declared.object.Object.{Object};
 ghost use Rattle.world_cells.specs.Grid.{is_always};
 ghost use Rattle.world_sim.specs.Glances.{glance_of};
@@ -32,6 +35,8 @@ pub struct Viewer {
     pub team: u8,
     /// One more than the radius, and 0 without a player.
     pub reach: u64,
+    /// What a centimetre is of a quarter of the reach, in parts of 2 ^ 48, rounded up; 0 without a player.
+    pub share: u64,
 }
 
 // How far two places are from one another: the greater of the ways along x and along y.
@@ -56,13 +61,6 @@ fn is_always(g: &Glance) -> bool
     matches!(g.role, Role::Flag | Role::Clock)
 }
 
-// 1 where the number is at least that, and else 0.
-fn reached(least: u64, number: u64) -> u8
-    ensures { result ≡ if nat_le least number then 1 else 0 }
-{
-    u8::from(least <= number)
-}
-
 // Whether an object may be always seen or hidden, by one test: most are neither.
 fn is_special(g: &Glance) -> bool
     ensures always { (o : Object) → g.now ≡ glance_of o → result ≡ false → is_always o ≡ false }
@@ -74,17 +72,23 @@ fn is_special(g: &Glance) -> bool
     )
 }
 
-// The quarter of the reach that lies so far away, with no branch: that of one object says little of the next. Where the quarters
-// begin is the same for all objects of a scan.
-fn quarter(whole: u64, away: u32) -> u8
-    requires { whole ≤ 2 ^ 32 }
-    ensures value { away < whole → result ≡ 4 * away / whole }
-    ensures few { result ≤ 3 }
+// What a centimetre is of a quarter of the reach of this radius, in parts of 2 ^ 48, rounded up.
+fn share_of(radius: u32) -> u64
+    ensures { result ≡ (2 ^ 50 + radius) / (radius + 1) }
 {
-    let away = u64::from(away);
-    let second = reached((whole + 3) / 4, away);
-    let third = reached((2 * whole + 3) / 4, away);
-    second + third + reached((3 * whole + 3) / 4, away)
+    ((1 << 50) + u64::from(radius)) / (u64::from(radius) + 1)
+}
+
+// The quarter of the reach that lies so far away, by the share of a centimetre: one multiplication in place of a division or of
+// three comparisons. What the share is rounded up by makes less than a part for all that lies in the field.
+fn quarter(whole: u64, share: u64, away: u32) -> u8
+    requires whole { whole ≤ 2 ^ 32 }
+    requires share { share ≡ (2 ^ 50 + (whole - 1)) / whole }
+    requires near { away < whole }
+    requires field { away ≤ MAX_COORDINATE }
+    ensures value { result ≡ 4 * away / whole }
+{
+    (u64::from(away) * share >> 48) as u8
 }
 
 // The client's player: as a rule the object of the client's number.
@@ -106,7 +110,9 @@ impl Viewer {
     ghost use Rattle.world_scope.specs.Views.{look, IsReady};
 
     /// The look of a client at these objects, from its player among them.
+    #[tactic(auto, using(crate::proofs::Shares::found_fits))]
     pub fn of(client: u8, radius: u32, objects: &[Object]) -> Viewer
+        requires fits { AllByRecursion ObjectFits objects.now }
         requires one { (n : ℕ) (o : Object) → slice_get objects.now n ≡ Some o → is_player client o ≡ true
             → find (is_player client) objects.now ≡ Some o }
         ensures look { look result ≡ record { client = client; player = find (is_player client) objects.now; radius = radius } }
@@ -120,6 +126,7 @@ impl Viewer {
                 place: player.place,
                 team: player.team,
                 reach: u64::from(radius) + 1,
+                share: share_of(radius),
             },
             None => Viewer {
                 client,
@@ -128,14 +135,16 @@ impl Viewer {
                 place: Place { x: 0, y: 0 },
                 team: 0,
                 reach: 0,
+                share: 0,
             },
         }
     }
 
     // An object that isn't hidden, as the client's player sees it, if there is a player and it does.
-    #[tactic(auto, using(crate::proofs::Sights::seen_none, crate::proofs::Sights::seen_some))]
+    #[tactic(auto, using(crate::proofs::Sights::seen_none, crate::proofs::Sights::seen_some, crate::proofs::Shares::near_enough))]
     fn seen_by_player(&self, object: u32, g: &Glance) -> Option<Seen>
-        requires { IsReady self.now }
+        requires ready { IsReady self.now }
+        requires fits { PlaceFits g.now.place }
         ensures { (o : Object) → g.now ≡ glance_of o → is_hidden self.now.team o ≡ false
             → result ≡ (if player_sees self.now.radius self.now.player o
             then Some (record { object = object; level = quarter self.now.radius self.now.player o }) else None) }
@@ -146,14 +155,15 @@ impl Viewer {
         }
         Some(Seen {
             object,
-            level: quarter(self.reach, away),
+            level: quarter(self.reach, self.share, away),
         })
     }
 
     // The same of one that may be hidden, or is always seen.
     #[tactic(auto, using(crate::proofs::Sights::always_seen, crate::proofs::Sights::player_seen, crate::proofs::Sights::hidden_unseen))]
     fn special_sight(&self, object: u32, g: &Glance) -> Option<Seen>
-        requires { IsReady self.now }
+        requires ready { IsReady self.now }
+        requires fits { PlaceFits g.now.place }
         ensures { (o : Object) → g.now ≡ glance_of o → o.alive ≡ true
             → (is_player self.now.client o ≡ true → self.now.player ≡ Some o) → result ≡ seen (look self.now) (object, o) }
     {
@@ -170,7 +180,8 @@ impl Viewer {
     /// where it looks from, so it sees itself at level 0.
     #[tactic(auto, using(crate::proofs::Sights::player_seen))]
     pub fn sight(&self, object: u32, g: &Glance) -> Option<Seen>
-        requires { IsReady self.now }
+        requires ready { IsReady self.now }
+        requires fits { PlaceFits g.now.place }
         ensures { (o : Object) → g.now ≡ glance_of o → o.alive ≡ true
             → (is_player self.now.client o ≡ true → self.now.player ≡ Some o) → result ≡ seen (look self.now) (object, o) }
     {

@@ -10,7 +10,7 @@ use Rattle.world_scope.proofs.scope.visible_counted.Goals as goal
 pub of-viewer-requires : goal.of-viewer-requires
 of-viewer-requires g c =
     let w = c.args.world.now in
-    record { one = one_found w.clients c.all_objects-objects.result.now c.args.client c.all_objects-objects.ensures.peopled }
+    record { fits = c.all_objects-objects.ensures.fits; one = one_found w.clients c.all_objects-objects.result.now c.args.client c.all_objects-objects.ensures.peopled }
 
 pub gather-requires-clause-owned : goal.gather-requires-clause-owned
 gather-requires-clause-owned g c =
