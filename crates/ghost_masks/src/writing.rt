@@ -12,15 +12,14 @@ ghost use Rattle.ghost_masks.specs.StandsFor.{StandsFor, OfPlan, OfSomePlan, Fit
 ghost use Rattle.ghost_masks.specs.Carried.{fields_carried, levels_for, ghost_for, ghosts_for, AreValues};
 
 use crate::Masks;
+use crate::kinds::{Kinds, LONG_BITS};
 use crate::packet_items::{carried, ghost_item};
 use crate::plan::UPDATE_BITS;
+use crate::short_updates::put_short;
 use bit_stream::{BitWriter, joined};
 use quantised_fields::{FieldSpec, KindTable, level};
-use tn_types::{Choice, MAX_FIELDS, MAX_WORD_BITS, Op};
+use tn_types::{Choice, Op};
 use wire_format::{GHOST_COUNT_WIDTH, put_ghost, put_ghost_count, update_front};
-
-// As many bits are written at once.
-const LONG_BITS: u32 = 2 * MAX_WORD_BITS - 1;
 
 // Writes a count, and then each chosen item with the levels of its values, one for each carried field in the order of the
 // choices and rising field.
@@ -58,8 +57,8 @@ fn put_item(masks: &Masks, choice: &Choice, values: &[i64], out: &mut BitWriter)
     ensures size { out.new.size ≡ out.old.size }
 {
     match choice.op {
-        Op::Update => put_update(
-            masks.kinds(),
+        Op::Update => put_any_update(
+            &masks.kinds,
             masks.kind(choice.n),
             choice.slot,
             choice.mask,
@@ -89,7 +88,38 @@ fn put_made(masks: &Masks, choice: &Choice, values: &[i64], out: &mut BitWriter)
     put_ghost(out, masks.kinds(), &ghost_item(masks, choice, values));
 }
 
-// Writes an update of the fields in the mask, with the level of each of these values.
+// Writes an update of the fields in the mask, with the level of each of these values: by one multiplication each where the kind's
+// updates fit a word.
+fn put_any_update(kinds: &Kinds, kind: u8, slot: u8, mask: u32, values: &[i64], out: &mut BitWriter)
+    requires kind { kind < length kinds.now }
+    requires mask { mask < 2 ^ length (fields_of kinds.now kind) }
+    requires values { AreValues (masked mask (fields_of kinds.now kind)) values.now }
+    requires room { let fields = fields_of kinds.now kind in
+        length out.old.bits + (UPDATE_BITS + length fields + width_of (masked mask fields)) ≤ 8 * out.old.size }
+    ensures bits { out.new.bits ≡ out.old.bits
+        ++ spell_ghost kinds.now (ghosts.Update slot kind mask (levels_for (masked mask (fields_of kinds.now kind)) values.now)) }
+    ensures len { let fields = fields_of kinds.now kind in
+        length out.new.bits ≡ length out.old.bits + (UPDATE_BITS + length fields + width_of (masked mask fields)) }
+    ensures size { out.new.size ≡ out.old.size }
+{
+    match kinds.scales(kind) {
+        Some(scales) => {
+            let front = update_front(slot, kind, mask, scales.count);
+            put_short(
+                u64::from(front),
+                UPDATE_BITS + scales.count,
+                scales,
+                mask,
+                values,
+                out,
+            );
+        }
+        None => put_update(kinds.table(), kind, slot, mask, values, out),
+    }
+}
+
+// The same by a division each, for any kind. It is rare, since as a rule only the kinds of players are that wide.
+#[inline(never)]
 fn put_update(kinds: &KindTable, kind: u8, slot: u8, mask: u32, values: &[i64], out: &mut BitWriter)
     requires kind { kind < length kinds.now }
     requires mask { mask < 2 ^ length (fields_of kinds.now kind) }
