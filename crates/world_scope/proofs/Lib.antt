@@ -6,4 +6,5 @@ pub mod Rests
 pub mod Shares
 pub mod Sights
 pub mod Walking
+pub mod WholeWords
 pub mod SeenList

@@ -14,6 +14,7 @@ use Rattle.world_rules.specs.declared.object.State.TheVariants.{Player, Disc, Mi
 use Rattle.world_rules.specs.Flags.{is_player, is_player_part}
 use Rattle.world_rules.specs.Identity.{owner_in, owners, OwnersRise, HaveNoOwner, IsPeopled}
 use Rattle.world_cells.specs.Grid.{has_place, is_always, lasts}
+use Rattle.world_places.specs.Places.{is_special, is_special_part}
 use Rattle.world_sim.specs.Worlds.{Worlds}
 use Rattle.world_scope.specs.declared.viewer.Seen.{Seen}
 use Rattle.world_scope.specs.declared.viewer.Viewer.{Viewer}
@@ -242,6 +243,28 @@ seen_at_level n q = Some (record { object = n; level = q })
 pub seen_none : (v : Viewer) (n : ℕ) (o : Object) → IsReady v → (is_hidden v.team o ≡ true) ⊎ (v.reach ≤ distance v.place o.place) → None ≡ seen_from v n o
 seen_none v n o r (inl h) = rw (sees_by v.radius v.reach v.team v.place v.player o r.alone r.place r.team r.reach, h) refl
 seen_none v n o r (inr l) = rw (sees_by v.radius v.reach v.team v.place v.player o r.alone r.place r.team r.reach, out_of_reach (is_hidden v.team o) (distance v.place o.place) v.reach l) refl
+
+-- what isn't special is neither always seen nor hidden
+plain_by : (o : Object) (s : State) → o.state ≡ s → is_special_part s ≡ false → (team : ℕ) → (is_always o ≡ false) × (is_hidden team o ≡ false)
+plain_by o (Player p) e h team = rw e (refl, refl)
+plain_by o (Disc d) e h team = rw e (refl, refl)
+plain_by o (Mine m) e h team = rw (e, h) (refl, refl)
+plain_by o (Drone d) e h team = rw e (refl, refl)
+plain_by o (Flag f) e h team = absurd (cc)
+plain_by o (Clock c) e h team = absurd (cc)
+
+plain : (o : Object) (special : Bool) → (is_special o ≡ true → special ≡ true) → special ≡ false → is_special o ≡ false
+plain o special h e = by_test (is_special o) refl
+  where
+    by_test : (b : Bool) → is_special o ≡ b → is_special o ≡ false
+    by_test true t = absurd (contradict (sym e ∙ h t))
+    by_test false t = t
+
+pub plain_other : (o : Object) (special : Bool) → (is_special o ≡ true → special ≡ true) → special ≡ false → is_always o ≡ false
+plain_other o special h e = (plain_by o o.state refl (plain o special h e) 0).0
+
+pub plain_open : (o : Object) (special : Bool) (team : ℕ) → (is_special o ≡ true → special ≡ true) → special ≡ false → is_hidden team o ≡ false
+plain_open o special team h e = (plain_by o o.state refl (plain o special h e) team).1
 
 pub hidden_unseen : (v : Viewer) (n : ℕ) (o : Object) → IsReady v → is_hidden v.team o ≡ true → None ≡ seen_from v n o
 hidden_unseen v n o r h = seen_none v n o r (inl h)

@@ -25,7 +25,7 @@ use Rattle.world_scope.proofs.Sights.{nobody_else, lives}
 apart : false ≡ true → ⊥
 apart e = absurd (cc)
 
-bit_true : (b : Bool) → one b ≡ 1 → b ≡ true
+pub bit_true : (b : Bool) → one b ≡ 1 → b ≡ true
 bit_true true e = refl
 bit_true false e = absurd (omega (arith, e))
 
@@ -33,7 +33,7 @@ bit_false : (b : Bool) → one b ≡ 0 → b ≡ false
 bit_false true e = absurd (omega (arith, e))
 bit_false false e = refl
 
-there_by : (p : Object → Bool) (os : List Object) (n : ℕ) (o : Option Object) → slice_get os n ≡ o → option_map_or p o false ≡ true → n < length os
+pub there_by : (p : Object → Bool) (os : List Object) (n : ℕ) (o : Option Object) → slice_get os n ≡ o → option_map_or p o false ≡ true → n < length os
 there_by p os n None at e = absurd (apart e)
 there_by p os n (Some o) at e = slice_get_within os n o at
 
@@ -76,7 +76,7 @@ none_behind word from rest next p os z r bits j l =
 
 -- ---- how many pass
 
-count_one : (p : Object → Bool) (os : List Object) (n : ℕ) → passes p os n ≡ true → count_by p (drop n os) ≡ 1 + count_by p (drop (suc n) os)
+pub count_one : (p : Object → Bool) (os : List Object) (n : ℕ) → passes p os n ≡ true → count_by p (drop n os) ≡ 1 + count_by p (drop (suc n) os)
 count_one p [] n e = absurd (apart e)
 count_one p (o ∷ os) zero e = count_cons p o os ∙ ap (λ b. one b + count_by p os) e
 count_one p (o ∷ os) (suc n) e = count_one p os n e
@@ -140,7 +140,7 @@ later_fewer p os i j l =
 -- ---- what is seen
 
 -- what is seen of one object, and behind it what is still to come; past the end nothing comes
-come_one : (v : Look) (os : List Object) (i : ℕ) → to_come v os i ≡ cons_option (seen_in v os i) (to_come v os (i + 1))
+pub come_one : (v : Look) (os : List Object) (i : ℕ) → to_come v os i ≡ cons_option (seen_in v os i) (to_come v os (i + 1))
 come_one v os i =
     elim (slice_get_cases os i).1 [
       | inl c ↦ rw (drop_more os i c.0 c.1, c.2, c.3) refl

@@ -5,6 +5,7 @@ mod candidates;
 mod gather;
 mod scope;
 mod viewer;
+mod whole_words;
 mod word_set;
 
 pub use scope::{visible, visible_counted};

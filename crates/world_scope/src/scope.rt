@@ -73,7 +73,7 @@ fn visible_blank<L: Ledger>(
 /// The same, with a step for each look at an object: at most as many as there are living objects in the cells that the
 /// square round the client's player touches, whose sides are twice the radius, and as there are flags and clocks, and 1.
 pub fn visible_counted<L: Ledger>(
-    _alloc: Global,
+    alloc: Global,
     world: &World,
     client: u8,
     out: &mut Vec<Seen>,
@@ -98,7 +98,7 @@ pub fn visible_counted<L: Ledger>(
     let viewer = Viewer::of(client, world.radius(), objects);
     let mut words = WordSet::new();
     add_candidates(&viewer, world, &mut words);
-    match gather(&viewer, world, &words, out, steps) {
+    match gather(alloc, &viewer, world, world.places(), &words, out, steps) {
         Ok(()) => Ok(()),
         Err(_) => {
             out.clear();

@@ -7,6 +7,7 @@ ghost use Rattle.world_rules.specs.Ranges.{ObjectFits, PlaceFits};
 ghost use Rattle.tn_types.specs.declared.limits.TheConstants.{MAX_COORDINATE};
 ghost use Rattle.world_rules.specs.declared.object.Object.{Object};
 ghost use Rattle.world_cells.specs.Grid.{is_always};
+ghost use Rattle.world_places.specs.Places.{is_special};
 ghost use Rattle.world_sim.specs.Glances.{glance_of};
 ghost use Rattle.world_scope.specs.Sight.{distance, is_hidden};
 
@@ -59,17 +60,6 @@ fn is_always(g: &Glance) -> bool
     ensures { (o : Object) → g.now ≡ glance_of o → result ≡ is_always o }
 {
     matches!(g.role, Role::Flag | Role::Clock)
-}
-
-// Whether an object may be always seen or hidden, by one test: most are neither.
-fn is_special(g: &Glance) -> bool
-    ensures always { (o : Object) → g.now ≡ glance_of o → result ≡ false → is_always o ≡ false }
-    ensures hidden { (o : Object) (team : ℕ) → g.now ≡ glance_of o → result ≡ false → is_hidden team o ≡ false }
-{
-    !matches!(
-        g.role,
-        Role::Player(_) | Role::Disc | Role::YoungMine | Role::Drone
-    )
 }
 
 // What a centimetre is of a quarter of the reach of this radius, in parts of 2 ^ 48, rounded up.
@@ -142,14 +132,14 @@ impl Viewer {
 
     // An object that isn't hidden, as the client's player sees it, if there is a player and it does.
     #[tactic(auto, using(crate::proofs::Sights::seen_none, crate::proofs::Sights::seen_some, crate::proofs::Shares::near_enough))]
-    fn seen_by_player(&self, object: u32, g: &Glance) -> Option<Seen>
+    fn seen_by_player(&self, object: u32, place: Place) -> Option<Seen>
         requires ready { IsReady self.now }
-        requires fits { PlaceFits g.now.place }
-        ensures { (o : Object) → g.now ≡ glance_of o → is_hidden self.now.team o ≡ false
+        requires fits { PlaceFits place }
+        ensures { (o : Object) → place ≡ o.place → is_hidden self.now.team o ≡ false
             → result ≡ (if player_sees self.now.radius self.now.player o
             then Some (record { object = object; level = quarter self.now.radius self.now.player o }) else None) }
     {
-        let away = distance(&self.place, &g.place);
+        let away = distance(&self.place, &place);
         if u64::from(away) >= self.reach {
             return None;
         }
@@ -161,10 +151,10 @@ impl Viewer {
 
     // The same of one that may be hidden, or is always seen.
     #[tactic(auto, using(crate::proofs::Sights::always_seen, crate::proofs::Sights::player_seen, crate::proofs::Sights::hidden_unseen))]
-    fn special_sight(&self, object: u32, g: &Glance) -> Option<Seen>
+    fn special_sight(&self, object: u32, place: Place, g: &Glance) -> Option<Seen>
         requires ready { IsReady self.now }
-        requires fits { PlaceFits g.now.place }
-        ensures { (o : Object) → g.now ≡ glance_of o → o.alive ≡ true
+        requires fits { PlaceFits place }
+        ensures { (o : Object) → g.now ≡ glance_of o → place ≡ o.place → o.alive ≡ true
             → (is_player self.now.client o ≡ true → self.now.player ≡ Some o) → result ≡ seen (look self.now) (object, o) }
     {
         if is_always(g) {
@@ -173,21 +163,22 @@ impl Viewer {
         if is_hidden(self.team, g) {
             return None;
         }
-        self.seen_by_player(object, g)
+        self.seen_by_player(object, place)
     }
 
-    /// A living object as the client sees it, by a glance, if it does. Nobody asks whose player it is: the client's own one is
-    /// where it looks from, so it sees itself at level 0.
-    #[tactic(auto, using(crate::proofs::Sights::player_seen))]
-    pub fn sight(&self, object: u32, g: &Glance) -> Option<Seen>
+    /// A living object as the client sees it, if it does, by its place, and by a glance where it may be more than that. Nobody asks
+    /// whose player it is: the client's own one is where it looks from, so it sees itself at level 0.
+    #[tactic(auto, using(crate::proofs::Sights::player_seen, crate::proofs::Sights::plain_other, crate::proofs::Sights::plain_open))]
+    pub fn sight(&self, object: u32, place: Place, special: bool, g: &Glance) -> Option<Seen>
         requires ready { IsReady self.now }
-        requires fits { PlaceFits g.now.place }
-        ensures { (o : Object) → g.now ≡ glance_of o → o.alive ≡ true
-            → (is_player self.now.client o ≡ true → self.now.player ≡ Some o) → result ≡ seen (look self.now) (object, o) }
+        requires fits { PlaceFits place }
+        ensures { (o : Object) → g.now ≡ glance_of o → place ≡ o.place → (is_special o ≡ true → special ≡ true)
+            → o.alive ≡ true → (is_player self.now.client o ≡ true → self.now.player ≡ Some o)
+            → result ≡ seen (look self.now) (object, o) }
     {
-        if is_special(g) {
-            return self.special_sight(object, g);
+        if special {
+            return self.special_sight(object, place, g);
         }
-        self.seen_by_player(object, g)
+        self.seen_by_player(object, place)
     }
 }

@@ -126,7 +126,7 @@ end_behind os glances n e l = beyond_end os n (omega (arith, l, as_many_glances 
 
 -- ---- what matters
 
-pub no_flag : (watched : List Bool) (o : Object) (s : State) → o.state ≡ s → may_matter watched (glance_of o) ≡ false → is_flag o ≡ false
+pub no_flag : (watched : List Bool) (o : Object) (s : State) → o.state ≡ s → may_matter watched o.place (glance_of o) ≡ false → is_flag o ≡ false
 no_flag watched o (Player p) e m = rw e refl
 no_flag watched o (Disc d) e m = rw e refl
 no_flag watched o (Mine k) e m = rw e refl
@@ -134,7 +134,7 @@ no_flag watched o (Drone d) e m = rw e refl
 no_flag watched o (Flag f) e m = absurd (let f = rw e at m in cc)
 no_flag watched o (Clock k) e m = rw e refl
 
-no_hit : (watched : List Bool) (os : List Object) (o : Object) (s : State) → o.state ≡ s → may_matter watched (glance_of o) ≡ false → is_hitting os o ≡ false
+no_hit : (watched : List Bool) (os : List Object) (o : Object) (s : State) → o.state ≡ s → may_matter watched o.place (glance_of o) ≡ false → is_hitting os o ≡ false
 unfolding is_hitting
 no_hit watched os o (Player p) e m = rw (e, and-false o.alive) refl
 no_hit watched os o (Disc d) e m = let dead : o.alive ≡ false = rw e at m in rw dead refl
@@ -148,7 +148,7 @@ by_armed alive false old near watched m h = rw (and-false alive) refl
 by_armed alive true false near watched m h = rw (h m, and-false (alive && true)) refl
 by_armed alive true true near watched m h = rw (h m, and-false (alive && true)) refl
 
-no_trigger : (watched : List Bool) (standing : List Object) (o : Object) (s : State) → o.state ≡ s → AreWatched standing watched → PlaceFits o.place → may_matter watched (glance_of o) ≡ false → is_triggered_by standing o ≡ false
+no_trigger : (watched : List Bool) (standing : List Object) (o : Object) (s : State) → o.state ≡ s → AreWatched standing watched → PlaceFits o.place → may_matter watched o.place (glance_of o) ≡ false → is_triggered_by standing o ≡ false
 no_trigger watched standing o (Player p) e w fits m = rw (e, and-false o.alive) refl
 no_trigger watched standing o (Disc d) e w fits m = rw (e, and-false o.alive) refl
 no_trigger watched standing o (Mine k) e w fits m = rw e (by_armed o.alive k.armed (nat_eq k.age 20) (list_any (is_other_near 300 o) standing) (get_or watched (plot_of o.place) false) (rw e at m) (λ h. nobody_near standing watched o w fits h))
@@ -161,9 +161,9 @@ pub record MattersNot (os standing : List Object) (o : Object) : Type 0 where
   pub hit : is_hitting os o ≡ false
   pub trigger : is_triggered_by standing o ≡ false
 
-pub matters_not : (os standing : List Object) (watched : List Bool) (o : Object) (g : Glance) → AreWatched standing watched → PlaceFits o.place → g ≡ glance_of o → may_matter watched g ≡ false → MattersNot os standing o
+pub matters_not : (os standing : List Object) (watched : List Bool) (o : Object) (g : Glance) → AreWatched standing watched → PlaceFits o.place → g ≡ glance_of o → may_matter watched o.place g ≡ false → MattersNot os standing o
 matters_not os standing watched o g w fits e m =
-    let k : may_matter watched (glance_of o) ≡ false = ap (may_matter watched) (sym e) ∙ m in
+    let k : may_matter watched o.place (glance_of o) ≡ false = ap (may_matter watched o.place) (sym e) ∙ m in
     record {
       flag = no_flag watched o o.state refl k;
       hit = no_hit watched os o o.state refl k;
@@ -172,12 +172,12 @@ matters_not os standing watched o g w fits e m =
 
 -- ---- a drone's tick
 
-pub drone_glance : (r lost : ℕ) (o now : Object) (g : Glance) (d : DronePart) → o.alive ≡ true → o.state ≡ Drone d → now ≡ drone_next r lost o d → g ≡ glance_of o → (let next : Glance = record { place = now.place; team = g.team; alive = now.alive; role = g.role } in next ≡ glance_of now)
+pub drone_glance : (r lost : ℕ) (o now : Object) (g : Glance) (d : DronePart) → o.alive ≡ true → o.state ≡ Drone d → now ≡ drone_next r lost o d → g ≡ glance_of o → (let next : Glance = record { team = g.team; alive = now.alive; role = g.role } in next ≡ glance_of now)
 unfolding drone_next
 drone_glance r lost o now g d alive e f h = rw (f, h, alive, e) refl
 
-pub drift_glance : (r : ℕ) (o now : Object) (g : Glance) (d : DronePart) → o.alive ≡ true → o.state ≡ Drone d → 0 < d.hp → now ≡ drone_next r 0 o d → g ≡ glance_of o → (let next : Glance = record { place = now.place; team = g.team; alive = g.alive; role = g.role } in next ≡ glance_of now)
+pub drift_glance : (r : ℕ) (o now : Object) (d : DronePart) → o.alive ≡ true → o.state ≡ Drone d → 0 < d.hp → now ≡ drone_next r 0 o d → glance_of now ≡ glance_of o
 unfolding drone_next
-drift_glance r o now g d alive e l f h =
+drift_glance r o now d alive e l f =
     let lives : nat_lt 0 d.hp ≡ true = grind (arith, l) in
-    rw (f, h, alive, e, lives) refl
+    rw (f, alive, e, lives) refl

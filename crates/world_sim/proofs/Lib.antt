@@ -15,3 +15,4 @@ pub mod Kept
 pub mod Glancing
 pub mod Histories
 pub mod Going
+pub mod Placing

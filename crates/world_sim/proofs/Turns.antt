@@ -188,12 +188,12 @@ pub stepped_more : (n : ℕ) (f : Object → Object) (os now : List Object) (d x
 stepped_more n f os now d x e l h = rw (e, h, add-one) (stepped_set n f os d l)
 
 -- a list with another object at one place
-split_set : (n : ℕ) (xs : List Object) (x : Object) → n < length xs → set xs n x ≡ take n xs ++ x ∷ drop (n + 1) xs
+pub split_set : (n : ℕ) (xs : List Object) (x : Object) → n < length xs → set xs n x ≡ take n xs ++ x ∷ drop (n + 1) xs
 split_set n [] x l = absurd (omega arith)
 split_set zero (y ∷ xs) x l = refl
 split_set (suc n) (y ∷ xs) x l = let e : suc n + 1 ≡ suc (n + 1) = omega arith in rw e (ap (λ (ys : List Object). y ∷ ys) (split_set n xs x (omega arith)))
 
-split_at : (n : ℕ) (xs : List Object) (d : Object) → n < length xs → xs ≡ take n xs ++ get_or xs n d ∷ drop (n + 1) xs
+pub split_at : (n : ℕ) (xs : List Object) (d : Object) → n < length xs → xs ≡ take n xs ++ get_or xs n d ∷ drop (n + 1) xs
 split_at n [] d l = absurd (omega arith)
 split_at zero (y ∷ xs) d l = refl
 split_at (suc n) (y ∷ xs) d l = let e : suc n + 1 ≡ suc (n + 1) = omega arith in rw e (ap (λ (ys : List Object). y ∷ ys) (split_at n xs d (omega arith)))

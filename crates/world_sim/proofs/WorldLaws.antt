@@ -14,6 +14,7 @@ use Rattle.world_sim.proofs.Kept.{first_values, first_counts}
 use Rattle.world_cells.specs.Grid.{numbers, lasts}
 use Rattle.world_cells.specs.Lines.{GridParts}
 use Rattle.world_cells.specs.Cells.{IsGrid}
+use Rattle.world_places.specs.Places.{PlaceLists, ArePlaced}
 use Rattle.world_sim.specs.declared.glance.Glance.{Glance}
 use Rattle.world_sim.specs.Glances.{glance_of}
 use Rattle.world_sim.specs.Turns.{HasGoing}
@@ -93,25 +94,27 @@ world_by : (w : Worlds) (moves : List (Option Move)) (os : List Object) (vs : Li
 unfolding next
 world_by w moves os vs ws f g h is = rw (f, g, h) (world_next w moves is)
 
-pub kept_from : (w : Worlds) (moves : List (Option Move)) (was : List Object) (had : List (List ℕ)) (os : List Object) (rows : List Row) (ws : List Write) (glances : List Glance) (cells : GridParts) (always going : List ℕ) → was ≡ w.objects → had ≡ w.versions → os ≡ objects_next was moves (coming w) → map row_values rows ≡ map values_of os → map row_counts rows ≡ versions_next was os had → ws ≡ world_writes 0 was os had → glances ≡ map glance_of os → IsGrid cells os → always ≡ numbers lasts 0 was → HasGoing going os → IsWorld w → IsKept (record { seed = w.seed; clients = w.clients; radius = w.radius; ticks = w.ticks + 1; objects = os; versions = map row_counts rows; writes = ws }) rows glances cells always going
-kept_from w moves was had os rows ws glances cells always going a b f k g h seen grid lasting stir is =
+pub kept_from : (w : Worlds) (moves : List (Option Move)) (was : List Object) (had : List (List ℕ)) (os : List Object) (rows : List Row) (ws : List Write) (glances : List Glance) (cells : GridParts) (places : PlaceLists) (always going : List ℕ) → was ≡ w.objects → had ≡ w.versions → os ≡ objects_next was moves (coming w) → map row_values rows ≡ map values_of os → map row_counts rows ≡ versions_next was os had → ws ≡ world_writes 0 was os had → glances ≡ map glance_of os → IsGrid cells os → ArePlaced places os → always ≡ numbers lasts 0 was → HasGoing going os → IsWorld w → IsKept (record { seed = w.seed; clients = w.clients; radius = w.radius; ticks = w.ticks + 1; objects = os; versions = map row_counts rows; writes = ws }) rows glances cells places always going
+kept_from w moves was had os rows ws glances cells places always going a b f k g h seen grid placed lasting stir is =
     let now : os ≡ after w moves = rw a at f in
     record {
       world = world_by w moves os (map row_counts rows) ws now (rw (a, b, now) at g) (rw (a, b, now) at h) is;
       values = k;
       glanced = seen;
       grid = grid;
+      placed = placed;
       lasting = lasting ∙ rw (a, now) (sym (lasting_next w.clients w.objects moves (coming w) is.peopled));
       has_going = stir;
     }
 
-pub fresh_world : (seed clients radius : ℕ) (os all : List Object) (rows : List Row) (ws : List Write) (glances : List Glance) (cells : GridParts) (always going : List ℕ) → length os ≤ 1024 → AllByRecursion ObjectFits os → IsPeopled clients os → all ≡ os → rows ≡ map fresh_row os → glances ≡ map glance_of all → IsGrid cells all → always ≡ numbers lasts 0 all → HasGoing going all → IsKept (record { seed = seed; clients = clients; radius = radius; ticks = 0; objects = all; versions = map row_counts rows; writes = ws }) rows glances cells always going
-fresh_world seed clients radius os all rows ws glances cells always going few fits peopled e f seen grid lasting stir =
+pub fresh_world : (seed clients radius : ℕ) (os all : List Object) (rows : List Row) (ws : List Write) (glances : List Glance) (cells : GridParts) (places : PlaceLists) (always going : List ℕ) → length os ≤ 1024 → AllByRecursion ObjectFits os → IsPeopled clients os → all ≡ os → rows ≡ map fresh_row os → glances ≡ map glance_of all → IsGrid cells all → ArePlaced places all → always ≡ numbers lasts 0 all → HasGoing going all → IsKept (record { seed = seed; clients = clients; radius = radius; ticks = 0; objects = all; versions = map row_counts rows; writes = ws }) rows glances cells places always going
+fresh_world seed clients radius os all rows ws glances cells places always going few fits peopled e f seen grid placed lasting stir =
     record {
       world = rw (e, first_counts os rows f) (record { few = few; versions = of_fields_fresh os; counted = fresh_counted 0 os; fits = fits; peopled = peopled });
       values = first_values os all rows e f;
       glanced = seen;
       grid = grid;
+      placed = placed;
       lasting = lasting;
       has_going = stir;
     }

@@ -19,6 +19,7 @@ use Rattle.world_sim.specs.RowsNext.{row_values}
 use Rattle.world_cells.specs.Grid.{numbers, lasts, place_told}
 use Rattle.world_cells.specs.Cells.{IsGrid}
 use Rattle.world_cells.specs.Lines.{GridParts}
+use Rattle.world_places.specs.Places.{PlaceLists, ArePlaced}
 use Rattle.world_sim.specs.declared.glance.Glance.{Glance}
 use Rattle.world_sim.specs.Glances.{glance_of}
 use Rattle.world_sim.specs.Turns.{HasGoing}
@@ -73,13 +74,15 @@ pub record IsWorld (w : Worlds) : Type 0 where
   pub fits : AllByRecursion ObjectFits w.objects
   pub peopled : IsPeopled w.clients w.objects
 
--- a world as the code keeps it: each row has its object's values, each cell the numbers of those that lie in it, there is a
--- glance at each object, and a set has the numbers of all that may still change
-pub record IsKept (w : Worlds) (rows : List Row) (glances : List Glance) (cells : GridParts) (always going : List ℕ) : Type 0 where
+-- a world as the code keeps it: each row has its object's values, each cell the numbers of those that lie in it, there are a
+-- glance and a place for each object, and a set has the numbers of all that may still change
+pub record IsKept (w : Worlds) (rows : List Row) (glances : List Glance) (cells : GridParts) (places : PlaceLists)
+    (always going : List ℕ) : Type 0 where
   pub world : IsWorld w
   pub values : map row_values rows ≡ map values_of w.objects
   pub glanced : glances ≡ map glance_of w.objects
   pub grid : IsGrid cells w.objects
+  pub placed : ArePlaced places w.objects
   pub lasting : always ≡ numbers lasts 0 w.objects
   pub has_going : HasGoing going w.objects
 

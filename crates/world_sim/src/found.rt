@@ -228,7 +228,7 @@ fn find_one(
         ≡ (if is_hitting objects.now o.now || is_triggered_by standing.now o.now then slice_set marks.old.items number true
         else marks.old.items)) }
 {
-    if glance.may_matter(watched) {
+    if glance.may_matter(watched, &o.place) {
         find_this(
             number, o, cells, objects, watched, standing, flags, hitting, triggered, marks,
         )

@@ -30,7 +30,6 @@ pub enum Role {
 /// What a glance at an object tells.
 #[derive(Clone, Copy, Debug, PartialEq, Eq)]
 pub struct Glance {
-    pub place: Place,
     /// 0 or 1.
     pub team: u8,
     pub alive: bool,
@@ -67,7 +66,6 @@ pub fn glance_of(o: &Object) -> Glance
     ensures { result ≡ glance_of o.now }
 {
     Glance {
-        place: o.place,
         team: o.team,
         alive: o.alive,
         role: role_of(o),
@@ -116,16 +114,16 @@ impl Glance {
         matches!(self.role, Role::ArmedMine | Role::OldMine)
     }
 
-    // Whether it may be a disc that hits, a mine that is triggered, or a flag.
-    pub(crate) fn may_matter(&self, watched: &[bool]) -> bool
+    // Whether it may be a disc that hits, a mine that is triggered, or a flag. Only an armed mine's place is looked at.
+    pub(crate) fn may_matter(&self, watched: &[bool], place: &Place) -> bool
         requires { length watched.now ≡ PLOTS }
-        ensures { result ≡ may_matter watched.now self.now }
+        ensures { result ≡ may_matter watched.now place.now self.now }
     {
         if matches!(self.role, Role::Drone) {
             return false;
         }
         if self.is_armed_mine() {
-            return is_watched(watched, &self.place);
+            return is_watched(watched, place);
         }
         if !matches!(self.role, Role::Disc | Role::Flag) {
             return false;

@@ -1,10 +1,12 @@
 //! The world of a match, tick by tick. Its rules stand in docs/world.md.
 #![tactic(auto)]
 
+mod advance;
 mod discs;
 mod found;
 mod glance;
 pub mod laws;
+mod mines;
 mod near;
 mod rows;
 mod start;

@@ -1,7 +1,10 @@
-//! What a world starts with: its first objects, their rows and glances, and what every client sees.
+//! What a world starts with: its first objects, their rows, glances and places, and what every client sees.
 ghost use Rattle.std.specs.Prelude.{◌≡◌, ◌≤◌, length, map, IfOk};
+ghost use Rattle.std.specs.List.{AllByRecursion};
 ghost use Rattle.world_rules.specs.Spawning.{first_objects};
+ghost use Rattle.world_rules.specs.Ranges.{ObjectFits};
 ghost use Rattle.world_cells.specs.Grid.{numbers, lasts, is_always};
+ghost use Rattle.world_places.specs.Places.{ArePlaced};
 ghost use Rattle.world_sim.specs.RowsNext.{fresh_row};
 ghost use Rattle.world_sim.specs.Glances.{glance_of};
 
@@ -9,6 +12,7 @@ use crate::glance::{Glance, glance_of};
 use crate::rows::{Row, fresh_row};
 use std::alloc::{AllocError, Global};
 use tn_types::MAX_OBJECTS;
+use world_places::Places;
 use world_rules::{Object, Spawn, State};
 
 // The objects at the start.
@@ -45,6 +49,19 @@ pub fn first_glances(alloc: Global, objects: &[Object]) -> Result<Vec<Glance>, A
         glances.push(glance_of(o))?;
     }
     Ok(glances)
+}
+
+// The places of the first objects.
+pub fn first_places(alloc: Global, objects: &[Object]) -> Result<Places, AllocError>
+    requires few { length objects.now ≤ MAX_OBJECTS }
+    requires fits { AllByRecursion ObjectFits objects.now }
+    ensures { IfOk result (λ places. ArePlaced places objects.now) }
+{
+    let mut places = Places::new(alloc)?;
+    for (i, o) in objects.iter().enumerate() {
+        places.settle(i as u32, o);
+    }
+    Ok(places)
 }
 
 // Whether an object's kind is always seen.

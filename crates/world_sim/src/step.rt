@@ -2,14 +2,15 @@
 ghost use Rattle.std.specs.Prelude.{◌≡◌, ℕ, ◌<◌, ◌≤◌, ◌-◌, ◌+◌, ◌*◌, ◌/◌, ◌++◌, ◌∷◌, [], List, map, length, filter, slice_get, slice_set, Some, true, false, vec_capacity};
 ghost use Rattle.std.specs.List.{AllByRecursion};
 ghost use Rattle.world_rules.specs.declared.object.Object.{Object};
-ghost use Rattle.world_rules.specs.declared.object.State.TheVariants.{Drone as drone_of, Mine as mine_of};
+ghost use Rattle.world_rules.specs.declared.object.State.TheVariants.{Drone as drone_of};
 ghost use Rattle.world_rules.specs.Near.{is_target, is_standing};
 ghost use Rattle.world_rules.specs.Discs.{harm, hits};
 ghost use Rattle.world_rules.specs.Players.{damage};
 ghost use Rattle.world_rules.specs.Next.{object_next};
-ghost use Rattle.world_rules.specs.Mines.{is_armed_part, mine_next};
 ghost use Rattle.world_rules.specs.Drones.{drone_next};
-ghost use Rattle.world_sim.specs.Rows.{values_of, row_writes, as_number};
+ghost use Rattle.world_rules.specs.Ranges.{PlaceFits, ObjectFits};
+ghost use Rattle.world_places.specs.Places.{ArePlaced};
+ghost use Rattle.world_sim.specs.Rows.{values_of, row_writes};
 ghost use Rattle.world_sim.specs.RowsNext.{row_values, row_next, rows_updated, rows_writes, IsSoundRow};
 ghost use Rattle.world_cells.specs.Cells.{IsGrid, spot};
 ghost use Rattle.world_cells.specs.declared.cells.TheConstants.{CELL_SIDE};
@@ -20,17 +21,19 @@ ghost use Rattle.std.specs.Option.{option_map_or};
 
 use crate::found::{Found, count_near, count_of};
 use crate::glance::{Glance, glance_of};
+use crate::mines::step_mine;
 use crate::rows::{Row, Write, change_row, change_three, change_two};
 use tn_types::{MAX_OBJECTS, Move};
 use world_cells::{CELL_SIDE, Cells, NumberSet, spot};
+use world_places::Places;
 use world_rules::fire::move_of;
 use world_rules::flags::{clock_next, flag_next};
 use world_rules::measures::{DISC_HARM, DISC_REACH, MINE_HARM, MINE_REACH};
 use world_rules::movers::{
-    disc_next, drawn, drift_drone, drone_next, mine_next, player_next, turn_drone, turn_mine,
+    disc_next, drawn, drift_drone, drone_next, mine_next, player_next, turn_drone,
 };
 use world_rules::object::MAX_AGE;
-use world_rules::{Drone, Mine, Object, State};
+use world_rules::{Drone, Object, State};
 
 /// What the rules read of the world before the tick.
 #[derive(Clone, Copy)]
@@ -141,25 +144,26 @@ fn drift(
     d: &Drone,
     object: &mut Object,
     row: &mut Row,
-    glance: &mut Glance,
     cells: &mut Cells,
+    places: &mut Places,
     writes: &mut Vec<Write>,
 )
     requires number { number < MAX_OBJECTS }
     requires drone { object.old.state ≡ drone_of d.now }
     requires alive { object.old.alive ≡ true }
     requires sound { IsSoundRow row.old }
-    requires glance { glance.old ≡ glance_of object.old }
     requires values { row.old.values.items ≡ values_of object.old }
     requires room { length writes.old.items + 5 ≤ vec_capacity writes.old }
     requires whole { 0 < d.now.hp }
     ensures object { object.new ≡ drone_next r 0 object.old d.now }
-    ensures glance { glance.new ≡ glance_of object.new }
+    ensures glance { glance_of object.new ≡ glance_of object.old }
     ensures row { row.new ≡ row_next row.old object.new }
     ensures writes { writes.new.items ≡ writes.old.items
         ++ row_writes number 0 row.old.values.items (values_of object.new) row.old.versions.items }
     ensures grid { (before behind : List Object) → length before ≡ number → IsGrid cells.old (before ++ object.old ∷ behind)
         → IsGrid cells.new (before ++ object.new ∷ behind) }
+    ensures placed { (before behind : List Object) → length before ≡ number → PlaceFits object.new.place
+        → ArePlaced places.old (before ++ object.old ∷ behind) → ArePlaced places.new (before ++ object.new ∷ behind) }
     ensures few { length writes.new.items ≤ length writes.old.items + 5 }
     ensures kept { vec_capacity writes.old ≤ vec_capacity writes.new }
 {
@@ -170,8 +174,7 @@ fn drift(
     let now_x = object.place.x;
     let now_y = object.place.y;
     change_two(number, row, now_x, now_y, writes);
-    glance.place.x = now_x;
-    glance.place.y = now_y;
+    places.shift(number, now_x, now_y);
     come_from(x, y, now_x, now_y, from, number, object, cells);
 }
 
@@ -186,6 +189,7 @@ fn hurt(
     row: &mut Row,
     glance: &mut Glance,
     cells: &mut Cells,
+    places: &mut Places,
     writes: &mut Vec<Write>,
 )
     requires number { number < MAX_OBJECTS }
@@ -202,6 +206,8 @@ fn hurt(
         ++ row_writes number 0 row.old.values.items (values_of object.new) row.old.versions.items }
     ensures grid { (before behind : List Object) → length before ≡ number → IsGrid cells.old (before ++ object.old ∷ behind)
         → IsGrid cells.new (before ++ object.new ∷ behind) }
+    ensures placed { (before behind : List Object) → length before ≡ number → PlaceFits object.new.place
+        → ArePlaced places.old (before ++ object.old ∷ behind) → ArePlaced places.new (before ++ object.new ∷ behind) }
     ensures few { length writes.new.items ≤ length writes.old.items + 5 }
     ensures kept { vec_capacity writes.old ≤ vec_capacity writes.new }
 {
@@ -209,9 +215,8 @@ fn hurt(
     turn_drone(r, harm, object, d);
     let hp = d.hp.saturating_sub(harm);
     change_three(number, row, object.place.x, object.place.y, hp, writes);
-    glance.place.x = object.place.x;
-    glance.place.y = object.place.y;
     glance.alive = object.alive;
+    places.shift(number, object.place.x, object.place.y);
     cells.shift(number, from, spot(object));
 }
 
@@ -224,6 +229,7 @@ fn step_drone(
     row: &mut Row,
     glance: &mut Glance,
     cells: &mut Cells,
+    places: &mut Places,
     writes: &mut Vec<Write>,
 )
     requires discs { length old.now.found.now.hitting.items ≤ MAX_OBJECTS }
@@ -242,62 +248,20 @@ fn step_drone(
         ++ row_writes number 0 row.old.values.items (values_of object.new) row.old.versions.items }
     ensures grid { (before behind : List Object) → length before ≡ number → IsGrid cells.old (before ++ object.old ∷ behind)
         → IsGrid cells.new (before ++ object.new ∷ behind) }
+    ensures placed { (before behind : List Object) → length before ≡ number → PlaceFits object.new.place
+        → ArePlaced places.old (before ++ object.old ∷ behind) → ArePlaced places.new (before ++ object.new ∷ behind) }
     ensures few { length writes.new.items ≤ length writes.old.items + 5 }
     ensures kept { vec_capacity writes.old ≤ vec_capacity writes.new }
 {
     let r = drawn(old.seed, d.number, old.tick);
     let harm = harm(old, object);
     if harm > 0 || d.hp == 0 {
-        hurt(r, harm, number, &d, object, row, glance, cells, writes);
+        hurt(
+            r, harm, number, &d, object, row, glance, cells, places, writes,
+        );
     } else {
-        drift(r, number, &d, object, row, glance, cells, writes);
+        drift(r, number, &d, object, row, cells, places, writes);
     }
-}
-
-// Whether a mine is armed.
-fn armed_number(o: &Object) -> u32
-    ensures { result ≡ as_number (is_armed_part o.now.state) }
-{
-    match &o.state {
-        State::Mine(m) => u32::from(m.armed),
-        _ => 0,
-    }
-}
-
-// A mine's tick, where it lies.
-#[inline(never)]
-fn step_mine(
-    number: u32,
-    ending: bool,
-    m: Mine,
-    object: &mut Object,
-    row: &mut Row,
-    glance: &mut Glance,
-    cells: &mut Cells,
-    writes: &mut Vec<Write>,
-)
-    requires number { number < MAX_OBJECTS }
-    requires mine { object.old.state ≡ mine_of m }
-    requires sound { IsSoundRow row.old }
-    requires glance { glance.old ≡ glance_of object.old }
-    requires values { row.old.values.items ≡ values_of object.old }
-    requires room { length writes.old.items + 5 ≤ vec_capacity writes.old }
-    ensures object { object.new ≡ mine_next ending object.old m }
-    ensures glance { glance.new ≡ glance_of object.new }
-    ensures row { row.new ≡ row_next row.old object.new }
-    ensures writes { writes.new.items ≡ writes.old.items
-        ++ row_writes number 0 row.old.values.items (values_of object.new) row.old.versions.items }
-    ensures grid { (before behind : List Object) → length before ≡ number → IsGrid cells.old (before ++ object.old ∷ behind)
-        → IsGrid cells.new (before ++ object.new ∷ behind) }
-    ensures few { length writes.new.items ≤ length writes.old.items + 5 }
-    ensures kept { vec_capacity writes.old ≤ vec_capacity writes.new }
-{
-    let from = spot(object);
-    turn_mine(ending, object, &m);
-    let armed = armed_number(object);
-    change_three(number, row, object.place.x, object.place.y, armed, writes);
-    *glance = glance_of(object);
-    cells.shift(number, from, spot(object));
 }
 
 // The tick of an object of any kind, which the loop of turns calls, so that it keeps what a drone's turn needs at hand.
@@ -310,6 +274,7 @@ fn step_any(
     row: &mut Row,
     glance: &mut Glance,
     cells: &mut Cells,
+    places: &mut Places,
     writes: &mut Vec<Write>,
 )
     requires discs { length old.now.found.now.hitting.items ≤ MAX_OBJECTS }
@@ -328,6 +293,8 @@ fn step_any(
         ++ row_writes number 0 row.old.values.items (values_of object.new) row.old.versions.items }
     ensures grid { (before behind : List Object) → length before ≡ number → IsGrid cells.old (before ++ object.old ∷ behind)
         → IsGrid cells.new (before ++ object.new ∷ behind) }
+    ensures placed { (before behind : List Object) → length before ≡ number → PlaceFits object.new.place
+        → ArePlaced places.old (before ++ object.old ∷ behind) → ArePlaced places.new (before ++ object.new ∷ behind) }
     ensures few { length writes.new.items ≤ length writes.old.items + 5 }
     ensures kept { vec_capacity writes.old ≤ vec_capacity writes.new }
 {
@@ -335,10 +302,11 @@ fn step_any(
     change_row(number, row, &now, writes);
     cells.resettle(number, object, &now);
     *glance = glance_of(&now);
+    places.settle(number, &now);
     *object = now;
 }
 
-// One object's tick, in its row and in the cells.
+// One object's tick, in its row, the cells and the places.
 fn turn(
     old: &Old<'_, '_>,
     number: u32,
@@ -347,6 +315,7 @@ fn turn(
     row: &mut Row,
     glance: &mut Glance,
     cells: &mut Cells,
+    places: &mut Places,
     writes: &mut Vec<Write>,
 )
     requires discs { length old.now.found.now.hitting.items ≤ MAX_OBJECTS }
@@ -365,12 +334,14 @@ fn turn(
         ++ row_writes number 0 row.old.values.items (values_of object.new) row.old.versions.items }
     ensures grid { (before behind : List Object) → length before ≡ number → IsGrid cells.old (before ++ object.old ∷ behind)
         → IsGrid cells.new (before ++ object.new ∷ behind) }
+    ensures placed { (before behind : List Object) → length before ≡ number → PlaceFits object.new.place
+        → ArePlaced places.old (before ++ object.old ∷ behind) → ArePlaced places.new (before ++ object.new ∷ behind) }
     ensures few { length writes.new.items ≤ length writes.old.items + 5 }
     ensures kept { vec_capacity writes.old ≤ vec_capacity writes.new }
 {
     if let State::Drone(d) = object.state {
         if object.alive {
-            step_drone(old, number, d, object, row, glance, cells, writes);
+            step_drone(old, number, d, object, row, glance, cells, places, writes);
         }
         return;
     }
@@ -378,10 +349,14 @@ fn turn(
         return;
     }
     if let State::Mine(m) = object.state {
-        step_mine(number, ending, m, object, row, glance, cells, writes);
+        step_mine(
+            number, ending, m, object, row, glance, cells, places, writes,
+        );
         return;
     }
-    step_any(old, number, ending, object, row, glance, cells, writes);
+    step_any(
+        old, number, ending, object, row, glance, cells, places, writes,
+    );
 }
 
 // Takes an object that is over out of those that may still change.
@@ -427,7 +402,7 @@ fn next_turn(
     at
 }
 
-/// Each object after the tick, with its row, its cell and the writes. What is over has no turn.
+/// Each object after the tick, with its row, its cell, its place and the writes. What is over has no turn.
 #[inline(never)]
 pub fn turn_all(
     old: &Old<'_, '_>,
@@ -435,6 +410,7 @@ pub fn turn_all(
     rows: &mut Vec<Row>,
     glances: &mut Vec<Glance>,
     cells: &mut Cells,
+    places: &mut Places,
     going: &mut NumberSet,
     writes: &mut Vec<Write>,
 )
@@ -443,6 +419,8 @@ pub fn turn_all(
     requires sound { AllByRecursion IsSoundRow rows.old.items }
     requires glances { glances.old.items ≡ map glance_of objects.old.items }
     requires grid { IsGrid cells.old objects.old.items }
+    requires placed { ArePlaced places.old objects.old.items }
+    requires fits { AllByRecursion ObjectFits objects.old.items }
     requires going { HasGoing going.old objects.old.items }
     requires none { writes.old.items ≡ [] }
     requires room { 5 * MAX_OBJECTS ≤ vec_capacity writes.old }
@@ -451,6 +429,7 @@ pub fn turn_all(
     ensures writes { writes.new.items ≡ rows_writes 0 rows.old.items objects.new.items }
     ensures glances { glances.new.items ≡ map glance_of objects.new.items }
     ensures grid { IsGrid cells.new objects.new.items }
+    ensures placed { ArePlaced places.new objects.new.items }
     ensures going { HasGoing going.new objects.new.items }
     ensures kept { vec_capacity objects.old ≤ vec_capacity objects.new }
     ensures rows_kept { vec_capacity rows.old ≤ vec_capacity rows.new }
@@ -463,7 +442,9 @@ pub fn turn_all(
         let object = &mut objects[i];
         let row = &mut rows[i];
         let glance = &mut glances[i];
-        turn(old, i as u32, ending, object, row, glance, cells, writes);
+        turn(
+            old, i as u32, ending, object, row, glance, cells, places, writes,
+        );
         leave_over(i as u32, glance, going);
         i = next_turn(going, glances, &old.found.marks, i + 1, many);
     }

@@ -1,53 +1,29 @@
 //! The world and its ticks.
-ghost use Rattle.std.specs.Prelude.{◌≡◌, ℕ, vec_capacity, ◌<◌, ◌≤◌, ◌+◌, ◌-◌, ◌*◌, ◌^◌, ◌++◌, List, length, map, OnOk, OnErr, [], IfOk, IfSome, slice_get, Some};
+ghost use Rattle.std.specs.Prelude.{◌≡◌, ℕ, ◌<◌, ◌≤◌, ◌+◌, ◌-◌, ◌*◌, ◌^◌, length, map, OnOk, OnErr, IfOk, IfSome, Some};
 ghost use Rattle.std.specs.List.{AllByRecursion};
-ghost use Rattle.world_rules.specs.Next.{objects_next, discs_made};
 ghost use Rattle.world_rules.specs.Spawning.{first_objects, SetupFits};
 ghost use Rattle.world_rules.specs.Ranges.{ObjectFits};
-ghost use Rattle.world_rules.specs.Identity.{IsPeopled, LivesOn};
+ghost use Rattle.world_rules.specs.Identity.{IsPeopled};
 ghost use Rattle.world_sim.specs.Worlds.{WasCounted, next, first_world, alive_at, kind_at, block_at, values_at, version_at, identity_at, player_of, place_at};
 ghost use Rattle.world_cells.specs.Grid.{numbers, lasts, lies_at, lies_between};
 ghost use Rattle.world_cells.specs.Lines.{AreBits};
 ghost use Rattle.world_sim.specs.Facts.{IsWriteOf, ValuesFit};
-ghost use Rattle.world_sim.specs.Rows.{values_of, world_writes};
-ghost use Rattle.world_cells.specs.Cells.{IsGrid};
-ghost use Rattle.world_sim.specs.Found.{AreFound, PlayersFirst};
+ghost use Rattle.world_places.specs.Places.{ArePlaced};
 ghost use Rattle.world_sim.specs.Glances.{glance_of};
-ghost use Rattle.world_sim.specs.Turns.{HasGoing};
-ghost use Rattle.world_sim.specs.RowsNext.{fresh_row, row_values, row_counts, rows_next, IsSoundRow};
 
-use crate::discs::make_discs;
-use crate::found::{Found, captures_of, find_all, nothing, place_of_player};
-use crate::glance::{Glance, glance_of};
-use crate::rows::{Row, Write, fresh_row};
-use crate::start::{first_glances, first_rows, lasting, start_objects};
-use crate::step::{Old, turn_all};
+use crate::advance::{MAX_WRITES, Work, advance, workroom};
+use crate::found::place_of_player;
+use crate::glance::Glance;
+use crate::rows::{Row, Write};
+use crate::start::{first_glances, first_places, first_rows, lasting, start_objects};
 use std::alloc::{AllocError, Global};
 use std::marker::Model;
 use std::mem;
 use std::sync::ledger::Ledger;
-use tn_types::{MAX_CLIENTS, MAX_OBJECTS, Move, NoMemory, Steps};
+use tn_types::{MAX_OBJECTS, Move, NoMemory, Steps};
 use world_cells::{CELLS_ACROSS, Cells, NumberSet, has_place};
+use world_places::Places;
 use world_rules::{Object, Setup};
-
-// Writes of a tick at the most: five fields of each object.
-const MAX_WRITES: usize = 5 * MAX_OBJECTS;
-
-// What a tick works in. All room is made at the start.
-#[derive(Drop)]
-pub struct Work {
-    pub made: Vec<Object>,
-    pub after_writes: Vec<Write>,
-    pub found: Found,
-}
-
-fn workroom(alloc: Global) -> Result<Work, AllocError> {
-    Ok(Work {
-        made: Vec::with_capacity(alloc, MAX_CLIENTS as usize)?,
-        after_writes: Vec::with_capacity(alloc, MAX_WRITES)?,
-        found: nothing(alloc)?,
-    })
-}
 
 /// The objects of a match, tick by tick. A tick first finds what its rules read and makes all room that it needs, and then
 /// changes each object in place, so every rule reads the world before it, and want of memory leaves it unchanged.
@@ -64,6 +40,8 @@ pub struct World {
     glances: Vec<Glance>,
     // The living by the cell that they lie in.
     cells: Cells,
+    // Where each object is.
+    places: Places,
     // The numbers of what every client sees. No tick makes or ends one.
     always: Vec<u32>,
     // The numbers of all that may still change.
@@ -84,6 +62,7 @@ impl Drop for World {
             writes: _writes,
             glances: _glances,
             cells: _cells,
+            places: _places,
             always: _always,
             going: _going,
             work: _work,
@@ -116,133 +95,7 @@ impl Model for World {
       objects = w.objects.items;
       versions = map row_counts w.rows.items;
       writes = w.writes.items;
-    }) w.rows.items w.glances.items w.cells w.always.items w.going };
-}
-
-// What a tick goes by: what is found, the discs that are made, and the room that it needs.
-fn prepare(
-    objects: &mut Vec<Object>,
-    rows: &mut Vec<Row>,
-    glances: &mut Vec<Glance>,
-    cells: &Cells,
-    going: &NumberSet,
-    moves: &[Option<Move>],
-    work: &mut Work,
-) -> Result<(), AllocError>
-    requires few { length objects.old.items ≤ MAX_OBJECTS }
-    requires going { HasGoing going.now objects.old.items }
-    requires grid { IsGrid cells.now objects.old.items }
-    requires glances { glances.old.items ≡ map glance_of objects.old.items }
-    requires first { PlayersFirst objects.old.items }
-    requires alive { AllByRecursion LivesOn objects.old.items }
-    requires fits { AllByRecursion ObjectFits objects.old.items }
-    ensures objects { objects.new.items ≡ objects.old.items }
-    ensures rows { rows.new.items ≡ rows.old.items }
-    ensures glances { glances.new.items ≡ glances.old.items }
-    ensures found { OnOk result (AreFound objects.old.items work.new.found) }
-    ensures made { OnOk result (work.new.made.items ≡ discs_made objects.old.items moves.now) }
-    ensures few { OnOk result (length objects.old.items + length work.new.made.items ≤ MAX_OBJECTS) }
-    ensures none { OnOk result (work.new.after_writes.items ≡ []) }
-    ensures room { OnOk result (length objects.old.items + length work.new.made.items ≤ vec_capacity objects.new) }
-    ensures rows_room { OnOk result (length rows.old.items + length work.new.made.items ≤ vec_capacity rows.new) }
-    ensures glances_room { OnOk result (length glances.old.items + length work.new.made.items ≤ vec_capacity glances.new) }
-    ensures writes_room { OnOk result (5 * MAX_OBJECTS ≤ vec_capacity work.new.after_writes) }
-{
-    find_all(cells, objects, glances, going, &mut work.found)?;
-    let room = MAX_OBJECTS - objects.len();
-    make_discs(&work.found.standing, moves, room, &mut work.made)?;
-    objects.reserve(work.made.len())?;
-    rows.reserve(work.made.len())?;
-    glances.reserve(work.made.len())?;
-    work.after_writes.clear();
-    work.after_writes.reserve(MAX_WRITES)?;
-    Ok(())
-}
-
-// The discs that were made, behind the other objects.
-fn add_made(
-    made: &[Object],
-    objects: &mut Vec<Object>,
-    rows: &mut Vec<Row>,
-    glances: &mut Vec<Glance>,
-    cells: &mut Cells,
-)
-    requires few { length objects.old.items + length made.now ≤ MAX_OBJECTS }
-    requires room { length objects.old.items + length made.now ≤ vec_capacity objects.old }
-    requires rows_room { length rows.old.items + length made.now ≤ vec_capacity rows.old }
-    requires glances_room { length glances.old.items + length made.now ≤ vec_capacity glances.old }
-    requires glances { glances.old.items ≡ map glance_of objects.old.items }
-    requires grid { IsGrid cells.old objects.old.items }
-    ensures objects { objects.new.items ≡ objects.old.items ++ made.now }
-    ensures rows { rows.new.items ≡ rows.old.items ++ map fresh_row made.now }
-    ensures glances { glances.new.items ≡ map glance_of objects.new.items }
-    ensures grid { IsGrid cells.new objects.new.items }
-{
-    for o in made {
-        cells.settle(objects.len() as u32, o);
-        rows.push_reserved(fresh_row(o));
-        glances.push_reserved(glance_of(o));
-        objects.push_reserved(*o);
-    }
-}
-
-// The objects, rows and cells after a tick, and what the tick writes. For want of memory they stay.
-fn advance(
-    objects: &mut Vec<Object>,
-    rows: &mut Vec<Row>,
-    glances: &mut Vec<Glance>,
-    cells: &mut Cells,
-    going: &mut NumberSet,
-    moves: &[Option<Move>],
-    seed: u32,
-    tick: u32,
-    work: &mut Work,
-) -> Result<(), AllocError>
-    requires few { length objects.old.items ≤ MAX_OBJECTS }
-    requires going { HasGoing going.old objects.old.items }
-    requires kept { map row_values rows.old.items ≡ map values_of objects.old.items }
-    requires sound { AllByRecursion IsSoundRow rows.old.items }
-    requires grid { IsGrid cells.old objects.old.items }
-    requires glances { glances.old.items ≡ map glance_of objects.old.items }
-    requires first { PlayersFirst objects.old.items }
-    requires alive { AllByRecursion LivesOn objects.old.items }
-    requires fits { AllByRecursion ObjectFits objects.old.items }
-    ensures objects { OnOk result (objects.new.items
-        ≡ objects_next objects.old.items moves.now (record { seed = seed; tick = tick })) }
-    ensures rows { OnOk result (rows.new.items ≡ rows_next rows.old.items objects.new.items) }
-    ensures writes { OnOk result (work.new.after_writes.items
-        ≡ world_writes 0 objects.old.items objects.new.items (map row_counts rows.old.items)) }
-    ensures glances { OnOk result (glances.new.items ≡ map glance_of objects.new.items) }
-    ensures grid { OnOk result (IsGrid cells.new objects.new.items) }
-    ensures going { OnOk result (HasGoing going.new objects.new.items) }
-    ensures same { OnErr result (objects.new.items ≡ objects.old.items) }
-    ensures rows_same { OnErr result (rows.new.items ≡ rows.old.items) }
-    ensures glances_same { OnErr result (glances.new.items ≡ glances.old.items) }
-    ensures cells_same { OnErr result (cells.new ≡ cells.old) }
-    ensures going_same { OnErr result (going.new ≡ going.old) }
-{
-    prepare(objects, rows, glances, cells, going, moves, work)?;
-    let red = captures_of(objects, &work.found.flags, 0) as u32;
-    let blue = captures_of(objects, &work.found.flags, 1) as u32;
-    let old = Old {
-        found: &work.found,
-        red,
-        blue,
-        moves,
-        seed,
-        tick,
-    };
-    turn_all(
-        &old,
-        objects,
-        rows,
-        glances,
-        cells,
-        going,
-        &mut work.after_writes,
-    );
-    add_made(&work.made, objects, rows, glances, cells);
-    Ok(())
+    }) w.rows.items w.glances.items w.cells w.places w.always.items w.going };
 }
 
 impl World {
@@ -270,6 +123,7 @@ impl World {
         let writes = Vec::with_capacity(alloc, MAX_WRITES)?;
         let always = lasting(alloc, &objects)?;
         let going = NumberSet::all(alloc)?;
+        let places = first_places(alloc, &objects)?;
         let mut cells = Cells::new(alloc)?;
         let work = workroom(alloc)?;
         cells.settle_from(0, &objects);
@@ -283,6 +137,7 @@ impl World {
             writes,
             glances,
             cells,
+            places,
             always,
             going,
             work,
@@ -321,6 +176,7 @@ impl World {
             &mut self.rows,
             &mut self.glances,
             &mut self.cells,
+            &mut self.places,
             &mut self.going,
             moves,
             self.seed,
@@ -427,6 +283,13 @@ impl World {
         ensures few { length result.now ≤ MAX_OBJECTS }
     {
         self.glances.as_slice()
+    }
+
+    /// Where each object is, dead ones too, in words of 64.
+    pub fn places(&self) -> &Places
+        ensures placed { ArePlaced result.now self.now.objects }
+    {
+        &self.places
     }
 
     /// A look at an object, which takes one step: its place in centimetres, `None` exactly for a clock.

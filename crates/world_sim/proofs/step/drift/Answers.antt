@@ -1,8 +1,9 @@
-use Rattle.std.proofs.Common.{◌≡◌, ◌∙◌, ◌++◌, ◌∷◌, [], List, sym, ap}
+use Rattle.std.proofs.Common.{refl, ◌≡◌, ◌∙◌, ◌++◌, ◌∷◌, [], List, sym, ap}
 use Rattle.std.specs.Prelude.{ℤ, pos, slice_index_or}
 use Rattle.world_sim.specs.Rows.{values_of, row_writes}
 use Rattle.world_sim.proofs.Glancing.{drift_glance}
 use Rattle.world_sim.proofs.Turns.{three_of_drone, drift_told, row_told, drift_spot}
+use Rattle.world_sim.proofs.Placing.{drone_special}
 use Rattle.world_sim.proofs.step.drift.Goals as goal
 
 pub change_two-requires-clause-three : goal.change_two-requires-clause-three
@@ -21,9 +22,14 @@ returns-clause-writes c =
     c.change_two.ensures.writes ∙ ap (λ (xs : List ℤ). c.args.writes.now.items ++ row_writes c.args.number 0 c.args.row.now.values.items xs c.args.row.now.versions.items) (sym told)
 
 pub returns-clause-glance : goal.returns-clause-glance
-returns-clause-glance c = drift_glance c.args.r c.args.object.now c.drift_drone.new.o c.args.glance.now c.args.d.now c.requires.alive c.requires.drone c.requires.whole c.drift_drone.ensures c.requires.glance
+returns-clause-glance c = drift_glance c.args.r c.args.object.now c.drift_drone.new.o c.args.d.now c.requires.alive c.requires.drone c.requires.whole c.drift_drone.ensures
 
 pub returns-clause-grid : goal.returns-clause-grid
 returns-clause-grid c = λ before behind many grid.
     c.come_from.ensures before behind c.args.object.now many (sym c.spot-from.ensures)
     (drift_spot c.args.r c.args.object.now c.drift_drone.new.o c.args.d.now c.requires.alive c.requires.drone c.requires.whole c.drift_drone.ensures) grid
+
+pub returns-clause-placed : goal.returns-clause-placed
+returns-clause-placed c = λ before behind many fits placed.
+    c.shift.ensures before behind c.args.object.now c.drift_drone.new.o many refl fits
+    (drone_special c.args.r 0 c.args.object.now c.drift_drone.new.o c.args.d.now c.requires.alive c.drift_drone.ensures) placed

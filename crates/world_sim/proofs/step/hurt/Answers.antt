@@ -1,8 +1,9 @@
-use Rattle.std.proofs.Common.{◌≡◌, ◌∙◌, ◌++◌, ◌∷◌, [], List, sym, ap}
+use Rattle.std.proofs.Common.{refl, ◌≡◌, ◌∙◌, ◌++◌, ◌∷◌, [], List, sym, ap}
 use Rattle.std.specs.Prelude.{ℤ, pos}
 use Rattle.world_sim.specs.Rows.{values_of, row_writes}
 use Rattle.world_sim.proofs.Glancing.{drone_glance}
 use Rattle.world_sim.proofs.Turns.{three_of_drone, drone_told, row_told}
+use Rattle.world_sim.proofs.Placing.{drone_special}
 use Rattle.world_sim.proofs.step.hurt.Goals as goal
 
 pub change_three-requires-clause-three : goal.change_three-requires-clause-three
@@ -22,7 +23,12 @@ returns-clause-writes c =
 
 pub returns-clause-grid : goal.returns-clause-grid
 returns-clause-grid c = λ before behind many grid.
-    c.shift.ensures before behind c.args.object.now c.turn_drone.new.o many (sym c.spot-from.ensures) (sym c.spot.ensures) grid
+    c.shift-2.ensures before behind c.args.object.now c.turn_drone.new.o many (sym c.spot-from.ensures) (sym c.spot.ensures) grid
 
 pub returns-clause-glance : goal.returns-clause-glance
 returns-clause-glance c = drone_glance c.args.r c.args.harm c.args.object.now c.turn_drone.new.o c.args.glance.now c.args.d.now c.requires.alive c.requires.drone c.turn_drone.ensures c.requires.glance
+
+pub returns-clause-placed : goal.returns-clause-placed
+returns-clause-placed c = λ before behind many fits placed.
+    c.shift.ensures before behind c.args.object.now c.turn_drone.new.o many refl fits
+    (drone_special c.args.r c.args.harm c.args.object.now c.turn_drone.new.o c.args.d.now c.requires.alive c.turn_drone.ensures) placed

@@ -31,6 +31,7 @@ returns-in-Mine c = record {
   row = c.step_mine.ensures.row;
   writes = c.step_mine.ensures.writes;
   grid = c.step_mine.ensures.grid;
+  placed = c.step_mine.ensures.placed;
   few = c.step_mine.ensures.few;
   kept = c.step_mine.ensures.kept;
 }

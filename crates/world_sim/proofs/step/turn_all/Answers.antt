@@ -16,6 +16,7 @@ use Rattle.world_sim.proofs.RowLoops.{sound_now, update_more, updated_at, length
 use Rattle.world_sim.proofs.Gathered.{hitting_few, triggered_few, mark_at}
 use Rattle.world_sim.proofs.Glancing.{as_many_glances, glance_at, set_glances}
 use Rattle.world_sim.proofs.Turns.{standing_found, row_of_old, stepped_more, stepped_at, stepped_length, stepped_all, grid_turn}
+use Rattle.world_sim.proofs.Placing.{placed_turn, next_place_fits}
 use Rattle.world_sim.proofs.Going.{Turned, over_for_good, quiet_before, turned_passed, none_turned}
 use Rattle.world_sim.proofs.step.turn_all.Goals as goal
 
@@ -132,6 +133,7 @@ loop-i-preserved c =
       most = most;
       glances = glances;
       grid = grid_turn c.loop-i.cells c.turn.new.cells objects i was made long c.index_mut-object.ensures.value c.loop-i.invariant.grid c.turn.ensures.grid;
+      placed = placed_turn c.loop-i.places c.turn.new.places objects i was made long c.index_mut-object.ensures.value (next_place_fits os c.args.old.now.moves.now (moment c.args.old.now) i made c.requires.fits mapped there) c.loop-i.invariant.placed c.turn.ensures.placed;
       going = going;
       few = omega (arith, c.turn.ensures.few, c.loop-i.invariant.few, c.next_turn-i-in-loop-i.ensures.order);
       room = omega (arith, c.turn.ensures.kept, c.loop-i.invariant.room);
@@ -154,6 +156,7 @@ loop-i-init c =
       most = most;
       glances = c.requires.glances;
       grid = c.requires.grid;
+      placed = c.requires.placed;
       going = c.requires.going;
       few = omega (arith, ap (λ (ws : List Write). length ws) c.requires.none);
       room = c.requires.room;

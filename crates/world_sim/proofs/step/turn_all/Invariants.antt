@@ -1,6 +1,7 @@
 use Rattle.std.proofs.Common.{◌≡◌, ◌≤◌, ◌-◌, ◌*◌, length, map, vec_capacity}
 use Rattle.world_rules.specs.Next.{object_next}
 use Rattle.world_cells.specs.Cells.{IsGrid}
+use Rattle.world_places.specs.Places.{ArePlaced}
 use Rattle.world_sim.specs.Turns.{moment, HasGoing}
 use Rattle.world_sim.specs.Glances.{glance_of}
 use Rattle.world_sim.proofs.Going.{Turned}
@@ -15,6 +16,7 @@ invariant-loop-i l =
       most : l.i ≤ length os;
       glances : l.glances.items ≡ map glance_of l.objects.items;
       grid : IsGrid l.cells l.objects.items;
+      placed : ArePlaced l.places l.objects.items;
       going : HasGoing l.going l.objects.items;
       few : length l.writes.items ≤ 5 * l.i;
       room : 5 * 1024 ≤ vec_capacity l.writes;

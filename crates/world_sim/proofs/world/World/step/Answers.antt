@@ -20,10 +20,10 @@ invariant_of-self-2 c =
     let rows : c.advance.new.rows.items ≡ rows_next c.self.inside.rows.items c.advance.new.objects.items = c.in_ok-advance.ensures.rows in
     let many = as_many c.self.inside.rows.items before.objects c.self.invariant.values in
     let more : length c.self.inside.rows.items ≤ length c.advance.new.objects.items = omega (arith, many, more_objects before.objects c.args.moves.now (coming before), ap (λ (os : List Object). length os) objects) in
-    kept_from before c.args.moves.now before.objects before.versions c.advance.new.objects.items c.advance.new.rows.items c.swap.new.x.items c.advance.new.glances.items c.advance.new.cells c.self.inside.always.items c.advance.new.going refl refl objects
+    kept_from before c.args.moves.now before.objects before.versions c.advance.new.objects.items c.advance.new.rows.items c.swap.new.x.items c.advance.new.glances.items c.advance.new.cells c.advance.new.places c.self.inside.always.items c.advance.new.going refl refl objects
     (values_kept c.self.inside.rows.items c.advance.new.rows.items c.advance.new.objects.items rows more)
     (counts_kept c.self.inside.rows.items c.advance.new.rows.items before.objects c.advance.new.objects.items c.self.invariant.values rows)
-    writes c.in_ok-advance.ensures.glances c.in_ok-advance.ensures.grid c.self.invariant.lasting c.in_ok-advance.ensures.going c.self.invariant.world
+    writes c.in_ok-advance.ensures.glances c.in_ok-advance.ensures.grid c.in_ok-advance.ensures.placed c.self.invariant.lasting c.in_ok-advance.ensures.going c.self.invariant.world
 
 pub returns-clause-writes : goal.returns-clause-writes
 returns-clause-writes c =

@@ -2,7 +2,7 @@ use Rattle.std.proofs.Common.{◌≡◌, ◌<◌, ◌≤◌, ◌^◌, ◌++◌, 
 use Rattle.world_scope.specs.Views.{look}
 use Rattle.world_scope.specs.Candidates.{may_see, to_come}
 use Rattle.world_scope.proofs.Rests.{IsRest}
-use Rattle.world_scope.proofs.gather.gather.Given as goal
+use Rattle.world_scope.proofs.gather.gather_words.Given as goal
 
 abbrev pub invariant-loop-rest : goal.invariant-loop-rest
 invariant-loop-rest g l = record {

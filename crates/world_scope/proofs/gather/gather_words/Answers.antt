@@ -7,11 +7,17 @@ use Rattle.world_scope.specs.Views.{look}
 use Rattle.world_scope.specs.Candidates.{may_see, to_come}
 use Rattle.world_scope.proofs.Rests.{IsRest, lowest, rest_next}
 use Rattle.world_scope.proofs.Walking.{mark_few, word_bits, empty_before, empty_behind, come_words, count_words, come_none}
-use Rattle.world_scope.proofs.gather.gather.Goals as goal
+use Rattle.world_scope.proofs.WholeWords.{word_places}
+use Rattle.world_scope.proofs.gather.gather_words.Goals as goal
 
 any_err : {A E P : Type 0} → (r : Result A E) → P → OnErr r P
 any_err (Ok a) p = tt
 any_err (Err e) p = p
+
+pub word-bits-requires : goal.word-bits-requires
+word-bits-requires g c =
+    let some : 0 < c.loop-rest.rest = omega (arith, c.loop-rest-test.true) in
+    mark_few c.marks-rest.result c.loop-rest.rest c.loop-rest.next some c.loop-rest.invariant.fits c.loop-rest.invariant.left c.marks-rest.ensures.few
 
 pub word-requires : goal.word-requires
 word-requires g c =
@@ -24,6 +30,10 @@ gather_word-requires-clause-few g c =
     let few = mark_few c.marks-rest.result c.loop-rest.rest c.loop-rest.next some c.loop-rest.invariant.fits c.loop-rest.invariant.left c.marks-rest.ensures.few in
     omega (arith, few)
 
+pub gather_word-requires-clause-places : goal.gather_word-requires-clause-places
+gather_word-requires-clause-places g c =
+    word_places c.args.places.now c.word.result c.args.world.now.objects (trailing_zeros w64 c.loop-rest.rest) c.requires.placed c.word.ensures
+
 pub gather_word-requires-clause-bits : goal.gather_word-requires-clause-bits
 gather_word-requires-clause-bits g c =
     let p = may_see (look c.args.viewer.now) in
@@ -31,10 +41,10 @@ gather_word-requires-clause-bits g c =
     let s = trailing_zeros w64 c.loop-rest.rest in
     let some : 0 < c.loop-rest.rest = omega (arith, c.loop-rest-test.true) in
     let few = mark_few c.marks-rest.result c.loop-rest.rest c.loop-rest.next some c.loop-rest.invariant.fits c.loop-rest.invariant.left c.marks-rest.ensures.few in
-    subst (λ (w : ℕ). AreBits w (64 * s) 64 p os) (sym c.word.ensures) (word_bits c.args.set.now p os s c.requires.those few)
+    subst (λ (w : ℕ). AreBits w (64 * s) 64 p os) (sym c.word-bits.ensures) (word_bits c.args.set.now p os s c.requires.those few)
 
-pub returns-in_err-gather_word-clause-room : goal.returns-in_err-gather_word-clause-room
-returns-in_err-gather_word-clause-room g c =
+pub returns-in_err-out-clause-room : goal.returns-in_err-out-clause-room
+returns-in_err-out-clause-room g c =
     let v = look c.args.viewer.now in
     let os = c.args.world.now.objects in
     let s = trailing_zeros w64 c.loop-rest.rest in
@@ -44,10 +54,10 @@ returns-in_err-gather_word-clause-room g c =
     let empty = empty_before c.args.set.now c.marks-rest.result c.loop-rest.rest c.loop-rest.next some c.loop-rest.invariant.fits c.loop-rest.invariant.left c.marks-rest.ensures.none in
     let come = come_words c.args.set.now v os c.loop-rest.next s c.requires.those c.requires.owned (omega (arith, low.reached)) (omega (arith, few)) empty in
     let whole : c.loop-rest.out.items ++ to_come v os (64 * s) ≡ to_come v os 0 = ap (λ (ys : List Seen). c.loop-rest.out.items ++ ys) (sym come) ∙ c.loop-rest.invariant.so_far in
-    any_err c.from_residual.result (omega (arith, c.in_err-gather_word.ensures.room, c.loop-rest.invariant.room, c.clear.ensures.capacity, ap (λ (ys : List Seen). length ys) whole))
+    any_err c.from_residual.result (omega (arith, c.in_err-out.ensures.room, c.loop-rest.invariant.room, ap (λ (ys : List Seen). length ys) whole))
 
-pub returns-in_err-gather_word-clause-steps : goal.returns-in_err-gather_word-clause-steps
-returns-in_err-gather_word-clause-steps g c =
+pub returns-in_err-out-clause-steps : goal.returns-in_err-out-clause-steps
+returns-in_err-out-clause-steps g c =
     let p = may_see (look c.args.viewer.now) in
     let os = c.args.world.now.objects in
     let s = trailing_zeros w64 c.loop-rest.rest in
@@ -77,11 +87,11 @@ loop-rest-preserved g c =
       fits = omega (arith, small, c.without_lowest-rest.ensures.less);
       left = subst (λ (n : ℕ). IsRest c.marks-rest.result 0 c.without_lowest-rest.result n) behind (rest_next c.marks-rest.result 0 c.loop-rest.rest c.loop-rest.next c.without_lowest-rest.result some small c.loop-rest.invariant.left c.without_lowest-rest.ensures.bits);
       so_far =
-          ap (λ (n : ℕ). c.gather_word.new.out.items ++ to_come v os n) on
-          ∙ c.in_ok-gather_word.ensures.ok
+          ap (λ (n : ℕ). c.in_ok-out.out.items ++ to_come v os n) on
+          ∙ c.in_ok-out.ensures.ok
           ∙ ap (λ (ys : List Seen). c.loop-rest.out.items ++ ys) (sym come)
           ∙ c.loop-rest.invariant.so_far;
-      room = omega (arith, c.loop-rest.invariant.room, c.gather_word.ensures.kept);
+      room = omega (arith, c.loop-rest.invariant.room, c.in_ok-out.ensures.kept);
       steps =
           let e : count_by (may_see v) (drop (64 * (s + 1)) os) ≡ count_by (may_see v) (drop (64 * s + 64) os) = ap (λ (n : ℕ). count_by (may_see v) (drop n os)) on in
           omega (arith, e, count, c.gather_word.ensures.steps, c.loop-rest.invariant.steps);

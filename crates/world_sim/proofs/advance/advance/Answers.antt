@@ -4,9 +4,11 @@ use Rattle.world_rules.specs.declared.object.Object.{Object}
 use Rattle.world_sim.specs.declared.rows.Row.{Row}
 use Rattle.world_sim.specs.RowsNext.{fresh_row, rows_next, rows_writes}
 use Rattle.world_sim.proofs.Gathered.{flags_few}
+use Rattle.world_sim.proofs.Going.{going_more}
+use Rattle.world_sim.proofs.Placing.{all_fit}
 use Rattle.world_sim.proofs.Kept.{as_many, writes_kept}
 use Rattle.world_sim.proofs.RowLoops.{length_updated, rows_whole, writes_whole}
-use Rattle.world_sim.proofs.world.advance.Goals as goal
+use Rattle.world_sim.proofs.advance.advance.Goals as goal
 
 pub overflow_cast-red : goal.overflow_cast-red
 overflow_cast-red c = omega (arith, c.captures_of-red.ensures.few, ap (λ (xs : List Object). length xs) c.deref-2.ensures.value, flags_few c.args.objects.now.items c.prepare.new.work.found c.in_ok-prepare.ensures.found c.requires.few)
@@ -52,3 +54,11 @@ returns-clause-writes c =
     ∙ ap (rows_writes 0 rows) (sym c.add_made.ensures.objects)
     ∙ ap (λ (xs : List Row). rows_writes 0 xs c.add_made.new.objects.items) c.in_ok-prepare.ensures.rows
     ∙ writes_kept c.args.rows.now.items c.args.objects.now.items c.add_made.new.objects.items (rows_writes 0 c.args.rows.now.items c.add_made.new.objects.items) c.requires.kept refl
+
+pub add_made-requires-clause-fits : goal.add_made-requires-clause-fits
+add_made-requires-clause-fits c =
+    all_fit c.args.objects.now.items c.prepare.new.objects.items c.turn_all.new.objects.items c.deref-5.result.now c.args.moves.now _ c.requires.fits c.in_ok-prepare.ensures.objects c.turn_all.ensures.objects
+    (c.deref-5.ensures.value ∙ c.in_ok-prepare.ensures.made)
+
+pub returns-clause-going : goal.returns-clause-going
+returns-clause-going c = going_more c.turn_all.new.going c.turn_all.new.objects.items c.deref-5.result.now c.add_made.new.objects.items c.add_made.ensures.objects c.turn_all.ensures.going

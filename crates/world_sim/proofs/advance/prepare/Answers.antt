@@ -1,6 +1,6 @@
 use Rattle.std.proofs.Common.{arith}
 use Rattle.world_sim.proofs.Gathered.{prepared}
-use Rattle.world_sim.proofs.world.prepare.Goals as goal
+use Rattle.world_sim.proofs.advance.prepare.Goals as goal
 
 pub returns-clause-made : goal.returns-clause-made
 returns-clause-made c =

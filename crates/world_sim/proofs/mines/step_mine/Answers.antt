@@ -1,8 +1,10 @@
 use Rattle.std.proofs.Common.{◌≡◌, ◌∙◌, ◌++◌, ◌∷◌, [], List, sym, ap}
 use Rattle.std.specs.Prelude.{ℤ, pos}
+use Rattle.world_places.specs.Places.{is_special_part}
 use Rattle.world_sim.specs.Rows.{values_of, row_writes}
 use Rattle.world_sim.proofs.Turns.{three_of_mine, mine_told, row_told}
-use Rattle.world_sim.proofs.step.step_mine.Goals as goal
+use Rattle.world_sim.proofs.Placing.{mine_special, mine_stays}
+use Rattle.world_sim.proofs.mines.step_mine.Goals as goal
 
 pub change_three-requires-clause-three : goal.change_three-requires-clause-three
 change_three-requires-clause-three c = three_of_mine c.args.object.now c.args.m c.args.row.now.values.items c.requires.values c.requires.mine
@@ -22,3 +24,10 @@ returns-clause-writes c =
 pub returns-clause-grid : goal.returns-clause-grid
 returns-clause-grid c = λ before behind many grid.
     c.shift.ensures before behind c.args.object.now c.turn_mine.new.o many (sym c.spot-from.ensures) (sym c.spot.ensures) grid
+
+pub note_armed-requires-clause-mine : goal.note_armed-requires-clause-mine
+note_armed-requires-clause-mine c = mine_special c.args.ending c.args.object.now c.turn_mine.new.o c.args.m c.requires.mine c.turn_mine.ensures
+
+pub returns-clause-placed : goal.returns-clause-placed
+returns-clause-placed c = λ before behind many fits placed.
+    c.note_armed.ensures before behind c.args.object.now many (mine_stays c.args.ending c.args.object.now c.turn_mine.new.o c.args.m c.turn_mine.ensures) (ap is_special_part c.requires.mine) fits placed

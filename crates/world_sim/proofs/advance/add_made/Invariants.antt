@@ -2,7 +2,8 @@ use Rattle.std.proofs.Common.{◌≡◌, ◌≤◌, ◌+◌, ◌++◌, length, t
 use Rattle.world_sim.specs.RowsNext.{fresh_row}
 use Rattle.world_sim.specs.Glances.{glance_of}
 use Rattle.world_cells.specs.Cells.{IsGrid}
-use Rattle.world_sim.proofs.world.add_made.Given as goal
+use Rattle.world_places.specs.Places.{ArePlaced}
+use Rattle.world_sim.proofs.advance.add_made.Given as goal
 
 abbrev pub invariant-loop-o : goal.invariant-loop-o
 invariant-loop-o l = record {
@@ -10,6 +11,7 @@ invariant-loop-o l = record {
   rows : l.rows.items ≡ l.initial.rows.items ++ map fresh_row (take l.o-index l.made);
   glances : l.glances.items ≡ map glance_of l.objects.items;
   grid : IsGrid l.cells l.objects.items;
+  placed : ArePlaced l.places l.objects.items;
   room : vec_capacity l.initial.objects ≤ vec_capacity l.objects;
   rows_room : vec_capacity l.initial.rows ≤ vec_capacity l.rows;
   glances_many : length l.glances.items ≡ length l.initial.glances.items + l.o-index;
