@@ -5,6 +5,8 @@
 #include <errno.h>
 #include <stdio.h>
 #include <stdlib.h>
+#include <sys/syscall.h>
+#include <unistd.h>
 
 static unsigned long calls;
 
@@ -46,4 +48,12 @@ __attribute__((destructor)) static void tell(void)
         fprintf(file, "%lu\n", counted);
         fclose(file);
     }
+}
+
+/* A program that ends by this runs no destructor. */
+void _exit(int status)
+{
+    tell();
+    syscall(SYS_exit_group, status);
+    __builtin_unreachable();
 }
