@@ -1,12 +1,12 @@
 //! What a step above the least value of a field is of a level, so that a value's level is found by one multiplication.
 
 ghost use Rattle.std.specs.Prelude.{◌≡◌, ◌<◌, ◌≤◌, ◌+◌, ◌-◌, ◌*◌, ◌/◌, ◌^◌, ◌≤ℤ◌, IfSome, IsTrue, is_some};
-ghost use Rattle.std.specs.Int.{int_gap};
 ghost use Rattle.quantised_fields.specs.declared.field.FieldSpec.{FieldSpec};
 ghost use Rattle.quantised_fields.specs.Levels.{is_sound, range_of, greatest_of, level_of};
 ghost use Rattle.level_scales.specs.Scales.{step_of, has_scale, IsScaleOf};
 
 use quantised_fields::FieldSpec;
+use quantised_fields::levels::{gap, greatest, range};
 use tn_types::{MAX_FIELD_BITS, MAX_WORD_BITS};
 
 // A level is counted in so many parts, as a power of two.
@@ -25,23 +25,6 @@ pub struct Scale {
     /// What a step is of a level, in parts of 2 ^ 40, rounded up.
     pub step: u64,
     pub bits: u32,
-}
-
-// How far x is above lo.
-fn gap(lo: i64, x: i64) -> u64
-    requires order { lo ≤ℤ x }
-    requires small { int_gap lo x < 2 ^ MAX_WORD_BITS }
-    ensures { result ≡ int_gap lo x }
-{
-    (x - lo) as u64
-}
-
-// The greatest level of so many bits.
-fn greatest(bits: u32) -> u64
-    requires few { bits ≤ MAX_FIELD_BITS }
-    ensures { result ≡ 2 ^ bits - 1 }
-{
-    (1u64 << bits) - 1
 }
 
 // What a step of the range is of a level.
@@ -69,8 +52,8 @@ impl Scale {
         ensures scale { IfSome result (IsScaleOf spec.now) }
         ensures some { is_some result ≡ has_scale spec.now }
     {
-        let range = gap(spec.lo, spec.hi);
-        let greatest = greatest(spec.bits);
+        let range = range(spec);
+        let greatest = greatest(spec);
         if range != greatest && range > NARROW {
             return None;
         }

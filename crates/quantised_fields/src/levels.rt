@@ -14,8 +14,8 @@ use tn_types::{MAX_FIELD_BITS, MAX_WORD_BITS};
 // The range of a field with all values of 16 bits, as coordinates have.
 const WHOLE_WORDS: u64 = 65_535;
 
-// How far x is above lo.
-fn gap(lo: i64, x: i64) -> u64
+/// How far `x` is above `lo`.
+pub fn gap(lo: i64, x: i64) -> u64
     requires order { lo ≤ℤ x }
     requires small { int_gap lo x < 2 ^ MAX_WORD_BITS }
     ensures { result ≡ int_gap lo x }
@@ -23,7 +23,8 @@ fn gap(lo: i64, x: i64) -> u64
     (x - lo) as u64
 }
 
-fn range(spec: &FieldSpec) -> u64
+/// How far the field's greatest value is above its least.
+pub fn range(spec: &FieldSpec) -> u64
     requires { IsTrue (is_sound spec.now) }
     ensures value { result ≡ range_of spec.now }
     ensures above { 0 < result }
@@ -39,8 +40,9 @@ fn power(bits: u32) -> u64
     1u64 << bits
 }
 
+/// The greatest level in which a value of the field travels.
 #[tactic(auto, using(crate::proofs::Specs::greatest_above, crate::proofs::Specs::greatest_below))]
-fn greatest(spec: &FieldSpec) -> u64
+pub fn greatest(spec: &FieldSpec) -> u64
     requires { IsTrue (is_sound spec.now) }
     ensures value { result ≡ greatest_of spec.now }
     ensures above { 0 < result }

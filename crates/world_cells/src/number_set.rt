@@ -1,5 +1,6 @@
 //! A set of the numbers of objects, a bit for each, whose words without a number are passed over.
-ghost use Rattle.std.specs.Prelude.{◌≡◌, ℕ, ◌<◌, ◌≤◌, IfOk, ◌/◌, ◌%◌, ◌==◌, if◌then◌else◌, slice_index_or};
+ghost use Rattle.std.specs.Prelude.{◌≡◌, ℕ, ◌<◌, ◌≤◌, IfOk, ◌+◌, ◌*◌, ◌/◌, ◌%◌, ◌==◌, if◌then◌else◌, slice_index_or};
+ghost use Rattle.std.specs.Int.{bit_at};
 ghost use Rattle.world_cells.specs.NumberSet.{bit_of};
 
 use crate::lines::with_bit;
@@ -10,7 +11,7 @@ use tn_types::MAX_OBJECTS;
 // Words of 64 bits, one bit for each number.
 const WORDS: usize = MAX_OBJECTS / 64;
 
-/// Numbers of objects. Nothing after `all` takes memory.
+/// Numbers of objects. Nothing after `all` and `none` takes memory.
 #[derive(Drop)]
 pub struct NumberSet {
     words: Vec<u64>,
@@ -36,13 +37,38 @@ impl NumberSet {
         })
     }
 
+    /// No number.
+    pub fn none(alloc: Global) -> Result<NumberSet, AllocError>
+        ensures { IfOk result (λ set. (n : ℕ) → bit_of set n ≡ 0) }
+    {
+        Ok(NumberSet {
+            words: vec![in alloc; 0; WORDS]?,
+        })
+    }
+
+    /// Puts a number in, or takes it out.
+    pub fn set(&mut self, number: u32, has: bool)
+        requires { number < MAX_OBJECTS }
+        ensures { (n : ℕ) → bit_of self.new n ≡ (if n == number then if has then 1 else 0 else bit_of self.old n) }
+    {
+        let n = number as usize;
+        self.words[n / 64] = with_bit(self.words[n / 64], n % 64, has);
+    }
+
     /// Takes a number out.
     pub fn remove(&mut self, number: u32)
         requires { number < MAX_OBJECTS }
         ensures { (n : ℕ) → bit_of self.new n ≡ (if n == number then 0 else bit_of self.old n) }
     {
-        let n = number as usize;
-        self.words[n / 64] = with_bit(self.words[n / 64], n % 64, false);
+        self.set(number, false);
+    }
+
+    /// Those of 64 numbers, from number `64 * word` on, that are in the set, a bit for each.
+    pub fn word(&self, word: usize) -> u64
+        requires { word < WORDS }
+        ensures { (k : ℕ) → k < 64 → bit_at result k ≡ bit_of self.now (64 * word + k) }
+    {
+        self.words[word]
     }
 
     /// A number from this one on, at most the end, before which none is in the set: this one within a word of 64 numbers, and

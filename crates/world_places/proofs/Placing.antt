@@ -1,41 +1,11 @@
 -- Places with one object's place or bit put in.
-use Rattle.std.proofs.Common.{◌≡◌, ℕ, zero, suc, ◌*◌, ◌%◌, ◌^◌, ◌<◌, ◌≤◌, true, cond, nat_eq, List, [], ◌∷◌, ◌++◌, length, refl, sym, ap, ◌∙◌, arith, inl, inr, bit_and, bit_or, Some}
+use Rattle.std.proofs.Common.{◌≡◌, ℕ, zero, suc, ◌%◌, ◌≤◌, true, List, [], ◌∷◌, ◌++◌, length, refl, sym, ap, ◌∙◌, arith, inl, inr, Some}
 use Rattle.std.specs.Prelude.{slice_get}
-use Rattle.std.specs.Int.{bit_at, bit_not, w64}
-use Rattle.std.proofs.lemmas.Nat.{one_shl}
-use Rattle.std.proofs.lemmas.Nat.Bits.{bit_at_and, bit_at_not, bit_at-lt, bit_at_set_same, bit_at_set_other, bit_at-pow_same, bit_at-pow_other}
 use Rattle.std.proofs.lemmas.Bool.Decides.{eqb_tells}
 use Rattle.world_rules.specs.declared.object.Place.{Place}
 use Rattle.world_rules.specs.declared.object.Object.{Object}
 use Rattle.world_rules.specs.Ranges.{PlaceFits}
 use Rattle.world_places.specs.Places.{PlaceLists, ArePlaced, IsPut, IsMarked, is_special, place_in, special_in}
-
--- ---- one word
-
-pub set_bit : (word place k : ℕ) → place < 64 → bit_at (bit_or word (1 * 2 ^ place % 2 ^ 64)) k ≡ cond (nat_eq k place) 1 (bit_at word k)
-set_bit word place k l =
-    elim (eqb_tells k place) [
-      | inl w ↦ ap (bit_at (bit_or word (1 * 2 ^ place % 2 ^ 64))) w.1 ∙ bit_at_set_same w64 word place l ∙ sym (ap (λ b. cond b 1 (bit_at word k)) w.0)
-      | inr w ↦ bit_at_set_other w64 word place l k w.1 ∙ sym (ap (λ b. cond b 1 (bit_at word k)) w.0)
-    ]
-
-pub clear_bit : (word place k : ℕ) → place < 64 → k < 64 → bit_at (bit_and word (bit_not w64 (1 * 2 ^ place % 2 ^ 64))) k ≡ cond (nat_eq k place) 0 (bit_at word k)
-clear_bit word place k l m =
-    let one : 1 * 2 ^ place % 2 ^ 64 ≡ 2 ^ place = one_shl place 64 l in
-    let below : 2 ^ place < 2 ^ 64 = omega (arith, one) in
-    let both = bit_at_and word (bit_not w64 (2 ^ place)) k in
-    let turned = bit_at_not w64 (2 ^ place) k below m in
-    let few = bit_at-lt word k in
-    rw one (elim (eqb_tells k place) [
-      | inl w ↦
-          let here : bit_at (2 ^ place) k ≡ 1 = ap (bit_at (2 ^ place)) w.1 ∙ bit_at-pow_same place in
-          let none : bit_at (bit_and word (bit_not w64 (2 ^ place))) k ≡ 0 = omega (arith, both, turned, here) in
-          none ∙ sym (ap (λ b. cond b 0 (bit_at word k)) w.0)
-      | inr w ↦
-          let there : bit_at (2 ^ place) k ≡ 0 = bit_at-pow_other place k w.1 in
-          let same : bit_at (bit_and word (bit_not w64 (2 ^ place))) k ≡ bit_at word k = omega (arith, both, turned, there, few) in
-          same ∙ sym (ap (λ b. cond b 0 (bit_at word k)) w.0)
-    ])
 
 -- ---- one object among all
 

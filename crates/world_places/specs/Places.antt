@@ -1,10 +1,11 @@
 -- Where objects stand, as it is kept: two lists of coordinates, and a bit for each object that asks for a look at what it is.
 -- The bit may stand where nobody asks for it, but never the other way round.
-use Rattle.std.specs.Prelude.{◌≡◌, ℕ, ◌+◌, ◌*◌, ◌/◌, ◌%◌, ◌<◌, Bool, true, false, List, length, Some, slice_get, slice_index_or}
+use Rattle.std.specs.Prelude.{◌≡◌, ℕ, ◌+◌, ◌*◌, ◌<◌, Bool, true, false, List, length, Some, slice_get, slice_index_or}
 use Rattle.std.specs.Int.{bit_at}
 use Rattle.world_rules.specs.declared.object.Place.{Place}
 use Rattle.world_rules.specs.declared.object.Object.{Object}
 use Rattle.world_rules.specs.declared.object.State.{State}
+use Rattle.world_cells.specs.NumberSet.{bit_of}
 use Rattle.world_places.specs.declared.places.PlaceWord.{PlaceWord}
 use Rattle.world_rules.specs.declared.object.State.TheVariants.{Mine, Flag, Clock}
 
@@ -19,7 +20,7 @@ abbrev pub place_in : PlaceLists → ℕ → Place
 place_in lists n = record { x = slice_index_or lists.xs n 0; y = slice_index_or lists.ys n 0 }
 
 abbrev pub special_in : PlaceLists → ℕ → ℕ
-special_in lists n = bit_at (slice_index_or lists.special (n / 64) 0) (n % 64)
+special_in lists n = bit_of lists.special n
 
 -- what may be hidden, or is always seen
 abbrev pub is_special_part : State → Bool
@@ -36,11 +37,10 @@ pub record ArePlaced (lists : PlaceLists) (os : List Object) : Type 0 where
   pub places : (n : ℕ) (o : Object) → slice_get os n ≡ Some o → place_in lists n ≡ o.place
   pub marks : (n : ℕ) (o : Object) → slice_get os n ≡ Some o → is_special o ≡ true → special_in lists n ≡ 1
 
--- room for 1,024 objects
+-- each coordinate has room for 1,024 objects
 pub record AreWhole (lists : PlaceLists) : Type 0 where
   pub xs : length lists.xs ≡ 1024
   pub ys : length lists.ys ≡ 1024
-  pub special : length lists.special ≡ 16
 
 -- one object has this place, and all others have theirs; the bits are as they were
 pub record IsPut (number x y : ℕ) (old new : PlaceLists) : Type 0 where

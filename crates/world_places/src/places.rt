@@ -1,16 +1,13 @@
 //! The places of all objects, 16 bits for each coordinate, and a bit for each object that may be more than its place.
-ghost use Rattle.std.specs.Prelude.{◌≡◌, ℕ, ◌<◌, ◌%◌, List, [], ◌∷◌, ◌++◌, length, IfOk, true, ◌==◌, if◌then◌else◌, slice_index_or};
-ghost use Rattle.std.specs.Int.{bit_at};
+ghost use Rattle.std.specs.Prelude.{◌≡◌, ℕ, ◌<◌, ◌%◌, List, [], ◌∷◌, ◌++◌, length, IfOk, true};
 ghost use Rattle.world_rules.specs.Ranges.{PlaceFits};
 ghost use Rattle.world_places.specs.Places.{ArePlaced, IsPut, IsMarked, IsWordOf, is_special};
 
 use std::alloc::{AllocError, Global};
 use std::marker::Model;
 use tn_types::MAX_OBJECTS;
+use world_cells::NumberSet;
 use world_rules::{Object, State};
-
-// Words of 64 objects.
-const WORDS: usize = MAX_OBJECTS / 64;
 
 // How many numbers a coordinate may be.
 const COORDINATES: u32 = 65_536;
@@ -29,8 +26,8 @@ pub struct PlaceWord<'a> {
 pub struct Places {
     xs: Vec<u16>,
     ys: Vec<u16>,
-    // a bit for each object that may be always seen or hidden, in words of 64
-    special: Vec<u64>,
+    // what may be always seen or hidden
+    special: NumberSet,
 }
 
 impl Model for Places {
@@ -38,9 +35,9 @@ impl Model for Places {
 
     ghost Value = { PlaceLists };
 
-    ghost view = { λ a. record { xs = a.xs.items; ys = a.ys.items; special = a.special.items } };
+    ghost view = { λ a. record { xs = a.xs.items; ys = a.ys.items; special = a.special } };
 
-    ghost invariant = { λ a. AreWhole (record { xs = a.xs.items; ys = a.ys.items; special = a.special.items }) };
+    ghost invariant = { λ a. AreWhole (record { xs = a.xs.items; ys = a.ys.items; special = a.special }) };
 }
 
 // Whether an object asks for a look at what it is: most don't.
@@ -54,18 +51,6 @@ fn is_special(o: &Object) -> bool
     }
 }
 
-// A word with or without the bit of this place.
-fn with_bit(word: u64, place: usize, has: bool) -> u64
-    requires { place < 64 }
-    ensures { (k : ℕ) → k < 64 → bit_at result k ≡ (if k == place then if has then 1 else 0 else bit_at word k) }
-{
-    if has {
-        word | 1 << place
-    } else {
-        word & !(1 << place)
-    }
-}
-
 impl Places {
     /// No object stands anywhere yet.
     pub fn new(alloc: Global) -> Result<Places, AllocError>
@@ -74,7 +59,7 @@ impl Places {
         Ok(Places {
             xs: vec![in alloc; 0; MAX_OBJECTS]?,
             ys: vec![in alloc; 0; MAX_OBJECTS]?,
-            special: vec![in alloc; 0; WORDS]?,
+            special: NumberSet::none(alloc)?,
         })
     }
 
@@ -83,8 +68,7 @@ impl Places {
         requires number { number < MAX_OBJECTS }
         ensures { IsMarked number special self.old self.new }
     {
-        let n = number as usize;
-        self.special[n / 64] = with_bit(self.special[n / 64], n % 64, special);
+        self.special.set(number, special);
     }
 
     // An object of this number stands at this place.
@@ -128,7 +112,7 @@ impl Places {
         PlaceWord {
             xs: &self.xs[64 * word..64 * word + 64],
             ys: &self.ys[64 * word..64 * word + 64],
-            special: self.special[word],
+            special: self.special.word(word),
         }
     }
 }

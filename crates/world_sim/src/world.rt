@@ -285,7 +285,7 @@ impl World {
         self.glances.as_slice()
     }
 
-    /// Where each object is, dead ones too, in words of 64.
+    /// Where each object is, dead ones too, as lists that are lent 64 objects at a time.
     pub fn places(&self) -> &Places
         ensures placed { ArePlaced result.now self.now.objects }
     {
