@@ -1,10 +1,11 @@
 -- A set of numbers, as it grows by single numbers, by lists and by words.
-use Rattle.std.proofs.Common.{◌≡◌, ℕ, zero, suc, ◌+◌, ◌*◌, ◌/◌, ◌%◌, ◌<◌, ◌≤◌, inl, inr, Bool, true, false, cond, nat_eq, ◌||◌, max, List, [], ◌∷◌, length, drop, get_or, replicate, refl, sym, ap, ◌∙◌, arith, Option, Some, None}
+use Rattle.std.proofs.Common.{◌≡◌, ℕ, zero, suc, ◌+◌, ◌*◌, ◌/◌, ◌%◌, ◌<◌, ◌≤◌, inl, inr, Bool, true, false, cond, nat_eq, ◌||◌, max, List, [], ◌∷◌, length, take, get_or, replicate, refl, sym, ap, ◌∙◌, arith, Option, Some, None}
 use Rattle.std.specs.Prelude.{slice_get}
 use Rattle.std.specs.Option.{option_map_or}
 use Rattle.std.specs.Int.{bit_at}
-use Rattle.std.proofs.lemmas.Nat.Bits.{bit_at-lt, bit_at-zero}
-use Rattle.std.proofs.lemmas.List.{drop_more, drop_all}
+use Rattle.std.specs.List.{list_any}
+use Rattle.std.proofs.lemmas.Nat.Bits.{bit_at-zero}
+use Rattle.std.proofs.lemmas.List.Folds.{list_any_more}
 use Rattle.std.proofs.lemmas.Option.{slice_get_past}
 use Rattle.std.proofs.lemmas.Bool.{cases_lt}
 use Rattle.std.proofs.lemmas.Bool.Decides.{nat_tests, eqb_tells}
@@ -20,57 +21,40 @@ passes p os n = option_map_or p (slice_get os n) false
 
 -- ---- a list more
 
--- 1 where the number is one of these
-abbrev pub among : ℕ → List ℕ → ℕ
-among n [] = 0
-among n (m ∷ ms) = cond (nat_eq n m) 1 (among n ms)
+-- a set with the numbers of a list more
+abbrev pub HasMore : List ℕ → List ℕ → List ℕ → Type 0
+HasMore found old now = (n : ℕ) → n < 1024 → bit_of now n ≡ cond (list_any (nat_eq n) found) 1 (bit_of old n)
 
-few_by : (b : Bool) (k : ℕ) → k ≤ 1 → cond b 1 k ≤ 1
-few_by true k l = omega arith
-few_by false k l = l
+one_of : (a b : Bool) (k : ℕ) → cond b 1 (cond a 1 k) ≡ cond (a || b) 1 k
+one_of true true k = refl
+one_of true false k = refl
+one_of false b k = refl
 
-among_few : (n : ℕ) (ms : List ℕ) → among n ms ≤ 1
-among_few n [] = omega arith
-among_few n (m ∷ ms) = few_by (nat_eq n m) (among n ms) (among_few n ms)
-
-with_one : (b : Bool) (word later : ℕ) → word < 2 → later ≤ 1 → max (cond b 1 word) later ≡ max word (cond b 1 later)
-with_one true word later l m = omega (arith, l, m)
-with_one false word later l m = refl
-
--- the numbers of the list up to a place are in, and those from there on are still to come
-pub IsUpTo : ℕ → List ℕ → List ℕ → List ℕ → Type 0
-IsUpTo i found old now = (n : ℕ) → n < 1024 → max (bit_of now n) (among n (drop i found)) ≡ max (bit_of old n) (among n found)
-
-pub up_to_none : (found old : List ℕ) → IsUpTo 0 found old old
-unfolding IsUpTo
-up_to_none found old = λ n l. refl
-
-pub up_to_more : (i : ℕ) (found old now new : List ℕ) → i < length found → ((n : ℕ) → n < 1024 → bit_of new n ≡ cond (nat_eq n (get_or found i 0)) 1 (bit_of now n)) → IsUpTo i found old now → IsUpTo (i + 1) found old new
-unfolding IsUpTo
-up_to_more i found old now new l put before = λ n m.
+pub one_found : (i : ℕ) (found old now new : List ℕ) → i < length found → ((n : ℕ) → n < 1024 → bit_of new n ≡ cond (nat_eq n (get_or found i 0)) 1 (bit_of now n)) → HasMore (take i found) old now → HasMore (take (i + 1) found) old new
+one_found i found old now new l put before = λ n m.
     let x = get_or found i 0 in
-    let next : among n (drop i found) ≡ cond (nat_eq n x) 1 (among n (drop (i + 1) found)) = ap (among n) (drop_more found i 0 l) in
-    ap (λ (b : ℕ). max b (among n (drop (i + 1) found))) (put n m)
-    ∙ with_one (nat_eq n x) (bit_of now n) (among n (drop (i + 1) found)) (bit_at-lt _ _) (among_few n (drop (i + 1) found))
-    ∙ ap (λ (b : ℕ). max (bit_of now n) b) (sym next) ∙ before n m
+    put n m
+    ∙ ap (λ (b : ℕ). cond (nat_eq n x) 1 b) (before n m)
+    ∙ one_of (list_any (nat_eq n) (take i found)) (nat_eq n x) (bit_of old n)
+    ∙ ap (λ b. cond b 1 (bit_of old n)) (sym (list_any_more (nat_eq n) found i 0 l))
 
-not_by : (n k : ℕ) (ns : List ℕ) (b : Bool) → n < k → among n ns ≡ 0 → among n (cond b (k ∷ ns) ns) ≡ 0
+not_by : (n k : ℕ) (ns : List ℕ) (b : Bool) → n < k → list_any (nat_eq n) ns ≡ false → list_any (nat_eq n) (cond b (k ∷ ns) ns) ≡ false
 not_by n k ns true l e = let t : nat_eq n k ≡ false = grind (arith, nat_tests) in rw t e
 not_by n k ns false l e = e
 
-not_among : (p : Object → Bool) (n k : ℕ) (os : List Object) → n < k → among n (numbers p k os) ≡ 0
+not_among : (p : Object → Bool) (n k : ℕ) (os : List Object) → n < k → list_any (nat_eq n) (numbers p k os) ≡ false
 not_among p n k [] l = refl
 not_among p n k (o ∷ os) l = not_by n k (numbers p (suc k) os) (p o) l (not_among p n (suc k) os (omega (arith, l)))
 
-first_among : (p : Object → Bool) (k : ℕ) (os : List Object) (b : Bool) → among k (cond b (k ∷ numbers p (suc k) os) (numbers p (suc k) os)) ≡ one b
+first_among : (p : Object → Bool) (k : ℕ) (os : List Object) (b : Bool) → list_any (nat_eq k) (cond b (k ∷ numbers p (suc k) os) (numbers p (suc k) os)) ≡ b
 first_among p k os true = let t : nat_eq k k ≡ true = grind (arith, nat_tests) in rw t refl
 first_among p k os false = not_among p k (suc k) os (omega arith)
 
-later_among : (n k : ℕ) (ns : List ℕ) (b : Bool) → k < n → among n (cond b (k ∷ ns) ns) ≡ among n ns
+later_among : (n k : ℕ) (ns : List ℕ) (b : Bool) → k < n → list_any (nat_eq n) (cond b (k ∷ ns) ns) ≡ list_any (nat_eq n) ns
 later_among n k ns true l = let t : nat_eq n k ≡ false = grind (arith, nat_tests) in rw t refl
 later_among n k ns false l = refl
 
-among_numbers : (p : Object → Bool) (k : ℕ) (os : List Object) (n m : ℕ) → m ≡ k + n → among m (numbers p k os) ≡ one (passes p os n)
+among_numbers : (p : Object → Bool) (k : ℕ) (os : List Object) (n m : ℕ) → m ≡ k + n → list_any (nat_eq m) (numbers p k os) ≡ passes p os n
 among_numbers p k [] n m e = refl
 among_numbers p k (o ∷ os) zero m e =
     let i : m ≡ k = omega (arith, e) in
@@ -94,13 +78,14 @@ joined p q os n a b e f =
     ap (λ (k : ℕ). max k b) e ∙ ap (λ (k : ℕ). max (one (passes p os n)) k) f
     ∙ greatest (passes p os n) (passes q os n) ∙ sym (ap one (passes_by p q (slice_get os n)))
 
-pub up_to_all : (p q : Object → Bool) (os : List Object) (i : ℕ) (found old now : List ℕ) → length found ≤ i → IsUpTo i found old now → AreThose old p os → found ≡ numbers q 0 os → AreThose now (either p q) os
-unfolding IsUpTo
-up_to_all p q os i found old now end up those e = λ n l.
-    let none : among n (drop i found) ≡ 0 = ap (among n) (drop_all i found end) in
-    let is : among n found ≡ one (passes q os n) = ap (among n) e ∙ among_numbers q 0 os n n (omega arith) in
-    let now_is : max (bit_of now n) (among n (drop i found)) ≡ bit_of now n = omega (arith, none) in
-    sym now_is ∙ up n l ∙ joined p q os n (bit_of old n) (among n found) (those n l) is
+pub all_found : (p q : Object → Bool) (os : List Object) (found old now : List ℕ) → HasMore found old now → AreThose old p os → found ≡ numbers q 0 os → AreThose now (either p q) os
+all_found p q os found old now more those e = λ n l.
+    let is : list_any (nat_eq n) found ≡ passes q os n = ap (list_any (nat_eq n)) e ∙ among_numbers q 0 os n n (omega arith) in
+    more n l
+    ∙ ap (λ (k : ℕ). cond (list_any (nat_eq n) found) 1 k) (those n l)
+    ∙ ap (λ b. cond b 1 (one (passes p os n))) is
+    ∙ one_of (passes p os n) (passes q os n) 0
+    ∙ sym (ap one (passes_by p q (slice_get os n)))
 
 same_by : (p q : Object → Bool) (x : Option Object) → ((o : Object) → x ≡ Some o → p o ≡ q o) → option_map_or p x false ≡ option_map_or q x false
 same_by p q None h = refl

@@ -75,16 +75,6 @@ share_tells whole share away l w near e =
     told (whole - 1) share away (share_by whole share some e) (omega (arith, l)) w
     ∙ ap (λ (k : ℕ). 4 * away / k) (from_whole whole some)
 
--- and the product fits
-pub share_small : (whole share away : ℕ) → whole ≤ 4294967296 → away ≤ 65535 → away < whole → share ≡ (1125899906842624 + (whole - 1)) / whole → away * share ≤ 1125904201809920
-share_small whole share away l w near e =
-    let some : 0 < whole = omega (arith, near) in
-    let s = share_by whole share some e in
-    let back = from_whole whole some in
-    let most : share * whole ≤ 1125899906842624 + (whole - 1) = rw back at s.most in
-    let a = mul-le-mul_left share near in
-    omega (arith, most, a, l, near)
-
 -- what lies in the field is no further away than the field is wide
 pub near_enough : (a b : Place) → PlaceFits a → PlaceFits b → distance a b ≤ MAX_COORDINATE
 near_enough a b f g = omega (arith, f.0, f.1, g.0, g.1)

@@ -1,5 +1,5 @@
 -- Words of 64 objects that are all looked at and seen: their levels by how far quarters go, and the list of them.
-use Rattle.std.proofs.Common.{◌≡◌, ℕ, zero, suc, ◌+◌, ◌-◌, ◌*◌, ◌/◌, ◌^◌, ◌<◌, ◌≤◌, ◌⊎◌, inl, inr, Bool, true, false, nat_lt, List, [], ◌∷◌, ◌++◌, length, drop, get_or, set, get_or-set_same, get_or-set_other, take, refl, sym, ap, subst, ◌∙◌, arith, Option, Some, None, count_by, length-append, min, bit_and, IfOk, OnErr, Result, Ok, Err}
+use Rattle.std.proofs.Common.{◌≡◌, ℕ, zero, suc, ◌+◌, ◌-◌, ◌*◌, ◌/◌, ◌^◌, ◌<◌, ◌≤◌, ◌⊎◌, inl, inr, Bool, true, false, nat_lt, List, [], ◌∷◌, ◌++◌, length, drop, get_or, set, get_or-set_same, get_or-set_other, take, refl, sym, ap, subst, ◌∙◌, arith, Option, Some, None, count_by, length-append, max, min, bit_and, IfOk, OnErr, Result, Ok, Err}
 use Rattle.std.specs.Prelude.{slice_get, option_and_then, option_map, map}
 use Rattle.std.specs.Option.{option_map_or}
 use Rattle.std.specs.Int.{bit_at}
@@ -54,6 +54,13 @@ most_one d k most next before more here j m =
       | inl s ↦ (let b = before j s in omega (arith, b, more))
       | inr s ↦ (let e : j ≡ k = omega (arith, s, m) in rw e here)
     ]
+
+-- the greatest yet is no more than any bound on them
+pub least_one : (d : ℕ → ℕ) (k most next : ℕ) → ((bound : ℕ) → ((j : ℕ) → j < k → d j ≤ bound) → most ≤ bound) → next ≡ max most (d k) → (bound : ℕ) → ((j : ℕ) → j < k + 1 → d j ≤ bound) → next ≤ bound
+least_one d k most next before e bound all =
+    let yet = before bound (λ j l. all j (omega (arith, l))) in
+    let here = all k (omega arith) in
+    omega (arith, yet, here, e)
 
 -- ---- quarters by how far they go
 
@@ -112,20 +119,6 @@ passing_is : (v : Look) (os : List Object) (n : ℕ) (made : Option Seen) (x : O
 passing_is v os n made None at e h = absurd (apart e)
 passing_is v os n made (Some o) at e h = ap (option_and_then (λ (y : Object). seen v (n, y))) at ∙ h o at e
 
-past_few : (end away : ℕ) → is_past end away ≤ 1
-past_few end away =
-    elim (cases_lt end away) [
-      | inl l ↦ (let t : nat_lt end away ≡ true = grind (arith, nat_tests) in rw t (omega arith))
-      | inr l ↦ (let t : nat_lt end away ≡ false = grind (arith, nat_tests) in rw t (omega arith))
-    ]
-
-pub rings_few : (r : Rings) (away level : ℕ) → level ≡ rings_out r away → level ≤ 3
-rings_few r away level e =
-    let a = past_few r.first away in
-    let b = past_few r.second away in
-    let c = past_few r.third away in
-    omega (arith, a, b, c, e)
-
 -- where the furthest is within reach, the quarters that end before each are its level
 pub near_levels : (v : Viewer) (r : Rings) (places : PlaceWord) (levels : List ℕ) (most : ℕ) → AreRings r v → 0 < v.reach → ((k : ℕ) → k < 64 → get_or levels k 0 ≡ rings_out r (distance (center r) (place_at places k))) → ((k : ℕ) → k < 64 → distance (center r) (place_at places k) ≤ most) → most ≤ r.reach → AreLevels levels v places
 near_levels v r places levels most rings some told furthest near k l =
@@ -134,6 +127,15 @@ near_levels v r places levels most rings some told furthest near k l =
     let field : distance v.place (place_at places k) ≤ 65535 = omega (arith, same, d, near, rings.reach) in
     let reached : distance v.place (place_at places k) < v.reach = omega (arith, same, d, near, rings.reach, some) in
     (reached, told k l ∙ ap (rings_out r) same ∙ rings_quarter r v (distance v.place (place_at places k)) rings some field reached)
+
+-- where all lie within reach, so does the furthest
+pub furthest_near : (v : Viewer) (r : Rings) (places : PlaceWord) (most : ℕ) → AreRings r v → 0 < v.reach → most ≤ 65535 → ((bound : ℕ) → ((k : ℕ) → k < 64 → distance (center r) (place_at places k) ≤ bound) → most ≤ bound) → ((k : ℕ) → k < 64 → distance v.place (place_at places k) < v.reach) → most ≤ r.reach
+furthest_near v r places most rings some field least near =
+    let reached = least (v.reach - 1) (λ k l.
+    let same : distance (center r) (place_at places k) ≡ distance v.place (place_at places k) = ap (λ (p : Place). distance p (place_at places k)) rings.center in
+    let d = near k l in
+    omega (arith, same, d)) in
+    omega (arith, reached, field, some, rings.reach)
 
 -- what is known of a word whose levels are found at once
 pub record IsWhole (v : Viewer) (places : PlaceWord) (word from count : ℕ) (levels : List ℕ) (os : List Object) : Type 0 where

@@ -22,9 +22,7 @@ fn add_all(words: &mut WordSet, found: &[u32])
     ensures { (p q : Object → Bool) (os : List Object) → AreThose words.old p os → found.now ≡ numbers q 0 os
         → AreThose words.new (either p q) os }
 {
-    for n in found {
-        words.put(*n);
-    }
+    words.put_all(found);
 }
 
 // Puts in those in a row of cells between two columns.

@@ -224,7 +224,7 @@ fn is_whole(
     word: u64,
     count: usize,
     list: &Vec<Seen>,
-    levels: &mut [u8; 64],
+    levels: &mut [u16; 64],
 ) -> bool
     requires many { AreOf64 places.now }
     requires ready { IsReady viewer.now }
@@ -251,7 +251,7 @@ fn gather_word<L: Ledger>(
     from: usize,
     word: u64,
     list: Vec<Seen>,
-    levels: &mut [u8; 64],
+    levels: &mut [u16; 64],
     steps: &mut Steps<L>,
 ) -> Result<Vec<Seen>, Vec<Seen>>
     requires glances { glances.now ≡ map glance_of world.now.objects }
@@ -276,7 +276,8 @@ fn gather_word<L: Ledger>(
     }
 }
 
-// Looks at each object of the set, and puts those that are seen into an empty list.
+// Looks at each object of the set, and puts those that are seen into an empty list. Room for levels is made once and lent, so that it
+// isn't zeroed for each word.
 #[inline(always)]
 fn gather_words<L: Ledger>(
     viewer: &Viewer,

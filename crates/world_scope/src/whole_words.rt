@@ -1,5 +1,5 @@
 //! The levels of 64 objects at once, and lists of all 64: loops of fixed length, which become vector code.
-ghost use Rattle.std.specs.Prelude.{◌≡◌, ℕ, ◌≤◌, ◌<◌, ◌+◌, ◌-◌, ◌*◌, ◌/◌, ◌^◌, ◌++◌, IfOk, IfErr, OnErr, length, max, min, vec_capacity, slice_index_or, true, take, ◌⊎◌};
+ghost use Rattle.std.specs.Prelude.{◌≡◌, ◌↔◌, ℕ, ◌≤◌, ◌<◌, ◌+◌, ◌-◌, ◌*◌, ◌/◌, ◌^◌, ◌++◌, IfOk, IfErr, OnErr, length, max, min, vec_capacity, slice_index_or, true, take, ◌⊎◌};
 ghost use Rattle.tn_types.specs.declared.limits.TheConstants.{MAX_COORDINATE};
 ghost use Rattle.world_places.specs.Places.{AreOf64, place_at};
 ghost use Rattle.world_scope.specs.Sight.{distance};
@@ -80,6 +80,7 @@ fn levels_of(rings: &Rings, places: &PlaceWord<'_>, levels: &mut [u16; 64]) -> u
     ensures levels { (k : ℕ) → k < 64
         → slice_index_or levels.new k 0 ≡ rings_out rings.now (distance (center rings.now) (place_at places.now k)) }
     ensures furthest { (k : ℕ) → k < 64 → distance (center rings.now) (place_at places.now k) ≤ result }
+    ensures least { (most : ℕ) → ((k : ℕ) → k < 64 → distance (center rings.now) (place_at places.now k) ≤ most) → result ≤ most }
 {
     let mut furthest = 0;
     for k in 0..64 {
@@ -90,36 +91,26 @@ fn levels_of(rings: &Rings, places: &PlaceWord<'_>, levels: &mut [u16; 64]) -> u
     furthest
 }
 
-// The same numbers in 8 bits each, by a loop of its own: comparisons and a narrowing in one don't become good vector code.
+/// The level of each of 64 objects, if all lie within reach. Levels are 16 bits wide: the loop that compares coordinates of 16 bits
+/// makes them so, since to narrow them there as well doesn't become good vector code, and the loop that makes entries narrows them for
+/// nothing.
 #[inline(always)]
-fn narrow(wide: &[u16; 64], levels: &mut [u8; 64])
-    requires { (k : ℕ) → k < 64 → slice_index_or wide.now k 0 ≤ 3 }
-    ensures { (k : ℕ) → k < 64 → slice_index_or levels.new k 0 ≡ slice_index_or wide.now k 0 }
-{
-    for k in 0..64 {
-        levels[k] = wide[k] as u8;
-    }
-}
-
-/// The level of each of 64 objects, if all lie within reach.
-#[inline(always)]
-pub fn has_levels(viewer: &Viewer, places: &PlaceWord<'_>, levels: &mut [u8; 64]) -> bool
+pub fn has_levels(viewer: &Viewer, places: &PlaceWord<'_>, levels: &mut [u16; 64]) -> bool
     requires many { AreOf64 places.now }
     requires ready { IsReady viewer.now }
     requires player { 0 < viewer.now.reach }
-    ensures { result ≡ true → AreLevels levels.new viewer.now places.now }
+    ensures levels { result ≡ true → AreLevels levels.new viewer.now places.now }
+    ensures reached { ((k : ℕ) → k < 64 → distance viewer.now.place (place_at places.now k) < viewer.now.reach) → result ≡ true }
 {
     let rings = Rings::of(viewer);
-    let mut wide = [0; 64];
-    let furthest = levels_of(&rings, places, &mut wide);
-    narrow(&wide, levels);
+    let furthest = levels_of(&rings, places, levels);
     furthest <= rings.reach
 }
 
 // Each of 64 objects from a number on, at its level, behind a list with room for them. The list is given and taken back, so that
-// its end stays in a register.
+// its end stays in a register. Numbers are counted along by themselves: sums with the loop's counter become worse vector code.
 #[inline(always)]
-fn push_all(levels: &[u8; 64], from: u32, out: Vec<Seen>) -> Vec<Seen>
+fn push_all(levels: &[u16; 64], from: u32, out: Vec<Seen>) -> Vec<Seen>
     requires few { (k : ℕ) → k < 64 → slice_index_or levels.now k 0 ≤ 3 }
     requires from { from + 64 < 2 ^ 32 }
     requires room { length out.items + 64 ≤ vec_capacity out }
@@ -127,11 +118,13 @@ fn push_all(levels: &[u8; 64], from: u32, out: Vec<Seen>) -> Vec<Seen>
     ensures capacity { vec_capacity result ≡ vec_capacity out }
 {
     let mut list = out;
+    let mut object = from;
     for k in 0..64 {
         list.push_reserved(Seen {
-            object: from + k as u32,
-            level: levels[k],
+            object,
+            level: levels[k] as u8,
         });
+        object += 1;
     }
     list
 }
@@ -166,7 +159,7 @@ fn longer_by_64(list: Vec<Seen>) -> Result<Vec<Seen>, Vec<Seen>>
 
 // The list with 64 more, each at its level.
 #[inline(always)]
-fn with_all(levels: &[u8; 64], from: u32, list: Vec<Seen>) -> Result<Vec<Seen>, Vec<Seen>>
+fn with_all(levels: &[u16; 64], from: u32, list: Vec<Seen>) -> Result<Vec<Seen>, Vec<Seen>>
     requires few { (k : ℕ) → k < 64 → slice_index_or levels.now k 0 ≤ 3 }
     requires from { from + 64 < 2 ^ 32 }
     ensures ok { IfOk result (λ longer. longer.items ≡ list.items ++ entries from levels.now) }
@@ -195,7 +188,7 @@ fn first(list: Vec<Seen>, count: usize) -> Vec<Seen>
 /// Whether a list has room for all 64, or may ask for it: only where all of them are there.
 #[inline(always)]
 pub fn has_room(list: &Vec<Seen>, count: usize) -> bool
-    ensures { result ≡ true → (count ≡ 64) ⊎ (length list.now.items + 64 ≤ vec_capacity list.now) }
+    ensures { (result ≡ true) ↔ ((count ≡ 64) ⊎ (length list.now.items + 64 ≤ vec_capacity list.now)) }
 {
     count == 64 || list.capacity() - list.len() >= 64
 }
@@ -205,7 +198,7 @@ pub fn has_room(list: &Vec<Seen>, count: usize) -> bool
 #[inline(always)]
 pub fn add_all<L: Ledger>(
     world: &World,
-    levels: &[u8; 64],
+    levels: &[u16; 64],
     from: usize,
     count: usize,
     list: Vec<Seen>,

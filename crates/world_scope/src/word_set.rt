@@ -1,7 +1,8 @@
 //! A set of the numbers of objects, a bit for each, and beside it a bit for each word that may have one, so that a walk passes over
 //! the others without a look at them.
-ghost use Rattle.std.specs.Prelude.{◌≡◌, ℕ, ◌<◌, ◌≤◌, ◌/◌, ◌%◌, max, replicate, slice_index, ◌==◌, if◌then◌else◌};
+ghost use Rattle.std.specs.Prelude.{◌≡◌, ℕ, ◌<◌, ◌≤◌, ◌/◌, ◌%◌, max, length, replicate, slice_index, slice_index_or, ◌==◌, if◌then◌else◌};
 ghost use Rattle.std.specs.Int.{bit_at};
+ghost use Rattle.std.specs.List.{list_any};
 ghost use Rattle.world_cells.specs.NumberSet.{bit_of};
 ghost use Rattle.world_scope.specs.Marks.{AreMarks};
 
@@ -48,14 +49,19 @@ impl WordSet {
         }
     }
 
-    /// Puts a number in.
-    pub fn put(&mut self, number: u32)
-        requires { number < MAX_OBJECTS }
-        ensures { (n : ℕ) → n < MAX_OBJECTS → bit_of self.new n ≡ (if n == number then 1 else bit_of self.old n) }
+    /// Puts these numbers in. Their marks are gathered in a register: in memory, each would wait for the one before it to be stored.
+    pub fn put_all(&mut self, numbers: &[u32])
+        requires { (k : ℕ) → k < length numbers.now → slice_index_or numbers.now k 0 < MAX_OBJECTS }
+        ensures { (n : ℕ) → n < MAX_OBJECTS
+            → bit_of self.new n ≡ (if list_any (λ number. n == number) numbers.now then 1 else bit_of self.old n) }
     {
-        let n = number as usize;
-        self.words[n / 64] |= 1 << (n % 64);
-        self.marks |= 1 << (n / 64);
+        let mut marks = self.marks;
+        for number in numbers {
+            let n = *number as usize;
+            self.words[n / 64] |= 1 << (n % 64);
+            marks |= 1 << (n / 64);
+        }
+        self.marks = marks;
     }
 
     /// Puts in those of a word's numbers that have a bit. Marks of this word and of others come along, so that a walk over words

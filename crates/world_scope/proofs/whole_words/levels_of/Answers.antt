@@ -2,7 +2,7 @@ use Rattle.std.proofs.Common.{◌≡◌, ℕ, ◌<◌, ◌∙◌, ap, arith, len
 use Rattle.world_places.specs.Places.{place_at}
 use Rattle.world_scope.specs.Sight.{distance}
 use Rattle.world_scope.specs.Rings.{center, rings_out}
-use Rattle.world_scope.proofs.WholeWords.{put_one, most_one}
+use Rattle.world_scope.proofs.WholeWords.{put_one, most_one, least_one}
 use Rattle.world_scope.proofs.whole_words.levels_of.Goals as goal
 
 pub loop-k-preserved : goal.loop-k-preserved
@@ -19,4 +19,8 @@ loop-k-preserved c =
       many = length-set levels k c.level.result ∙ many;
       levels = put_one (λ j x. x ≡ rings_out r (far j)) levels k c.level.result within c.loop-k.invariant.levels (c.level.ensures ∙ ap (rings_out r) here);
       furthest = most_one far k c.loop-k.furthest c.greater-furthest.result c.loop-k.invariant.furthest (omega (arith, most)) (omega (arith, most, here));
+      least = least_one far k c.loop-k.furthest c.greater-furthest.result c.loop-k.invariant.least (omega (arith, most, here));
     }
+
+pub returns-clause-least : goal.returns-clause-least
+returns-clause-least c = λ most all. c.loop-k.invariant.least most (λ j l. all j (omega (arith, l, c.loop-k.auto.k-end)))

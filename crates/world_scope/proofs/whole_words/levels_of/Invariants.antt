@@ -10,4 +10,5 @@ invariant-loop-k l = record {
   many : length l.levels ≡ 64;
   levels : (j : ℕ) → j < l.k → slice_index_or l.levels j 0 ≡ rings_out l.rings (distance (center l.rings) (place_at l.places j));
   furthest : (j : ℕ) → j < l.k → distance (center l.rings) (place_at l.places j) ≤ l.furthest;
+  least : (most : ℕ) → ((j : ℕ) → j < l.k → distance (center l.rings) (place_at l.places j) ≤ most) → l.furthest ≤ most;
 }
