@@ -4,6 +4,7 @@ pub mod KeptValues
 pub mod Meeting
 pub mod Counting
 pub mod ScanFacts
+pub mod ScanChanges
 pub mod WorldFacts
 pub mod Standing
 pub mod Scanning

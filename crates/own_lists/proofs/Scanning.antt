@@ -39,7 +39,8 @@ use Rattle.own_lists.specs.Conditions.{MeetEach, HasValues, IsOwnScan}
 use Rattle.own_lists.specs.Past.{client_terms, showing_of, own_show}
 use Rattle.own_lists.specs.Agreement.{IsPeriodOf}
 use Rattle.own_lists.proofs.Journals.{shows_told, up_count_told, control_told}
-use Rattle.own_lists.proofs.ScanFacts.{IsSight, IsNone, AreNew, numbers, objects, has, IsNear, first_of, below_rising, kept_shown, new_beside_kept, shown_more, new_more, step_on, numbers_on, shows_are_new, many_periods, shown_next, few_shown, hidden_rise, held_at, has_not, hidden_tells, kept_are, hidden_were_shown, nears_go_on}
+use Rattle.own_lists.proofs.ScanFacts.{IsSight, IsNone, AreNew, numbers, objects, first_of, below_rising, kept_shown, new_beside_kept, shown_more, new_more, step_on, numbers_on, shows_are_new, many_periods, shown_next, few_shown}
+use Rattle.own_lists.proofs.ScanChanges.{has, IsNear, hidden_rise, held_at, has_not, hidden_tells, kept_are, hidden_were_shown, nears_go_on}
 use Rattle.own_lists.proofs.WorldFacts.{object_values_fit, kind_below, object_at, one_player}
 use Rattle.own_lists.proofs.Standing.{onto_on, meet_on, all_weaker, mapped_all, IsShownIn, up_are_shown, shows_hides, hidden_hides, traits_hides, up_hides, meet_hides, shows_nears, hidden_nears, up_nears, AreSame, traits_nears, IsNearIn, meet_nears, Stands, numbers_shown}
 

@@ -17,7 +17,8 @@ use Rattle.own_lists.specs.Kept.{Kept}
 use Rattle.own_lists.specs.Conditions.{MeetEach}
 use Rattle.own_lists.specs.Agreement.{IsPeriodOf}
 use Rattle.own_lists.proofs.Journals.{up_to}
-use Rattle.own_lists.proofs.ScanFacts.{RiseTo, IsNone, AreShown, numbers, has, none_less, all_on}
+use Rattle.own_lists.proofs.ScanFacts.{RiseTo, IsNone, AreShown, numbers, none_less, all_on}
+use Rattle.own_lists.proofs.ScanChanges.{has}
 
 -- ---- steps one after the other
 

@@ -21,7 +21,8 @@ use Rattle.own_lists.specs.Kept.{Kept, wrote, wrote_all, after_tick}
 use Rattle.own_lists.specs.Conditions.{IsOwnWrite, IsOwnTick}
 use Rattle.own_lists.specs.Past.{Past, client_terms, kept_by, write_of, own_writes, moves_of, taken_from}
 use Rattle.own_lists.specs.Agreement.{IsPeriodOf}
-use Rattle.own_lists.proofs.ScanFacts.{RiseTo, numbers, later_differ, all_on}
+use Rattle.own_lists.proofs.ScanFacts.{RiseTo, numbers, all_on}
+use Rattle.own_lists.proofs.ScanChanges.{later_differ}
 use Rattle.own_lists.proofs.WorldFacts.{put_in, IsFieldWrite, tick_writes_fit, GoesOn, object_goes_on, same_player}
 use Rattle.own_lists.proofs.Standing.{all_weaker, mapped_all, IsShownIn, Stands, numbers_shown}
 
