@@ -1,7 +1,8 @@
 -- What a step above a field's least value is of a level, counted in parts of which a level has 2 ^ 40, and rounded up. What it
 -- is too large by makes no level wrong where the range is narrow; where the range is the greatest level, it is too large by
 -- nothing, whatever the range.
-use Rattle.std.specs.Prelude.{ℕ, ◌+◌, ◌-◌, ◌*◌, ◌/◌, Bool, true, false, ◌||◌, nat_le, ◌==◌, ◌≡◌, refl, pos, IsTrue, [], ◌∷◌, map}
+use Rattle.std.specs.Prelude.{ℕ, ◌+◌, ◌-◌, ◌*◌, ◌/◌, ◌%◌, ◌^◌, Bool, true, false, ◌||◌, nat_le, ◌==◌, ◌≡◌, refl, pos, IsTrue, [], ◌∷◌, map}
+use Rattle.std.specs.Int.{cast_unsigned, w64}
 use Rattle.quantised_fields.specs.declared.field.FieldSpec.{FieldSpec}
 use Rattle.quantised_fields.specs.Levels.{is_sound, range_of, greatest_of}
 use Rattle.level_scales.specs.declared.scale.Scale.{Scale}
@@ -19,7 +20,8 @@ has_scale s = range_of s == greatest_of s || nat_le (range_of s) NARROW
 pub record IsScaleOf (s : FieldSpec) (scale : Scale) : Type 0 where
   pub sound : IsTrue (is_sound s)
   pub exact : IsTrue (has_scale s)
-  pub lo : scale.lo ≡ s.lo
+  -- a value's word times the step, with the base added, is modulo 2 ^ 64 half a level at the least value
+  pub base : (cast_unsigned w64 s.lo * scale.step + scale.base) % 2 ^ 64 ≡ PARTS / 2
   pub bits : scale.bits ≡ s.bits
   pub step : scale.step ≡ step_of (range_of s) (greatest_of s)
 

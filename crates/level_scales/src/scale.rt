@@ -6,7 +6,7 @@ ghost use Rattle.quantised_fields.specs.Levels.{is_sound, range_of, greatest_of,
 ghost use Rattle.level_scales.specs.Scales.{step_of, has_scale, IsScaleOf};
 
 use quantised_fields::FieldSpec;
-use quantised_fields::levels::{gap, greatest, range};
+use quantised_fields::levels::{greatest, range};
 use tn_types::{MAX_FIELD_BITS, MAX_WORD_BITS};
 
 // A level is counted in so many parts, as a power of two.
@@ -18,10 +18,12 @@ pub const PARTS: u64 = 1 << PARTS_BITS;
 /// The widest range for which so many parts are enough, whatever the width of the field.
 pub const NARROW: u64 = 1 << 19;
 
-/// A field's least value, its bits, and what a step above the least value is of a level.
+/// What a step of a field's values is of a level, what makes its least value level 0, and its bits.
 #[derive(Clone, Copy)]
 pub struct Scale {
-    pub lo: i64,
+    /// Half a level less the field's least value, in the same parts and modulo 2 ^ 64: so a value's word, times the step and
+    /// with this added, is how far it is above the least value and half a level more, negative or not.
+    pub base: u64,
     /// What a step is of a level, in parts of 2 ^ 40, rounded up.
     pub step: u64,
     pub bits: u32,
@@ -37,14 +39,6 @@ fn step(range: u64, greatest: u64) -> u64
     (PARTS * greatest + (range - 1)) / range
 }
 
-// The nearest level, so many steps above the least value.
-fn rounded(distance: u64, step: u64) -> u64
-    requires fits { distance * step + PARTS / 2 < 2 ^ 64 }
-    ensures { result ≡ (distance * step + PARTS / 2) / PARTS }
-{
-    (distance * step + PARTS / 2) >> PARTS_BITS
-}
-
 impl Scale {
     /// The scale of a field; `None` where its range is too wide for levels by a multiplication.
     pub fn of(spec: &FieldSpec) -> Option<Scale>
@@ -57,9 +51,10 @@ impl Scale {
         if range != greatest && range > NARROW {
             return None;
         }
+        let step = step(range, greatest);
         Some(Scale {
-            lo: spec.lo,
-            step: step(range, greatest),
+            base: (PARTS / 2).wrapping_sub(spec.lo.cast_unsigned().wrapping_mul(step)),
+            step,
             bits: spec.bits,
         })
     }
@@ -71,6 +66,10 @@ impl Scale {
             → result ≡ level_of spec value }
         ensures fits { result < 2 ^ self.now.bits }
     {
-        rounded(gap(self.lo, value), self.step) as u32
+        let parts = value
+            .cast_unsigned()
+            .wrapping_mul(self.step)
+            .wrapping_add(self.base);
+        (parts >> PARTS_BITS) as u32
     }
 }
