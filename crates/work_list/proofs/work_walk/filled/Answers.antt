@@ -1,4 +1,4 @@
-use Rattle.std.proofs.Common.{◌≡◌, ◌∙◌, ◌<◌, length, ap, sym, arith, inl, inr}
+use Rattle.std.proofs.Common.{◌≡◌, ◌∙◌, ◌<◌, ◌/◌, ◌*◌, length, get_or, ap, sym, arith, inl, inr}
 use Rattle.std.proofs.lemmas.Bool.{cases_lt}
 use Rattle.work_list.specs.Bits.{to_come}
 use Rattle.work_list.proofs.ToCome.{AreEmpty, skip_empty, none_to_come}
@@ -23,14 +23,16 @@ pub returns-then-words-at-ne0-clause-same : goal.returns-then-words-at-ne0-claus
 returns-then-words-at-ne0-clause-same c =
     let ws = c.args.words.now in
     let none : c.args.rest ≡ 0 = omega (arith, c.if-rest-ne0.false) in
-    let inside : c.args.word < length ws = omega (arith, c.requires.few, c.requires.words) in
-    skip_empty ws c.args.word inside c.words.at c.words.invariant.from (omega (arith, c.words-test.true)) c.words.invariant.empty
-    ∙ ap (to_come ws c.args.word) (sym none)
+    let inside : c.args.base / 64 < length ws = omega (arith, c.requires.first.0, c.requires.words) in
+    let at : 64 * c.words.at / 64 ≡ c.words.at = omega arith in
+    ap (λ w. to_come ws w (get_or ws c.words.at 0)) at
+    ∙ skip_empty ws (c.args.base / 64) inside c.words.at c.words.invariant.from (omega (arith, c.words-test.true)) c.words.invariant.empty
+    ∙ ap (to_come ws (c.args.base / 64)) (sym none)
 
 pub returns-clause-none : goal.returns-clause-none
 returns-clause-none c e =
     let ws = c.args.words.now in
     let none : c.args.rest ≡ 0 = omega (arith, c.if-rest-ne0.false) in
-    let inside : c.args.word < length ws = omega (arith, c.requires.few, c.requires.words) in
-    let empty : AreEmpty ws c.args.word 4 = λ i l m. c.words.invariant.empty i l (omega (arith, m, c.words-test.false)) in
-    ap (to_come ws c.args.word) none ∙ none_to_come ws c.args.word inside empty
+    let inside : c.args.base / 64 < length ws = omega (arith, c.requires.first.0, c.requires.words) in
+    let empty : AreEmpty ws (c.args.base / 64) 4 = λ i l m. c.words.invariant.empty i l (omega (arith, m, c.words-test.false)) in
+    ap (to_come ws (c.args.base / 64)) none ∙ none_to_come ws (c.args.base / 64) inside empty
