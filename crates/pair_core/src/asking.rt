@@ -11,6 +11,7 @@ ghost use Rattle.pair_core.specs.Conditions.{asked_by, asked_by_all, HasRanges};
 ghost use Rattle.pair_core.specs.Asking.{AreAsked, IsReadForNext};
 
 use notify_window::SendState;
+use std::mem;
 use std::sync::ledger::{Blank, Ledger};
 use stream_manager::Conn;
 use tn_types::{Choice, MAX_FIELDS, MAX_PACKET_GHOSTS, Read, Steps, Values};
@@ -38,38 +39,41 @@ fn note(noting: bool, read: Read, noted: &mut Vec<Read>)
     }
 }
 
-/// Asks for each field that the item carries, rising, and lists its value; what was read is noted, if it is to be.
+/// Asks for each field that the item carries, rising, and lists its value; what was read is noted, if it is to be. The list is given
+/// and taken back, so that its end stays in a register.
 fn ask_fields<V: Values>(
     choice: &Choice,
     values: &mut V,
     noting: bool,
     noted: &mut Vec<Read>,
-    listed: &mut Vec<i64>,
-)
+    listed: Vec<i64>,
+) -> Vec<i64>
     requires ranged { (f : ℕ) → f < MAX_FIELDS → has_bit choice.now.mask f ≡ true → IsSome (V.ranges values.old choice.now.n f) }
     requires room { vec_len noted.old + MAX_FIELDS ≤ vec_capacity noted.old }
-    requires list_room { vec_len listed.old + MAX_FIELDS ≤ vec_capacity listed.old }
+    requires list_room { vec_len listed + MAX_FIELDS ≤ vec_capacity listed }
     ensures told { AreAsked V.ranges V.stands V.owes V.same noting values.old values.new (asked_by choice.now)
-        noted.old.items noted.new.items listed.old.items listed.new.items }
+        noted.old.items noted.new.items listed.items result.items }
     ensures few { vec_len noted.new ≤ vec_len noted.old + MAX_FIELDS }
-    ensures list_few { vec_len listed.new ≤ vec_len listed.old + MAX_FIELDS }
+    ensures list_few { vec_len result ≤ vec_len listed + MAX_FIELDS }
     ensures room { vec_capacity noted.new ≡ vec_capacity noted.old }
-    ensures list_room { vec_capacity listed.new ≡ vec_capacity listed.old }
+    ensures list_room { vec_capacity result ≡ vec_capacity listed }
 {
     // copied, so that they are not read anew after each value
     let n = choice.n;
     let mask = choice.mask;
+    let mut list = listed;
     'fields: for field in 0..MAX_FIELDS as u8 {
         if mask >> field == 0 {
             // no bit is left
-            return;
+            return list;
         }
         if has_field(mask, field) {
             let read = values.value(n, field);
             note(noting, read, noted);
-            listed.push_reserved(read.value);
+            list.push_reserved(read.value);
         }
     }
+    list
 }
 
 /// Asks for each field that these items carry, item by item.
@@ -78,21 +82,23 @@ fn ask_all<V: Values>(
     values: &mut V,
     noting: bool,
     noted: &mut Vec<Read>,
-    listed: &mut Vec<i64>,
-)
+    listed: Vec<i64>,
+) -> Vec<i64>
     requires ranged { All (λ c. (f : ℕ) → f < MAX_FIELDS → has_bit c.mask f ≡ true
         → IsSome (V.ranges values.old c.n f)) choices.now }
     requires room { vec_len noted.old + MAX_FIELDS * length choices.now ≤ vec_capacity noted.old }
-    requires list_room { vec_len listed.old + MAX_FIELDS * length choices.now ≤ vec_capacity listed.old }
+    requires list_room { vec_len listed + MAX_FIELDS * length choices.now ≤ vec_capacity listed }
     ensures told { AreAsked V.ranges V.stands V.owes V.same noting values.old values.new (asked_by_all choices.now)
-        noted.old.items noted.new.items listed.old.items listed.new.items }
+        noted.old.items noted.new.items listed.items result.items }
     ensures few { vec_len noted.new ≤ vec_len noted.old + MAX_FIELDS * length choices.now }
     ensures room { vec_capacity noted.new ≡ vec_capacity noted.old }
-    ensures list_room { vec_capacity listed.new ≡ vec_capacity listed.old }
+    ensures list_room { vec_capacity result ≡ vec_capacity listed }
 {
+    let mut list = listed;
     'items: for choice in choices {
-        ask_fields(choice, values, noting, noted, listed);
+        list = ask_fields(choice, values, noting, noted, list);
     }
+    list
 }
 
 /// Plans the next data packet, with a counter that nobody reads, and asks for the values of its ghosts, which are listed.
@@ -123,5 +129,7 @@ pub(crate) fn plan_and_ask<L: Ledger, V: Values>(
 {
     let mut steps: Steps<L> = Steps::new(blank);
     let choices = conn.plan(&mut steps);
-    ask_all(choices, values, noting, noted, listed);
+    let spare = Vec::new(*listed.allocator());
+    let list = mem::replace(listed, spare);
+    *listed = ask_all(choices, values, noting, noted, list);
 }

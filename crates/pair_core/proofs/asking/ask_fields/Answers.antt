@@ -13,8 +13,8 @@ use Rattle.pair_core.proofs.asking.ask_fields.Goals.{then-has_field, else-has_fi
 
 pub fields-init : goal.fields-init
 fields-init g c = record {
-  told = subst (λ (fs : List (ℕ × ℕ)). AreAsked g.V.Values.ranges g.V.Values.stands g.V.Values.owes g.V.Values.same c.args.noting c.args.values.now c.args.values.now fs c.args.noted.now.items c.args.noted.now.items c.args.listed.now.items c.args.listed.now.items) (sym (fields-first c.args.choice.now.n c.args.choice.now.mask))
-      (asked-none g.V.Values.ranges g.V.Values.stands g.V.Values.owes g.V.Values.same c.args.noting c.args.values.now c.args.noted.now.items c.args.listed.now.items (g.met.V.Values.same_refl c.args.values.now));
+  told = subst (λ (fs : List (ℕ × ℕ)). AreAsked g.V.Values.ranges g.V.Values.stands g.V.Values.owes g.V.Values.same c.args.noting c.args.values.now c.args.values.now fs c.args.noted.now.items c.args.noted.now.items c.args.listed.items c.args.listed.items) (sym (fields-first c.args.choice.now.n c.args.choice.now.mask))
+      (asked-none g.V.Values.ranges g.V.Values.stands g.V.Values.owes g.V.Values.same c.args.noting c.args.values.now c.args.noted.now.items c.args.listed.items (g.met.V.Values.same_refl c.args.values.now));
   few = omega arith;
   list_few = omega arith;
   room = refl;
@@ -28,7 +28,7 @@ value-read-requires g c =
 
 pub returns-then-mask-field-eq0 : goal.returns-then-mask-field-eq0
 returns-then-mask-field-eq0 g c = record {
-  told = subst (λ (fs : List (ℕ × ℕ)). AreAsked g.V.Values.ranges g.V.Values.stands g.V.Values.owes g.V.Values.same c.args.noting c.args.values.now c.fields.values fs c.args.noted.now.items c.fields.noted.items c.args.listed.now.items c.fields.listed.items)
+  told = subst (λ (fs : List (ℕ × ℕ)). AreAsked g.V.Values.ranges g.V.Values.stands g.V.Values.owes g.V.Values.same c.args.noting c.args.values.now c.fields.values fs c.args.noted.now.items c.fields.noted.items c.args.listed.items c.fields.list.items)
       (fields-rest c.args.choice.now.n c.args.choice.now.mask c.fields.field (omega (arith, c.fields-test.true)) c.if-mask-field-eq0.true) c.fields.invariant.told;
   few = omega (arith, c.fields.invariant.few, c.fields-test.true);
   list_few = omega (arith, c.fields.invariant.list_few, c.fields-test.true);
@@ -46,34 +46,34 @@ fields-preserved g c = elim c.if-has_field.branch [
       let z = w.value-read.result.value in
       let fits : SFits w64 z = search rules in
       let same : to_z w64 (of_z w64 z) ≡ z = to_z-of_z w64 z fits in
-      let pushed : c.if-has_field.listed.items ≡ c.fields.listed.items ++ w.value-read.result.value ∷ [] =
-      ap (λ x. x.items) w.listed-is ∙ w.push_reserved.ensures.items ∙ ap (λ (v : ℤ). c.fields.listed.items ++ v ∷ []) same in
+      let pushed : c.if-has_field.list.items ≡ c.fields.list.items ++ w.value-read.result.value ∷ [] =
+      ap (λ x. x.items) w.list-is ∙ w.push_reserved.ensures.items ∙ ap (λ (v : ℤ). c.fields.list.items ++ v ∷ []) same in
       let one = asked-one g.V.Values.ranges g.V.Values.stands g.V.Values.owes g.V.Values.same c.args.noting c.fields.values w.value-read.new.self w.value-read.result c.args.choice.now.n c.fields.field c.fields.noted.items c.if-has_field.noted.items
-      c.fields.listed.items c.if-has_field.listed.items noted pushed e.asked.0 e.asked.1 e.range e.ranges e.stands e.kept e.owes e.same in
+      c.fields.list.items c.if-has_field.list.items noted pushed e.asked.0 e.asked.1 e.range e.ranges e.stands e.kept e.owes e.same in
       let both = asked-then g.V.Values.ranges g.V.Values.stands g.V.Values.owes g.V.Values.same c.args.noting c.args.values.now c.fields.values w.value-read.new.self
-      (map {B = ℕ × ℕ} (λ f. (c.args.choice.now.n, f)) (filter (has_bit c.args.choice.now.mask) (upto c.fields.field))) ((c.args.choice.now.n, c.fields.field) ∷ []) c.args.noted.now.items c.fields.noted.items c.if-has_field.noted.items c.args.listed.now.items c.fields.listed.items c.if-has_field.listed.items
+      (map {B = ℕ × ℕ} (λ f. (c.args.choice.now.n, f)) (filter (has_bit c.args.choice.now.mask) (upto c.fields.field))) ((c.args.choice.now.n, c.fields.field) ∷ []) c.args.noted.now.items c.fields.noted.items c.if-has_field.noted.items c.args.listed.items c.fields.list.items c.if-has_field.list.items
       (g.met.V.Values.same_trans c.args.values.now c.fields.values w.value-read.new.self) c.fields.invariant.told one in
       record {
-        told = subst (λ v. AreAsked g.V.Values.ranges g.V.Values.stands g.V.Values.owes g.V.Values.same c.args.noting c.args.values.now v (map {B = ℕ × ℕ} (λ f. (c.args.choice.now.n, f)) (filter (has_bit c.args.choice.now.mask) (upto (c.fields.field + 1)))) c.args.noted.now.items c.if-has_field.noted.items c.args.listed.now.items c.if-has_field.listed.items) (sym w.values-is)
-            (subst (λ (fs : List (ℕ × ℕ)). AreAsked g.V.Values.ranges g.V.Values.stands g.V.Values.owes g.V.Values.same c.args.noting c.args.values.now w.value-read.new.self fs c.args.noted.now.items c.if-has_field.noted.items c.args.listed.now.items c.if-has_field.listed.items)
+        told = subst (λ v. AreAsked g.V.Values.ranges g.V.Values.stands g.V.Values.owes g.V.Values.same c.args.noting c.args.values.now v (map {B = ℕ × ℕ} (λ f. (c.args.choice.now.n, f)) (filter (has_bit c.args.choice.now.mask) (upto (c.fields.field + 1)))) c.args.noted.now.items c.if-has_field.noted.items c.args.listed.items c.if-has_field.list.items) (sym w.values-is)
+            (subst (λ (fs : List (ℕ × ℕ)). AreAsked g.V.Values.ranges g.V.Values.stands g.V.Values.owes g.V.Values.same c.args.noting c.args.values.now w.value-read.new.self fs c.args.noted.now.items c.if-has_field.noted.items c.args.listed.items c.if-has_field.list.items)
             (sym (fields-next c.args.choice.now.n c.args.choice.now.mask c.fields.field ∙ ap (λ (b : Bool). map {B = ℕ × ℕ} (λ f. (c.args.choice.now.n, f)) (filter (has_bit c.args.choice.now.mask) (upto c.fields.field)) ++ cond b ((c.args.choice.now.n, c.fields.field) ∷ []) []) set)) both);
         few = rw w.noted-is (let p = w.note.ensures.few in let q = c.fields.invariant.few in omega arith);
-        list_few = rw w.listed-is (let p = w.push_reserved.ensures.len in let q = c.fields.invariant.list_few in omega arith);
+        list_few = rw w.list-is (let p = w.push_reserved.ensures.len in let q = c.fields.invariant.list_few in omega arith);
         room = rw w.noted-is (w.note.ensures.room ∙ c.fields.invariant.room);
-        list_room = rw w.listed-is (w.push_reserved.ensures.capacity ∙ c.fields.invariant.list_room);
+        list_room = rw w.list-is (w.push_reserved.ensures.capacity ∙ c.fields.invariant.list_room);
       }
   | else-has_field w ↦
       let off : has_bit c.args.choice.now.mask c.fields.field ≡ false = sym c.has_field.ensures ∙ w.if-has_field.false in
       record {
-        told = subst (λ v. AreAsked g.V.Values.ranges g.V.Values.stands g.V.Values.owes g.V.Values.same c.args.noting c.args.values.now v (map {B = ℕ × ℕ} (λ f. (c.args.choice.now.n, f)) (filter (has_bit c.args.choice.now.mask) (upto (c.fields.field + 1)))) c.args.noted.now.items c.if-has_field.noted.items c.args.listed.now.items c.if-has_field.listed.items) (sym w.values-is)
-            (subst (λ (l : List Read). AreAsked g.V.Values.ranges g.V.Values.stands g.V.Values.owes g.V.Values.same c.args.noting c.args.values.now c.fields.values (map {B = ℕ × ℕ} (λ f. (c.args.choice.now.n, f)) (filter (has_bit c.args.choice.now.mask) (upto (c.fields.field + 1)))) c.args.noted.now.items l c.args.listed.now.items c.if-has_field.listed.items) (sym (ap (λ x. x.items) w.noted-is))
-            (subst (λ (l : List ℤ). AreAsked g.V.Values.ranges g.V.Values.stands g.V.Values.owes g.V.Values.same c.args.noting c.args.values.now c.fields.values (map {B = ℕ × ℕ} (λ f. (c.args.choice.now.n, f)) (filter (has_bit c.args.choice.now.mask) (upto (c.fields.field + 1)))) c.args.noted.now.items c.fields.noted.items c.args.listed.now.items l) (sym (ap (λ x. x.items) w.listed-is))
-            (subst (λ (fs : List (ℕ × ℕ)). AreAsked g.V.Values.ranges g.V.Values.stands g.V.Values.owes g.V.Values.same c.args.noting c.args.values.now c.fields.values fs c.args.noted.now.items c.fields.noted.items c.args.listed.now.items c.fields.listed.items)
+        told = subst (λ v. AreAsked g.V.Values.ranges g.V.Values.stands g.V.Values.owes g.V.Values.same c.args.noting c.args.values.now v (map {B = ℕ × ℕ} (λ f. (c.args.choice.now.n, f)) (filter (has_bit c.args.choice.now.mask) (upto (c.fields.field + 1)))) c.args.noted.now.items c.if-has_field.noted.items c.args.listed.items c.if-has_field.list.items) (sym w.values-is)
+            (subst (λ (l : List Read). AreAsked g.V.Values.ranges g.V.Values.stands g.V.Values.owes g.V.Values.same c.args.noting c.args.values.now c.fields.values (map {B = ℕ × ℕ} (λ f. (c.args.choice.now.n, f)) (filter (has_bit c.args.choice.now.mask) (upto (c.fields.field + 1)))) c.args.noted.now.items l c.args.listed.items c.if-has_field.list.items) (sym (ap (λ x. x.items) w.noted-is))
+            (subst (λ (l : List ℤ). AreAsked g.V.Values.ranges g.V.Values.stands g.V.Values.owes g.V.Values.same c.args.noting c.args.values.now c.fields.values (map {B = ℕ × ℕ} (λ f. (c.args.choice.now.n, f)) (filter (has_bit c.args.choice.now.mask) (upto (c.fields.field + 1)))) c.args.noted.now.items c.fields.noted.items c.args.listed.items l) (sym (ap (λ x. x.items) w.list-is))
+            (subst (λ (fs : List (ℕ × ℕ)). AreAsked g.V.Values.ranges g.V.Values.stands g.V.Values.owes g.V.Values.same c.args.noting c.args.values.now c.fields.values fs c.args.noted.now.items c.fields.noted.items c.args.listed.items c.fields.list.items)
             (sym (fields-next c.args.choice.now.n c.args.choice.now.mask c.fields.field ∙ ap (λ (b : Bool). map {B = ℕ × ℕ} (λ f. (c.args.choice.now.n, f)) (filter (has_bit c.args.choice.now.mask) (upto c.fields.field)) ++ cond b ((c.args.choice.now.n, c.fields.field) ∷ []) []) off
             ∙ append-nil (map {B = ℕ × ℕ} (λ f. (c.args.choice.now.n, f)) (filter (has_bit c.args.choice.now.mask) (upto c.fields.field))))) c.fields.invariant.told)));
         few = rw w.noted-is (let q = c.fields.invariant.few in omega arith);
-        list_few = rw w.listed-is (let q = c.fields.invariant.list_few in omega arith);
+        list_few = rw w.list-is (let q = c.fields.invariant.list_few in omega arith);
         room = rw w.noted-is c.fields.invariant.room;
-        list_room = rw w.listed-is c.fields.invariant.list_room;
+        list_room = rw w.list-is c.fields.invariant.list_room;
       }
 ]

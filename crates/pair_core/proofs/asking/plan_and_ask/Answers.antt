@@ -11,7 +11,6 @@ use Rattle.stream_manager.specs.Server.{ghost_log, choices_at, received_at, ghos
 use Rattle.stream_manager.specs.Stands.{terms_of}
 use Rattle.pair_core.specs.History.{values_of}
 use Rattle.pair_core.specs.Conditions.{asked_by_all}
-use Rattle.pair_core.specs.Asking.{IsReadForNext}
 use Rattle.pair_core.proofs.ReadValues.{supplies, all-may-be-asked, reads-values, same-carried}
 use Rattle.pair_core.proofs.Packed.{planned-items}
 use Rattle.pair_core.proofs.asking.plan_and_ask.Goals as goal
@@ -47,7 +46,7 @@ ask_all-requires-clause-list_room g c =
     let none = ap (λ (l : List ℤ). length l) c.requires.list_empty in
     let ok = c.args.listed.now.ok in
     let room = c.requires.list_room in
-    omega arith
+    rw c.replace-list.ensures.value (omega arith)
 
 pub returns-clause-told : goal.returns-clause-told
 returns-clause-told g c =
@@ -71,7 +70,7 @@ returns-clause-told g c =
         asks = told.asks;
       },
       λ on. told.behind on ∙ ap (λ (l : List Read). l ++ told.reads) c.requires.empty,
-      told.beside ∙ ap (λ (l : List ℤ). l ++ values_of told.reads) c.requires.list_empty,
+      told.beside ∙ ap (λ (l : List ℤ). l ++ values_of told.reads) (ap (λ l. l.items) c.replace-list.ensures.value ∙ c.requires.list_empty),
     )
 
 pub returns-clause-few : goal.returns-clause-few

@@ -1,15 +1,14 @@
 use Rattle.std.proofs.Common.{◌≡◌, ◌∙◌, ℕ, ℤ, List, [], refl, sym, ap, subst}
 use Rattle.std.specs.Prelude.{IfSome}
-use Rattle.tn_types.specs.declared.choices.Read.{Read}
 use Rattle.notify_window.specs.declared.SendState.TheVariants.{Held, Worn, Room}
 use Rattle.ghost_masks.specs.Carried.{all_carried, AreValues}
 use Rattle.stream_manager.specs.declared.config.Config.{Config}
 use Rattle.stream_manager.specs.Limits.{Terms}
 use Rattle.stream_manager.specs.Server.{ghost_log}
 use Rattle.stream_manager.specs.Stands.{terms_of}
-use Rattle.pair_core.specs.History.{history, absorbing, values_of}
+use Rattle.pair_core.specs.History.{history, absorbing}
 use Rattle.pair_core.specs.Conditions.{HasRanges}
-use Rattle.pair_core.specs.Calls.{Packs, Asks}
+use Rattle.pair_core.specs.Calls.{Packs}
 use Rattle.pair_core.specs.Packing.{pair_of}
 use Rattle.pair_core.proofs.Asked.{asks-none}
 use Rattle.pair_core.proofs.Scoped.{absorbed-ranges}
