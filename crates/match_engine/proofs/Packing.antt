@@ -40,7 +40,8 @@ use Rattle.own_lists.specs.Agreement.{Agrees, IsPeriodOf}
 use Rattle.own_lists.proofs.Agreeing.{own_lists_agree}
 use Rattle.own_lists.proofs.Meeting.{are_met, all_up, reads_forced}
 use Rattle.own_lists.proofs.Journals.{up_from, up_to, kind_told}
-use Rattle.own_lists.proofs.ScanFacts.{AreShown, AreDifferent, IsNone, objects, numbers, shown_are_shown, has, has_itself}
+use Rattle.own_lists.proofs.ScanFacts.{AreShown, AreDifferent, IsNone, objects, numbers, shown_are_shown}
+use Rattle.own_lists.proofs.ScanChanges.{has, has_itself}
 use Rattle.own_lists.proofs.WorldFacts.{scans_are_sights}
 use Rattle.client_seat.specs.Stands.{SeatState, Packs, StandsFor as SeatStandsFor}
 use Rattle.client_seat.specs.Told.{packed_told, pack_told}

@@ -46,7 +46,8 @@ use Rattle.own_lists.specs.Agreement.{IsPeriodOf, Agrees}
 use Rattle.own_lists.proofs.Journals.{up_from, kind_told}
 use Rattle.own_lists.proofs.Meeting.{scan_journal}
 use Rattle.own_lists.proofs.KeptValues.{own_fields, wrote_course}
-use Rattle.own_lists.proofs.ScanFacts.{has, held_at, numbers}
+use Rattle.own_lists.proofs.ScanFacts.{numbers}
+use Rattle.own_lists.proofs.ScanChanges.{has, held_at}
 use Rattle.own_lists.proofs.Standing.{IsShownIn}
 use Rattle.match_laws.proofs.ValuesDue.{IsNoPack}
 use Rattle.match_laws.proofs.ValuesNewest.{newest_of}

@@ -41,7 +41,7 @@ use Rattle.own_lists.proofs.Journals.{shows_told, kind_told}
 use Rattle.own_lists.proofs.LegalSteps.{legal_steps}
 use Rattle.own_lists.proofs.Meeting.{are_met}
 use Rattle.own_lists.proofs.KeptValues.{own_fields}
-use Rattle.own_lists.proofs.ScanFacts.{has}
+use Rattle.own_lists.proofs.ScanChanges.{has}
 use Rattle.own_lists.proofs.Standing.{IsShownIn}
 use Rattle.match_laws.proofs.ValuesDue.{IsNoPack, Due, absorbs_due, step_due}
 use Rattle.match_laws.proofs.ValuesNewest.{newest_of, newest_stays, newest_comes, asked_has}

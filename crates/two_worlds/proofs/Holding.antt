@@ -13,7 +13,8 @@ use Rattle.own_lists.specs.Steps.{shows_in, is_hidden_in, up_in, traits_in}
 use Rattle.own_lists.specs.Own.{OwnShow, OwnWrite}
 use Rattle.own_lists.specs.Course.{Course, onto, hide_step, near_step, scan_steps, with_steps}
 use Rattle.own_lists.specs.Kept.{Kept, begins, all_begin, wrote, wrote_all, with_course, undrained}
-use Rattle.own_lists.proofs.ScanFacts.{RiseTo, has, has_not, below_rising}
+use Rattle.own_lists.proofs.ScanFacts.{RiseTo, below_rising}
+use Rattle.own_lists.proofs.ScanChanges.{has, has_not}
 use Rattle.own_lists.proofs.Standing.{onto_on, shows_hides, hidden_hides, traits_hides, up_hides, shows_nears, hidden_nears, up_nears, traits_nears, all_weaker}
 use Rattle.two_worlds.specs.declared.periods.OwnPeriod.{OwnPeriod}
 use Rattle.two_worlds.specs.Periods.{numbers, Rise, period_in, HasField, is_among, drain_of, unwritten, Table, IsHeld, Holds, MayWrite}

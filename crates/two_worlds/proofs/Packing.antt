@@ -23,7 +23,7 @@ use Rattle.own_lists.specs.Own.{OwnItem, Line}
 use Rattle.own_lists.specs.Steps.{traits_in}
 use Rattle.own_lists.specs.Course.{with_step}
 use Rattle.own_lists.specs.Kept.{Kept, kept, drained, left, drains_of, read_of, reads_for, reads_of, packs}
-use Rattle.own_lists.proofs.ScanFacts.{has}
+use Rattle.own_lists.proofs.ScanChanges.{has}
 use Rattle.own_lists.proofs.Journals.{up_from, kind_told}
 use Rattle.own_lists.proofs.Meeting.{are_met, reads_forced, values_kept}
 use Rattle.client_seat.specs.Stands.{SeatState, Packs, StandsFor as SeatStandsFor}
