@@ -15,7 +15,7 @@ use Rattle.pair_core.specs.History.{PairStep, ClientPost, Sample, ClientPack, Do
 use Rattle.pair_core.specs.Answers.{answer}
 use Rattle.kept_pair.specs.declared.fault.KeepFault.{KeepFault}
 use Rattle.kept_pair.specs.declared.fault.KeepFault.TheVariants as keeps
-use Rattle.kept_pair.specs.declared.entry.TheConstants.{MAX_KEPT_STEPS}
+use Rattle.tn_types.specs.declared.limits.TheConstants.{MAX_KEPT_STEPS, MAX_TAKEN_MESSAGES}
 use Rattle.kept_pair.specs.Kept.{KeptState, terms_in, accepted_by, answer_after}
 use Rattle.dirty_lanes.specs.declared.view.PackView.{PackView}
 use Rattle.lane_periods.specs.Periods.{PeriodList}
@@ -29,7 +29,6 @@ use Rattle.pair_periods.specs.Agreement.{server_log}
 use Rattle.connection_lock.specs.declared.message.Message.{Message}
 use Rattle.connection_lock.specs.declared.message.NetLine.{NetLine}
 use Rattle.connection_lock.specs.declared.message.NetLine.TheVariants as line
-use Rattle.connection_lock.specs.declared.taking.TheConstants.{MAX_TAKEN_MESSAGES}
 use Rattle.connection_lock.specs.Taking.{Progress, Takes, TakesAll}
 use Rattle.connection_lock.specs.Rule.{LockedState, AreLocked, terms_of, progress_of, progress_in}
 

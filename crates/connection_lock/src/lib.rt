@@ -14,4 +14,3 @@ pub use lane_periods::Objects;
 pub use locked::{Ended, Locked};
 pub use message::{Message, NetLine};
 pub use shared::SharedPair;
-pub use taking::MAX_TAKEN_MESSAGES;

@@ -16,10 +16,7 @@ use lane_periods::Periods;
 use pair_core::PairStep;
 use rtrb::Consumer;
 use std::alloc::Global;
-use tn_types::{Class, MAX_BLOCKS, MAX_DISTANCE_LEVEL, MAX_SHOWS, Payload};
-
-/// How many messages a pack takes at most.
-pub const MAX_TAKEN_MESSAGES: u32 = 4_096;
+use tn_types::{Class, MAX_BLOCKS, MAX_DISTANCE_LEVEL, MAX_SHOWS, MAX_TAKEN_MESSAGES, Payload};
 
 /// Whether a period may begin so.
 fn may_show(pair: &KeptPair, kind: u8, block: u8, level: u8, control: bool) -> bool

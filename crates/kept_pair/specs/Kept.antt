@@ -2,7 +2,7 @@
 -- steps before it, what it answers of them, and what all of them together mean.
 use Rattle.std.specs.Prelude.{◌≡◌, ℕ, ℤ, ◌*◌, ◌<◌, ◌≤◌, Bool, true, Option, Result, Ok, Err, List, [], reverse, length, take, slice_index}
 use Rattle.std.specs.List.{AllByRecursion}
-use Rattle.tn_types.specs.declared.limits.TheConstants.{MAX_PACKET_MOVES}
+use Rattle.tn_types.specs.declared.limits.TheConstants.{MAX_PACKET_MOVES, MAX_KEPT_STEPS}
 use Rattle.tn_types.specs.declared.choices.Drain.{Drain}
 use Rattle.tn_types.specs.declared.moves.Move.{Move}
 use Rattle.stream_manager.specs.Limits.{Terms}
@@ -16,7 +16,6 @@ use Rattle.pair_core.specs.Conditions.{MayDrain, HasRanges, IsMet, AreMet}
 use Rattle.pair_core.specs.Answers.{answer, accepted_in}
 use Rattle.pair_core.specs.Laws.{StepFits}
 use Rattle.pair_core.specs.Stands.{PairState, StandsFor}
-use Rattle.kept_pair.specs.declared.entry.TheConstants.{MAX_KEPT_STEPS}
 use Rattle.kept_pair.specs.declared.fault.KeepFault.{KeepFault}
 use Rattle.kept_pair.specs.declared.fault.KeepFault.TheVariants as keeps
 

@@ -2,11 +2,6 @@
 
 use pair_core::PairStep;
 
-/// Steps that are kept of one pair.
-///
-/// It stands here, and not beside the other limits, since nothing but a list of kept steps has it.
-pub const MAX_KEPT_STEPS: u32 = 65_536;
-
 /// A step that was made. What a pack drained and read ends at these places of the lists of all drains and reads, and begins
 /// where that of the step before ends; a step of another kind has nothing there.
 #[derive(Drop)]

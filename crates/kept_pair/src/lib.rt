@@ -9,7 +9,6 @@ mod given;
 mod pair;
 mod step_list;
 
-pub use entry::MAX_KEPT_STEPS;
 pub use fault::KeepFault;
 pub use pair::KeptPair;
 pub use step_list::StepList;

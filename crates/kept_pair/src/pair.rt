@@ -2,7 +2,6 @@
 ghost use Rattle.std.specs.Prelude.{◌≡◌, true, ◌≤◌, ◌<◌, List, [], ◌∷◌, ◌++◌, OnOk, OnErr, length, take, slice_get};
 ghost use Rattle.tn_types.specs.declared.choices.Read.{Read};
 
-use crate::entry::MAX_KEPT_STEPS;
 use crate::fault::KeepFault;
 use crate::given::{add_moves, brought, learn_payload};
 use crate::step_list::StepList;
@@ -10,7 +9,7 @@ use pair_core::{Answer, MAX_PACKET_VALUES, Pair, PairStep};
 use std::alloc::Global;
 use std::marker::Model;
 use tn_types::{
-    Class, Drain, MAX_PACKET_MOVES, MAX_SHOWN_PERIODS, Move, NoMemory, Payload, Read, Values,
+    Class, Drain, MAX_KEPT_STEPS, MAX_PACKET_MOVES, MAX_SHOWN_PERIODS, Move, NoMemory, Payload, Read, Values,
 };
 
 /// A pair that keeps the steps that are made on it.

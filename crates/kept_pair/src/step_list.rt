@@ -2,11 +2,11 @@
 ghost use Rattle.std.specs.Prelude.{◌≡◌, true, ◌<◌, ◌≤◌, ◌+◌, [], ◌∷◌, ◌++◌, OnOk, OnErr, IfSome, IsNone, ◌↔◌, Some, length, slice_get};
 ghost use Rattle.kept_pair.specs.StepLists.{kept_of, is_pack, drains_at, reads_at, drains_start, reads_start, part};
 
-use crate::entry::{Entry, MAX_KEPT_STEPS};
+use crate::entry::Entry;
 use pair_core::{MAX_PACKET_VALUES, PairStep};
 use std::alloc::Global;
 use std::marker::Model;
-use tn_types::{Drain, NoMemory, Read};
+use tn_types::{Drain, MAX_KEPT_STEPS, NoMemory, Read};
 
 /// Steps in the order in which they were made, each pack with what it drained and read.
 ///
@@ -22,7 +22,7 @@ pub struct StepList {
 impl Model for StepList {
     ghost use Rattle.std.specs.Prelude.{◌+◌, ◌-◌, ◌≤◌, nat_le, nat_lt, ◌&&◌, length, vec_len, vec_capacity};
     ghost use Rattle.pair_core.specs.declared.asking.TheConstants.{MAX_PACKET_VALUES};
-    ghost use Rattle.kept_pair.specs.declared.entry.TheConstants.{MAX_KEPT_STEPS};
+    ghost use Rattle.tn_types.specs.declared.limits.TheConstants.{MAX_KEPT_STEPS};
     ghost use Rattle.kept_pair.specs.StepLists.{Steps, cut, Rise};
 
     ghost Value = { Steps };

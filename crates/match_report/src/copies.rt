@@ -1,10 +1,9 @@
 //! What is told of a client's copies.
-ghost use Rattle.std.specs.Prelude.{◌≡◌, ◌<◌, ◌≤◌, ◌++◌, ◌∷◌, [], OnOk, OnErr, length};
+ghost use Rattle.std.specs.Prelude.{◌≡◌, ◌++◌, ◌∷◌, [], OnOk, OnErr};
 
-use arrayvec::ArrayVec;
 use std::alloc::Global;
 use std::marker::Model;
-use tn_types::{MAX_FIELDS, NoMemory};
+use tn_types::{MAX_FIELDS, NoMemory, ShortList};
 
 /// What a copy shows of a field, and whether that field is settled in the period that holds the copy's slot at the server
 /// (docs/connection.md, "Settled").
@@ -15,58 +14,7 @@ pub struct FieldTold {
 }
 
 /// The fields of a copy, in order: at most 16.
-#[derive(Drop)]
-pub struct FieldList {
-    items: ArrayVec<FieldTold, MAX_FIELDS>,
-}
-
-impl Model for FieldList {
-    ghost use Rattle.std.specs.Prelude.{List, ◌≤◌, length};
-    ghost use Rattle.tn_types.specs.declared.limits.TheConstants.{MAX_FIELDS};
-    ghost use Rattle.match_report.specs.declared.copies.FieldTold.{FieldTold};
-
-    ghost Value = { List FieldTold };
-
-    ghost view = { λ l. l.items.items };
-
-    ghost invariant = { λ l. length l.items.items ≤ MAX_FIELDS };
-}
-
-impl FieldList {
-    /// No field.
-    pub fn new() -> Self
-        ensures { result ≡ [] }
-    {
-        FieldList {
-            items: ArrayVec::new(),
-        }
-    }
-
-    /// Appends a field.
-    pub fn push(&mut self, field: FieldTold)
-        requires { length self.old < MAX_FIELDS }
-        ensures { self.new ≡ self.old ++ field ∷ [] }
-    {
-        self.items.push(field);
-    }
-
-    /// The fields, lent.
-    pub fn as_slice(&self) -> &[FieldTold]
-        ensures value { result.now ≡ self.now }
-        ensures fits { length result.now ≤ MAX_FIELDS }
-    {
-        self.items.as_slice()
-    }
-}
-
-impl Default for FieldList {
-    /// No field.
-    fn default() -> Self
-        ensures { result ≡ [] }
-    {
-        FieldList::new()
-    }
-}
+pub type FieldList = ShortList<FieldTold, MAX_FIELDS>;
 
 /// A copy that a client has.
 #[derive(Drop)]

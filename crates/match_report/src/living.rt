@@ -1,46 +1,12 @@
 //! What is told of a world's objects.
-ghost use Rattle.std.specs.Prelude.{◌≡◌, ◌≤◌, ◌<◌, ◌++◌, ◌∷◌, [], OnOk, OnErr, length};
+ghost use Rattle.std.specs.Prelude.{◌≡◌, ◌++◌, ◌∷◌, [], OnOk, OnErr};
 
-use arrayvec::ArrayVec;
 use std::alloc::Global;
 use std::marker::Model;
-use tn_types::{MAX_FIELDS, NoMemory};
+use tn_types::{MAX_FIELDS, NoMemory, ShortList};
 
 /// The values of an object's fields, in order: at most 16.
-#[derive(Drop)]
-pub struct ValueList {
-    items: ArrayVec<i64, MAX_FIELDS>,
-}
-
-impl Model for ValueList {
-    ghost use Rattle.std.specs.Prelude.{List, ℤ, ◌≤◌, length};
-    ghost use Rattle.tn_types.specs.declared.limits.TheConstants.{MAX_FIELDS};
-
-    ghost Value = { List ℤ };
-
-    ghost view = { λ l. l.items.items };
-
-    ghost invariant = { λ l. length l.items.items ≤ MAX_FIELDS };
-}
-
-impl ValueList {
-    /// These values.
-    pub fn from_slice(values: &[i64]) -> Self
-        requires { length values.now ≤ MAX_FIELDS }
-        ensures { result ≡ values.now }
-    {
-        let mut items = ArrayVec::new();
-        let _ = items.try_extend_from_slice(values);
-        ValueList { items }
-    }
-
-    /// The values, lent.
-    pub fn as_slice(&self) -> &[i64]
-        ensures { result.now ≡ self.now }
-    {
-        self.items.as_slice()
-    }
-}
+pub type ValueList = ShortList<i64, MAX_FIELDS>;
 
 /// A living object of a world.
 #[derive(Drop)]

@@ -2,7 +2,7 @@
 -- script, it has a least line that can't stand where it stands, and that line's first fault.
 use Rattle.std.specs.Prelude.{ℕ, pos, ◌≡◌, zero, suc, ◌+◌, List, [], ◌∷◌, ◌++◌, length, Bool, true, false, not, nat_le, if◌then◌else◌, codes, Option, Some, None, Result, Ok, Err, refl}
 use Rattle.std.specs.Option.{option_map_or}
-use Rattle.tn_types.specs.declared.limits.TheConstants.{MAX_BODY_LINES}
+use Rattle.tn_types.specs.declared.limits.TheConstants.{MAX_BODY_LINES, MAX_THREAD_TICKS}
 use Rattle.world_rules.specs.declared.setup.Spawn.{Spawn}
 use Rattle.match_script.specs.declared.types.ScriptFault.{ScriptFault}
 use Rattle.match_script.specs.declared.types.ScriptFault.TheVariants.{NotText, BadHeader, TooManyLines}
@@ -12,7 +12,6 @@ use Rattle.match_script.specs.declared.types.BodyLine.{BodyLine}
 use Rattle.match_script.specs.declared.types.BodyLine.TheVariants.{Tick}
 use Rattle.match_script.specs.declared.types.Head.{Head}
 use Rattle.match_script.specs.declared.types.Script.{Script}
-use Rattle.match_script.specs.declared.limits.TheConstants.{MAX_THREAD_TICKS}
 use Rattle.match_script.specs.Text.{lines_of, words_of, is_text}
 use Rattle.world_rules.specs.declared.kinds.TheConstants.{PLAYER, CLOCK}
 use Rattle.match_script.specs.Words.{number, number_from, hex}

@@ -16,7 +16,7 @@ mod word;
 mod words;
 
 pub use held::{LineDatagram, LinePayload};
-pub use limits::{MAX_THREAD_TICKS, VERSION};
+pub use limits::VERSION;
 pub use printer::print;
 pub use reader::{parse, parse_threads};
 pub use types::{Blocks, Body, BodyLine, Head, ParseFault, Script, ScriptFault};

@@ -1,7 +1,4 @@
-//! What this version of the format is, and the limit of a match in threads.
+//! What this version of the format is.
 
 /// The version of the format that the first line names.
 pub const VERSION: u8 = 1;
-
-/// The most lines `tick` of a match in threads.
-pub const MAX_THREAD_TICKS: u32 = 4096;

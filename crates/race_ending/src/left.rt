@@ -4,12 +4,13 @@ ghost use Rattle.pair_core.specs.Calls.{step_of as given_step};
 ghost use Rattle.connection_lock.specs.Taking.{step_for};
 
 use crate::may::may_take;
-use connection_lock::{Ended, MAX_TAKEN_MESSAGES, Message};
+use connection_lock::{Ended, Message};
 use dirty_lanes::{LaneName, Lanes};
 use kept_pair::KeepFault;
 use pair_core::PairStep;
 use race_sim::Waiting;
 use std::alloc::Global;
+use tn_types::MAX_TAKEN_MESSAGES;
 
 // The step of a message.
 fn step_of(message: Message) -> PairStep

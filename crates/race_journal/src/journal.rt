@@ -7,12 +7,12 @@ ghost use Rattle.race_text.specs.Text.{of_each};
 ghost use Rattle.race_journal.specs.Text.{is_show, shown_before, step_line, full_line, journal_text};
 
 use crate::steps::put_step;
-use kept_pair::{KeptPair, MAX_KEPT_STEPS, StepList};
+use kept_pair::{KeptPair, StepList};
 use lane_periods::Objects;
 use pair_core::PairStep;
 use race_text::Draft;
 use std::alloc::Global;
-use tn_types::NoMemory;
+use tn_types::{MAX_KEPT_STEPS, NoMemory};
 
 fn is_show(step: &PairStep) -> bool
     ensures { result ≡ is_show (step_of step.now) }

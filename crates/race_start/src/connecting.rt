@@ -4,7 +4,7 @@ ghost use Rattle.std.specs.List.{All};
 ghost use Rattle.rtrb.specs.Ring.{received, sent};
 ghost use Rattle.match_script.specs.Ranges.{HeadFits};
 
-use connection_lock::{MAX_TAKEN_MESSAGES, Message, SharedPair};
+use connection_lock::{Message, SharedPair};
 use dirty_lanes::{LaneName, PackSeat, PackSeats};
 use kept_pair::KeptPair;
 use match_script::Head;
@@ -13,7 +13,7 @@ use race_sim::Port;
 use rtrb::{Consumer, Producer, RingBuffer};
 use std::alloc::Global;
 use stream_manager::Config;
-use tn_types::{Move, NoMemory};
+use tn_types::{MAX_TAKEN_MESSAGES, Move, NoMemory};
 use world_rules::match_kinds;
 
 // How many messages the ring to a connection has places for, and how many accepted moves the ring from it.

@@ -5,14 +5,13 @@ use Rattle.std.specs.Prelude.{◌≡◌, refl, ℕ, ◌+◌, ◌<◌, ◌≤◌,
 use Rattle.std.specs.List.{filter_map}
 use Rattle.std.specs.Option.{option_and_then}
 use Rattle.tn_types.specs.Prefix.{IsPrefixOf}
-use Rattle.tn_types.specs.declared.limits.TheConstants.{MAX_WAITING_MOVES}
+use Rattle.tn_types.specs.declared.limits.TheConstants.{MAX_WAITING_MOVES, MAX_KEPT_STEPS}
 use Rattle.tn_types.specs.declared.choices.Class.{Class}
 use Rattle.tn_types.specs.declared.moves.Move.{Move}
 use Rattle.match_script.specs.declared.types.BodyLine.{BodyLine}
 use Rattle.match_script.specs.declared.types.BodyLine.TheVariants as script
 use Rattle.pair_core.specs.History as step
 use Rattle.pair_core.specs.History.{PairStep}
-use Rattle.kept_pair.specs.declared.entry.TheConstants.{MAX_KEPT_STEPS}
 use Rattle.kept_pair.specs.Kept.{KeptState, accepted_by}
 use Rattle.connection_lock.specs.declared.message.Message.{Message}
 use Rattle.connection_lock.specs.declared.message.Message.TheVariants as message

@@ -7,11 +7,13 @@ ghost use Rattle.notify_window.specs.Log.{arrival_of};
 ghost use Rattle.tn_types.specs.declared.choices.Class.TheVariants.{Guaranteed, Loose};
 ghost use Rattle.wire_format.specs.declared.server.ServerPacket.TheVariants as down;
 ghost use Rattle.wire_format.specs.Header.{IsHeader};
-ghost use Rattle.wire_format.specs.Server.{IsServerBody};
+ghost use Rattle.wire_format.specs.Ghosts.{none_held};
+ghost use Rattle.wire_format.specs.Reading.{IsWhole};
+ghost use Rattle.wire_format.specs.Server.{IsServer, IsServerBody, read_server, server_meant};
 ghost use Rattle.stream_manager.specs.ClientCalls.{AdmitsDown, TakesDown, client_of};
 
 use crate::arriving::{check_control, check_same, take_blocks};
-use crate::config::Config;
+use crate::config::{Config, VERSION};
 use crate::end::End;
 use crate::fault::ClientFault;
 use bit_stream::BitWriter;
@@ -23,9 +25,9 @@ use notify_window::{Arrival, SendState};
 use quantised_fields::KindTable;
 use std::alloc::Global;
 use std::marker::Model;
-use tn_types::{Class, MAX_READ_BYTES, Move, NoMemory, Payload};
+use tn_types::{Class, MAX_READ_BYTES, Move, NoMemory, PacketKind, Payload};
 use wire_format::{
-    CLIENT_FIXED_BITS, EventList, Header, MOVE_BITS, PacketKind, ServerBody, decode_server_into,
+    BitsFault, CLIENT_FIXED_BITS, EventList, Header, MOVE_BITS, ServerBody, decode_server_into,
     put_client_front, put_moves, put_ping,
 };
 
@@ -237,7 +239,7 @@ impl Client {
         ensures unchanged { OnErr result (self.new ≡ self.old) }
         ensures terms { KeepsTerms self.old self.new }
     {
-        match decode_server_into(bytes, self.copies.kinds(), &mut *self.body) {
+        match read(bytes, &self.copies, &mut *self.body) {
             Ok(PacketKind::Ping) => {
                 let head = self.body.head;
                 self.check_ping(&head)?;
@@ -283,7 +285,7 @@ impl Client {
 
     /// The first refusal of a data packet; nothing changes.
     fn check(&self, body: &ServerBody) -> Result<(), ClientFault>
-        requires fits { IsServerBody self.now.copies.kinds body.now }
+        requires fits { IsServerBody 1 self.now.copies.kinds body.now }
         ensures answer { Answers self.now (λ log. packet_check self.now.common.config log (down.Body body.now)) result }
         ensures admits { OnOk result (AdmitsDown self.now body.now) }
     {
@@ -322,7 +324,7 @@ impl Client {
 
     /// The first fault of the ghosts of a packet, or of its control slot.
     fn check_ghosts(&self, body: &ServerBody) -> Result<(), ClientFault>
-        requires fits { IsServerBody self.now.copies.kinds body.now }
+        requires fits { IsServerBody 1 self.now.copies.kinds body.now }
         ensures answer { Answers self.now (λ log. ghosts_check log body.now) result }
         ensures fit { OnOk result (FitGhosts self.now body.now) }
     {
@@ -371,6 +373,15 @@ impl Client {
     }
 }
 
+/// Reads a packet of the server into a body, as `decode_server_into` does, by what the copies are.
+fn read(bytes: &[u8], copies: &Copies, body: &mut ServerBody) -> Result<PacketKind, BitsFault>
+    requires few { length bytes.now ≤ MAX_READ_BYTES }
+    ensures found { IfOk result (λ kind. IsServer 1 copies.now.kinds (server_meant kind body.new)) }
+    ensures exact { IsWhole server_meant result body.new (read_server 1 copies.now.kinds none_held bytes.now) }
+{
+    decode_server_into(bytes, VERSION, copies.table(), copies.kinds(), body)
+}
+
 /// Takes a data packet that nothing refuses into these parts of a client's end.
 fn take_body(
     common: &mut End,
@@ -380,7 +391,7 @@ fn take_body(
     control: &mut Option<u8>,
     body: &ServerBody,
 )
-    requires fits { IsServerBody copies.old.kinds body.now }
+    requires fits { IsServerBody 1 copies.old.kinds body.now }
     requires admits { AdmitsDown (client_of common.old moves.old blocks.old copies.old control.old) body.now }
     requires none_waits { common.old.receiver.ready ≡ [] }
     ensures took { TakesDown (client_of common.old moves.old blocks.old copies.old control.old) body.now

@@ -11,7 +11,7 @@ ghost use Rattle.stream_manager.specs.Server.{Took, moves_new};
 ghost use Rattle.stream_manager.specs.Stands.{ConnStandsForSome, terms_of};
 ghost use Rattle.stream_manager.specs.ConnCalls.{Does, Answers, Hands, Accepts, Admits, conn_of};
 
-use crate::config::Config;
+use crate::config::{Config, VERSION};
 use crate::end::End;
 use crate::fault::ArriveFault;
 use crate::settling::{settle_blocks, settle_ghosts};
@@ -24,8 +24,10 @@ use notify_window::{Arrival, SendState};
 use quantised_fields::KindTable;
 use std::alloc::Global;
 use std::marker::Model;
-use tn_types::{BlockBytes, Class, MAX_BLOCKS, MAX_LIFE, MAX_READ_BYTES, Move, NoMemory, Payload};
-use wire_format::{ClientBody, EventList, Header, MoveList, PacketKind, decode_client_into};
+use tn_types::{
+    BlockBytes, Class, MAX_BLOCKS, MAX_LIFE, MAX_READ_BYTES, Move, NoMemory, PacketKind, Payload,
+};
+use wire_format::{ClientBody, EventList, Header, MoveList, decode_client_into};
 
 /// What a packet of the client brought.
 #[derive(Clone, Copy, Debug, PartialEq, Eq)]
@@ -203,7 +205,7 @@ impl Conn {
         ensures unchanged { OnErr result (self.new ≡ self.old) }
         ensures terms { terms_of self.new ≡ terms_of self.old }
     {
-        match decode_client_into(bytes, &mut *self.body) {
+        match decode_client_into(bytes, VERSION, &mut *self.body) {
             Ok(PacketKind::Ping) => {
                 let head = self.body.head;
                 self.check_ping(&head)?;
@@ -337,7 +339,7 @@ fn take_body(
     body: &ClientBody,
     room: u32,
 ) -> u32
-    requires fits { IsClientBody body.now }
+    requires fits { IsClientBody 1 body.now }
     requires some { ConnStandsForSome (conn_of common.old masks.old blocks.old moves.old taken.old) }
     requires admits { Admits (conn_of common.old masks.old blocks.old moves.old taken.old) body.now }
     requires none_waits { common.old.receiver.ready ≡ [] }

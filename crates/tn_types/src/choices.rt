@@ -4,6 +4,15 @@
 #[derive(Clone, Copy, Debug, PartialEq, Eq)]
 pub struct NoMemory;
 
+/// What a packet is.
+#[derive(Clone, Copy, Debug, PartialEq, Eq)]
+pub enum PacketKind {
+    /// A header alone, which tells what came and is not acknowledged itself.
+    Ping,
+    /// A data packet: it has a number of its own, and a body behind the header.
+    Body,
+}
+
 /// What a ghost item of a packet does to a slot.
 #[derive(Clone, Copy, Debug, PartialEq, Eq)]
 pub enum Op {

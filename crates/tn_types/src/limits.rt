@@ -106,6 +106,18 @@ pub const MAX_SCRIPT_BYTES: usize = 1_048_576;
 /// Body lines of a script.
 pub const MAX_BODY_LINES: u32 = 100_000;
 
+/// Packets since a period's last turn that its priority counts (docs/connection.md, "Candidates").
+pub const MAX_SKIPS: u32 = 65_535;
+
+/// Steps that are kept of one pair.
+pub const MAX_KEPT_STEPS: u32 = 65_536;
+
+/// Messages of the simulation that one pack takes.
+pub const MAX_TAKEN_MESSAGES: u32 = 4_096;
+
+/// Lines `tick` of a match in threads.
+pub const MAX_THREAD_TICKS: u32 = 4_096;
+
 /// Lines that a match counts: ticks, scans and packs.
 pub const MAX_COUNTED_LINES: u32 = 4_000_000;
 

@@ -8,7 +8,6 @@ use crate::events::{EventList, put_events};
 use crate::fault::{BitsCause, BitsFault};
 use crate::header::{Header, put_header, put_ping, read_header};
 use crate::items::{list_bits, read_list};
-use crate::kind::PacketKind;
 use crate::moves::{MoveList, put_moves, read_moves};
 use crate::parts::{part, within};
 use crate::widths::{
@@ -16,7 +15,7 @@ use crate::widths::{
     NUMBER_WIDTH, PING,
 };
 use bit_stream::{BitReader, BitWriter};
-use tn_types::{MAX_PACKET_EVENTS, MAX_READ_BYTES};
+use tn_types::{MAX_PACKET_EVENTS, MAX_READ_BYTES, PacketKind};
 
 /// A packet of a client.
 #[derive(Drop)]
@@ -55,14 +54,18 @@ impl ClientBody {
 
 /// Reads what stands behind a data packet's header into its body, or gives its first fault.
 #[tactic(auto, unfolding(crate::specs::Client::client_body_at))]
-fn read_client_body(reader: &mut BitReader<'_>, body: &mut ClientBody) -> Result<(), BitsFault>
-    ensures { Fills result body.new reader.new (client_body_at body.old.head reader.old) }
+fn read_client_body(
+    reader: &mut BitReader<'_>,
+    version: u8,
+    body: &mut ClientBody,
+) -> Result<(), BitsFault>
+    ensures { Fills result body.new reader.new (client_body_at version body.old.head reader.old) }
 {
     body.first = part(reader, NUMBER_WIDTH)?;
     read_moves(reader, &mut body.moves)?;
     read_list(
         reader,
-        &(),
+        &version,
         MAX_PACKET_EVENTS as u32,
         EVENT_COUNT_WIDTH,
         &mut body.events,
@@ -71,25 +74,29 @@ fn read_client_body(reader: &mut BitReader<'_>, body: &mut ClientBody) -> Result
 
 /// Reads a packet, or gives its first fault.
 #[tactic(auto, unfolding(crate::specs::Client::client_at))]
-fn read_client(reader: &mut BitReader<'_>, body: &mut ClientBody) -> Result<PacketKind, BitsFault>
-    ensures { FillsAs client_meant result body.new reader.new (client_at reader.old) }
+fn read_client(
+    reader: &mut BitReader<'_>,
+    version: u8,
+    body: &mut ClientBody,
+) -> Result<PacketKind, BitsFault>
+    ensures { FillsAs client_meant result body.new reader.new (client_at version reader.old) }
 {
     let kind = within(reader, BitsCause::KindBits, DATA, PING, KIND_WIDTH)?;
     body.head = read_header(reader)?;
     if kind == PING {
         return Ok(PacketKind::Ping);
     }
-    read_client_body(reader, body)?;
+    read_client_body(reader, version, body)?;
     Ok(PacketKind::Body)
 }
 
 /// The whole of these bytes, into a body.
-fn read_into(bytes: &[u8], body: &mut ClientBody) -> Result<PacketKind, BitsFault>
+fn read_into(bytes: &[u8], version: u8, body: &mut ClientBody) -> Result<PacketKind, BitsFault>
     requires { length bytes.now ≤ MAX_READ_BYTES }
-    ensures { IsWhole client_meant result body.new (read_client bytes.now) }
+    ensures { IsWhole client_meant result body.new (read_client version bytes.now) }
 {
     let mut reader = BitReader::new(bytes);
-    let kind = read_client(&mut reader, body)?;
+    let kind = read_client(&mut reader, version, body)?;
     match reader.end() {
         Ok(()) => Ok(kind),
         Err(padding) => Err(BitsFault {
@@ -100,12 +107,12 @@ fn read_into(bytes: &[u8], body: &mut ClientBody) -> Result<PacketKind, BitsFaul
 }
 
 /// The whole of these bytes.
-fn read_whole(bytes: &[u8]) -> Result<ClientPacket, BitsFault>
+fn read_whole(bytes: &[u8], version: u8) -> Result<ClientPacket, BitsFault>
     requires { length bytes.now ≤ MAX_READ_BYTES }
-    ensures { result ≡ read_client bytes.now }
+    ensures { result ≡ read_client version bytes.now }
 {
     let mut body = ClientBody::new();
-    match read_into(bytes, &mut body) {
+    match read_into(bytes, version, &mut body) {
         Ok(PacketKind::Ping) => Ok(ClientPacket::Ping(body.head)),
         Ok(PacketKind::Body) => Ok(ClientPacket::Body(body)),
         Err(fault) => Err(fault),
@@ -113,25 +120,41 @@ fn read_whole(bytes: &[u8]) -> Result<ClientPacket, BitsFault>
 }
 
 /// The bits of what stands behind the header.
-fn client_rest_bits(body: &ClientBody) -> u32
-    ensures value { result ≡ length (client_rest body.now) }
+fn client_rest_bits(body: &ClientBody, version: u8) -> u32
+    ensures value { result ≡ length (client_rest version body.now) }
     ensures few { result ≤ MAX_PACKET_BITS }
 {
     let moves = list_bits(&(), &body.moves);
-    let events = list_bits(&(), &body.events);
+    let events = list_bits(&version, &body.events);
     NUMBER_WIDTH + MOVE_COUNT_WIDTH + EVENT_COUNT_WIDTH + moves + events
+}
+
+/// The bits of a packet under a version.
+fn packet_bits(packet: &ClientPacket, version: u8) -> u32
+    ensures value { result ≡ length (spell_client version packet.now) }
+    ensures size { result ≡ client_size version packet.now }
+{
+    match packet {
+        ClientPacket::Ping(_) => HEADER_BITS,
+        ClientPacket::Body(body) => HEADER_BITS + client_rest_bits(body, version),
+    }
 }
 
 /// The bits of a packet: those of the header, and in a data packet [`CLIENT_FIXED_BITS`](crate::CLIENT_FIXED_BITS)
 /// and the bits of all items.
 pub fn client_bits(packet: &ClientPacket) -> u32
-    ensures value { result ≡ length (spell_client packet.now) }
-    ensures size { result ≡ client_size packet.now }
+    ensures value { result ≡ length (spell_client 1 packet.now) }
+    ensures size { result ≡ client_size 1 packet.now }
 {
-    match packet {
-        ClientPacket::Ping(_) => HEADER_BITS,
-        ClientPacket::Body(body) => HEADER_BITS + client_rest_bits(body),
-    }
+    packet_bits(packet, 1)
+}
+
+/// The bits of a packet of version 2.
+pub fn client2_bits(packet: &ClientPacket) -> u32
+    ensures value { result ≡ length (spell_client 2 packet.now) }
+    ensures size { result ≡ client_size 2 packet.now }
+{
+    packet_bits(packet, 2)
 }
 
 /// Writes what stands before the lists of a data packet: its kind, its header and the number of its first move. The moves
@@ -153,45 +176,72 @@ pub fn put_client_front(out: &mut BitWriter, head: &Header, first: u32)
 
 /// Writes a data packet, part by part.
 #[tactic(auto, using(crate::proofs::Lengths::lengths))]
-fn put_client_body(out: &mut BitWriter, body: &ClientBody)
-    requires fits { IsClientBodyInRange body.now }
-    requires room { length out.old.bits + length (client_in_parts body.now) ≤ 8 * out.old.size }
-    ensures spelled { IsClientBody body.now }
-    ensures bits { out.new.bits ≡ out.old.bits ++ client_in_parts body.now }
+fn put_client_body(out: &mut BitWriter, version: u8, body: &ClientBody)
+    requires fits { IsClientBodyInRange version body.now }
+    requires room { length out.old.bits + length (client_in_parts version body.now) ≤ 8 * out.old.size }
+    ensures spelled { IsClientBody version body.now }
+    ensures bits { out.new.bits ≡ out.old.bits ++ client_in_parts version body.now }
     ensures size { out.new.size ≡ out.old.size }
 {
     put_client_front(out, &body.head, body.first);
     put_moves(out, &body.moves);
-    put_events(out, &body.events);
+    put_events(out, version, &body.events);
 }
 
-/// Writes a packet in its one spelling. The caller sees to it that each number fits its part and all
-/// of [`client_bits`] fit the room.
+/// Writes a packet under a version.
 #[tactic(auto, using(crate::proofs::Lengths::lengths, crate::proofs::InParts::client_parts))]
-pub fn encode_client(packet: &ClientPacket, out: &mut BitWriter)
-    requires fits { IsClientInRange packet.now }
-    requires room { length out.old.bits + length (spell_client packet.now) ≤ 8 * out.old.size }
-    ensures spelled { IsClient packet.now }
-    ensures bits { out.new.bits ≡ out.old.bits ++ spell_client packet.now }
+fn put_packet(packet: &ClientPacket, version: u8, out: &mut BitWriter)
+    requires fits { IsClientInRange version packet.now }
+    requires room { length out.old.bits + length (spell_client version packet.now) ≤ 8 * out.old.size }
+    ensures spelled { IsClient version packet.now }
+    ensures bits { out.new.bits ≡ out.old.bits ++ spell_client version packet.now }
     ensures size { out.new.size ≡ out.old.size }
 {
     match packet {
         ClientPacket::Ping(head) => put_ping(out, head),
-        ClientPacket::Body(body) => put_client_body(out, body),
+        ClientPacket::Body(body) => put_client_body(out, version, body),
     }
 }
 
-/// Reads a packet out of these bytes, at most 65,536, into a body, and tells its kind; of a ping only `head` counts. Or gives
-/// the first fault in reading order with the bit at which the faulty part begins (docs/formats.md, "Datagrams"), and the body
-/// then holds nothing that counts. What the body had before plays no part.
-pub fn decode_client_into(bytes: &[u8], body: &mut ClientBody) -> Result<PacketKind, BitsFault>
+/// Writes a packet in its one spelling. The caller sees to it that each number fits its part and all
+/// of [`client_bits`] fit the room.
+pub fn encode_client(packet: &ClientPacket, out: &mut BitWriter)
+    requires fits { IsClientInRange 1 packet.now }
+    requires room { length out.old.bits + length (spell_client 1 packet.now) ≤ 8 * out.old.size }
+    ensures spelled { IsClient 1 packet.now }
+    ensures bits { out.new.bits ≡ out.old.bits ++ spell_client 1 packet.now }
+    ensures size { out.new.size ≡ out.old.size }
+{
+    put_packet(packet, 1, out);
+}
+
+/// Writes a packet in its one spelling of version 2. The caller sees to it that each number fits its part, that of an event 7
+/// bits, and all of [`client2_bits`] fit the room.
+pub fn encode_client2(packet: &ClientPacket, out: &mut BitWriter)
+    requires fits { IsClientInRange 2 packet.now }
+    requires room { length out.old.bits + length (spell_client 2 packet.now) ≤ 8 * out.old.size }
+    ensures spelled { IsClient 2 packet.now }
+    ensures bits { out.new.bits ≡ out.old.bits ++ spell_client 2 packet.now }
+    ensures size { out.new.size ≡ out.old.size }
+{
+    put_packet(packet, 2, out);
+}
+
+/// Reads a packet of a version out of these bytes, at most 65,536, into a body, and tells its kind; of a ping only `head`
+/// counts. Or gives the first fault in reading order with the bit at which the faulty part begins (docs/formats.md,
+/// "Datagrams"), and the body then holds nothing that counts. What the body had before plays no part.
+pub fn decode_client_into(
+    bytes: &[u8],
+    version: u8,
+    body: &mut ClientBody,
+) -> Result<PacketKind, BitsFault>
     requires { length bytes.now ≤ MAX_READ_BYTES }
     // What is read has a spelling.
-    ensures found { IfOk result (λ kind. IsClient (client_meant kind body.new)) }
+    ensures found { IfOk result (λ kind. IsClient version (client_meant kind body.new)) }
     // It is the packet that these bytes spell, or their fault.
-    ensures exact { IsWhole client_meant result body.new (read_client bytes.now) }
+    ensures exact { IsWhole client_meant result body.new (read_client version bytes.now) }
 {
-    read_into(bytes, body)
+    read_into(bytes, version, body)
 }
 
 /// The packet that these bytes spell, at most 65,536 of them, or the first fault in reading order
@@ -199,11 +249,24 @@ pub fn decode_client_into(bytes: &[u8], body: &mut ClientBody) -> Result<PacketK
 pub fn decode_client(bytes: &[u8]) -> Result<ClientPacket, BitsFault>
     requires { length bytes.now ≤ MAX_READ_BYTES }
     // What is read is spelled so, and it alone.
-    ensures found { IfOk result (λ p. IsClient p × (bytes.now ≡ datagram (spell_client p))) }
+    ensures found { IfOk result (λ p. IsClient 1 p × (bytes.now ≡ datagram (spell_client 1 p))) }
     // What is spelled so is read.
-    ensures only { (p : ClientPacket) → IsClient p → bytes.now ≡ datagram (spell_client p) → result ≡ Ok p }
+    ensures only { (p : ClientPacket) → IsClient 1 p → bytes.now ≡ datagram (spell_client 1 p) → result ≡ Ok p }
     // Which fault it is.
-    ensures exact { result ≡ read_client bytes.now }
+    ensures exact { result ≡ read_client 1 bytes.now }
 {
-    read_whole(bytes)
+    read_whole(bytes, 1)
+}
+
+/// The same for packets of version 2. The number of a guaranteed event is then its low number, 0 to 127.
+pub fn decode_client2(bytes: &[u8]) -> Result<ClientPacket, BitsFault>
+    requires { length bytes.now ≤ MAX_READ_BYTES }
+    // What is read is spelled so, and it alone.
+    ensures found { IfOk result (λ p. IsClient 2 p × (bytes.now ≡ datagram (spell_client 2 p))) }
+    // What is spelled so is read.
+    ensures only { (p : ClientPacket) → IsClient 2 p → bytes.now ≡ datagram (spell_client 2 p) → result ≡ Ok p }
+    // Which fault it is.
+    ensures exact { result ≡ read_client 2 bytes.now }
+{
+    read_whole(bytes, 2)
 }

@@ -12,8 +12,8 @@ mod fault;
 mod ghost_reading;
 mod ghosts;
 mod header;
+mod held;
 mod items;
-mod kind;
 mod laws;
 mod lists;
 mod moves;
@@ -24,24 +24,25 @@ mod widths;
 
 pub use blocks::{BlockItem, BlockList, block_bits, put_block, put_block_count, put_blocks};
 pub use client::{
-    ClientBody, ClientPacket, client_bits, decode_client, decode_client_into, encode_client,
-    put_client_front,
+    ClientBody, ClientPacket, client_bits, client2_bits, decode_client, decode_client_into,
+    decode_client2, encode_client, encode_client2, put_client_front,
 };
 pub use events::{EventItem, EventList, event_bits, put_event, put_event_count, put_events};
 pub use fault::{BitsCause, BitsFault};
 pub use ghosts::{
     GhostItem, GhostList, Levels, ghost_bits, put_ghost, put_ghost_count, put_ghosts, update_front,
 };
-pub use header::{Header, put_ping};
-pub use kind::PacketKind;
-pub use laws::{packets_are_parts, sizes_are_bits};
+pub use header::{Header, put_ping, server_head};
+pub use held::HeldKinds;
+pub use laws::{low_numbers_are_spelled, packets_are_parts, sizes_are_bits};
 pub use lists::ItemList;
 pub use moves::{MoveList, put_move, put_move_count, put_moves};
 pub use server::{
-    ServerBody, ServerPacket, decode_server, decode_server_into, encode_server, put_server_front,
-    server_bits,
+    ServerBody, ServerPacket, decode_server, decode_server_into, decode_server2, encode_server,
+    encode_server2, put_server_front, server_bits, server2_bits,
 };
 pub use widths::{
     BLOCK_COUNT_WIDTH, CLIENT_FIXED_BITS, EVENT_COUNT_WIDTH, GHOST_COUNT_WIDTH, HEADER_BITS,
-    MAX_BLOCK_BITS, MAX_EVENT_BITS, MAX_GHOST_BITS, MOVE_BITS, MOVE_COUNT_WIDTH, SERVER_FIXED_BITS,
+    LOW_NUMBERS, MAX_BLOCK_BITS, MAX_EVENT_BITS, MAX_GHOST_BITS, MOVE_BITS, MOVE_COUNT_WIDTH,
+    SERVER_FIXED_BITS, kind_width,
 };

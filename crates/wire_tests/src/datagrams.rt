@@ -1,10 +1,10 @@
 //! Of `wire_format`: whole datagrams with known bytes, written and read, and those that are refused, each with its reason.
 use bit_stream::BitWriter;
 use std::test::Fail;
-use tn_types::{Move, Payload};
+use tn_types::{Move, PacketKind, Payload};
 use wire_format::{
     BitsCause, BitsFault, BlockList, ClientBody, ClientPacket, EventItem, EventList, GhostItem,
-    GhostList, Header, MoveList, PacketKind, ServerBody, ServerPacket, client_bits, decode_client,
+    GhostList, Header, MoveList, ServerBody, ServerPacket, client_bits, decode_client,
     decode_client_into, decode_server, encode_client, encode_server, server_bits,
 };
 use world_rules::match_kinds;
@@ -127,13 +127,16 @@ fn acknowledgement_is_read(rt: HostRuntime) -> Result<(), Fail> {
 #[test]
 fn body_is_filled_again(rt: HostRuntime) {
     let mut body = ClientBody::new();
-    assert_eq!(rt; decode_client_into(&MOVES, &mut body), Ok(PacketKind::Body));
+    assert_eq!(rt;
+        decode_client_into(&MOVES, 1, &mut body),
+        Ok(PacketKind::Body)
+    );
     assert_eq!(rt;
         (body.first, body.moves.len(), body.events.len()),
         (7, 2, 1)
     );
     assert_eq!(rt;
-        decode_client_into(&ACKNOWLEDGES, &mut body),
+        decode_client_into(&ACKNOWLEDGES, 1, &mut body),
         Ok(PacketKind::Body)
     );
     assert_eq!(rt;
