@@ -10,7 +10,7 @@ fn place_of(separator: u8, bytes: &[u8]) -> Option<usize>
     bytes.iter().position(|b| *b == separator)
 }
 
-// A line, and what comes after its newline.
+/// A line, and what comes after its newline.
 #[tactic(auto, using(crate::proofs::Cutting::line_stops, crate::proofs::Cutting::line_ends))]
 pub fn cut_line(bytes: &[u8]) -> (&[u8], &[u8])
     requires { 0 < length bytes.now }
@@ -27,7 +27,7 @@ pub fn cut_line(bytes: &[u8]) -> (&[u8], &[u8])
     }
 }
 
-// A word, and what comes after the space behind it, if there is one.
+/// A word, and what comes after the space behind it, if there is one.
 #[tactic(auto, using(crate::proofs::Cutting::word_stops, crate::proofs::Cutting::word_ends))]
 pub fn cut_word(bytes: &[u8]) -> Option<(&[u8], &[u8])>
     ensures { MatchOption result (words_of bytes.now ≡ bytes.now ∷ []) (λ r. words_of bytes.now ≡ r.0.now ∷ words_of r.1.now) }
@@ -42,14 +42,14 @@ pub fn cut_word(bytes: &[u8]) -> Option<(&[u8], &[u8])>
     }
 }
 
-// Each byte is one that may stand in a line.
+/// Each byte is one that may stand in a line.
 pub fn is_text(line: &[u8]) -> bool
     ensures { result ≡ is_text line.now }
 {
     line.iter().all(|b| 32 <= *b && *b <= 126)
 }
 
-// What a text begins with, by the first byte that no word has.
+/// What a text begins with, by the first byte that no word has.
 #[derive(Clone, Copy)]
 pub enum Piece<'a> {
     // A word, and what comes after the space behind it.
@@ -73,7 +73,7 @@ fn end_of_word(text: &[u8]) -> Option<usize>
     text.iter().position(|b| !is_word_byte(*b))
 }
 
-// The first word of a text, with what stands behind it.
+/// The first word of a text, with what stands behind it.
 #[tactic(auto, using(crate::proofs::Pieces::inner_piece, crate::proofs::Pieces::last_piece, crate::proofs::Pieces::whole_piece))]
 pub fn cut_piece(text: &[u8]) -> Piece<'_>
     ensures { IsPiece result text.now }

@@ -209,7 +209,7 @@ fn opening(alloc: Global, text: &[u8]) -> Result<(Head, &[u8]), ParseFault>
     }
 }
 
-// The header of a text, and what comes after it.
+/// The header of a text, and what comes after it.
 #[tactic(auto, unfolding(crate::specs::Script::header))]
 pub fn header(alloc: Global, text: &[u8]) -> Result<(Head, &[u8]), ParseFault>
     ensures value { Gives (λ x. (x.0, lines_of x.1.now)) result (header (lines_of text.now)) }

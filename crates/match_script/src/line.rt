@@ -265,7 +265,7 @@ fn four_words(
     }
 }
 
-// What the words of a line of the body say.
+/// What the words of a line of the body say.
 #[tactic(auto, unfolding(crate::specs::Lines::body_line))]
 pub fn words_line(alloc: Global, clients: u8, words: Words<'_>) -> Result<BodyLine, LineFault>
     ensures value { GivesLine result (words_line clients words.entry) }

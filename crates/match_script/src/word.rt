@@ -16,7 +16,7 @@ const MAX_AHEAD: u64 = MAX_STEP as u64;
 
 const MAX_BACK: u64 = -(MIN_STEP as i64) as u64;
 
-// Whether a word is this name: a few comparisons, where the name is known.
+/// Whether a word is this name: a few comparisons, where the name is known.
 #[inline(always)]
 pub fn is_name(word: &[u8], name: &[u8]) -> bool
     ensures { result ≡ bytes_eq word.now name.now }
@@ -72,7 +72,7 @@ fn digit(b: u8) -> u64
     u64::from(b.saturating_sub(48))
 }
 
-// The number that a word says, below the limit.
+/// The number that a word says, below the limit.
 #[tactic(auto, unfolding(crate::specs::Words::number))]
 pub fn number(limit: u64, word: &[u8]) -> Result<u64, ScriptFault>
     requires { limit < 2 ^ 64 }
@@ -88,7 +88,7 @@ pub fn number(limit: u64, word: &[u8]) -> Result<u64, ScriptFault>
     }
 }
 
-// The number below a small limit that a word says.
+/// The number below a small limit that a word says.
 #[tactic(auto, using(crate::proofs::Numbers::number_below))]
 pub fn below(limit: u8, word: &[u8]) -> Result<u8, ScriptFault>
     ensures value { result ≡ number limit word.now }
@@ -100,7 +100,7 @@ pub fn below(limit: u8, word: &[u8]) -> Result<u8, ScriptFault>
     }
 }
 
-// The client that a word names.
+/// The client that a word names.
 pub fn client(clients: u8, word: &[u8]) -> Result<u8, ScriptFault>
     ensures value { result ≡ number clients word.now }
     ensures fits { IfOk result (λ c. c < clients) }
@@ -108,7 +108,7 @@ pub fn client(clients: u8, word: &[u8]) -> Result<u8, ScriptFault>
     below(clients, word)
 }
 
-// The number below 2^32 that a word says.
+/// The number below 2^32 that a word says.
 #[tactic(auto, using(crate::proofs::Numbers::number_below))]
 pub fn number_32(word: &[u8]) -> Result<u32, ScriptFault>
     ensures { result ≡ number (2 ^ 32) word.now }
@@ -119,7 +119,7 @@ pub fn number_32(word: &[u8]) -> Result<u32, ScriptFault>
     }
 }
 
-// The number from `least` to `most` that a word says.
+/// The number from `least` to `most` that a word says.
 #[tactic(auto, using(crate::proofs::Numbers::number_below), unfolding(crate::specs::Words::number_from))]
 pub fn number_from(least: u32, most: u32, word: &[u8]) -> Result<u32, ScriptFault>
     ensures value { result ≡ number_from least most word.now }
@@ -175,7 +175,7 @@ fn step_back(word: &[u8]) -> Result<i8, ScriptFault>
     }
 }
 
-// The step that a word says, from -8 to 7.
+/// The step that a word says, from -8 to 7.
 #[tactic(auto, unfolding(crate::specs::Steps::step, crate::specs::Steps::signed))]
 pub fn step(word: &[u8]) -> Result<i8, ScriptFault>
     ensures { GivesStride result (step word.now) }
@@ -192,7 +192,7 @@ pub fn step(word: &[u8]) -> Result<i8, ScriptFault>
     }
 }
 
-// Whether a word says 1, or else 0.
+/// Whether a word says 1, or else 0.
 #[tactic(auto, unfolding(crate::specs::Words::flag))]
 pub fn flag(word: &[u8]) -> Result<bool, ScriptFault>
     ensures { result ≡ flag word.now }
@@ -203,7 +203,7 @@ pub fn flag(word: &[u8]) -> Result<bool, ScriptFault>
     }
 }
 
-// The class that a word names.
+/// The class that a word names.
 #[tactic(auto, unfolding(crate::specs::Words::class_named))]
 pub fn class(word: &[u8]) -> Result<Class, ScriptFault>
     ensures { result ≡ class_named word.now }
@@ -217,7 +217,7 @@ pub fn class(word: &[u8]) -> Result<Class, ScriptFault>
     }
 }
 
-// The bytes that a word says, at most `N`.
+/// The bytes that a word says, at most `N`.
 #[tactic(auto, unfolding(crate::specs::Words::hex))]
 pub fn bytes<const N: usize>(word: &[u8]) -> Result<Bytes<N>, ScriptFault>
     ensures value { result ≡ hex N word.now }

@@ -5,7 +5,7 @@ ghost use Rattle.match_script.specs.Shape.{AreWords, AreFirstWords};
 
 use crate::cut::{Piece, cut_piece, cut_word};
 
-// The words of a line, lent, or a number of them that no line of the format has.
+/// The words of a line, lent, or a number of them that no line of the format has.
 #[derive(Clone, Copy)]
 pub enum Words<'a> {
     One(&'a [u8]),
@@ -16,7 +16,7 @@ pub enum Words<'a> {
     Other,
 }
 
-// The words of a line.
+/// The words of a line.
 #[tactic(auto, using(crate::proofs::Cutting::seven_words))]
 pub fn parted(line: &[u8]) -> Words<'_>
     ensures { AreWords result (words_of line.now) }
@@ -42,8 +42,8 @@ pub fn parted(line: &[u8]) -> Words<'_>
     }
 }
 
-// The words of a text's first line and what comes after the line, without looking for its end before. None where the line
-// is no text, or has more words than any line of the format.
+/// The words of a text's first line and what comes after the line, without looking for its end before. None where the line
+/// is no text, or has more words than any line of the format.
 pub fn first_words(text: &[u8]) -> Option<(Words<'_>, &[u8])>
     ensures { IfSome result (λ r. AreFirstWords r.0 r.1.now text.now) }
 {

@@ -59,7 +59,7 @@ impl Draft {
     }
 
     /// Adds a number in decimal digits.
-    // Not inlined: its buffer would be set to zero once more for each call that its caller has.
+    /// Not inlined: its buffer would be set to zero once more for each call that its caller has.
     #[inline(never)]
     pub fn push_number(&mut self, number: u64) -> Result<(), NoMemory>
         ensures added { OnOk result (self.new.added ≡ self.old.added ++ decimal number) }

@@ -1,3 +1,4 @@
+pub mod Numbers
 pub mod Draws
 pub mod Header
 pub mod Lines

@@ -15,9 +15,10 @@ pub const MADE_BLOCK_BYTES: u8 = 8;
 /// Players and spawns together.
 pub const MADE_OBJECTS: u8 = 60;
 
-/// Centimetres from an edge of the world at which its two flags stand.
+/// Centimetres from the edges of the world at which the flag of team 0 stands.
 pub const FLAG_NEAR: i64 = 8_000;
 
+/// Centimetres from the same edge at which the other one stands.
 pub const FLAG_FAR: i64 = 57_535;
 
 /// Coordinates from which a place is drawn.

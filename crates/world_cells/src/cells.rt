@@ -35,7 +35,7 @@ impl Model for Cells {
     ghost view = { λ a. record { cells = a.lists; columns = a.columns; rows = a.rows } };
 }
 
-// Whether an object has a place: all but clocks.
+/// Whether an object has a place: all but clocks.
 pub fn has_place(o: &Object) -> bool
     ensures { result ≡ has_place o.now.state }
 {
@@ -54,7 +54,7 @@ fn cell_of(place: &Place) -> u8
     (row * CELLS_ACROSS + column) as u8
 }
 
-// The cell that an object lies in, if any.
+/// The cell that an object lies in, if any.
 pub fn spot(o: &Object) -> Option<u8>
     ensures { result ≡ spot o.now }
 {
@@ -152,7 +152,7 @@ impl Cells {
         self.rows.shift(number, row_in(from), row_in(to));
     }
 
-    // The same, where most stay in their cells.
+    /// The same, where most stay in their cells.
     pub fn shift(&mut self, number: u32, from: Option<u8>, to: Option<u8>)
         requires { number < MAX_OBJECTS }
         ensures { (before behind : List Object) (old now : Object) → length before ≡ number → spot old ≡ from → spot now ≡ to

@@ -418,7 +418,7 @@ fn zeros(n: usize) -> ArrayVec<u32, 5>
     all
 }
 
-// The row of a new object.
+/// The row of a new object.
 pub fn fresh_row(o: &Object) -> Row
     ensures { result ≡ fresh_row o.now }
 {

@@ -15,7 +15,7 @@ use tn_types::MAX_OBJECTS;
 use world_places::Places;
 use world_rules::{Object, Spawn, State};
 
-// The objects at the start.
+/// The objects at the start.
 #[tactic(auto, using(crate::proofs::Started::first_more, crate::proofs::Started::first_end))]
 pub fn start_objects(alloc: Global, spawns: &[Spawn]) -> Result<Vec<Object>, AllocError>
     requires { length spawns.now ≤ MAX_OBJECTS }
@@ -29,7 +29,7 @@ pub fn start_objects(alloc: Global, spawns: &[Spawn]) -> Result<Vec<Object>, All
     Ok(objects)
 }
 
-// The rows of the first objects.
+/// The rows of the first objects.
 pub fn first_rows(alloc: Global, objects: &[Object]) -> Result<Vec<Row>, AllocError>
     ensures { IfOk result (λ v. v.items ≡ map fresh_row objects.now) }
 {
@@ -40,7 +40,7 @@ pub fn first_rows(alloc: Global, objects: &[Object]) -> Result<Vec<Row>, AllocEr
     Ok(rows)
 }
 
-// A glance at each of the first objects.
+/// A glance at each of the first objects.
 pub fn first_glances(alloc: Global, objects: &[Object]) -> Result<Vec<Glance>, AllocError>
     ensures { IfOk result (λ v. v.items ≡ map glance_of objects.now) }
 {
@@ -51,7 +51,7 @@ pub fn first_glances(alloc: Global, objects: &[Object]) -> Result<Vec<Glance>, A
     Ok(glances)
 }
 
-// The places of the first objects.
+/// The places of the first objects.
 pub fn first_places(alloc: Global, objects: &[Object]) -> Result<Places, AllocError>
     requires few { length objects.now ≤ MAX_OBJECTS }
     requires fits { AllByRecursion ObjectFits objects.now }
@@ -71,7 +71,7 @@ fn is_always(o: &Object) -> bool
     matches!(o.state, State::Flag(_) | State::Clock(_))
 }
 
-// The numbers of those that every client sees.
+/// The numbers of those that every client sees.
 #[tactic(auto, using(world_cells::proofs::Numbers::numbers_more, world_cells::proofs::Numbers::numbers_end))]
 pub fn lasting(alloc: Global, objects: &[Object]) -> Result<Vec<u32>, AllocError>
     requires { length objects.now ≤ MAX_OBJECTS }

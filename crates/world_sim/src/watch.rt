@@ -15,7 +15,7 @@ const PLOT_SIDE: u32 = 1024;
 // Plots in a row, and rows.
 const PLOTS_ACROSS: u32 = 64;
 
-// All plots.
+/// All plots.
 pub const PLOTS: usize = 4096;
 
 // The plot that a place lies in.
