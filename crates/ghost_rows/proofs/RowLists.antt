@@ -1,6 +1,6 @@
 -- The rows as three lists: how many there are, what stands at a slot, and what a slot's new entries are.
-use Rattle.std.proofs.Common.{◌≡◌, ℕ, zero, suc, ◌<◌, List, [], ◌∷◌, ◌∙◌, length, get_or, set, refl, sym, ap, subst, arith}
-use Rattle.std.proofs.lemmas.List.{set-get_or, get_or-set_same}
+use Rattle.std.proofs.Common.{◌≡◌, ℕ, zero, suc, ◌<◌, List, [], ◌∷◌, ◌∙◌, length, get_or, replicate, set, refl, sym, ap, subst, arith}
+use Rattle.std.proofs.lemmas.List.{set-get_or, get_or-set_same, get_or-replicate, length-replicate}
 use Rattle.ghost_rows.specs.declared.slot_rows.Standing.{Standing}
 use Rattle.ghost_rows.specs.declared.slot_rows.Rows.TheInside.{Inside}
 use Rattle.ghost_rows.specs.contracts.slot_rows.Rows.{the_view, the_invariant}
@@ -24,6 +24,14 @@ row_there n (s ∷ ss) (l ∷ ls) [] a b c i lt d e g = absurd (omega arith)
 row_there zero (s ∷ ss) (l ∷ ls) (k ∷ ks) a b c i lt d e g = absurd (omega arith)
 row_there (suc n) (s ∷ ss) (l ∷ ls) (k ∷ ks) a b c zero lt d e g = refl
 row_there (suc n) (s ∷ ss) (l ∷ ls) (k ∷ ks) a b c (suc i) lt d e g = row_there n ss ls ks (omega arith) (omega arith) (omega arith) i (omega arith) d e g
+
+-- where all entries are alike, so are the rows
+pub row_alike : (s : Standing) (l : ℕ) (k : List ℕ) (ss : List Standing) (ls : List ℕ) (ks : List (List ℕ)) → ss ≡ replicate 256 s → ls ≡ replicate 256 l → ks ≡ replicate 256 k → (i : ℕ) → i < 256 → row_at (rows_of ss ls ks) i ≡ row_of s l k
+row_alike s l k ss ls ks a b c i lt =
+    row_there 256 ss ls ks (ap length a ∙ length-replicate 256 s) (ap length b ∙ length-replicate 256 l) (ap length c ∙ length-replicate 256 k) i lt s l k
+    ∙ ap (λ (u : Standing). row_of u (get_or ls i l) (get_or ks i k)) (ap (λ (x : List Standing). get_or x i s) a ∙ get_or-replicate 256 i s s lt)
+    ∙ ap (λ (u : ℕ). row_of s u (get_or ks i k)) (ap (λ (x : List ℕ). get_or x i l) b ∙ get_or-replicate 256 i l l lt)
+    ∙ ap (λ (u : List ℕ). row_of s l u) (ap (λ (x : List (List ℕ)). get_or x i k) c ∙ get_or-replicate 256 i k k lt)
 
 rows_set : (n : ℕ) (ss : List Standing) (ls : List ℕ) (ks : List (List ℕ)) → length ss ≡ n → length ls ≡ n → length ks ≡ n
     → (i : ℕ) → i < n → (s : Standing) (l : ℕ) (k : List ℕ) → rows_of (set ss i s) (set ls i l) (set ks i k) ≡ set (rows_of ss ls ks) i (row_of s l k)

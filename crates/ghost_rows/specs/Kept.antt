@@ -30,6 +30,10 @@ pub record IsFresh (at : ℕ) (r : Row) : Type 0 where
   pub turn : r.turn ≡ at
   pub carriers : (field : ℕ) → field < MAX_FIELDS → carrier_at r field ≡ 0
 
+-- no packet was sent, and each slot has a row of a period that begins
+abbrev pub AreFresh : List Row → Type 0
+AreFresh rows = (slot : ℕ) → slot < MAX_SLOTS → IsFresh 0 (row_at rows slot)
+
 -- these fields are due as well
 pub record IsAbsorbed (bits : ℕ) (old new : Row) : Type 0 where
   pub due : (field : ℕ) → field < MAX_FIELDS → has_bit new.due field ≡ (has_bit bits field || has_bit old.due field)

@@ -5,7 +5,7 @@
 
 ghost use Rattle.std.specs.Prelude.{ℕ, ◌≡◌, ◌<◌, length, slice_set, slice_index_or, IfOk, ◌&&◌, ◌==◌, not, nat_lt, if◌then◌else◌};
 ghost use Rattle.tn_types.specs.BitWords.{has_bit};
-ghost use Rattle.ghost_rows.specs.Kept.{row_at, carrier_at, IsFresh, IsAbsorbed, IsCarried, IsRaised};
+ghost use Rattle.ghost_rows.specs.Kept.{row_at, carrier_at, IsFresh, AreFresh, IsAbsorbed, IsCarried, IsRaised};
 ghost use Rattle.ghost_rows.specs.RowLists.{carrier_of};
 
 use std::alloc::Global;
@@ -49,9 +49,10 @@ impl Model for Rows {
 }
 
 impl Rows {
-    /// No later call takes memory.
+    /// No packet was sent, and all fields of each slot are due. No later call takes memory.
     pub fn new(alloc: Global) -> Result<Rows, NoMemory>
-        ensures { IfOk result (λ r. length r ≡ MAX_SLOTS) }
+        ensures slots { IfOk result (λ r. length r ≡ MAX_SLOTS) }
+        ensures fresh { IfOk result AreFresh }
     {
         let fresh = Standing {
             due: ALL_FIELDS,
