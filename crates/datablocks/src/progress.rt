@@ -9,7 +9,7 @@ use crate::words::with_bit;
 use notify_window::Progress;
 use tn_types::{MAX_BLOCKS, MAX_BLOCKS_AHEAD, Verdict};
 
-// Of no block a packet was sent.
+/// Of no block a packet was sent.
 pub fn unsent() -> [Progress; MAX_BLOCKS]
     ensures due { (b : ℕ) → progress_at result b ≡ Progress.Due }
     ensures places { length result ≡ MAX_BLOCKS }
@@ -17,7 +17,7 @@ pub fn unsent() -> [Progress; MAX_BLOCKS]
     [Progress::Due; MAX_BLOCKS]
 }
 
-// The due blocks from `first` on and below `end`, where none before `first` is due.
+/// The due blocks from `first` on and below `end`, where none before `first` is due.
 #[tactic(auto, using(notify_window::proofs::Least::none_below))]
 pub fn due_between(progress: &[Progress], first: usize, end: usize) -> DueBlocks
     requires inside { end ≤ length progress.now }
@@ -36,7 +36,7 @@ pub fn due_between(progress: &[Progress], first: usize, end: usize) -> DueBlocks
     numbers
 }
 
-// The first block from `first` on and below `count` that is not done, or `count`.
+/// The first block from `first` on and below `count` that is not done, or `count`.
 #[tactic(auto, using(notify_window::proofs::Least::least_is))]
 pub fn first_open(progress: &[Progress], first: usize, count: usize) -> usize
     requires inside { count ≤ length progress.now }
@@ -51,7 +51,7 @@ pub fn first_open(progress: &[Progress], first: usize, count: usize) -> usize
     i
 }
 
-// Applies a verdict to the blocks from `first` on and below `end`, and to the word that tells which are done.
+/// Applies a verdict to the blocks from `first` on and below `end`, and to the word that tells which are done.
 pub fn settle_between(
     progress: &mut [Progress],
     received: u64,

@@ -1,6 +1,7 @@
 //! The client's side: the blocks that it holds, whose bytes never change.
-ghost use Rattle.std.specs.Prelude.{◌≡◌, ℕ, List, [], ◌<◌, ◌≤◌, Some, None, false, length, is_some, IfOk, OnOk, OnErr};
+ghost use Rattle.std.specs.Prelude.{◌≡◌, ℕ, List, [], ◌<◌, ◌≤◌, Some, None, false, length, is_some, IsNone, IfOk, OnOk, OnErr};
 ghost use Rattle.std.specs.List.{All};
+ghost use Rattle.std.specs.Option.{option_copied};
 ghost use Rattle.datablocks.specs.Holding.{held_at, differs_then};
 ghost use Rattle.tn_types.specs.Histories.{Does, Answers};
 
@@ -10,13 +11,14 @@ use std::marker::Model;
 use tn_types::{BlockBytes, MAX_BLOCKS, NoMemory};
 use wire_format::{BlockItem, BlockList};
 
-/// A block came with other bytes than those that are held of it.
+/// Why a block of a packet is refused. What is held stays as it was.
 #[derive(Clone, Copy, Debug, PartialEq, Eq)]
 pub enum BlockFault {
+    /// The block of this number, 0 to 63, came with other bytes than those that are held of it.
     BlockDiffers { number: u8 },
 }
 
-/// The blocks that a client holds. Only `new` takes memory.
+/// The blocks that a client holds. Only `new` and `try_clone` take memory.
 #[derive(Drop)]
 pub struct BlockReceiver {
     blocks: Vec<Option<BlockBytes>>,
@@ -38,12 +40,25 @@ impl BlockReceiver {
     ghost use Rattle.datablocks.specs.Holding.{held_at, held_of, take_answer, after_take, check_answer, bytes_differ, after_all, TellsHeld, StandsFor};
     ghost use Rattle.wire_format.specs.declared.blocks.BlockItem.{BlockItem};
 
-    /// No block is held.
+    /// No block is held. `NoMemory` is the one error.
     pub fn new(alloc: Global) -> Result<BlockReceiver, NoMemory>
         ensures { IfOk result (λ r. StandsFor r []) }
     {
         match places(alloc) {
             Ok(blocks) => Ok(BlockReceiver { blocks, held: 0 }),
+            Err(_) => Err(NoMemory),
+        }
+    }
+
+    /// An equal receiver, in memory of its own. `NoMemory` is the one error.
+    pub fn try_clone(&self, alloc: Global) -> Result<BlockReceiver, NoMemory>
+        ensures { IfOk result (λ c. c ≡ self.now) }
+    {
+        match copied_places(alloc, self.blocks.as_slice()) {
+            Ok(blocks) => Ok(BlockReceiver {
+                blocks,
+                held: self.held,
+            }),
             Err(_) => Err(NoMemory),
         }
     }
@@ -55,6 +70,15 @@ impl BlockReceiver {
         ensures log { number < MAX_BLOCKS → Answers StandsFor self.now (λ log. is_some (held_of number log)) result }
     {
         usize::from(number) < MAX_BLOCKS && self.blocks[usize::from(number)].is_some()
+    }
+
+    /// The bytes of a block; `None` exactly where it isn't held, as no number from 64 on is.
+    pub fn get(&self, number: u8) -> Option<&BlockBytes>
+        ensures value { option_copied result ≡ held_at self.now number }
+        ensures none { MAX_BLOCKS ≤ number → IsNone result }
+        ensures log { number < MAX_BLOCKS → Answers StandsFor self.now (held_of number) (option_copied result) }
+    {
+        self.blocks.get(usize::from(number))?.as_ref()
     }
 
     /// Bit b is set where block b is held.
@@ -152,6 +176,30 @@ fn differs_then(before: bool, earlier: &BlockItem, item: &BlockItem) -> bool
         earlier.bytes.as_slice() != item.bytes.as_slice()
     } else {
         before
+    }
+}
+
+// The same blocks again, place by place.
+fn copied_places(
+    alloc: Global,
+    places: &[Option<BlockBytes>],
+) -> Result<Vec<Option<BlockBytes>>, AllocError>
+    ensures { IfOk result (λ all. all.items ≡ places.now) }
+{
+    let mut all = Vec::with_capacity(alloc, places.len())?;
+    'places: for place in places {
+        all.push(copied_place(place))?;
+    }
+    Ok(all)
+}
+
+// The same bytes again, where there are some.
+fn copied_place(place: &Option<BlockBytes>) -> Option<BlockBytes>
+    ensures { result ≡ place.now }
+{
+    match place {
+        Some(bytes) => Some(bytes.copy()),
+        None => None,
     }
 }
 

@@ -1,6 +1,7 @@
 //! What is said of a block that is refused.
 
 use crate::receiver::BlockFault;
+use std::error::Error;
 use std::fmt;
 
 /// As in a report: `block NUMBER` (docs/formats.md, "The report").
@@ -16,3 +17,5 @@ impl fmt::Display for BlockFault {
         }
     }
 }
+
+impl Error for BlockFault {}

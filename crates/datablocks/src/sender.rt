@@ -42,7 +42,7 @@ impl BlockSender {
     ghost use Rattle.datablocks.specs.SenderState.{SenderState, IsDueBlock, is_due_now, due_now};
     ghost use Rattle.datablocks.specs.SenderStands.{StandsFor, SenderAnswers, Notes, Settles, TellsReceived};
 
-    /// All of these blocks are due to the client, of which there are at most 64.
+    /// All of these blocks are due to the client, of which there are at most 64. `NoMemory` is the one error.
     pub fn new(alloc: Global, blocks: &[BlockBytes]) -> Result<BlockSender, NoMemory>
         requires { length blocks.now ≤ MAX_BLOCKS }
         ensures blocks { IfOk result (λ s. s.blocks ≡ blocks.now) }

@@ -4,7 +4,7 @@ ghost use Rattle.std.specs.Int.{bit_at};
 
 use tn_types::MAX_BLOCKS;
 
-// The word with bit `number` set.
+/// The word with bit `number` set.
 #[tactic(auto, using(crate::proofs::Bits::bit_set, crate::proofs::Bits::bit_kept))]
 pub fn with_bit(word: u64, number: usize) -> u64
     requires { number < MAX_BLOCKS }

@@ -1,15 +1,15 @@
 //! Why a move, or what a packet says of moves, is refused.
 
-/// Why a move is not sampled.
+/// Why a move is not sampled. Nothing changed.
 #[derive(Clone, Copy, Debug, PartialEq, Eq)]
 pub enum MoveFault {
-    /// As many moves were sampled as a connection has in its life.
+    /// As many moves were sampled as a connection has in its life, 1 to 16,777,215.
     Worn { life: u32 },
     /// The server has not told yet that it has these: the first and the last of 32.
     Full { first: u32, last: u32 },
 }
 
-/// The server told of more moves than were sampled.
+/// The server told of more moves than were sampled. Nothing changed.
 #[derive(Clone, Copy, Debug, PartialEq, Eq)]
 pub struct MoveAhead {
     /// What it told.
@@ -18,7 +18,7 @@ pub struct MoveAhead {
     pub sampled: u32,
 }
 
-/// A packet begins with a move behind the next one.
+/// A packet begins with a move behind the next one. Nothing changed.
 #[derive(Clone, Copy, Debug, PartialEq, Eq)]
 pub struct MoveGap {
     /// The packet's first move.

@@ -1,6 +1,7 @@
 //! What is said of moves that are refused.
 
 use crate::faults::{MoveAhead, MoveFault, MoveGap};
+use std::error::Error;
 use std::fmt;
 
 /// As in a report: `worn LIFE` or `full FIRST LAST` (docs/formats.md, "The report").
@@ -41,3 +42,9 @@ impl fmt::Display for MoveGap {
         write!(f, "movegap {} {}", self.first, self.accepted)
     }
 }
+
+impl Error for MoveFault {}
+
+impl Error for MoveAhead {}
+
+impl Error for MoveGap {}
