@@ -3,3 +3,4 @@ pub mod Reading
 pub mod Laws
 pub mod Writer
 pub mod Reader
+pub mod Said

@@ -8,6 +8,7 @@
 mod accumulator;
 mod laws;
 mod reader;
+mod said;
 mod writer;
 
 pub use accumulator::joined;

@@ -27,6 +27,10 @@ pub record IsScaleOf (s : FieldSpec) (scale : Scale) : Type 0 where
 
 -- ---- examples
 
+-- the numbers that docs/formats.md, "Levels", tells: 2 ^ 40 parts, and scales for ranges up to 2 ^ 19
+constants : PARTS ∷ NARROW ∷ [] ≡ 1099511627776 ∷ 524288 ∷ []
+constants = refl
+
 -- three steps to three levels are a level each, and of ten steps each is three tenths of a level, rounded up
 steps : step_of 3 3 ∷ step_of 10 3 ∷ [] ≡ 1099511627776 ∷ 329853488333 ∷ []
 steps = refl

@@ -4,6 +4,6 @@
 //! takes memory.
 #![tactic(auto)]
 
-pub mod scale;
+mod scale;
 
-pub use scale::Scale;
+pub use scale::{NARROW, PARTS, Scale};

@@ -1,6 +1,7 @@
 //! What is said of an acknowledgement that is refused.
 
 use crate::AckAhead;
+use std::error::Error;
 use std::fmt;
 
 /// As in a report: `ackahead HORIZON LAST` (docs/formats.md, "The report").
@@ -14,3 +15,5 @@ impl fmt::Display for AckAhead {
         write!(f, "ackahead {} {}", self.horizon, self.last)
     }
 }
+
+impl Error for AckAhead {}

@@ -2,11 +2,12 @@
 
 ghost use Rattle.std.specs.Prelude.{◌≡◌, ◌≢◌, ℕ, ◌+◌, ◌-◌, ◌<◌, ◌≤◌, ◌↔◌, List, [], ◌∷◌, IfOk, OnErr, OnOk, IfErr, IsErr};
 ghost use Rattle.tn_types.specs.Histories.{Does, Answers};
+ghost use Rattle.tn_types.specs.PacketKinds.{is_ping};
 
 use crate::masks::{moved, turned};
 use crate::{AckAhead, Arrival, Notices, SendState};
 use std::marker::Model;
-use tn_types::{MAX_LIFE, MAX_UNJUDGED_PACKETS};
+use tn_types::{MAX_LIFE, MAX_UNJUDGED_PACKETS, PacketKind};
 
 /// What one end knows of the packets of both.
 ///
@@ -100,26 +101,39 @@ impl Window {
         (self.horizon, self.mask)
     }
 
+    /// What would become of a datagram of the other end: what `receive` answers.
+    pub fn arrival(&self, kind: PacketKind, seq: u32) -> Arrival
+        ensures { result ≡ arrival_of (is_ping kind) seq self.now.horizon }
+    {
+        match kind {
+            PacketKind::Body if seq <= self.horizon => Arrival::Old {
+                seq,
+                horizon: self.horizon,
+            },
+            PacketKind::Ping | PacketKind::Body => Arrival::Fresh,
+        }
+    }
+
     /// Takes a datagram of the other end (docs/connection.md, "Receiving").
     ///
     /// `Old` comes exactly for a data packet with `seq` at most the horizon, and changes nothing. A fresh
     /// data packet moves the horizon to `seq` and is processed. A ping moves the horizon where `seq` is
     /// above it, and marks nothing as processed.
-    pub fn receive(&mut self, ping: bool, seq: u32) -> Arrival
-        ensures answer { result ≡ arrival_of ping seq self.old.horizon }
+    pub fn receive(&mut self, kind: PacketKind, seq: u32) -> Arrival
+        ensures answer { result ≡ arrival_of (is_ping kind) seq self.old.horizon }
         ensures old { result ≢ Arrival.Fresh → self.new ≡ self.old }
-        ensures fresh { result ≡ Arrival.Fresh → Does StandsFor self.old (Came ping seq) self.new }
+        ensures fresh { result ≡ Arrival.Fresh → Does StandsFor self.old (Came (is_ping kind) seq) self.new }
         ensures life { self.new.life ≡ self.old.life }
     {
-        if !ping && seq <= self.horizon {
-            return Arrival::Old {
-                seq,
-                horizon: self.horizon,
-            };
+        let arrival = self.arrival(kind, seq);
+        match arrival {
+            Arrival::Old { .. } => arrival,
+            Arrival::Fresh => {
+                self.mask = moved(self.mask, seq.saturating_sub(self.horizon), kind);
+                self.horizon = self.horizon.max(seq);
+                arrival
+            }
         }
-        self.mask = moved(self.mask, seq.saturating_sub(self.horizon), !ping);
-        self.horizon = self.horizon.max(seq);
-        Arrival::Fresh
     }
 
     /// Reads an acknowledgement: the verdicts of all packets from the first unjudged one to `horizon`, in

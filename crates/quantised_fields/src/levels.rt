@@ -15,7 +15,7 @@ use tn_types::{MAX_FIELD_BITS, MAX_WORD_BITS};
 const WHOLE_WORDS: u64 = 65_535;
 
 /// How far `x` is above `lo`.
-pub fn gap(lo: i64, x: i64) -> u64
+fn gap(lo: i64, x: i64) -> u64
     requires order { lo ≤ℤ x }
     requires small { int_gap lo x < 2 ^ MAX_WORD_BITS }
     ensures { result ≡ int_gap lo x }

@@ -4,11 +4,12 @@
 //! of fields with a weight, and a table has up to 16 kinds. No call takes memory.
 #![tactic(auto)]
 
-pub mod field;
-pub mod kind;
+mod field;
+mod kind;
+/// Levels of values, and the range and the greatest level of a field.
 pub mod levels;
 mod said;
-pub mod table;
+mod table;
 
 pub use field::{FieldList, FieldSpec};
 pub use kind::Kind;

@@ -1,6 +1,7 @@
 //! What is said of kinds that make no table.
 
 use crate::table::KindFault;
+use std::error::Error;
 use std::fmt;
 
 /// The fault by its name, with the kind and the field that it names (docs/formats.md, "Kinds").
@@ -21,3 +22,5 @@ impl fmt::Display for KindFault {
         }
     }
 }
+
+impl Error for KindFault {}

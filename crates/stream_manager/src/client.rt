@@ -3,6 +3,7 @@ ghost use Rattle.std.specs.Prelude.{◌≡◌, ℕ, true, ◌+◌, ◌-◌, ◌*
 ghost use Rattle.std.specs.Borrow.{sem};
 ghost use Rattle.std.specs.Io.BufRead.{Rests};
 ghost use Rattle.notify_window.specs.State.{send_state};
+ghost use Rattle.tn_types.specs.PacketKinds.{is_ping};
 ghost use Rattle.notify_window.specs.Log.{arrival_of};
 ghost use Rattle.tn_types.specs.declared.choices.Class.TheVariants.{Guaranteed, Loose};
 ghost use Rattle.wire_format.specs.declared.server.ServerPacket.TheVariants as down;
@@ -263,12 +264,12 @@ impl Client {
     }
 
     /// The first refusal of a packet by its header; nothing changes.
-    fn check_head(&self, ping: bool, head: &Header) -> Result<(), ClientFault>
-        ensures answer { Answers self.now (head_check self.now.common.config (seen ping head.now [])) result }
-        ensures fresh { OnOk result (arrival_of ping head.now.seq self.now.common.window.horizon ≡ Arrival.Fresh) }
+    fn check_head(&self, kind: PacketKind, head: &Header) -> Result<(), ClientFault>
+        ensures answer { Answers self.now (head_check self.now.common.config (seen (is_ping kind) head.now [])) result }
+        ensures fresh { OnOk result (arrival_of (is_ping kind) head.now.seq self.now.common.window.horizon ≡ Arrival.Fresh) }
         ensures known { OnOk result (head.now.horizon ≤ self.now.common.window.sent) }
     {
-        match self.common.check_head(ping, head) {
+        match self.common.check_head(kind, head) {
             Ok(()) => Ok(()),
             Err(fault) => Err(fault.at_client()),
         }
@@ -280,7 +281,7 @@ impl Client {
         ensures fresh { OnOk result (arrival_of true head.now.seq self.now.common.window.horizon ≡ Arrival.Fresh) }
         ensures known { OnOk result (head.now.horizon ≤ self.now.common.window.sent) }
     {
-        self.check_head(true, head)
+        self.check_head(PacketKind::Ping, head)
     }
 
     /// The first refusal of a data packet; nothing changes.
@@ -289,7 +290,7 @@ impl Client {
         ensures answer { Answers self.now (λ log. packet_check self.now.common.config log (down.Body body.now)) result }
         ensures admits { OnOk result (AdmitsDown self.now body.now) }
     {
-        self.check_head(false, &body.head)?;
+        self.check_head(PacketKind::Body, &body.head)?;
         self.check_moves(body.accepted)?;
         check_same(&self.blocks, &body.blocks)?;
         self.check_events(&body.events)?;
@@ -345,7 +346,7 @@ impl Client {
         ensures handed { Hands self.old (λ log. Took (down.Ping head.now) ∷ log) self.new }
         ensures terms { KeepsTerms self.old self.new }
     {
-        let _ = self.common.take(true, head, &EventList::new());
+        let _ = self.common.take(PacketKind::Ping, head, &EventList::new());
     }
 
     /// How many guaranteed events were delivered, those that wait included.
@@ -398,7 +399,7 @@ fn take_body(
         (client_of common.new moves.new blocks.new copies.new control.new) }
     ensures life { moves.new.life ≡ moves.old.life }
 {
-    let _ = common.take(false, &body.head, &body.events);
+    let _ = common.take(PacketKind::Body, &body.head, &body.events);
     let _ = moves.acked(body.accepted);
     take_blocks(blocks, &body.blocks);
     copies.take_checked(&body.ghosts, blocks.held());

@@ -2,6 +2,7 @@
 ghost use Rattle.std.specs.Prelude.{◌≡◌, ℕ, true, false, ◌+◌, ◌-◌, ◌*◌, ◌<◌, ◌≤◌, ◌^◌, ◌&&◌, ◌↔◌, ◌⊎◌, List, [], ◌∷◌, ◌++◌, All, IfOk, IfErr, OnOk, OnErr, IsNone, None, Ok, Err, length, slice_get, drop, take, count_by};
 ghost use Rattle.std.specs.Option.{option_copied};
 ghost use Rattle.notify_window.specs.State.{send_state};
+ghost use Rattle.tn_types.specs.PacketKinds.{is_ping};
 ghost use Rattle.notify_window.specs.Log.{arrival_of};
 ghost use Rattle.tn_types.specs.declared.choices.Class.TheVariants.{Guaranteed, Loose};
 ghost use Rattle.wire_format.specs.declared.client.ClientPacket.TheVariants as up;
@@ -230,12 +231,12 @@ impl Conn {
     }
 
     /// The first refusal of a packet by its header; nothing changes.
-    fn check_head(&self, ping: bool, head: &Header) -> Result<(), ArriveFault>
-        ensures answer { Answers self.now (head_check self.now.common.config (seen ping head.now [])) result }
-        ensures fresh { OnOk result (arrival_of ping head.now.seq self.now.common.window.horizon ≡ Arrival.Fresh) }
+    fn check_head(&self, kind: PacketKind, head: &Header) -> Result<(), ArriveFault>
+        ensures answer { Answers self.now (head_check self.now.common.config (seen (is_ping kind) head.now [])) result }
+        ensures fresh { OnOk result (arrival_of (is_ping kind) head.now.seq self.now.common.window.horizon ≡ Arrival.Fresh) }
         ensures known { OnOk result (head.now.horizon ≤ self.now.common.window.sent) }
     {
-        match self.common.check_head(ping, head) {
+        match self.common.check_head(kind, head) {
             Ok(()) => Ok(()),
             Err(fault) => Err(fault.at_server()),
         }
@@ -247,7 +248,7 @@ impl Conn {
         ensures fresh { OnOk result (arrival_of true head.now.seq self.now.common.window.horizon ≡ Arrival.Fresh) }
         ensures known { OnOk result (head.now.horizon ≤ self.now.common.window.sent) }
     {
-        self.check_head(true, head)
+        self.check_head(PacketKind::Ping, head)
     }
 
     /// The first refusal of a data packet; nothing changes.
@@ -255,7 +256,7 @@ impl Conn {
         ensures answer { Answers self.now (λ log. packet_check self.now.common.config log (up.Body body.now)) result }
         ensures admits { OnOk result (Admits self.now body.now) }
     {
-        self.check_head(false, &body.head)?;
+        self.check_head(PacketKind::Body, &body.head)?;
         self.check_gap(body.first)?;
         self.check_events(&body.events)
     }
@@ -297,7 +298,7 @@ impl Conn {
         ensures moves { self.new.taken ≡ [] }
         ensures terms { terms_of self.new ≡ terms_of self.old }
     {
-        let notices = self.common.take(true, head, &EventList::new());
+        let notices = self.common.take(PacketKind::Ping, head, &EventList::new());
         settle_blocks(&mut self.blocks, &notices);
         self.masks.discard_plan();
         settle_ghosts(&mut self.masks, &notices);
@@ -354,7 +355,7 @@ fn take_body(
     ensures terms { terms_of (conn_of common.new masks.new blocks.new moves.new taken.new)
         ≡ terms_of (conn_of common.old masks.old blocks.old moves.old taken.old) }
 {
-    let notices = common.take(false, &body.head, &body.events);
+    let notices = common.take(PacketKind::Body, &body.head, &body.events);
     settle_blocks(blocks, &notices);
     masks.discard_plan();
     settle_ghosts(masks, &notices);

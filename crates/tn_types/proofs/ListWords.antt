@@ -1,5 +1,5 @@
 -- Each word on lists is what it is named for.
-use Rattle.std.proofs.Common.{◌≡◌, ℕ, zero, suc, ◌+◌, ◌-◌, ◌<◌, ◌≤◌, ◌⊎◌, inl, inr, Bool, true, false, nat_le, nat_lt, List, [], ◌∷◌, ◌++◌, sum_by, Option, Some, None, refl, ap, sym, ◌∙◌, subst, if◌then◌else◌, arith, append_assoc, append-nil, length, get_or, Contains, AllPairs}
+use Rattle.std.proofs.Common.{◌≡◌, ℕ, zero, suc, ◌+◌, ◌-◌, ◌<◌, ◌≤◌, inl, inr, Bool, true, false, nat_le, nat_lt, List, [], ◌∷◌, ◌++◌, sum_by, Option, Some, None, refl, ap, sym, ◌∙◌, subst, if◌then◌else◌, arith, append_assoc, append-nil, get_or, Contains}
 use Rattle.std.proofs.lemmas.Bool.Decides.{nat_tests}
 use Rattle.std.proofs.lemmas.Bool.{cases_eq}
 use Rattle.std.proofs.lemmas.List.Sums.{sum_by-cons}
@@ -8,7 +8,7 @@ use Rattle.std.proofs.lemmas.List.Quantifiers.{all_pairs_push}
 use Rattle.std.specs.Option.{option_or}
 use Rattle.tn_types.specs.Fitting.{fitting, IsLongestFitting}
 use Rattle.tn_types.specs.Least.{least, IsLeast, those_below, AreThoseBelow}
-use Rattle.tn_types.specs.Checks.{first_fault, IsFirstFault, IsFaultless}
+use Rattle.tn_types.specs.Checks.{first_fault, IsFirstFault}
 
 -- ---- the longest front that fits
 

@@ -1,5 +1,5 @@
 -- Checks that are made one after another: the first that refuses decides.
-use Rattle.std.specs.Prelude.{◌≡◌, ℕ, List, [], ◌∷◌, ◌++◌, Option, Some, None, Result, Ok, Err, nat_lt, sum, if◌then◌else◌, refl}
+use Rattle.std.specs.Prelude.{◌≡◌, List, [], ◌∷◌, ◌++◌, Option, Some, None, Result, Ok, Err, nat_lt, sum, if◌then◌else◌, refl}
 use Rattle.std.specs.Option.{option_or}
 
 -- no refusal, or the first

@@ -1,5 +1,5 @@
 -- A step of a move, -8 to 7 each way, as a test. A move keeps it of both its steps.
-use Rattle.std.specs.Prelude.{◌≡◌, ℕ, ℤ, pos, negsuc, Bool, true, false, ◌+◌, ◌-◌, nat_le, refl}
+use Rattle.std.specs.Prelude.{◌≡◌, ℤ, pos, negsuc, Bool, true, false, nat_le, refl}
 
 abbrev pub is_step : ℤ → Bool
 is_step (pos n) = nat_le n 7

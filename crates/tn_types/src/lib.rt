@@ -7,6 +7,7 @@ mod choices;
 mod limits;
 mod moves;
 mod raw_bytes;
+mod said;
 mod short_list;
 mod steps;
 mod values;

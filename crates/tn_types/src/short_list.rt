@@ -75,12 +75,13 @@ impl<T: Drop, const N: usize> ShortList<T, N> {
 }
 
 impl<T: Copy + Default, const N: usize> ShortList<T, N> {
-    /// These items.
+    /// These items, which are at most `N`.
     pub fn from_slice(items: &[T]) -> Self
         requires { length items.now ≤ N }
         ensures { result ≡ items.now }
     {
         let mut all = ArrayVec::new();
+        // they fit, so this is Ok
         let _ = all.try_extend_from_slice(items);
         ShortList { items: all }
     }
