@@ -11,20 +11,20 @@ use Rattle.wire_format.specs.Ghosts.{kind_width, ghost_size}
 
 -- ---- the header
 
-kind_width : KIND_WIDTH ≡ 2
-kind_width = refl
+packet_kind_width : KIND_WIDTH ≡ 2
+packet_kind_width = refl
 
-data : DATA ≡ 0
-data = refl
+kind_of_data : DATA ≡ 0
+kind_of_data = refl
 
-ping : PING ≡ 1
-ping = refl
+kind_of_ping : PING ≡ 1
+kind_of_ping = refl
 
 client_width : CLIENT_WIDTH ≡ 4
 client_width = refl
 
-number_width : NUMBER_WIDTH ≡ 24
-number_width = refl
+whole_number_width : NUMBER_WIDTH ≡ 24
+whole_number_width = refl
 
 max_number : MAX_NUMBER ≡ 16777215
 max_number = refl
@@ -82,14 +82,14 @@ ghost_count_width = refl
 op_width : OP_WIDTH ≡ 2
 op_width = refl
 
-kill : KILL ≡ 0
-kill = refl
+op_of_kill : KILL ≡ 0
+op_of_kill = refl
 
-create : CREATE ≡ 1
-create = refl
+op_of_create : CREATE ≡ 1
+op_of_create = refl
 
-update : UPDATE ≡ 2
-update = refl
+op_of_update : UPDATE ≡ 2
+op_of_update = refl
 
 kind_number_width : KIND_NUMBER_WIDTH ≡ 4
 kind_number_width = refl
