@@ -1,6 +1,6 @@
 -- Each width of a part, and each number that a part has or that is reckoned from widths, is the one that docs/formats.md,
 -- "Datagrams", tells: who changes one of them changes the bytes of datagrams, and has to say so here as well.
-use Rattle.std.specs.Prelude.{◌≡◌, ℕ, List, [], ◌∷◌, Some, None, pos, false, replicate, refl}
+use Rattle.std.specs.Prelude.{◌≡◌, [], ◌∷◌, Some, pos, false, replicate, refl}
 use Rattle.quantised_fields.specs.declared.kind.Kind.{Kind}
 use Rattle.wire_format.specs.declared.widths.TheConstants.{BLOCK_COUNT_WIDTH, BLOCK_LENGTH_WIDTH, BLOCK_NUMBER_WIDTH, BYTE_WIDTH, CLIENT_FIXED_BITS, CLIENT_WIDTH, CREATE, DATA, EVENT_COUNT_WIDTH, EVENT_LENGTH_WIDTH, FLAG_WIDTH, GHOST_COUNT_WIDTH, HEADER_BITS, HEAD_WIDTH, KILL, KIND_NUMBER_WIDTH, KIND_WIDTH, LOW_NUMBERS, LOW_NUMBER_WIDTH, LOW_VERSION, MASK_WIDTH, MAX_BLOCK_BITS, MAX_EVENT_BITS, MAX_GHOST_BITS, MAX_NUMBER, MOVE_BITS, MOVE_COUNT_WIDTH, NUMBER_WIDTH, OP_WIDTH, PING, SERVER_FIXED_BITS, SLOT_WIDTH, STEP_WIDTH, UPDATE}
 use Rattle.wire_format.specs.declared.events.EventItem.{EventItem}
