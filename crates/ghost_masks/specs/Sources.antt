@@ -1,5 +1,5 @@
 -- What a plan is made from: the periods, the kinds, the rows of slots and the number of packets, as one list of what happened left them.
-use Rattle.std.specs.Prelude.{◌≡◌, ℕ, ◌≤◌, List, length, Some, None}
+use Rattle.std.specs.Prelude.{◌≡◌, ℕ, ◌≤◌, List, length, Some, None, slice_get}
 use Rattle.tn_types.specs.declared.limits.TheConstants.{MAX_FIELDS}
 use Rattle.quantised_fields.specs.declared.kind.Kind.{Kind}
 use Rattle.quantised_fields.specs.Kinds.{table_fault}
@@ -10,7 +10,7 @@ use Rattle.ghost_scope.specs.declared.period.Period.{Period}
 use Rattle.ghost_scope.specs.Table.{Table}
 use Rattle.ghost_scope.specs.StandsFor.{StandsFor, traits_in}
 use Rattle.ghost_rows.specs.Kept.{Row, row_at, HaveRows}
-use Rattle.ghost_masks.specs.Plan.{fields_of, whole_mask, sizes}
+use Rattle.ghost_masks.specs.Plan.{fields_of, whole_mask, weight_in, sizes}
 use Rattle.ghost_masks.specs.Work.{AreMarked}
 
 -- the periods and the rows say what follows from a list that is legal for these kinds
@@ -43,3 +43,8 @@ pub record AreMasks (e : Period) (kinds : List Kind) (kept : List Row) (whole du
   pub all : whole ≡ whole_mask kinds e.kind
   pub few : length (fields_of kinds e.kind) ≤ MAX_FIELDS
   pub owed : due ≡ (row_at kept e.slot).due
+
+-- the weight is that of the entry's kind, and so many packets were sent at the last turn that the row of its slot has
+pub record AreRates (e : Period) (kinds : List Kind) (kept : List Row) (weight turn : ℕ) : Type 0 where
+  pub weighs : weight ≡ weight_in (slice_get kinds e.kind)
+  pub turned : turn ≡ (row_at kept e.slot).turn

@@ -37,4 +37,4 @@ returns-clause-ranked c log from sent =
     let e = c.args.period.now in
     let d = (goal.at.returns-clause-ranked c).After-offer_of in
     let names = offer_names o log e.n e.slot e.phase c.in_ok-choice.choice (sym (offered d log from) ∙ c.in_ok-choice.was) in
-    c.rank-priority.ensures log c.args.received c.args.kinds.now c.args.rows.now from.told from.rows sent from.holds c.brief-brief.ensures.weight (turned d log from) ∙ ap (priority o log) (sym names.number)
+    c.rank-priority.ensures log c.args.received c.args.kinds.now c.args.rows.now from.told from.rows sent from.holds (record { weighs = c.brief-brief.ensures.weight; turned = turned d log from }) ∙ ap (priority o log) (sym names.number)
