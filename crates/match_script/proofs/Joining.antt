@@ -1,11 +1,11 @@
 -- Lines behind lines, as they are printed.
-use Rattle.std.proofs.Common.{◌≡◌, ℕ, ◌+◌, ◌<◌, List, [], ◌∷◌, ◌++◌, length, map, take, get_or, refl, append_assoc}
+use Rattle.std.proofs.Common.{◌≡◌, ℕ, ◌+◌, ◌<◌, List, [], ◌∷◌, ◌++◌, length, map, take, get_or, refl, sym, ap, append_assoc}
 use Rattle.std.proofs.lemmas.List.{append-nil, map-append, take_more}
 use Rattle.world_rules.specs.declared.setup.Spawn.{Spawn}
 use Rattle.match_script.specs.declared.types.BodyLine.{BodyLine}
 use Rattle.match_script.specs.declared.types.Head.{Head}
 use Rattle.match_script.specs.Text.{spelled}
-use Rattle.match_script.specs.Print.{line_words, header_words, version_words, match_words, block_words, object_words, go_words, joined, with_line}
+use Rattle.match_script.specs.Print.{line_words, header_words, version_words, match_words, block_words, object_words, go_words, joined, with_line, text_of, GrowsByALine}
 
 joined-append : (front back : List (List ℕ)) → joined (front ++ back) ≡ joined front ++ joined back
 unfolding joined
@@ -70,3 +70,9 @@ header_lines head = header_text (version_words head.version) (match_words head) 
 pub six_words : (text a b c d e f : List ℕ) → text ++ (a ++ 32 ∷ (b ++ 32 ∷ (c ++ 32 ∷ (d ++ 32 ∷ (e ++ 32 ∷ (f ++ 10 ∷ [])))))) ≡ with_line text (a ∷ b ∷ c ∷ d ∷ e ∷ f ∷ [])
 unfolding spelled
 six_words text a b c d e f = simp append_assoc
+
+pub no_line : (head : Head) → joined (map spelled (header_words head)) ≡ text_of (record { head = head; body = [] })
+no_line head = ap (λ (words : List (List (List ℕ))). joined (map spelled words)) (sym (append-nil (header_words head)))
+
+pub grows_by_a_line : GrowsByALine
+grows_by_a_line head body line = lines_more line_words (header_words head) body line

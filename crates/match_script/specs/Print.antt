@@ -1,6 +1,6 @@
 -- The one text that a script is printed as: the words of each line with a space between each two, and a newline
 -- behind each line. Numbers are decimal, and bytes are hexadecimal digits in lower case.
-use Rattle.std.specs.Prelude.{ℕ, ℤ, List, [], ◌∷◌, ◌++◌, map, Bool, true, false, codes, Option, Some, None}
+use Rattle.std.specs.Prelude.{ℕ, ℤ, ◌≡◌, List, [], ◌∷◌, ◌++◌, map, Bool, true, false, codes, Option, Some, None}
 use Rattle.std.specs.Fmt.{decimal, signed_decimal}
 use Rattle.hex.specs.Hex.{encode_lower}
 use Rattle.tn_types.specs.declared.choices.Class.{Class}
@@ -87,3 +87,8 @@ text_of s = joined (map spelled (header_words s.head ++ map line_words s.body))
 -- a text with a further line
 abbrev pub with_line : List ℕ → List (List ℕ) → List ℕ
 with_line text words = text ++ (spelled words ++ 10 ∷ [])
+
+-- the text of a script grows by a line where its body does
+abbrev pub GrowsByALine : Type 0
+GrowsByALine = (head : Head) (body : List BodyLine) (line : BodyLine)
+    → text_of (record { head = head; body = body ++ line ∷ [] }) ≡ with_line (text_of (record { head = head; body = body })) (line_words line)

@@ -17,6 +17,6 @@ mod words;
 
 pub use held::{LineDatagram, LinePayload};
 pub use limits::VERSION;
-pub use printer::print;
+pub use printer::{grows_by_a_line, print, print_head, put_line};
 pub use reader::{parse, parse_threads};
 pub use types::{Blocks, Body, BodyLine, Head, ParseFault, Script, ScriptFault};

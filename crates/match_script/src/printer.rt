@@ -4,7 +4,7 @@ ghost use Rattle.match_script.specs.declared.types.BodyLine.TheVariants.{Post, C
 ghost use Rattle.match_script.specs.Text.{spelled};
 ghost use Rattle.match_script.specs.Script.{script_of};
 ghost use Rattle.match_script.specs.Ranges.{HasRanges};
-ghost use Rattle.match_script.specs.Print.{class_word, flag_word, hex_word, line_words, version_words, match_words, block_words, placed_words, player_words, spawn_words, object_words, go_words, header_words, joined, with_line, text_of};
+ghost use Rattle.match_script.specs.Print.{class_word, flag_word, hex_word, line_words, version_words, match_words, block_words, placed_words, player_words, spawn_words, object_words, go_words, header_words, joined, with_line, text_of, GrowsByALine};
 
 use crate::types::{BodyLine, Head, Script};
 use std::alloc::{AllocError, Global};
@@ -89,7 +89,7 @@ fn put_move(out: &mut String, client: u8, m: Move) -> Result<(), AllocError>
 }
 
 #[tactic(auto, unfolding(crate::specs::Text::spelled))]
-fn put_line(alloc: Global, out: &mut String, line: &BodyLine) -> Result<(), AllocError>
+fn put_words(alloc: Global, out: &mut String, line: &BodyLine) -> Result<(), AllocError>
     ensures { OnOk result (string_bytes out.new ≡ with_line (string_bytes out.old) (line_words line.now)) }
 {
     match line {
@@ -241,10 +241,40 @@ fn text_of(alloc: Global, script: &Script) -> Result<String, AllocError>
     let mut out = header_text(alloc, &script.head)?;
     let lines = script.body.as_slice();
     for line in lines {
-        put_line(alloc, &mut out, line)?;
+        put_words(alloc, &mut out, line)?;
     }
     Ok(out)
 }
+
+/// Adds a line of a body to a text, with a newline behind it. After an error a part of it may stand there.
+pub fn put_line(alloc: Global, out: &mut String, line: &BodyLine) -> Result<(), NoMemory>
+    ensures line { OnOk result (string_bytes out.new ≡ with_line (string_bytes out.old) (line_words line.now)) }
+    // The text of a script grows by its lines.
+    ensures grows_by_a_line { GrowsByALine }
+{
+    grows_by_a_line();
+    match put_words(alloc, out, line) {
+        Ok(()) => Ok(()),
+        Err(_) => Err(NoMemory),
+    }
+}
+
+/// The text of a script of this header, as far as the line `go`: that of the script without a line behind it.
+#[tactic(auto, using(crate::proofs::Joining::no_line))]
+pub fn print_head(alloc: Global, head: &Head) -> Result<Vec<u8>, NoMemory>
+    ensures { IfOk result (λ text. text.items ≡ text_of (record { head = head.now; body = [] })) }
+{
+    match header_text(alloc, head) {
+        Ok(text) => Ok(text.into_bytes()),
+        Err(_) => Err(NoMemory),
+    }
+}
+
+/// The text of a script is that of its body without the last line, and this line behind it.
+#[tactic(auto, using(crate::proofs::Joining::grows_by_a_line))]
+pub fn grows_by_a_line()
+    ensures { GrowsByALine }
+{}
 
 /// The text of a script: each line as docs/formats.md, "The script", says, with a newline at each end. `parse`
 /// reads it as this script again.
