@@ -1,7 +1,7 @@
 -- What was told once the script's next line was done.
-use Rattle.std.proofs.Common.{◌≡◌, ◌∙◌, ℕ, ◌+◌, ◌<◌, ◌≤◌, List, ◌∷◌, length, get_or, reverse, take, Option, Some, None, sym, ap, subst, inl, inr}
+use Rattle.std.proofs.Common.{◌≡◌, ◌∙◌, ℕ, ◌+◌, ◌<◌, ◌≤◌, List, ◌∷◌, length, get_or, reverse, take, Option, Some, None, sym, ap, subst, inl, inr, arith}
 use Rattle.std.specs.Prelude.{slice_get}
-use Rattle.std.proofs.lemmas.List.{take_all}
+use Rattle.std.proofs.lemmas.List.{take_all, length-reverse, length-take}
 use Rattle.std.proofs.lemmas.Bool.{cases_lt}
 use Rattle.std.proofs.lemmas.Option.{slice_get_within, slice_get-get_or, get_or_from_slice_get}
 use Rattle.tn_outside.specs.Totals.{Adds, AddsFront}
@@ -9,6 +9,8 @@ use Rattle.tn_outside.proofs.Totals.{adds_then, front_more}
 use Rattle.match_script.specs.declared.types.BodyLine.{BodyLine}
 use Rattle.match_script.specs.declared.types.BodyLine.TheVariants as script
 use Rattle.match_script.specs.declared.types.Script.{Script}
+use Rattle.match_script.specs.Ranges.{HasRanges}
+use Rattle.own_lists.proofs.Counting.{counted_few}
 use Rattle.match_laws.specs.Report.{line_text, report_so_far, report}
 use Rattle.match_engine.specs.Match.{MatchState, IsPlayed, last_told}
 use Rattle.match_engine.proofs.Written.{reverse_next, one_line_more, split_at_line}
@@ -72,3 +74,9 @@ pub told_all : (s : Script) (at : ℕ) (first new : Option (List ℕ)) → lengt
 unfolding report
 told_all s at first new past so_far =
     subst (λ (b : List BodyLine). Adds first new (report_so_far s.head (reverse b))) (take_all at s.body past) so_far
+
+-- of a script's own lines there are never too many
+pub few_done : (m : MatchState) → IsPlayed m → HasRanges m.script → m.game.done < 4000000
+few_done m played ranges =
+    let front = take m.place m.script.body in
+    omega (arith, played.game.counted, counted_few (reverse front), length-reverse front, length-take m.place m.script.body, ranges.few)

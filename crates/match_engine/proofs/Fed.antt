@@ -14,9 +14,11 @@ use Rattle.client_scope.specs.Scans.{shown}
 use Rattle.client_scope.specs.StandsFor.{Table}
 use Rattle.dirty_lanes.specs.Words.{Words}
 use Rattle.own_lists.specs.Own.{OwnItem, Line, client_named, StandsAlone}
+use Rattle.own_lists.specs.Counted.{counted, counted_in}
 use Rattle.own_lists.specs.Kept.{Kept, kept, follows, put}
 use Rattle.own_lists.specs.Past.{Past, client_terms, kept_by, after}
 use Rattle.own_lists.specs.Agreement.{AreLines}
+use Rattle.own_lists.proofs.Counting.{counted_item, counted_items, one_counted}
 use Rattle.client_seat.specs.Stands.{SeatState, StandsFor as SeatStandsFor}
 use Rattle.match_engine.specs.Stands.{GameState, ClientHolds, StandsFor, IsDirect}
 use Rattle.match_engine.specs.Serving.{Serves, OthersStay}
@@ -70,10 +72,11 @@ put_there f d c x e = let same : d ≡ c = cc in let yes : (c == d) ≡ true = g
 pub put_elsewhere : {A : Type 0} (f : ℕ → A) (d n c : ℕ) (x : A) → ◌≡◌ {A = Option ℕ} (Some d) (Some n) → c ≢ n → put f d x c ≡ f c
 put_elsewhere f d n c x e apart = let same : d ≡ n = cc in let no : (c == d) ≡ false = grind (arith, nat_tests) in ap (λ b. cond b x (f c)) no
 
-put_few : {A : Type 0} (f : ℕ → List A) (d c : ℕ) (x : A) (most : ℕ) → length (f c) ≤ most → length (f d) ≤ most → length (put f d (x ∷ f d) c) ≤ suc most
+put_few : (f : ℕ → List OwnItem) (d c : ℕ) (x : OwnItem) (most : ℕ) → counted_items (f c) ≤ most → counted_items (f d) ≤ most
+    → counted_items (put f d (x ∷ f d) c) ≤ counted_item x + most
 put_few f d c x most here there = by (c == d)
   where
-    by : (b : Bool) → length (cond b (x ∷ f d) (f c)) ≤ suc most
+    by : (b : Bool) → counted_items (cond b (x ∷ f d) (f c)) ≤ counted_item x + most
     by true = omega (arith, there)
     by false = omega (arith, here)
 
@@ -101,11 +104,11 @@ all_more : {X : Type 0} (P : X → Type 0) (x : X) (xs : List X) → P x → All
 all_more P x xs h rest zero d lt = h
 all_more P x xs h rest (suc i) d lt = rest i d (omega (arith, lt))
 
-pub more_lines : (head : Head) (line : BodyLine) (past : List BodyLine) → AreLines head past → LineFits head.clients line → length past < 4000000 → AreLines head (line ∷ past)
+pub more_lines : (head : Head) (line : BodyLine) (past : List BodyLine) → AreLines head past → LineFits head.clients line → counted_in past < 4000000 → AreLines head (line ∷ past)
 more_lines head line past s fits few = record {
   fits = s.fits;
   lines = all_more (LineFits head.clients) line past fits s.lines;
-  few = omega (arith, few);
+  few = omega (arith, few, one_counted line);
 }
 
 -- ---- one client's line
@@ -114,7 +117,7 @@ pub fed : (m : GameState) (past : List BodyLine) (line : BodyLine) (n : ℕ) (se
     → client_named line ≡ Some n → LineFits m.head.clients line → m.done < 4000000 → StandsFor m past
     → IsPut n m.seats seats seat → IsPut n m.scopes scopes scope → OthersStay n m.lanes lanes
     → ClientHolds seat scope lanes n (client_terms m.head n) ((after m.head (line ∷ past)).scans n) (kept_by m.head (after m.head (line ∷ past)) n)
-    → StandsFor (record { head = m.head; seats = seats; scopes = scopes; world = m.world; lanes = lanes; done = m.done + 1 }) (line ∷ past)
+    → StandsFor (record { head = m.head; seats = seats; scopes = scopes; world = m.world; lanes = lanes; done = m.done + counted line }) (line ∷ past)
 fed m past line n seats seat scopes scope lanes named fits few s put_seat put_scope others now =
     let same = as_before m.head line past n named in
     record {
@@ -159,21 +162,21 @@ serves m past n seat d scope e lt s is_seat is_scope = record {
 
 -- ---- counts
 
--- an own list has no more items than there were lines
-pub own_few : (head : Head) (past : List BodyLine) (n : ℕ) → length ((after head past).own n) ≤ length past
+-- an own list has no more counted items than counted lines were done
+pub own_few : (head : Head) (past : List BodyLine) (n : ℕ) → counted_items ((after head past).own n) ≤ counted_in past
 own_few head [] n = omega arith
 own_few head (script.Tick ∷ past) n = let h = own_few head past n in omega (arith, h)
 own_few head (script.World ∷ past) n = let h = own_few head past n in omega (arith, h)
-own_few head (script.Scan d ∷ past) n = put_few (after head past).own d n _ (length past) (own_few head past n) (own_few head past d)
-own_few head (script.Post d class payload ∷ past) n = put_few (after head past).own d n _ (length past) (own_few head past n) (own_few head past d)
-own_few head (script.ClientPost d class payload ∷ past) n = put_few (after head past).own d n _ (length past) (own_few head past n) (own_few head past d)
-own_few head (script.Pack d ∷ past) n = put_few (after head past).own d n _ (length past) (own_few head past n) (own_few head past d)
-own_few head (script.ClientPack d ∷ past) n = put_few (after head past).own d n _ (length past) (own_few head past n) (own_few head past d)
-own_few head (script.Down d k ∷ past) n = put_few (after head past).own d n _ (length past) (own_few head past n) (own_few head past d)
-own_few head (script.Up d k ∷ past) n = put_few (after head past).own d n _ (length past) (own_few head past n) (own_few head past d)
-own_few head (script.Raw d bytes ∷ past) n = put_few (after head past).own d n _ (length past) (own_few head past n) (own_few head past d)
-own_few head (script.Move d m ∷ past) n = put_few (after head past).own d n _ (length past) (own_few head past n) (own_few head past d)
-own_few head (script.Show d ∷ past) n = put_few (after head past).own d n _ (length past) (own_few head past n) (own_few head past d)
+own_few head (script.Scan d ∷ past) n = put_few (after head past).own d n _ (counted_in past) (own_few head past n) (own_few head past d)
+own_few head (script.Post d class payload ∷ past) n = put_few (after head past).own d n _ (counted_in past) (own_few head past n) (own_few head past d)
+own_few head (script.ClientPost d class payload ∷ past) n = put_few (after head past).own d n _ (counted_in past) (own_few head past n) (own_few head past d)
+own_few head (script.Pack d ∷ past) n = put_few (after head past).own d n _ (counted_in past) (own_few head past n) (own_few head past d)
+own_few head (script.ClientPack d ∷ past) n = put_few (after head past).own d n _ (counted_in past) (own_few head past n) (own_few head past d)
+own_few head (script.Down d k ∷ past) n = put_few (after head past).own d n _ (counted_in past) (own_few head past n) (own_few head past d)
+own_few head (script.Up d k ∷ past) n = put_few (after head past).own d n _ (counted_in past) (own_few head past n) (own_few head past d)
+own_few head (script.Raw d bytes ∷ past) n = put_few (after head past).own d n _ (counted_in past) (own_few head past n) (own_few head past d)
+own_few head (script.Move d m ∷ past) n = put_few (after head past).own d n _ (counted_in past) (own_few head past n) (own_few head past d)
+own_few head (script.Show d ∷ past) n = put_few (after head past).own d n _ (counted_in past) (own_few head past n) (own_few head past d)
 
 -- ---- direct lines
 

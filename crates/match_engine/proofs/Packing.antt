@@ -33,6 +33,7 @@ use Rattle.dirty_lanes.specs.Words.{Words}
 use Rattle.own_lists.specs.Own.{OwnItem, Line}
 use Rattle.own_lists.specs.Course.{with_step}
 use Rattle.own_lists.specs.Steps.{shows_in, is_hidden_in, up_in, traits_in}
+use Rattle.own_lists.specs.Counted.{counted_in}
 use Rattle.own_lists.specs.Kept.{Kept, undrained, drained, has_bits, drains_of, read_of, reads_for, reads_of, packs, kept}
 use Rattle.own_lists.specs.Past.{client_terms, kept_by, after}
 use Rattle.own_lists.specs.Conditions.{AreOwn}
@@ -243,7 +244,7 @@ module _ (seat : SeatState) (scope : Table) (w : Worlds) (lanes : Words) (c : �
     ranged = in_ranges;
   }
 
-  pub few_sent : length past < 4000000 → length seat.pair.down < 4294967295
+  pub few_sent : counted_in past < 4000000 → length seat.pair.down < 4294967295
   few_sent few =
       let down = ap length s.holds.course.holds.pair.down in
       omega (arith, down, few_down t ((after head past).own c), own_few head past c, few)
@@ -252,7 +253,7 @@ module _ (seat : SeatState) (scope : Table) (w : Worlds) (lanes : Words) (c : �
   packed_tells drains rs told new ds is p = p.told t k.course s.holds.course ∙ ap (λ x. packed_told c t k.course.steps x rs) ds ∙ ap (packed_told c t k.course.steps (drains_of t k)) is
 
   pub packed_serves : (drains : List Drain) (rs : List Read) (told : Told) (new : SeatState) (left : Words) → drains ≡ drains_of t k → rs ≡ reads_of t k → Packs seat drains rs c told new
-      → OthersStay c lanes left → All (IsMarked left c (packs t k)) scope.shown → length past < 4000000 → Serves new scope w left c head (script.Pack c ∷ past)
+      → OthersStay c lanes left → All (IsMarked left c (packs t k)) scope.shown → counted_in past < 4000000 → Serves new scope w left c head (script.Pack c ∷ past)
   packed_serves drains rs told new left ds is p others marks few =
       let own = own_line head (script.Pack c) past c tt refl in
       record {

@@ -25,6 +25,7 @@ use Rattle.own_lists.specs.Kept.{Kept, kept, with_course, all_begin, begins, aft
 use Rattle.own_lists.specs.Past.{client_terms, kept_by, after, showing_of, own_show, scan_item}
 use Rattle.own_lists.specs.Conditions.{AreOwn, MeetEach}
 use Rattle.own_lists.specs.Agreement.{AreLines}
+use Rattle.own_lists.specs.Counted.{counted_in}
 use Rattle.own_lists.proofs.Agreeing.{own_lists_agree}
 use Rattle.own_lists.proofs.Meeting.{scan_journal}
 use Rattle.own_lists.proofs.Standing.{onto_on, shows_hides, shows_nears}
@@ -123,7 +124,7 @@ module _ (seat : SeatState) (scope : Table) (w : Worlds) (lanes : Words) (c : �
   pub seen_below : (list : List Seen) → list ≡ seen → All (λ (x : Seen). x.object < 1024) list
   seen_below list is = subst (λ (l : List Seen). All (λ (x : Seen). x.object < 1024) l) (sym is) sight.below
 
-  pub few_periods : (list : List Seen) → list ≡ seen → length past < 4000000 → scope.count + length list < 4294967296
+  pub few_periods : (list : List Seen) → list ≡ seen → counted_in past < 4000000 → scope.count + length list < 4294967296
   few_periods list is few =
       let many = match_periods_few head past c s.lines.fits in
       let sights_few = few_rising 0 1024 (sights seen) (omega arith) (sights_rise seen sight) in
@@ -135,7 +136,7 @@ module _ (seat : SeatState) (scope : Table) (w : Worlds) (lanes : Words) (c : �
       subst (λ (l : List Seen). All P l) (sym is_new_) (All-from_recursion P (shows (list ∷ before)) (all_filter P (is_new (level_in (last before))) list (recursion_from_All P list h)))
 
   -- with this scan
-  module _ (few : length past < 4000000) where
+  module _ (few : counted_in past < 4000000) where
     abbrev next : List (List Seen)
     next = visible_list (after head past).world c ∷ before
 

@@ -34,6 +34,8 @@ use Rattle.own_lists.proofs.WorldFacts.{IsFieldWrite, world_after, scans_are_sig
 use Rattle.client_seat.specs.Stands.{SeatState, StandsFor as SeatStandsFor, without_first}
 use Rattle.match_engine.specs.Stands.{GameState, StandsFor, IsMarked, AreFew}
 use Rattle.match_engine.specs.Serving.{raised_by}
+use Rattle.own_lists.specs.Counted.{counted_in}
+use Rattle.own_lists.proofs.Counting.{counted_items}
 use Rattle.match_engine.proofs.Fed.{more_lines, own_few}
 use Rattle.match_engine.proofs.Marks.{marks_after_tick}
 
@@ -71,8 +73,8 @@ moves_agree f from (s ∷ seats) h =
 
 -- ---- counts
 
--- no more ticks are made than lines are done
-few_ticks : (head : Head) (past : List BodyLine) → (after head past).world.ticks ≤ length past
+-- no more ticks are made than counted lines are done
+few_ticks : (head : Head) (past : List BodyLine) → (after head past).world.ticks ≤ counted_in past
 unfolding next
 few_ticks head [] = omega arith
 few_ticks head (script.Tick ∷ past) = let h = few_ticks head past in omega (arith, h)
@@ -107,7 +109,7 @@ begun_taken [] k = refl
 begun_taken (s ∷ shows) k = begun_taken shows (begins s k)
 
 -- each tick takes one move at the most
-few_taken : (t : Terms) (items : List OwnItem) → AreOwn t items → (kept t items).course.taken ≤ length items
+few_taken : (t : Terms) (items : List OwnItem) → AreOwn t items → (kept t items).course.taken ≤ counted_items items
 few_taken t [] own = omega arith
 few_taken t (Line line ∷ items) own = let h = few_taken t items own.1 in omega (arith, h, line_taken t line (kept t items))
 few_taken t (Scan hides nears shows ∷ items) own =

@@ -13,6 +13,7 @@ use Rattle.client_scope.specs.declared.period.ShownPeriod.{ShownPeriod}
 use Rattle.client_scope.specs.Scans.{shown}
 use Rattle.client_scope.specs.StandsFor.{Table, StandsFor as ScopeStandsFor}
 use Rattle.dirty_lanes.specs.Words.{Words, mask_at}
+use Rattle.own_lists.specs.Counted.{counted_in}
 use Rattle.own_lists.specs.Kept.{Kept}
 use Rattle.own_lists.specs.Past.{client_terms, kept_by, after}
 use Rattle.own_lists.specs.Agreement.{AreLines}
@@ -41,7 +42,7 @@ pub record StandsFor (m : GameState) (past : List BodyLine) : Type 0 where
   pub seat_count : length m.seats ≡ m.head.clients
   pub scope_count : length m.scopes ≡ m.head.clients
   pub same_world : m.world ≡ (after m.head past).world
-  pub counted : m.done ≡ length past
+  pub counted : m.done ≡ counted_in past
   pub objects : m.lanes.objects ≡ MAX_OBJECTS
   pub clients : m.lanes.clients ≡ MAX_CLIENTS
   pub client : (c : ℕ) (d : SeatState) (e : Table) → c < m.head.clients

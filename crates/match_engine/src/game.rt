@@ -1,8 +1,9 @@
 //! What a match holds: its world, and the connection and the scope of each client.
-ghost use Rattle.std.specs.Prelude.{◌≡◌, ℕ, ◌<◌, ◌≤◌, List, [], ◌∷◌, IfOk, OnOk, Some, None, length};
+ghost use Rattle.std.specs.Prelude.{◌≡◌, ℕ, ◌<◌, ◌≤◌, List, [], ◌∷◌, IfOk, OnOk, Some, None, length, nat_le};
 ghost use Rattle.std.specs.Prelude.{slice_index_or};
 ghost use Rattle.match_script.specs.Ranges.{HeadFits};
 ghost use Rattle.client_scope.specs.StandsFor.{Table, StandsFor as ScopeStandsFor};
+ghost use Rattle.own_lists.specs.Counted.{counted};
 ghost use Rattle.own_lists.specs.Own.{client_named};
 ghost use Rattle.own_lists.specs.Course.{beginning};
 ghost use Rattle.own_lists.specs.Past.{client_terms};
@@ -39,6 +40,7 @@ pub(crate) struct Game<'a> {
     // room for the moves of a tick, and for what a line works in
     moves: Vec<Option<Move>>,
     room: Room,
+    // so many lines were done of those that are counted
     done: u32,
 }
 
@@ -82,6 +84,20 @@ pub fn client_named(line: &BodyLine) -> Option<u8>
         BodyLine::Move { client, m: _ } => Some(*client),
         BodyLine::Show { client } => Some(*client),
         BodyLine::Tick | BodyLine::World => None,
+    }
+}
+
+// 1 for a line of those that are counted.
+fn counted(line: &BodyLine) -> u32
+    ensures value { result ≡ counted line.now }
+    ensures one { result ≤ 1 }
+{
+    match line {
+        BodyLine::Tick => 1,
+        BodyLine::Scan { client: _ } => 1,
+        BodyLine::Pack { client: _ } => 1,
+        BodyLine::ClientPack { client: _ } => 1,
+        _ => 0,
     }
 }
 
@@ -154,6 +170,13 @@ impl<'a> Game<'a> {
             },
             done: 0,
         })
+    }
+
+    /// As many lines were done of those that are counted as may be.
+    pub(crate) fn is_full(&self) -> bool
+        ensures { result ≡ nat_le MAX_COUNTED_LINES self.now.done }
+    {
+        self.done >= MAX_COUNTED_LINES
     }
 
     /// The connection of a client, after what its own list leaves of its course.
@@ -240,7 +263,7 @@ impl<'a> Game<'a> {
         ensures stands { OnOk result (Does self.old line.now self.new) }
         ensures head { self.new.head ≡ self.old.head }
     {
-        self.done += 1;
+        self.done += counted(line);
         line_on(alloc, &mut self.seats[client as usize], line)
     }
 
@@ -298,7 +321,6 @@ impl<'a> Game<'a> {
         ensures stands { OnOk result (Does self.old (script.Show client) self.new) }
         ensures head { self.new.head ≡ self.old.head }
     {
-        self.done += 1;
         let place = client as usize;
         show_for(
             alloc,
@@ -354,7 +376,6 @@ impl<'a> Game<'a> {
         ensures head { self.new.head ≡ self.old.head }
     {
         let objects = living_of(alloc, &self.world)?;
-        self.done += 1;
         Ok(Told::World {
             ticks: self.world.ticks(),
             objects,

@@ -1,5 +1,5 @@
 //! The match of a script, line by line.
-ghost use Rattle.std.specs.Prelude.{◌≡◌, ◌<◌, ◌≤◌, ◌+◌, ◌↔◌, List, [], IfOk, OnOk, Ok, Some, None, true, false, length, slice_get, slice_index_or};
+ghost use Rattle.std.specs.Prelude.{◌≡◌, ◌<◌, ◌≤◌, ◌+◌, ◌↔◌, List, [], IfOk, OnOk, Ok, Some, None, true, false, length, nat_le, slice_get, slice_index_or};
 ghost use Rattle.std.specs.Option.{option_copied};
 ghost use Rattle.match_script.specs.Ranges.{HeadFits, HasRanges, LineFits};
 ghost use Rattle.client_scope.specs.StandsFor.{Table};
@@ -76,6 +76,13 @@ impl<'a> Match<'a> {
             place: 0,
             told: None,
         })
+    }
+
+    /// No further line may be done: as many were done of those that are counted (a tick, a scan, a pack of either end) as may be.
+    pub fn is_full(&self) -> bool
+        ensures { result ≡ nat_le MAX_COUNTED_LINES self.now.game.done }
+    {
+        self.game.is_full()
     }
 
     /// Does the next line of the script. The answer is false exactly at its end, where nothing changes.

@@ -3,6 +3,7 @@ ghost use Rattle.std.specs.Prelude.{◌≡◌, ℕ, ◌<◌, ◌+◌, ◌^◌, L
 ghost use Rattle.std.specs.List.{All};
 ghost use Rattle.match_script.specs.declared.types.BodyLine.{BodyLine as OneLine};
 ghost use Rattle.match_script.specs.declared.types.Head.{Head};
+ghost use Rattle.own_lists.specs.Counted.{counted_in};
 ghost use Rattle.own_lists.specs.Kept.{packs, drains_of};
 ghost use Rattle.world_sim.specs.Worlds.{Worlds};
 ghost use Rattle.match_engine.specs.Stands.{IsMarked};
@@ -59,11 +60,11 @@ pub(crate) fn pack_for(
     places: &mut Places,
 ) -> Result<Told, NoMemory>
     requires serves { (h : Head) × (past : List OneLine) × Serves seat.old scope.now world.now lanes.old client h past
-        × (length past < MAX_COUNTED_LINES) }
+        × (counted_in past < MAX_COUNTED_LINES) }
     ensures told { IfOk result (λ told. (h : Head) (past : List OneLine) → Serves seat.old scope.now world.now lanes.old client h past
         → told ≡ told_after h past (script.Pack client)) }
     ensures serves { OnOk result ((h : Head) (past : List OneLine) → Serves seat.old scope.now world.now lanes.old client h past
-        → length past < MAX_COUNTED_LINES → Serves seat.new scope.now world.now lanes.new client h (script.Pack client ∷ past)) }
+        → counted_in past < MAX_COUNTED_LINES → Serves seat.new scope.now world.now lanes.new client h (script.Pack client ∷ past)) }
     ensures others { OnOk result (OthersStay client lanes.old lanes.new) }
 {
     let Ok(()) = drains_for(seat, scope, lanes, client, drains) else {
@@ -132,11 +133,11 @@ pub(crate) fn scan_for(
     room: &mut Room,
 ) -> Result<Told, NoMemory>
     requires serves { (h : Head) × (past : List OneLine) × Serves seat.old scope.old world.now lanes.old client h past
-        × (length past < MAX_COUNTED_LINES) }
+        × (counted_in past < MAX_COUNTED_LINES) }
     ensures told { IfOk result (λ told. (h : Head) (past : List OneLine) → Serves seat.old scope.old world.now lanes.old client h past
         → told ≡ told_after h past (script.Scan client)) }
     ensures serves { OnOk result ((h : Head) (past : List OneLine) → Serves seat.old scope.old world.now lanes.old client h past
-        → length past < MAX_COUNTED_LINES → Serves seat.new scope.new world.now lanes.new client h (script.Scan client ∷ past)) }
+        → counted_in past < MAX_COUNTED_LINES → Serves seat.new scope.new world.now lanes.new client h (script.Scan client ∷ past)) }
     ensures others { OnOk result (OthersStay client lanes.old lanes.new) }
 {
     visible(alloc, world, client, &mut room.seen)?;

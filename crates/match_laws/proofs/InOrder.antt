@@ -26,6 +26,7 @@ use Rattle.own_lists.specs.Course.{onto, near_step, show_step, scan_steps}
 use Rattle.own_lists.specs.Kept.{Kept, after_line, follows, kept, journal}
 use Rattle.own_lists.specs.Past.{client_terms, after}
 use Rattle.own_lists.specs.Agreement.{AreLines, OwnListsHold}
+use Rattle.own_lists.proofs.Counting.{counted_few}
 use Rattle.own_lists.proofs.KeptValues.{wrote_course}
 use Rattle.own_lists.proofs.Meeting.{scan_journal, are_met}
 use Rattle.match_laws.specs.Laws.{first, journal_of, EventsInOrder, MovesInOrder, LooseInOrder}
@@ -114,7 +115,7 @@ pub are_lines : (s : Script) (n : ℕ) → HasRanges s → AreLines s.head (firs
 are_lines s n h = record {
   fits = h.head;
   lines = All-from_recursion (LineFits s.head.clients) (first n s) (first_fit s n h);
-  few = omega (arith, h.few, length-reverse (take n s.body), length-take n s.body);
+  few = omega (arith, counted_few (first n s), h.few, length-reverse (take n s.body), length-take n s.body);
 }
 
 -- ---- what the laws ask

@@ -9,6 +9,7 @@ use Rattle.match_script.specs.declared.types.Script.{Script}
 use Rattle.match_script.specs.Ranges.{LineFits}
 use Rattle.own_lists.specs.Own as own
 use Rattle.own_lists.specs.Past.{after, taken_from}
+use Rattle.own_lists.proofs.Counting.{counted_few}
 use Rattle.match_engine.specs.Match.{MatchState, Does, StandsFor as MatchStandsFor}
 use Rattle.match_engine.proofs.Written.{reverse_next}
 use Rattle.own_items.specs.declared.items.OwnItem.{OwnItem}
@@ -36,9 +37,10 @@ module _ (s : SourceState) (line : BodyLine) (h : Stands s) (there : slice_get s
   pub few : s.game.game.done < 4000000
   few =
       let done = h.game.game.counted in
+      let all = counted_few before in
       let long = length-reverse (take s.place s.script.body) in
       let front = length-take s.place s.script.body in
-      omega (arith, done, long, front, inside, h.ranges.few)
+      omega (arith, done, all, long, front, inside, h.ranges.few)
 
   module _ (game : MatchState) (same : game.script ≡ s.game.script) (does : Does s.game line game) where
     abbrev now : SourceState

@@ -18,6 +18,7 @@ use Rattle.client_scope.specs.Scans.{periods, shown}
 use Rattle.own_lists.specs.Own.{OwnItem, Line, StandsAlone}
 use Rattle.own_lists.specs.Kept.{Kept, after_line, kept}
 use Rattle.own_lists.specs.Conditions.{AreOwn}
+use Rattle.own_lists.specs.Counted.{counted_in}
 use Rattle.own_lists.specs.Past.{Past, client_terms, kept_by, after, happens, scan_item}
 use Rattle.own_lists.specs.Agreement.{IsPeriodOf, OwnListsHold}
 use Rattle.own_lists.proofs.ScanFacts.{periods_few}
@@ -145,8 +146,8 @@ happens_holds head (script.Move d m) p world room all = named_holds head p d (sc
 happens_holds head (script.Show d) p world room all = named_holds head p d (script.Show d) tt all
 happens_holds head script.World p world room all = all
 
--- as many lines as are counted begin no more periods than are counted
-has_room : (head : Head) (past : List BodyLine) (c : ℕ) → HeadFits head → suc (length past) ≤ MAX_COUNTED_LINES
+-- as many counted lines as may be begin no more periods than may be
+has_room : (head : Head) (past : List BodyLine) (c : ℕ) → HeadFits head → counted_in past ≤ MAX_COUNTED_LINES
     → HasRoom (after head past) c
 has_room head past c h few =
     let w = (after head past).world in
@@ -156,10 +157,10 @@ has_room head past c h few =
     let scans_are = scans_few head past c in
     omega (arith, few, periods_are, scans_are)
 
-all_hold : (head : Head) (past : List BodyLine) → HeadFits head → length past ≤ MAX_COUNTED_LINES → HoldAll head (after head past)
+all_hold : (head : Head) (past : List BodyLine) → HeadFits head → counted_in past ≤ MAX_COUNTED_LINES → HoldAll head (after head past)
 all_hold head [] h few = λ c. start_holds head c (first_world head.seed head.setup)
 all_hold head (line ∷ past) h few =
-    happens_holds head line (after head past) (world_after head past h) (λ c. has_room head past c h few)
+    happens_holds head line (after head past) (world_after head past h) (λ c. has_room head past c h (omega (arith, few)))
     (all_hold head past h (omega (arith, few)))
 
 pub own_lists_agree : OwnListsHold

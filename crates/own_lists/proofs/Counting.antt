@@ -1,5 +1,5 @@
--- No more datagrams are sent at either end than items stand in the own list: a scan sends none.
-use Rattle.std.proofs.Common.{◌≡◌, ℕ, suc, ◌≤◌, Bool, true, false, List, [], ◌∷◌, ◌++◌, if◌then◌else◌, length, refl, sym, ap, subst, arith, length-append}
+-- No more datagrams are sent at either end than counted items stand in the own list: only a pack sends one.
+use Rattle.std.proofs.Common.{◌≡◌, ℕ, suc, ◌+◌, ◌≤◌, Bool, true, false, List, [], ◌∷◌, ◌++◌, if◌then◌else◌, length, refl, sym, ap, subst, arith, length-append}
 use Rattle.std.specs.Prelude.{ℤ, Some, slice_get, map}
 use Rattle.std.specs.Result.{is_ok}
 use Rattle.tn_types.specs.declared.choices.Class.{Class}
@@ -23,11 +23,43 @@ use Rattle.pair_core.specs.History.{PairStep, Show, Hide, Near, Post, ClientPost
 use Rattle.pair_core.proofs.Brought.{gets_sends_up, gets_sends_down}
 use Rattle.pair_core.proofs.Good.{absorbed-sends}
 use Rattle.own_lists.specs.Own.{OwnShow, OwnItem, Line, Scan, Tick}
+use Rattle.own_lists.specs.Counted.{counted, counted_in}
 use Rattle.own_lists.specs.Course.{onto, hide_step, near_step, show_step, scan_steps}
 use Rattle.own_lists.specs.Kept.{Kept, after_line, follows, kept, journal}
 use Rattle.own_lists.specs.declared.showing.Showing.{Showing}
 use Rattle.own_lists.proofs.KeptValues.{wrote_course}
 use Rattle.own_lists.proofs.Meeting.{scan_journal}
+
+-- ---- counted items and lines
+
+-- an item is counted where the line is of which it comes
+abbrev pub counted_item : OwnItem → ℕ
+counted_item (Line line) = counted line
+counted_item (Scan hides nears shows) = 1
+counted_item (Tick writes taken) = 1
+
+abbrev pub counted_items : List OwnItem → ℕ
+counted_items [] = 0
+counted_items (item ∷ items) = counted_item item + counted_items items
+
+pub one_counted : (line : BodyLine) → counted line ≤ 1
+one_counted script.Tick = omega arith
+one_counted (script.Scan c) = omega arith
+one_counted (script.Pack c) = omega arith
+one_counted (script.ClientPack c) = omega arith
+one_counted (script.Post c class v) = omega arith
+one_counted (script.ClientPost c class v) = omega arith
+one_counted (script.Down c k) = omega arith
+one_counted (script.Up c k) = omega arith
+one_counted (script.Raw c bytes) = omega arith
+one_counted (script.Move c m) = omega arith
+one_counted (script.Show c) = omega arith
+one_counted script.World = omega arith
+
+-- no more lines are counted than there are
+pub counted_few : (past : List BodyLine) → counted_in past ≤ length past
+counted_few [] = omega arith
+counted_few (line ∷ past) = let h = counted_few past in let one = one_counted line in omega (arith, h, one)
 
 -- ---- one step sends one datagram at most
 
@@ -134,42 +166,59 @@ module _ (t : Terms) where
 
   -- ---- items
 
-  record SendOne (old new : List PairStep) : Type 0 where
-    pub down : sent_down new ≤ suc (sent_down old)
-    pub up : sent_up new ≤ suc (sent_up old)
+  -- so many more are sent at the most
+  record SendMost (most : ℕ) (old new : List PairStep) : Type 0 where
+    pub down : sent_down new ≤ most + sent_down old
+    pub up : sent_up new ≤ most + sent_up old
 
-  step-sends : (step : PairStep) (steps : List PairStep) → SendOne steps (step ∷ steps)
-  step-sends step steps = record { down = step_down step steps; up = step_up step steps }
+  send-none : (old new : List PairStep) → sent_down new ≡ sent_down old → sent_up new ≡ sent_up old → SendMost 0 old new
+  send-none old new d u = record { down = omega (arith, d); up = omega (arith, u) }
 
-  same-sends : (steps : List PairStep) → SendOne steps steps
-  same-sends steps = record { down = omega arith; up = omega arith }
+  send-one : (step : PairStep) (steps : List PairStep) → SendMost 1 steps (step ∷ steps)
+  send-one step steps = record { down = omega (arith, step_down step steps); up = omega (arith, step_up step steps) }
 
-  line-sends : (line : BodyLine) (k : Kept) → SendOne k.course.steps (after_line t line k).course.steps
-  line-sends script.Tick k = same-sends k.course.steps
-  line-sends (script.Scan c) k = same-sends k.course.steps
-  line-sends (script.Show c) k = same-sends k.course.steps
-  line-sends script.World k = same-sends k.course.steps
-  line-sends line k = step-sends _ k.course.steps
+  send-more : (old new : List PairStep) → SendMost 0 old new → SendMost 1 old new
+  send-more old new h = record { down = omega (arith, h.down); up = omega (arith, h.up) }
 
-  item-sends : (item : OwnItem) (k : Kept) → SendOne k.course.steps (follows t item k).course.steps
+  line-sends : (line : BodyLine) (k : Kept) → SendMost (counted line) k.course.steps (after_line t line k).course.steps
+  line-sends script.Tick k = send-more k.course.steps k.course.steps (send-none k.course.steps k.course.steps refl refl)
+  line-sends (script.Scan c) k = send-more k.course.steps k.course.steps (send-none k.course.steps k.course.steps refl refl)
+  line-sends (script.Show c) k = send-none k.course.steps k.course.steps refl refl
+  line-sends script.World k = send-none k.course.steps k.course.steps refl refl
+  line-sends (script.Pack c) k = send-one _ k.course.steps
+  line-sends (script.ClientPack c) k = send-one _ k.course.steps
+  line-sends (script.Post c class v) k =
+      send-none k.course.steps _ (ap length (server-posts t class v (history t k.course.steps).server)) refl
+  line-sends (script.ClientPost c class v) k =
+      send-none k.course.steps _ refl (ap length (client-posts t.config class v (history t k.course.steps).client))
+  line-sends (script.Move c m) k =
+      send-none k.course.steps _ refl (ap length (client-samples t.config m (history t k.course.steps).client))
+  line-sends (script.Down c place) k =
+      let h = history t k.course.steps in
+      send-none k.course.steps _ refl (ap length (gets_sends_up t (slice_get (server_datagrams t h.server) place) h.client))
+  line-sends (script.Up c place) k =
+      let h = history t k.course.steps in
+      send-none k.course.steps _ (ap length (gets_sends_down t _ (slice_get (client_datagrams t.config h.client) place) h.server)) refl
+  line-sends (script.Raw c bytes) k =
+      send-none k.course.steps _ (ap length (gets_sends_down t _ (Some bytes) (history t k.course.steps).server)) refl
+
+  item-sends : (item : OwnItem) (k : Kept) → SendMost (counted_item item) k.course.steps (follows t item k).course.steps
   item-sends (Line line) k = line-sends line k
   item-sends (Scan hides nears shows) k =
       let r = scan-sends-none hides nears (map (λ (s : OwnShow). s.how) shows) in
-      subst (SendOne k.course.steps) (sym (scan_journal hides nears shows k)) (record {
+      subst (SendMost 1 k.course.steps) (sym (scan_journal hides nears shows k)) (record {
         down =
             omega (arith, r.down k.course.steps);
         up = omega (arith, r.up k.course.steps);
       })
-  item-sends (Tick writes taken) k = subst (λ c. SendOne k.course.steps c.steps) (sym (wrote_course t writes k)) (same-sends k.course.steps)
+  item-sends (Tick writes taken) k =
+      subst (λ c. SendMost 1 k.course.steps c.steps) (sym (wrote_course t writes k))
+      (send-more k.course.steps k.course.steps (send-none k.course.steps k.course.steps refl refl))
 
-  pub few_down : (items : List OwnItem) → length (server_datagrams t (history t (journal t items)).server) ≤ length items
+  pub few_down : (items : List OwnItem) → length (server_datagrams t (history t (journal t items)).server) ≤ counted_items items
   few_down [] = omega arith
   few_down (item ∷ items) = omega (arith, few_down items, (item-sends item (kept t items)).down)
 
-  pub few_up : (items : List OwnItem) → length (client_datagrams t.config (history t (journal t items)).client) ≤ length items
+  pub few_up : (items : List OwnItem) → length (client_datagrams t.config (history t (journal t items)).client) ≤ counted_items items
   few_up [] = omega arith
   few_up (item ∷ items) = omega (arith, few_up items, (item-sends item (kept t items)).up)
-
-  pub few_data : (items : List OwnItem)
-      → (length (server_datagrams t (history t (journal t items)).server) ≤ length items) × (length (client_datagrams t.config (history t (journal t items)).client) ≤ length items)
-  few_data items = (few_down items, few_up items)

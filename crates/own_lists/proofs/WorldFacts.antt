@@ -40,6 +40,7 @@ use Rattle.world_scope.specs.declared.viewer.Seen.{Seen}
 use Rattle.world_scope.specs.Scope.{visible_list}
 use Rattle.world_scope.proofs.SeenList.{levels_few, all_there, objects_rise}
 use Rattle.client_scope.specs.Scans.{periods}
+use Rattle.own_lists.specs.Counted.{counted, counted_in}
 use Rattle.own_lists.specs.Past.{Past, happens, after, moves_of}
 use Rattle.own_lists.proofs.ScanFacts.{IsSight, AreSights, periods_few}
 
@@ -125,12 +126,12 @@ scans_are_sights head (line ∷ past) c h =
     sights_happen head line (after head past) (world_after head past h) (λ d. scans_are_sights head past d h) c
 
 scans_happen : (head : Head) (line : BodyLine) (p : Past) (most : ℕ) → ((c : ℕ) → length (p.scans c) ≤ most) → (c : ℕ)
-    → length ((happens head line p).scans c) ≤ suc most
+    → length ((happens head line p).scans c) ≤ counted line + most
 scans_happen head script.Tick p most h c = let l = h c in omega (arith, l)
 scans_happen head (script.Scan d) p most h c =
     let l = h c in
     let m = h d in
-    either (λ (scans : List (List Seen)). length scans ≤ suc most) (nat_eq c d) (visible_list p.world d ∷ p.scans d) (p.scans c)
+    either (λ (scans : List (List Seen)). length scans ≤ 1 + most) (nat_eq c d) (visible_list p.world d ∷ p.scans d) (p.scans c)
     (omega (arith, m)) (omega (arith, l))
 scans_happen head (script.Post d class payload) p most h c = let l = h c in omega (arith, l)
 scans_happen head (script.ClientPost d class payload) p most h c = let l = h c in omega (arith, l)
@@ -143,13 +144,13 @@ scans_happen head (script.Move d m) p most h c = let l = h c in omega (arith, l)
 scans_happen head (script.Show d) p most h c = let l = h c in omega (arith, l)
 scans_happen head script.World p most h c = let l = h c in omega (arith, l)
 
-pub scans_few : (head : Head) (past : List BodyLine) (c : ℕ) → length ((after head past).scans c) ≤ length past
+pub scans_few : (head : Head) (past : List BodyLine) (c : ℕ) → length ((after head past).scans c) ≤ counted_in past
 scans_few head [] c = omega arith
-scans_few head (line ∷ past) c = scans_happen head line (after head past) (length past) (λ d. scans_few head past d) c
+scans_few head (line ∷ past) c = scans_happen head line (after head past) (counted_in past) (λ d. scans_few head past d) c
 
--- a client has no more periods than there are objects for each line
+-- a client has no more periods than there are objects for each counted line
 pub match_periods_few : (head : Head) (past : List BodyLine) (c : ℕ) → HeadFits head
-    → length (periods ((after head past).scans c)) ≤ MAX_OBJECTS * length past
+    → length (periods ((after head past).scans c)) ≤ MAX_OBJECTS * counted_in past
 match_periods_few head past c h =
     let few = periods_few ((after head past).scans c) (scans_are_sights head past c h) in
     let scans = scans_few head past c in

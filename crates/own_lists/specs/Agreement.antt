@@ -14,6 +14,7 @@ use Rattle.world_sim.specs.Worlds.{Worlds}
 use Rattle.world_scope.specs.declared.viewer.Seen.{Seen}
 use Rattle.client_scope.specs.declared.period.ShownPeriod.{ShownPeriod}
 use Rattle.client_scope.specs.Scans.{periods, shown}
+use Rattle.own_lists.specs.Counted.{counted_in}
 use Rattle.own_lists.specs.Steps.{shows_in, up_in, traits_in}
 use Rattle.own_lists.specs.Kept.{Kept}
 use Rattle.own_lists.specs.Conditions.{AreOwn}
@@ -31,11 +32,11 @@ pub record Agrees (w : Worlds) (c : ℕ) (scans : List (List Seen)) (k : Kept) :
   pub up : up_in k.course.steps ≡ map (λ p. p.n) (shown scans)
   pub periods : All (IsPeriodOf w c k) (shown scans)
 
--- the lines are those of a match with this head, and no more than are counted
+-- the lines are those of a match with this head, of which no more than so many are counted
 pub record AreLines (head : Head) (past : List BodyLine) : Type 0 where
   pub fits : HeadFits head
   pub lines : All (LineFits head.clients) past
-  pub few : length past ≤ MAX_COUNTED_LINES
+  pub few : counted_in past ≤ MAX_COUNTED_LINES
 
 -- after any lines, each client's own list is one that its server may be fed, and agrees with the world
 abbrev pub OwnListsHold : Type 0

@@ -5,3 +5,4 @@ pub mod Kept
 pub mod Conditions
 pub mod Past
 pub mod Agreement
+pub mod Counted

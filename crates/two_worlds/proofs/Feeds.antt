@@ -1,5 +1,5 @@
 -- A server is fed with the items that the maker of its own list makes: the condition of each, and the text that grows by it.
-use Rattle.std.proofs.Common.{◌≡◌, ◌∙◌, ◌<◌, ◌≤◌, ◌==◌, ℕ, Bool, true, false, cond, List, [], ◌∷◌, ◌++◌, length, take, drop, reverse, filter, refl, sym, ap, subst, arith, append_assoc, Option}
+use Rattle.std.proofs.Common.{◌≡◌, ◌∙◌, ◌<◌, ◌≤◌, ◌==◌, ℕ, Bool, true, false, cond, if◌then◌else◌, List, [], ◌∷◌, ◌++◌, length, take, drop, reverse, filter, refl, sym, ap, subst, arith, append_assoc, Option}
 use Rattle.std.proofs.lemmas.Bool.Decides.{nat_tests}
 use Rattle.std.proofs.lemmas.List.{append-nil, reverse-append, take-append-drop}
 use Rattle.tn_outside.specs.Totals.{Adds, AddsFront}
@@ -8,12 +8,13 @@ use Rattle.match_script.specs.declared.types.BodyLine.{BodyLine}
 use Rattle.match_script.specs.declared.types.BodyLine.TheVariants as script
 use Rattle.match_script.specs.declared.types.Head.{Head}
 use Rattle.stream_manager.specs.Limits.{Terms}
-use Rattle.own_lists.specs.Own.{OwnItem}
+use Rattle.own_lists.specs.Own.{OwnItem, Line, Scan, Tick}
 use Rattle.own_lists.specs.Kept.{put}
 use Rattle.own_lists.specs.Past.{client_terms, after}
 use Rattle.own_lists.specs.Conditions.{AreOwn}
 use Rattle.own_lists.specs.Agreement.{AreLines}
 use Rattle.own_lists.proofs.Agreeing.{own_lists_agree}
+use Rattle.own_lists.proofs.Counting.{counted_item, counted_items}
 use Rattle.match_engine.proofs.Fed.{own_few}
 use Rattle.two_worlds.specs.declared.alone.Alone.{Alone}
 use Rattle.two_worlds.specs.Laws.{text_of}
@@ -65,13 +66,31 @@ text_rest s =
 
 -- ---- the next item
 
-counted_few : (items : List OwnItem) → length (filter is_counted items) ≤ length items
+-- an item that this server counts, its match counted as a line
+one_item : (item : OwnItem) → (if is_counted item then 1 else 0) ≤ counted_item item
+one_item (Line script.Tick) = omega arith
+one_item (Line (script.Scan c)) = omega arith
+one_item (Line (script.Post c class v)) = omega arith
+one_item (Line (script.ClientPost c class v)) = omega arith
+one_item (Line (script.Pack c)) = omega arith
+one_item (Line (script.ClientPack c)) = omega arith
+one_item (Line (script.Down c k)) = omega arith
+one_item (Line (script.Up c k)) = omega arith
+one_item (Line (script.Raw c bytes)) = omega arith
+one_item (Line (script.Move c m)) = omega arith
+one_item (Line (script.Show c)) = omega arith
+one_item (Line script.World) = omega arith
+one_item (Scan hides nears shows) = omega arith
+one_item (Tick writes taken) = omega arith
+
+counted_few : (items : List OwnItem) → length (filter is_counted items) ≤ counted_items items
 counted_few [] = omega arith
-counted_few (item ∷ items) = by (counted_few items) (is_counted item)
+counted_few (item ∷ items) = by (counted_few items) (is_counted item) (one_item item)
   where
-    by : length (filter is_counted items) ≤ length items → (b : Bool) → length (cond b (item ∷ filter is_counted items) (filter is_counted items)) ≤ length (item ∷ items)
-    by h true = omega (arith, h)
-    by h false = omega (arith, h)
+    by : length (filter is_counted items) ≤ counted_items items → (b : Bool) → (if b then 1 else 0) ≤ counted_item item
+        → length (cond b (item ∷ filter is_counted items) (filter is_counted items)) ≤ counted_items (item ∷ items)
+    by h true one = omega (arith, h, one)
+    by h false one = omega (arith, h)
 
 module _ (s n : SourceState) (a : Alone) (item : OwnItem) (fed : IsFed s a) (stands : Stands n) (same : n.script ≡ s.script) (client : n.client ≡ s.client) (grown : made n ≡ item ∷ made s) where
   -- the new list in the words of the old state
@@ -93,7 +112,7 @@ module _ (s n : SourceState) (a : Alone) (item : OwnItem) (fed : IsFed s a) (sta
     few =
         (let counted = fed.server.counted in
         let few = counted_few (made s) in
-        let long = ap (λ l. length l) grown in
+        let long = ap (λ l. counted_items l) grown in
         let own = own_few n.script.head (first_lines n.script n.place) n.client in
         let lines = lines_are.few in
         omega (arith, counted, few, long, own, lines));

@@ -7,6 +7,7 @@ use Rattle.match_report.specs.declared.told.Told.{Told}
 use Rattle.client_scope.specs.StandsFor.{Table}
 use Rattle.stream_manager.specs.Limits.{Terms}
 use Rattle.own_lists.specs.Own.{client_named}
+use Rattle.own_lists.specs.Counted.{counted}
 use Rattle.own_lists.specs.Kept.{Kept, after_line}
 use Rattle.own_lists.specs.Past.{Past, client_terms, kept_by, after}
 use Rattle.own_lists.proofs.Counting.{few_up}
@@ -40,7 +41,7 @@ module _ (m : GameState) (d : SeatState) (n : ℕ) (line : BodyLine) (past : Lis
 
   next : IsDirect line → m.done < 4000000 → (new : SeatState)
       → ((t : Terms) (k : Kept) → SeatStandsFor d t k.course → SeatStandsFor new t (after_line t line k).course)
-      → StandsFor (record { head = m.head; seats = set m.seats n new; scopes = m.scopes; world = m.world; lanes = m.lanes; done = m.done + 1 }) (line ∷ past)
+      → StandsFor (record { head = m.head; seats = set m.seats n new; scopes = m.scopes; world = m.world; lanes = m.lanes; done = m.done + counted line }) (line ∷ past)
   next direct done new f =
       let scope = get_or m.scopes n some_scope in
       fed m past line n (set m.seats n new) new m.scopes scope m.lanes named fits done s
@@ -80,7 +81,7 @@ returns-clause-stands c =
     let m : GameState = record { head = c.self.inside.head.now; seats = c.self.inside.seats.items; scopes = c.self.inside.scopes.items; world = c.self.inside.world; lanes = c.self.inside.lanes; done = c.self.inside.done } in
     let fits : LineFits m.head.clients c.args.line.now = subst (λ (x : GameState). LineFits x.head.clients c.args.line.now) (sym c.self.view_is) c.requires.fits in
     let done : m.done < 4000000 = subst (λ (x : GameState). x.done < 4000000) (sym c.self.view_is) c.requires.few in
-    let new : GameState = record { head = m.head; seats = set m.seats c.args.client c.line_on.new.seat; scopes = m.scopes; world = m.world; lanes = m.lanes; done = m.done + 1 } in
+    let new : GameState = record { head = m.head; seats = set m.seats c.args.client c.line_on.new.seat; scopes = m.scopes; world = m.world; lanes = m.lanes; done = m.done + counted c.args.line.now } in
     subst (λ (x : GameState). OnOk c.line_on.result ((past : List BodyLine) → StandsFor x past → StandsFor new (c.args.line.now ∷ past))) c.self.view_is
     (map_on_ok c.line_on.result _ ((past : List BodyLine) → StandsFor m past → StandsFor new (c.args.line.now ∷ past))
     (λ f past s. next m c.index_mut.result.now c.args.client c.args.line.now past c.requires.named c.index_mut.ensures.value s fits c.requires.direct done c.line_on.new.seat f)

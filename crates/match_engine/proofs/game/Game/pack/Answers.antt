@@ -4,6 +4,7 @@ use Rattle.match_script.specs.declared.types.BodyLine.{BodyLine}
 use Rattle.match_script.specs.declared.types.BodyLine.TheVariants as script
 use Rattle.match_script.specs.declared.types.Head.{Head}
 use Rattle.client_scope.specs.StandsFor.{Table}
+use Rattle.own_lists.specs.Counted.{counted_in}
 use Rattle.dirty_lanes.specs.Words.{Words}
 use Rattle.client_seat.specs.Stands.{SeatState}
 use Rattle.match_engine.specs.Serving.{Serves, OthersStay}
@@ -13,7 +14,7 @@ use Rattle.match_engine.proofs.game.Game.pack.Goals as goal
 
 next : (m : GameState) (past : List BodyLine) (n : ℕ) (d : SeatState) (e : Table) → n < m.head.clients → m.done < 4000000 → d ≡ get_or m.seats n d → e ≡ get_or m.scopes n e
     → (new : SeatState) (lanes : Words) → StandsFor m past → OthersStay n m.lanes lanes
-    → ((h : Head) (p : List BodyLine) → Serves d e m.world m.lanes n h p → length p < 4000000 → Serves new e m.world lanes n h (script.Pack n ∷ p))
+    → ((h : Head) (p : List BodyLine) → Serves d e m.world m.lanes n h p → counted_in p < 4000000 → Serves new e m.world lanes n h (script.Pack n ∷ p))
     → StandsFor (record { head = m.head; seats = set m.seats n new; scopes = m.scopes; world = m.world; lanes = lanes; done = m.done + 1 }) (script.Pack n ∷ past)
 next m past n d e lt done is_seat is_scope new lanes s others f =
     let after = f m.head past (serves m past n d d e e lt s is_seat is_scope) (omega (arith, s.counted, done)) in

@@ -4,6 +4,7 @@ use Rattle.match_script.specs.declared.types.BodyLine.{BodyLine}
 use Rattle.match_script.specs.declared.types.BodyLine.TheVariants as script
 use Rattle.match_report.specs.declared.told.Told.{Told}
 use Rattle.client_scope.specs.StandsFor.{Table}
+use Rattle.own_lists.specs.Counted.{counted_in}
 use Rattle.dirty_lanes.specs.Words.{Words}
 use Rattle.client_seat.specs.Stands.{SeatState}
 use Rattle.match_laws.specs.Report.{told_after}
@@ -16,7 +17,7 @@ module _ (m : GameState) (d : SeatState) (e : Table) (n : ℕ) (past : List Body
   finds : Serves d e m.world m.lanes n m.head past
   finds = serves m past n d d e e lt s is is_scope
 
-  few : m.done < 4000000 → length past < 4000000
+  few : m.done < 4000000 → counted_in past < 4000000
   few done = omega (arith, done, s.counted)
 
   next : m.done < 4000000 → (seat : SeatState) (scope : Table) (lanes : Words) → OthersStay n m.lanes lanes → Serves seat scope m.world lanes n m.head (script.Scan n ∷ past)

@@ -15,7 +15,7 @@ use Rattle.match_engine.proofs.game.Game.show.Goals as goal
 
 -- nothing changes
 next : (m : GameState) (past : List BodyLine) (n : ℕ) (d : SeatState) (e : Table) → n < m.head.clients → m.done < 4000000 → d ≡ get_or m.seats n d → e ≡ get_or m.scopes n e → StandsFor m past
-    → StandsFor (record { head = m.head; seats = m.seats; scopes = m.scopes; world = m.world; lanes = m.lanes; done = m.done + 1 }) (script.Show n ∷ past)
+    → StandsFor (record { head = m.head; seats = m.seats; scopes = m.scopes; world = m.world; lanes = m.lanes; done = m.done }) (script.Show n ∷ past)
 next m past n d e lt done is_seat is_scope s =
     let own = own_line m.head (script.Show n) past n tt refl in
     let now = (serves m past n d d e e lt s is_seat is_scope).holds in
@@ -50,7 +50,7 @@ returns-clause-stands c =
     let m : GameState = record { head = c.self.inside.head.now; seats = c.self.inside.seats.items; scopes = c.self.inside.scopes.items; world = c.self.inside.world; lanes = c.self.inside.lanes; done = c.self.inside.done } in
     let lt : c.args.client < m.head.clients = subst (λ (x : GameState). c.args.client < x.head.clients) (sym c.self.view_is) c.requires.client in
     let done : m.done < 4000000 = subst (λ (x : GameState). x.done < 4000000) (sym c.self.view_is) c.requires.few in
-    let new : GameState = record { head = m.head; seats = m.seats; scopes = m.scopes; world = m.world; lanes = m.lanes; done = m.done + 1 } in
+    let new : GameState = record { head = m.head; seats = m.seats; scopes = m.scopes; world = m.world; lanes = m.lanes; done = m.done } in
     subst (λ (x : GameState). OnOk c.show_for.result ((past : List BodyLine) → StandsFor x past → StandsFor new (script.Show c.args.client ∷ past))) c.self.view_is
     (on_ok c.show_for.result ((past : List BodyLine) → StandsFor m past → StandsFor new (script.Show c.args.client ∷ past))
     (λ past s. next m past c.args.client c.index.result.now c.index-2.result.now lt done c.index.ensures c.index-2.ensures s))
