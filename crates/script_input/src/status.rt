@@ -22,6 +22,10 @@ pub enum Status {
     WriteFault,
     /// Memory was not to be had; a front of the text was written.
     NoMemory,
+    /// The link failed; a front of the text was written, and a front of the datagrams sent.
+    LinkFault,
+    /// The clock failed; the same.
+    ClockFault,
 }
 
 /// The exit status of an answer.
@@ -36,6 +40,8 @@ pub fn exit_of(status: Status) -> u8
         Status::ReadFault => 5,
         Status::WriteFault => 6,
         Status::NoMemory => 7,
+        Status::LinkFault => 8,
+        Status::ClockFault => 9,
     }
 }
 
@@ -55,6 +61,8 @@ impl fmt::Display for Status {
             Status::ReadFault => write!(f, "readfault"),
             Status::WriteFault => write!(f, "writefault"),
             Status::NoMemory => write!(f, "nomemory"),
+            Status::LinkFault => write!(f, "linkfault"),
+            Status::ClockFault => write!(f, "clockfault"),
         }
     }
 }
