@@ -2,15 +2,18 @@
 #![tactic(auto)]
 
 use match_top::top;
+use net_top::top_net;
 use script_input::{Status, exit_of};
 use std::alloc::Global;
 use std::io::BufWriter;
+use std::net::Net;
 use std::process::ExitCode;
 use std::sync::Wait;
 use std::thread::Threads;
+use std::time::Clock as SystemTimes;
 use std::{env, io};
 use threads_top::top_threads;
-use tn_outside::{Sink, Source, StdSink, StdSource};
+use tn_outside::{SERVER_PORT, Sink, Source, StdSink, StdSource, SystemClock, UdpLink};
 
 /// How many bytes are gathered before standard output is called.
 const GATHERED_BYTES: usize = 65_536;
@@ -26,8 +29,24 @@ fn arguments(rt: &HostRuntime) -> Option<Vec<String>> {
     Some(words)
 }
 
-/// Serves the words: `threads` in threads, and all others on one.
-fn serve<R: Threads + Wait + Sync, S: Source, K: Sink>(
+/// Serves the words over a link at the port of a server, and the system's clock.
+fn serve_over_link<R: Net + SystemTimes, K: Sink>(
+    rt: &R,
+    alloc: Global,
+    words: &Vec<String>,
+    sink: &mut K,
+) -> Status {
+    let Ok(mut link) = UdpLink::bind(rt, SERVER_PORT) else {
+        return Status::LinkFault;
+    };
+    let Ok(mut clock) = SystemClock::new(rt) else {
+        return Status::ClockFault;
+    };
+    top_net(alloc, words, &mut link, &mut clock, sink)
+}
+
+/// Serves the words: `threads` in threads, `serve` over a link, and all others on one thread.
+fn serve<R: Threads + Wait + Net + SystemTimes + Sync, S: Source, K: Sink>(
     rt: &R,
     alloc: Global,
     words: &Vec<String>,
@@ -36,6 +55,7 @@ fn serve<R: Threads + Wait + Sync, S: Source, K: Sink>(
 ) -> Status {
     match words.first() {
         Some(name) if name.as_str() == "threads" => { top_threads(rt, alloc, words, source, sink) }
+        Some(name) if name.as_str() == "serve" => serve_over_link(rt, alloc, words, sink),
         _ => top(alloc, words, source, sink),
     }
 }

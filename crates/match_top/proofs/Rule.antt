@@ -27,7 +27,7 @@ spelled (Big a b d) f =
     rw (number_from_decimal 0 4294967295 a (omega arith) (omega arith) (omega arith), number_from_decimal 1 16 b (omega arith) (omega arith) (omega arith), number_from_decimal 1 100000 d (omega arith) (omega arith) (omega arith)) refl
 
 -- where all of some words agree, those in front do
-front_agrees : (ts : List (List ℕ → Bool)) (a b : List (List ℕ)) → agreeing ts (a ++ b) ≡ length (a ++ b) → agreeing ts a ≡ length a
+pub front_agrees : (ts : List (List ℕ → Bool)) (a b : List (List ℕ)) → agreeing ts (a ++ b) ≡ length (a ++ b) → agreeing ts a ≡ length a
 front_agrees [] [] b e = refl
 front_agrees (t ∷ ts) [] b e = refl
 front_agrees [] (w ∷ a) b e = absurd (omega (arith, e))
@@ -38,7 +38,7 @@ front_agrees (t ∷ ts) (w ∷ a) b e = by_test (t w) refl (front_agrees ts a b)
     by_test false q rest = absurd (let k = rw q at e in omega (arith, k))
 
 -- further words don't make fewer agree
-more_agree : (ts : List (List ℕ → Bool)) (n : ℕ) (words : List (List ℕ)) → agreeing ts (take n words) ≤ agreeing ts words
+pub more_agree : (ts : List (List ℕ → Bool)) (n : ℕ) (words : List (List ℕ)) → agreeing ts (take n words) ≤ agreeing ts words
 more_agree [] n words = omega arith
 more_agree (t ∷ ts) zero words = omega arith
 more_agree (t ∷ ts) (suc n) [] = omega arith
@@ -48,7 +48,7 @@ more_agree (t ∷ ts) (suc n) (w ∷ words) = by_test (t w) (more_agree ts n wor
     by_test true rest = omega (arith, rest)
     by_test false rest = omega arith
 
-few_agree : (ts : List (List ℕ → Bool)) (words : List (List ℕ)) → agreeing ts words ≤ length words
+pub few_agree : (ts : List (List ℕ → Bool)) (words : List (List ℕ)) → agreeing ts words ≤ length words
 few_agree [] words = omega arith
 few_agree (t ∷ ts) [] = omega arith
 few_agree (t ∷ ts) (w ∷ words) = by_test (t w) (few_agree ts words)
@@ -70,10 +70,10 @@ stops words lt (c, fits, more, e) =
 
 -- ---- words that begin a command
 
-name_is : (word name : List ℕ) → bytes_eq word name ≡ true → word ≡ name
+pub name_is : (word name : List ℕ) → bytes_eq word name ≡ true → word ≡ name
 name_is word name h = (bytes_eq-Decides word name).0 h
 
-said_some : (o : Option ℕ) → is_some o ≡ true → (n : ℕ) × (o ≡ Some n)
+pub said_some : (o : Option ℕ) → is_some o ≡ true → (n : ℕ) × (o ≡ Some n)
 said_some None h = absurd cc
 said_some (Some n) h = (n, refl)
 
@@ -185,7 +185,7 @@ unsaid c fits words h e =
     cc
 
 -- all of the words agree, and none is missing
-whole : (ts : List (List ℕ → Bool)) (words : List (List ℕ)) → agrees ts words ≡ true → (agreeing ts words ≡ length words) × (length words ≡ length ts)
+pub whole : (ts : List (List ℕ → Bool)) (words : List (List ℕ)) → agrees ts words ≡ true → (agreeing ts words ≡ length words) × (length words ≡ length ts)
 whole ts words h =
     let p = and_parts (nat_eq (agreeing ts words) (length words)) (nat_eq (length words) (length ts)) h in
     ((Decides-eqb (agreeing ts words) (length words)).0 p.0, (Decides-eqb (length words) (length ts)).0 p.1)
@@ -200,7 +200,7 @@ run_said (w ∷ []) h = by_name (bytes_eq w (codes "run")) refl (whole of_run (w
 run_said (w ∷ v ∷ words) h = absurd (let p = whole of_run (w ∷ v ∷ words) h in omega (arith, p.1))
 
 -- a word that is a number is its spelling
-number_is : (least most : ℕ) (x : List ℕ) → most < 2 ^ 64 → is_from least most x ≡ true → Told least most x (digits_value 10 x)
+pub number_is : (least most : ℕ) (x : List ℕ) → most < 2 ^ 64 → is_from least most x ≡ true → Told least most x (digits_value 10 x)
 number_is least most x small p =
     let s = said_some (number_said least most x) p in
     let t = told least most x s.0 small s.1 in

@@ -54,8 +54,8 @@ fn number(word: &str, least: u32, most: u32) -> Option<u32>
     }
 }
 
-// The number in this range that the word at a place says, if there is such a word.
-fn number_at(words: &[String], place: usize, least: u32, most: u32) -> Option<u32>
+/// The number in this range that the word at a place says, if there is such a word.
+pub fn number_at(words: &[String], place: usize, least: u32, most: u32) -> Option<u32>
     ensures { result ≡ option_and_then (number_said least most) (slice_get (map string_bytes words.now) place) }
 {
     match words.get(place) {

@@ -4,4 +4,5 @@
 mod command;
 mod serving;
 
+pub use command::number_at;
 pub use serving::top;

@@ -1,0 +1,15 @@
+//! What a server's rules ask for of the answers of a link and of a clock: when a turn's listening ends, and who has a client.
+#![tactic(auto)]
+
+mod hello;
+mod laws;
+mod limits;
+mod peers;
+
+pub use hello::{Hello, hello_of, is_arrival, welcome};
+pub use laws::turns_are_one;
+pub use limits::{
+    HELLO, HELLO_BYTES, MAX_RECEIVED_BYTES, MAX_RECEIVES, MAX_TURNS, TURN_MILLISECONDS, WELCOME,
+    WELCOME_BYTES,
+};
+pub use peers::Peers;

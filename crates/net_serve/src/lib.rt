@@ -1,0 +1,14 @@
+//! A server of a match over a link: turns, hellos and welcomes, arrivals as raw lines, events that are posted on, and the script
+//! of all of it, written line by line.
+#![tactic(auto)]
+
+mod fault;
+mod laws;
+mod listening;
+mod server;
+mod serving;
+mod telling;
+
+pub use fault::ServeFault;
+pub use laws::{is_read_again, packs_are_sent, raws_are_arrivals, ticks_are_turns};
+pub use serving::serve;

@@ -1,0 +1,215 @@
+//! The whole of serving.
+ghost use Rattle.std.specs.Prelude.{◌≡◌, ◌⊎◌, ◌+◌, ◌*◌, ◌<◌, ◌≤◌, ◌∷◌, List, [], ℕ, suc, length, Some, Ok, Err, IfOk, IfErr, OnOk, OnErr};
+ghost use Rattle.tn_outside.specs.Links.{answer_at};
+ghost use Rattle.tn_outside.specs.Causes.{Rose};
+ghost use Rattle.tn_outside.specs.Totals.{Adds, AddsFront};
+ghost use Rattle.match_script.specs.Ranges.{HasRanges, HeadFits};
+ghost use Rattle.script_maker.specs.Made.{made};
+ghost use Rattle.net_rules.specs.declared.limits.TheConstants.{MAX_RECEIVED_BYTES};
+ghost use Rattle.net_rules.specs.Turns.{Event, total, AreTurns, events, heard, TurnsAreOne};
+ghost use Rattle.net_rules.specs.Places.{IsPlace};
+ghost use Rattle.net_serve.specs.Faults.{HasCause, IsDoneOrFull};
+ghost use Rattle.net_serve.specs.Laws.{PacksAreSent, RawsAreArrivals, TicksAreTurns, IsReadAgain};
+ghost use Rattle.net_serve.specs.Lines.{text_so_far};
+ghost use Rattle.net_serve.specs.Stages.{Serves, Begun, Begins, IsAt, IsFront, Went, Served, ServedFront, ServedSome};
+
+use crate::fault::ServeFault;
+use crate::laws::{is_read_again, packs_are_sent, raws_are_arrivals, ticks_are_turns};
+use crate::listening::listen;
+use crate::server::Server;
+use match_engine::write_all;
+use match_script::{Body, Head, Script, print_head};
+use net_rules::{MAX_RECEIVED_BYTES, TURN_MILLISECONDS, turns_are_one};
+use script_maker::make;
+use std::alloc::Global;
+use tn_outside::{Clock, Link, Sink};
+use tn_types::{MAX_CLIENTS, NoMemory};
+
+/// The script of a number with no line.
+fn header(alloc: Global, seed: u32, clients: u8) -> Result<Script, NoMemory>
+    requires clients_least { 1 ≤ clients }
+    requires clients { clients ≤ MAX_CLIENTS }
+    ensures script { IfOk result (λ s. s ≡ record { head = (made seed clients 0).head; body = [] }) }
+    ensures ranges { IfOk result HasRanges }
+{
+    let Script { head, body: _ } = make(alloc, seed, clients, 0)?;
+    Ok(Script {
+        head,
+        body: Body::from_vec(Vec::new(alloc)),
+    })
+}
+
+/// Writes the header's lines.
+fn write_header<K: Sink>(alloc: Global, head: &Head, sink: &mut K) -> Result<(), ServeFault>
+    ensures written { OnOk result (Adds (K.written sink.old) (K.written sink.new) (text_so_far head.now [])) }
+    ensures front { OnErr result (AddsFront (K.written sink.old) (K.written sink.new) (text_so_far head.now [])) }
+    ensures cause { IfErr result (HasCause ⊥ ⊥ (Rose (K.faults sink.old) (K.faults sink.new))) }
+    ensures later { K.faults sink.old ≤ K.faults sink.new }
+{
+    let Ok(text) = print_head(alloc, head) else {
+        return Err(ServeFault::NoMemory);
+    };
+    match write_all(sink, text.as_slice()) {
+        Ok(()) => Ok(()),
+        Err(_) => Err(ServeFault::WriteFault),
+    }
+}
+
+/// One turn: its listening, and then a tick and a datagram for each client.
+fn turn<L: Link, C: Clock, K: Sink>(
+    alloc: Global,
+    server: &mut Server,
+    buf: &mut [u8],
+    start: u64,
+    t: u32,
+    link: &mut L,
+    clock: &mut C,
+    sink: &mut K,
+) -> Result<(), ServeFault>
+    requires stands { (past : List Event) × Serves server.old past }
+    requires buffer { length buf.old ≡ MAX_RECEIVED_BYTES }
+    ensures stands { OnOk result ((past : List Event) × Serves server.new past) }
+    ensures done { OnOk result ((o : Begun) (counts : List ℕ) → start ≡ answer_at o.clock 0 → length counts ≡ t
+        → AreTurns o.ahead o.clock counts → IsPlace o.ahead o.clock (L.ahead link.old) (C.ahead clock.old) (total counts)
+        → IsAt o server.old (K.written sink.old) (L.sent link.old) (events o.ahead counts)
+        → (n : ℕ) × AreTurns o.ahead o.clock (n ∷ counts)
+        × IsPlace o.ahead o.clock (L.ahead link.new) (C.ahead clock.new) (total (n ∷ counts))
+        × IsAt o server.new (K.written sink.new) (L.sent link.new) (events o.ahead (n ∷ counts))) }
+    ensures front { OnErr result ((o : Begun) (counts : List ℕ) → start ≡ answer_at o.clock 0 → length counts ≡ t
+        → AreTurns o.ahead o.clock counts → IsPlace o.ahead o.clock (L.ahead link.old) (C.ahead clock.old) (total counts)
+        → IsAt o server.old (K.written sink.old) (L.sent link.old) (events o.ahead counts)
+        → (n : ℕ) × AreTurns o.ahead o.clock (n ∷ counts)
+        × IsFront o server.old.script.head (K.written sink.new) (L.sent link.new) (events o.ahead (n ∷ counts))) }
+    ensures went { OnOk result ((o : Begun) (n : ℕ) → Went o server.old (K.written sink.old) (L.sent link.old) n
+        → Went o server.new (K.written sink.new) (L.sent link.new) (suc n)) }
+    ensures script { server.new.script ≡ server.old.script }
+    ensures cause { IfErr result (HasCause (Rose (L.faults link.old) (L.faults link.new)) (Rose (C.faults clock.old) (C.faults clock.new))
+        (Rose (K.faults sink.old) (K.faults sink.new))) }
+    ensures link_later { L.faults link.old ≤ L.faults link.new }
+    ensures clock_later { C.faults clock.old ≤ C.faults clock.new }
+    ensures sink_later { K.faults sink.old ≤ K.faults sink.new }
+{
+    let due = TURN_MILLISECONDS * u64::from(t);
+    listen(alloc, server, buf, start, due, link, clock, sink)?;
+    server.turn(alloc, link, sink)
+}
+
+/// All turns.
+fn serve_turns<L: Link, C: Clock, K: Sink>(
+    alloc: Global,
+    server: &mut Server,
+    start: u64,
+    turns: u32,
+    link: &mut L,
+    clock: &mut C,
+    sink: &mut K,
+) -> Result<(), ServeFault>
+    requires stands { (past : List Event) × Serves server.old past }
+    ensures done { OnOk result ((o : Begun) → start ≡ answer_at o.clock 0 → IsPlace o.ahead o.clock (L.ahead link.old) (C.ahead clock.old) 0
+        → IsAt o server.old (K.written sink.old) (L.sent link.old) []
+        → Served server.old.script.head turns o (K.written sink.new) (L.sent link.new)) }
+    ensures front { OnErr result ((o : Begun) → start ≡ answer_at o.clock 0
+        → IsPlace o.ahead o.clock (L.ahead link.old) (C.ahead clock.old) 0
+        → IsAt o server.old (K.written sink.old) (L.sent link.old) []
+        → ServedFront server.old.script.head turns o (K.written sink.new) (L.sent link.new)) }
+    ensures went { OnOk result ((o : Begun) → IsAt o server.old (K.written sink.old) (L.sent link.old) []
+        → Went o server.new (K.written sink.new) (L.sent link.new) turns) }
+    ensures script { OnOk result (server.new.script ≡ server.old.script) }
+    ensures cause { IfErr result (HasCause (Rose (L.faults link.old) (L.faults link.new)) (Rose (C.faults clock.old) (C.faults clock.new))
+        (Rose (K.faults sink.old) (K.faults sink.new))) }
+    ensures link_later { L.faults link.old ≤ L.faults link.new }
+    ensures clock_later { C.faults clock.old ≤ C.faults clock.new }
+    ensures sink_later { K.faults sink.old ≤ K.faults sink.new }
+{
+    let mut buf = [0u8; MAX_RECEIVED_BYTES];
+    'turns: for t in 0..turns {
+        turn(alloc, server, &mut buf, start, t, link, clock, sink)?;
+    }
+    Ok(())
+}
+
+/// Serves the match of a number.
+fn serve_match<L: Link, C: Clock, K: Sink>(
+    alloc: Global,
+    seed: u32,
+    clients: u8,
+    turns: u32,
+    link: &mut L,
+    clock: &mut C,
+    sink: &mut K,
+) -> Result<(), ServeFault>
+    requires clients_least { 1 ≤ clients }
+    requires clients { clients ≤ MAX_CLIENTS }
+    ensures done { OnOk result ((o : Begun) → Begins o (L.ahead link.old) (C.ahead clock.old) (K.written sink.old) (L.sent link.old)
+        → Served (made seed clients 0).head turns o (K.written sink.new) (L.sent link.new)) }
+    ensures front { OnErr result ((o : Begun) → Begins o (L.ahead link.old) (C.ahead clock.old) (K.written sink.old) (L.sent link.old)
+        → ServedFront (made seed clients 0).head turns o (K.written sink.new) (L.sent link.new)) }
+    ensures heard { OnOk result (ServedSome (made seed clients 0).head turns (K.written sink.old) (K.written sink.new)
+        (L.sent link.old) (L.sent link.new)) }
+    ensures cause { IfErr result (HasCause (Rose (L.faults link.old) (L.faults link.new)) (Rose (C.faults clock.old) (C.faults clock.new))
+        (Rose (K.faults sink.old) (K.faults sink.new))) }
+    ensures link_later { L.faults link.old ≤ L.faults link.new }
+    ensures clock_later { C.faults clock.old ≤ C.faults clock.new }
+    ensures sink_later { K.faults sink.old ≤ K.faults sink.new }
+{
+    let Ok(script) = header(alloc, seed, clients) else {
+        return Err(ServeFault::NoMemory);
+    };
+    let Ok(mut server) = Server::new(alloc, &script) else {
+        return Err(ServeFault::NoMemory);
+    };
+    let Ok(start) = clock.now() else {
+        return Err(ServeFault::ClockFault);
+    };
+    write_header(alloc, &script.head, sink)?;
+    serve_turns(alloc, &mut server, start, turns, link, clock, sink)
+}
+
+/// Serves the match of a number to so many clients in so many turns: what comes over the link is done, the script of it is
+/// written line by line, and each client that joined gets its datagrams.
+pub fn serve<L: Link, C: Clock, K: Sink>(
+    alloc: Global,
+    seed: u32,
+    clients: u8,
+    turns: u32,
+    link: &mut L,
+    clock: &mut C,
+    sink: &mut K,
+) -> Result<(), ServeFault>
+    requires clients_least { 1 ≤ clients }
+    requires clients { clients ≤ MAX_CLIENTS }
+    // Where the link and the clock tell what they have ahead, the script written and the datagrams sent are those that the rules
+    // ask for over the two lists; after a fault a front of each.
+    ensures done { OnOk result ((o : Begun) → Begins o (L.ahead link.old) (C.ahead clock.old) (K.written sink.old) (L.sent link.old)
+        → Served (made seed clients 0).head turns o (K.written sink.new) (L.sent link.new)) }
+    ensures front { OnErr result ((o : Begun) → Begins o (L.ahead link.old) (C.ahead clock.old) (K.written sink.old) (L.sent link.old)
+        → ServedFront (made seed clients 0).head turns o (K.written sink.new) (L.sent link.new)) }
+    // There is one run of so many turns.
+    ensures one_run { TurnsAreOne }
+    // Whatever the link and the clock tell, the text is the script of some datagrams that were heard in so many turns.
+    ensures heard { OnOk result (ServedSome (made seed clients 0).head turns (K.written sink.old) (K.written sink.new)
+        (L.sent link.old) (L.sent link.new)) }
+    // Each fault comes only where the count of what failed rose in this call.
+    ensures cause { IfErr result (HasCause (Rose (L.faults link.old) (L.faults link.new)) (Rose (C.faults clock.old) (C.faults clock.new))
+        (Rose (K.faults sink.old) (K.faults sink.new))) }
+    // No fault of link, clock and sink: all was served, or no memory for it.
+    ensures complete { (Rose (L.faults link.old) (L.faults link.new) → ⊥) → (Rose (C.faults clock.old) (C.faults clock.new) → ⊥)
+        → (Rose (K.faults sink.old) (K.faults sink.new) → ⊥) → IsDoneOrFull result }
+    // The datagrams that were sent to a client, welcomes aside, are those of its `pack` lines in the report of the script; its
+    // `raw` lines are its arrivals; and there are as many ticks as turns.
+    ensures packs_are_sent { PacksAreSent }
+    ensures raws_are_arrivals { RawsAreArrivals }
+    ensures ticks_are_turns { TicksAreTurns }
+    // The text is read as the script, where this is not too long to be one.
+    ensures is_read_again { IsReadAgain }
+    ensures link_later { L.faults link.old ≤ L.faults link.new }
+    ensures clock_later { C.faults clock.old ≤ C.faults clock.new }
+    ensures sink_later { K.faults sink.old ≤ K.faults sink.new }
+{
+    turns_are_one();
+    packs_are_sent();
+    raws_are_arrivals();
+    ticks_are_turns();
+    is_read_again();
+    serve_match(alloc, seed, clients, turns, link, clock, sink)
+}

@@ -1,0 +1,72 @@
+//! Sockets of one machine. Where the port of a server is taken, or no socket can be made, these show nothing.
+
+use crate::rows::HELLO;
+use net_top::top_net;
+use script_input::Status;
+use std::test::Fail;
+use tn_outside::{Clock, Link, MemSink, Peer, SERVER_PORT, SystemClock, UdpLink};
+
+// The length of the next datagram from the server, or 0 where none came in time.
+fn next_length(client: &mut UdpLink) -> usize {
+    let mut buf = [0u8; 1_201];
+    for _ in 0..1_000 {
+        match client.receive(&mut buf) {
+            Ok(Some((peer, count))) => return if peer.number == 0 { count } else { 0 },
+            Ok(None) => (),
+            Err(_) => return 0,
+        }
+    }
+    0
+}
+
+#[test]
+fn match_over_sockets(rt: HostRuntime) -> Result<(), Fail> {
+    let Ok(mut server) = UdpLink::bind(&rt, SERVER_PORT) else {
+        return Ok(());
+    };
+    let Ok(mut client) = UdpLink::bind(&rt, 0) else {
+        return Ok(());
+    };
+    let Ok(mut clock) = SystemClock::new(&rt) else {
+        return Ok(());
+    };
+    if client.send(Peer { number: 0 }, &HELLO).is_err() {
+        return Ok(());
+    }
+    let alloc = rt.alloc();
+    let mut words = Vec::new(alloc);
+    for word in ["serve", "7", "1", "3"] {
+        words.push(String::from_str(alloc, word)?)?;
+    }
+    let mut sink = MemSink {
+        bytes: Vec::new(alloc),
+        most: 4096,
+        failing: &[],
+        calls: 0,
+        faults: 0,
+    };
+    assert_eq!(rt;
+        top_net(alloc, &words, &mut server, &mut clock, &mut sink),
+        Status::Done
+    );
+    assert_eq!(rt; server.faults, 0);
+    // The hello came in the first turn or in a later one, so a welcome and at most three datagrams came back.
+    assert_eq!(rt; next_length(&mut client), 12);
+    assert!(rt; next_length(&mut client) > 12);
+    Ok(())
+}
+
+#[test]
+fn system_clock_goes_on(rt: HostRuntime) -> Result<(), Fail> {
+    let Ok(mut clock) = SystemClock::new(&rt) else {
+        return Ok(());
+    };
+    let Ok(first) = clock.now() else {
+        return Ok(());
+    };
+    let Ok(second) = clock.now() else {
+        return Ok(());
+    };
+    assert!(rt; first <= second);
+    Ok(())
+}

@@ -1,0 +1,111 @@
+-- Each end of a command has its outcome, and an outcome says which answer it is.
+use Rattle.std.proofs.Common.{ℕ, ◌≡◌, ◌≤◌, ◌⊎◌, inl, inr, List, Option, Result, Ok, Err, refl, sym, subst, arith}
+use Rattle.tn_outside.specs.Causes.{Rose}
+use Rattle.tn_outside.specs.Links.{Datagram, Ahead}
+use Rattle.tn_outside.proofs.Totals.{whole_front}
+use Rattle.match_script.specs.declared.types.Head.{Head}
+use Rattle.script_maker.specs.Made.{made}
+use Rattle.script_input.specs.declared.status.Status.{Status}
+use Rattle.script_input.specs.declared.status.Status.TheVariants.{Done, Usage, Script, TooLong, ReadFault, WriteFault, NoMemory, LinkFault, ClockFault}
+use Rattle.net_serve.specs.declared.fault.ServeFault.{ServeFault}
+use Rattle.net_serve.specs.declared.fault.ServeFault.TheVariants as serving
+use Rattle.net_serve.specs.Faults.{HasCause}
+use Rattle.net_serve.specs.Lines.{text_so_far, lines}
+use Rattle.net_serve.specs.Outgoing.{sends, datagrams}
+use Rattle.net_rules.specs.Turns.{events}
+use Rattle.net_serve.specs.Stages.{Begun, Begins, Served, ServedFront, ServedSome}
+use Rattle.net_top.specs.declared.command.NetCommand.{NetCommand}
+use Rattle.net_top.specs.declared.command.NetCommand.TheVariants.{Serve}
+use Rattle.net_top.specs.Outcome.{Told, told, Met, met, HasFailed, IsDone, IsFront, BeginsWith, NetOutcome, IsWanted, CanBeDone, status_of}
+
+-- a fault that comes later in a call is one of the call
+rose_later : (a b n : ℕ) → a ≤ b → Rose b n → Rose a n
+rose_later a b n le rose = omega arith
+
+-- what was served whole is a front of it
+served_front : (head : Head) (turns : ℕ) (o : Begun) (w : Option (List ℕ)) (d : Option (List Datagram)) → Served head turns o w d → ServedFront head turns o w d
+served_front head turns o w d s = record {
+  counts = s.counts;
+  turns_are = s.turns_are;
+  are = s.are;
+  front = record {
+    text = whole_front o.written w (text_so_far head (lines head (events o.ahead s.counts))) s.text;
+    outgoing = whole_front o.sent d (datagrams (sends head (events o.ahead s.counts))) s.sends;
+  };
+}
+
+module _ (seed clients turns : ℕ) (a a' : Option Ahead) (c c' w w' w2 : Option (List ℕ)) (d d' : Option (List Datagram)) (lf lf' cf cf' kf kf' kf2 : ℕ) where
+  abbrev head : Head
+  head = (made seed clients 0).head
+
+  -- after serving, and after the sink's last call
+  abbrev then : Met
+  then = met (told a a' lf lf') (told c c' cf cf') (told w w' kf kf') d d'
+
+  abbrev now : Met
+  now = met (told a a' lf lf') (told c c' cf cf') (told w w2 kf kf2) d d'
+
+  module _ (done : (o : Begun) → Begins o a c w d → Served head turns o w' d') (heard : ServedSome head turns w w' d d') (same : w2 ≡ w')
+      (link : lf ≤ lf') (clock : cf ≤ cf') (sink : kf ≤ kf') (later : kf' ≤ kf2) where
+    pub all_done : NetOutcome (Ok (Serve seed clients turns)) now Done
+    all_done = record {
+      answer = (
+        λ o b. subst (λ (x : Option (List ℕ)). Served head turns o x d') (sym same) (done o b),
+        subst (λ (x : Option (List ℕ)). ServedSome head turns w x d d') (sym same) heard,
+      );
+      link = link;
+      clock = clock;
+      sink = omega (arith, sink, later);
+    }
+
+    pub not_handed : Rose kf' kf2 → NetOutcome (Ok (Serve seed clients turns)) now WriteFault
+    not_handed rose = record {
+      answer = (
+        rose_later kf kf' kf2 sink rose,
+        λ o b. served_front head turns o w2 d' (subst (λ (x : Option (List ℕ)). Served head turns o x d') (sym same) (done o b)),
+      );
+      link = link;
+      clock = clock;
+      sink = omega (arith, sink, later);
+    }
+
+  module _ (front : (o : Begun) → Begins o a c w d → ServedFront head turns o w' d') (link : lf ≤ lf') (clock : cf ≤ cf') (sink : kf ≤ kf') where
+    pub stopped : (fault : ServeFault) → HasCause (Rose lf lf') (Rose cf cf') (Rose kf kf') fault → NetOutcome (Ok (Serve seed clients turns)) then (status_of fault)
+    stopped serving.NoMemory h = record { answer = front; link = link; clock = clock; sink = sink }
+    stopped serving.LinkFault h = record { answer = (h, front); link = link; clock = clock; sink = sink }
+    stopped serving.ClockFault h = record { answer = (h, front); link = link; clock = clock; sink = sink }
+    stopped serving.WriteFault h = record { answer = (h, front); link = link; clock = clock; sink = sink }
+
+-- ---- which answer it is
+
+pub exact : (command : Result NetCommand ℕ) (m : Met) (s : Status) → NetOutcome command m s → IsWanted command m s
+exact (Ok c) m Done h = refl
+exact (Ok c) m (Usage place) h = absurd (h.answer)
+exact (Ok c) m (Script line fault) h = absurd (h.answer)
+exact (Ok c) m TooLong h = absurd (h.answer)
+exact (Ok c) m ReadFault h = absurd (h.answer)
+exact (Ok c) m WriteFault h = (tt, (h.answer).0)
+exact (Ok c) m NoMemory h = tt
+exact (Ok c) m LinkFault h = (tt, (h.answer).0)
+exact (Ok c) m ClockFault h = (tt, (h.answer).0)
+exact (Err place) m Done h = absurd (let e = (h.answer).0 in cc)
+exact (Err place) m (Usage p) h = (h.answer).0
+exact (Err place) m (Script line fault) h = absurd (let e = (h.answer).0 in cc)
+exact (Err place) m TooLong h = absurd (let e = (h.answer).0 in cc)
+exact (Err place) m ReadFault h = absurd (let e = (h.answer).0 in cc)
+exact (Err place) m WriteFault h = absurd (let e = (h.answer).0 in cc)
+exact (Err place) m NoMemory h = absurd (let e = (h.answer).0 in cc)
+exact (Err place) m LinkFault h = absurd (let e = (h.answer).0 in cc)
+exact (Err place) m ClockFault h = absurd (let e = (h.answer).0 in cc)
+
+pub complete : (command : Result NetCommand ℕ) (m : Met) (s : Status) → NetOutcome command m s → CanBeDone command m → (s ≡ Done) ⊎ (s ≡ NoMemory)
+complete (Err place) m s h can = absurd (can.is_command)
+complete (Ok c) m Done h can = inl refl
+complete (Ok c) m (Usage place) h can = absurd (h.answer)
+complete (Ok c) m (Script line fault) h can = absurd (h.answer)
+complete (Ok c) m TooLong h can = absurd (h.answer)
+complete (Ok c) m ReadFault h can = absurd (h.answer)
+complete (Ok c) m WriteFault h can = absurd (can.sink (h.answer).0)
+complete (Ok c) m NoMemory h can = inr refl
+complete (Ok c) m LinkFault h can = absurd (can.link (h.answer).0)
+complete (Ok c) m ClockFault h can = absurd (can.clock (h.answer).0)
