@@ -5,8 +5,6 @@
 #[cfg(test)]
 mod examples;
 #[cfg(test)]
-mod ghost_rows;
-#[cfg(test)]
 mod long_reports;
 #[cfg(test)]
 mod outside;
@@ -22,3 +20,5 @@ mod served;
 mod tests;
 #[cfg(test)]
 mod world_examples;
+#[cfg(test)]
+mod world_rows;

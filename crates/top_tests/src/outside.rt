@@ -1,7 +1,7 @@
 //! A read or a write that fails in its turn, and short reads and writes.
 
-use crate::ghost_rows::GHOST_ROWS;
 use crate::served::{ALL, served};
+use crate::world_rows::WORLD_ROWS;
 use script_input::Status;
 use std::test::Fail;
 
@@ -11,7 +11,7 @@ const FEW: usize = 7;
 /// The script of a slot that is not given again until its kill was received, and its report.
 fn taken_slot() -> (&'static str, &'static str) {
     let mut found = ("", "");
-    for (name, script, report) in GHOST_ROWS {
+    for (name, script, report) in WORLD_ROWS {
         if name == "slot_taken_until_kill_received" {
             found = (script, report);
         }

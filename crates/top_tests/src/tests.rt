@@ -1,13 +1,13 @@
 //! Whole calls: each command with what it writes and answers.
 
 use crate::examples::EXAMPLES;
-use crate::ghost_rows::GHOST_ROWS;
 use crate::long_reports::LONG_REPORTS;
 use crate::raw_rows::RAW_ROWS;
 use crate::refusals::REFUSALS;
 use crate::rows::ROWS;
 use crate::served::{ALL, hold, hold_call, served, written_out};
 use crate::world_examples::WORLD_EXAMPLES;
+use crate::world_rows::WORLD_ROWS;
 use match_script::ScriptFault;
 use script_input::{Status, exit_of};
 use std::test::Fail;
@@ -31,7 +31,7 @@ bytes 79075
 #[test]
 fn reports(rt: HostRuntime) -> Result<(), Fail> {
     hold(&rt, &ROWS)?;
-    hold(&rt, &GHOST_ROWS)?;
+    hold(&rt, &WORLD_ROWS)?;
     hold(&rt, &RAW_ROWS)?;
     hold(&rt, &EXAMPLES)?;
     hold(&rt, &WORLD_EXAMPLES)
@@ -70,7 +70,7 @@ fn refusals(rt: HostRuntime) -> Result<(), Fail> {
 
 #[test]
 fn isolation_of_two_clients(rt: HostRuntime) -> Result<(), Fail> {
-    for (name, script, _) in [GHOST_ROWS[6], GHOST_ROWS[7]] {
+    for (name, script, _) in [WORLD_ROWS[6], WORLD_ROWS[7]] {
         let packs = (Status::Done, PACKS_OF_CLIENT_0.as_bytes());
         hold_call(&rt, name, &["alone", "0"], script.as_bytes(), packs)?;
         hold_call(

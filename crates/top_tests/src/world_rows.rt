@@ -1,7 +1,7 @@
 //! Scripts with a world, scans and ghosts, with the reports that were worked out for them.
 
 /// Scripts and their reports.
-pub(crate) const GHOST_ROWS: [(&str, &str, &str); 9] = [
+pub(crate) const WORLD_ROWS: [(&str, &str, &str); 9] = [
     (
         "disc_flies",
         "tribes 1
