@@ -10,21 +10,50 @@ The program is run on each script, as it is and with looks put in. For each it i
   the object that the followed slots give it;
 - `show` counts the moves that were accepted and taken as they were followed.
 
+Beside them the datagrams that docs/formats.md takes apart, of both versions, have their parts at the bits that it tells.
+
 It prints each difference, and at the end how many lines and datagrams there were; it ends with 1 where there is a difference.
 """
 
 import subprocess
 import sys
 from pathlib import Path
+from typing import Iterator
 
 sys.dont_write_bytecode = True
 
-from datagram import CREATE, KILL, Ghost, Packet
+from datagram import CREATE, KILL, Fault, Ghost, Packet, read_client, read_server
 from history import Datagram, History, Row
 from kinds import KINDS
 from looks import Seen, looked_script, looks
 from scope import kind_of
 from script import Line, Script, read_lines, read_script
+
+
+HEADER = [0, 2, 6, 30, 54, 86, 110]
+WORKED = (
+    ("400000000000000000000000000008010000045a1a00", 1, [*HEADER, 111, 115, 120, 121, 145, 150, 158, 166, 174]),
+    ("40000000000000000000000000000801022d0d00", 2, [*HEADER, 111, 115, 120, 121, 128, 133, 141, 149, 157]),
+)
+WORKED_OF_CLIENT = ("4000000000000000000000000040801800", [*HEADER, 116, 120, 124, 125, 126, 131])
+# An update of slot 0, which holds nothing.
+UNKNOWN_SLOT = ("400000000000000000000000000000010002", "138 UnknownSlot")
+
+
+def worked_differ() -> Iterator[str]:
+    """How worked datagrams are read otherwise than they are told."""
+    for data, version, bits in WORKED:
+        packet = read_server(bytes.fromhex(data), version, {})
+        if [part.bit for part in packet.parts] != bits or [(one.number, one.data) for one in packet.events] != [(0, b"hi")]:
+            yield f"{data} of version {version} is read as {packet}"
+    packet = read_client(bytes.fromhex(WORKED_OF_CLIENT[0]), 1)
+    if [part.bit for part in packet.parts] != WORKED_OF_CLIENT[1] or [one[1:] for one in packet.moves] != [(0, 0, 0, 1, 0)]:
+        yield f"{WORKED_OF_CLIENT[0]} is read as {packet}"
+    try:
+        yield f"{UNKNOWN_SLOT[0]} is read as {read_server(bytes.fromhex(UNKNOWN_SLOT[0]), 2, {})}"
+    except Fault as fault:
+        if str(fault) != UNKNOWN_SLOT[1]:
+            yield f"{UNKNOWN_SLOT[0]} has the fault {fault}"
 
 
 def report_of(program: str, script: str) -> str:
@@ -135,6 +164,9 @@ def without_looks(script: Script, told: str) -> str:
 def main() -> int:
     program, *scripts = sys.argv[1:]
     lines = datagrams = different = 0
+    for what in worked_differ():
+        print(what)
+        different += 1
     for name in scripts:
         history, wrong = differences(program, Path(name).read_text())
         for what in wrong:
