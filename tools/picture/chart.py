@@ -126,8 +126,8 @@ class Chart:
         short = asked if len(asked) <= GUTTER_LETTERS else asked[: GUTTER_LETTERS - 1] + "…"
         drawn = element("title", f"{row.line.number}: {escape(asked)}\n→ {escape(told)}")
         drawn += element("rect", x=0, y=f"{y - ROW / 2:g}", width=self.width, height=ROW)
-        drawn += element("text", str(row.line.number), class_="number", x=38, y=f"{y + 4:g}")
-        drawn += element("text", escape(short), class_="asked", x=48, y=f"{y + 4:g}")
+        drawn += element("text", str(row.line.number), class_="number", x=44, y=f"{y + 4:g}")
+        drawn += element("text", escape(short), class_="asked", x=54, y=f"{y + 4:g}")
         if row.line.word == "tick":
             left, right = min(self.lanes.values()), max(self.lanes.values())
             drawn += element("path", class_="tick-rule", d=f"M{left} {y:g}H{right}")
