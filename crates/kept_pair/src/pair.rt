@@ -9,7 +9,8 @@ use pair_core::{Answer, MAX_PACKET_VALUES, Pair, PairStep};
 use std::alloc::Global;
 use std::marker::Model;
 use tn_types::{
-    Class, Drain, MAX_KEPT_STEPS, MAX_PACKET_MOVES, MAX_SHOWN_PERIODS, Move, NoMemory, Payload, Read, Values,
+    Class, Drain, MAX_KEPT_STEPS, MAX_PACKET_MOVES, MAX_SHOWN_PERIODS, Move, NoMemory, Payload,
+    Read, Values,
 };
 
 /// A pair that keeps the steps that are made on it.
