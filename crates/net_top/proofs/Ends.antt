@@ -8,14 +8,14 @@ use Rattle.script_maker.specs.Made.{made}
 use Rattle.script_input.specs.declared.status.Status.{Status}
 use Rattle.script_input.specs.declared.status.Status.TheVariants.{Done, Usage, Script, TooLong, ReadFault, WriteFault, NoMemory, LinkFault, ClockFault}
 use Rattle.net_serve.specs.declared.fault.ServeFault.{ServeFault}
-use Rattle.net_serve.specs.declared.fault.ServeFault.TheVariants as serving
+use Rattle.net_serve.specs.declared.fault.ServeFault.TheVariants as fault
 use Rattle.net_serve.specs.Faults.{HasCause}
 use Rattle.net_serve.specs.Lines.{text_so_far, lines}
 use Rattle.net_serve.specs.Outgoing.{sends, datagrams}
 use Rattle.net_rules.specs.Turns.{events}
 use Rattle.net_serve.specs.Stages.{Begun, Begins, Served, ServedFront, ServedSome}
 use Rattle.net_top.specs.declared.command.NetCommand.{NetCommand}
-use Rattle.net_top.specs.declared.command.NetCommand.TheVariants.{Serve}
+use Rattle.net_top.specs.Command.{serving}
 use Rattle.net_top.specs.Outcome.{Told, told, Met, met, HasFailed, IsDone, IsFront, BeginsWith, NetOutcome, IsWanted, CanBeDone, status_of}
 
 -- a fault that comes later in a call is one of the call
@@ -47,7 +47,7 @@ module _ (seed clients turns : ℕ) (a a' : Option Ahead) (c c' w w' w2 : Option
 
   module _ (done : (o : Begun) → Begins o a c w d → Served head turns o w' d') (heard : ServedSome head turns w w' d d') (same : w2 ≡ w')
       (link : lf ≤ lf') (clock : cf ≤ cf') (sink : kf ≤ kf') (later : kf' ≤ kf2) where
-    pub all_done : NetOutcome (Ok (Serve seed clients turns)) now Done
+    pub all_done : NetOutcome (Ok (serving seed clients turns)) now Done
     all_done = record {
       answer = (
         λ o b. subst (λ (x : Option (List ℕ)). Served head turns o x d') (sym same) (done o b),
@@ -58,7 +58,7 @@ module _ (seed clients turns : ℕ) (a a' : Option Ahead) (c c' w w' w2 : Option
       sink = omega (arith, sink, later);
     }
 
-    pub not_handed : Rose kf' kf2 → NetOutcome (Ok (Serve seed clients turns)) now WriteFault
+    pub not_handed : Rose kf' kf2 → NetOutcome (Ok (serving seed clients turns)) now WriteFault
     not_handed rose = record {
       answer = (
         rose_later kf kf' kf2 sink rose,
@@ -70,11 +70,11 @@ module _ (seed clients turns : ℕ) (a a' : Option Ahead) (c c' w w' w2 : Option
     }
 
   module _ (front : (o : Begun) → Begins o a c w d → ServedFront head turns o w' d') (link : lf ≤ lf') (clock : cf ≤ cf') (sink : kf ≤ kf') where
-    pub stopped : (fault : ServeFault) → HasCause (Rose lf lf') (Rose cf cf') (Rose kf kf') fault → NetOutcome (Ok (Serve seed clients turns)) then (status_of fault)
-    stopped serving.NoMemory h = record { answer = front; link = link; clock = clock; sink = sink }
-    stopped serving.LinkFault h = record { answer = (h, front); link = link; clock = clock; sink = sink }
-    stopped serving.ClockFault h = record { answer = (h, front); link = link; clock = clock; sink = sink }
-    stopped serving.WriteFault h = record { answer = (h, front); link = link; clock = clock; sink = sink }
+    pub stopped : (f : ServeFault) → HasCause (Rose lf lf') (Rose cf cf') (Rose kf kf') f → NetOutcome (Ok (serving seed clients turns)) then (status_of f)
+    stopped fault.NoMemory h = record { answer = front; link = link; clock = clock; sink = sink }
+    stopped fault.LinkFault h = record { answer = (h, front); link = link; clock = clock; sink = sink }
+    stopped fault.ClockFault h = record { answer = (h, front); link = link; clock = clock; sink = sink }
+    stopped fault.WriteFault h = record { answer = (h, front); link = link; clock = clock; sink = sink }
 
 -- ---- which answer it is
 

@@ -9,18 +9,17 @@ use Rattle.match_top.specs.Command.{number_said, is_from, agreeing, agrees, numb
 use Rattle.match_top.proofs.Numbers.{Told, told}
 use Rattle.match_top.proofs.Rule.{front_agrees, more_agree, few_agree, name_is, said_some, whole, number_is}
 use Rattle.net_top.specs.declared.command.NetCommand.{NetCommand}
-use Rattle.net_top.specs.declared.command.NetCommand.TheVariants.{Serve}
-use Rattle.net_top.specs.Command.{CommandFits, spelling, BeginsCommand, Says, of_serve, command_of}
+use Rattle.net_top.specs.Command.{serving, CommandFits, spelling, BeginsCommand, Says, of_serve, command_of}
 
 -- ---- how far words agree
 
 spelled : (c : NetCommand) → CommandFits c → agreeing of_serve (spelling c) ≡ length (spelling c)
-spelled (Serve a b d) f =
-    rw (number_from_decimal 0 4294967295 a (omega arith) (omega arith) (omega arith), number_from_decimal 1 16 b (omega arith) (omega arith) (omega arith), number_from_decimal 1 100000 d (omega arith) (omega arith) (omega arith)) refl
+spelled c f =
+    rw (number_from_decimal 0 4294967295 c.seed (omega arith) (omega arith) (omega arith), number_from_decimal 1 16 c.clients (omega arith) (omega arith) (omega arith), number_from_decimal 1 100000 c.turns (omega arith) (omega arith) (omega arith)) refl
 
 spelled_agrees : (c : NetCommand) → CommandFits c → agrees of_serve (spelling c) ≡ true
-spelled_agrees (Serve a b d) f =
-    rw (number_from_decimal 0 4294967295 a (omega arith) (omega arith) (omega arith), number_from_decimal 1 16 b (omega arith) (omega arith) (omega arith), number_from_decimal 1 100000 d (omega arith) (omega arith) (omega arith)) refl
+spelled_agrees c f =
+    rw (number_from_decimal 0 4294967295 c.seed (omega arith) (omega arith) (omega arith), number_from_decimal 1 16 c.clients (omega arith) (omega arith) (omega arith), number_from_decimal 1 100000 c.turns (omega arith) (omega arith) (omega arith)) refl
 
 stops : (words : List (List ℕ)) → agreeing of_serve words < length words → BeginsCommand (take (agreeing of_serve words + 1) words) → ⊥
 stops words lt (c, fits, more, e) =
@@ -30,20 +29,20 @@ stops words lt (c, fits, more, e) =
 
 -- ---- words that begin the command
 
-some_serve : (a b d : ℕ) → a ≤ 4294967295 → 1 ≤ b → b ≤ 16 → 1 ≤ d → d ≤ 100000 → CommandFits (Serve a b d)
+some_serve : (a b d : ℕ) → a ≤ 4294967295 → 1 ≤ b → b ≤ 16 → 1 ≤ d → d ≤ 100000 → CommandFits (serving a b d)
 some_serve a b d p q r s t = (omega (arith, p), q, r, s, t)
 
 no_word : BeginsCommand []
-no_word = (Serve 0 1 1, some_serve 0 1 1 (omega arith) (omega arith) (omega arith) (omega arith) (omega arith), spelling (Serve 0 1 1), refl)
+no_word = (serving 0 1 1, some_serve 0 1 1 (omega arith) (omega arith) (omega arith) (omega arith) (omega arith), spelling (serving 0 1 1), refl)
 
-of_3 : (w x y z : List ℕ) (a b d : ℕ) → CommandFits (Serve a b d) → w ≡ codes "serve" → x ≡ decimal a → y ≡ decimal b → z ≡ decimal d → BeginsCommand (w ∷ x ∷ y ∷ z ∷ [])
-of_3 w x y z a b d f q ex ey ez = (Serve a b d, f, [], rw (q, ex, ey, ez) refl)
+of_3 : (w x y z : List ℕ) (a b d : ℕ) → CommandFits (serving a b d) → w ≡ codes "serve" → x ≡ decimal a → y ≡ decimal b → z ≡ decimal d → BeginsCommand (w ∷ x ∷ y ∷ z ∷ [])
+of_3 w x y z a b d f q ex ey ez = (serving a b d, f, [], rw (q, ex, ey, ez) refl)
 
-of_2 : (w x y : List ℕ) (a b : ℕ) → CommandFits (Serve a b 1) → w ≡ codes "serve" → x ≡ decimal a → y ≡ decimal b → BeginsCommand (w ∷ x ∷ y ∷ [])
-of_2 w x y a b f q ex ey = (Serve a b 1, f, decimal 1 ∷ [], rw (q, ex, ey) refl)
+of_2 : (w x y : List ℕ) (a b : ℕ) → CommandFits (serving a b 1) → w ≡ codes "serve" → x ≡ decimal a → y ≡ decimal b → BeginsCommand (w ∷ x ∷ y ∷ [])
+of_2 w x y a b f q ex ey = (serving a b 1, f, decimal 1 ∷ [], rw (q, ex, ey) refl)
 
-of_1 : (w x : List ℕ) (a : ℕ) → CommandFits (Serve a 1 1) → w ≡ codes "serve" → x ≡ decimal a → BeginsCommand (w ∷ x ∷ [])
-of_1 w x a f q ex = (Serve a 1 1, f, decimal 1 ∷ decimal 1 ∷ [], rw (q, ex) refl)
+of_1 : (w x : List ℕ) (a : ℕ) → CommandFits (serving a 1 1) → w ≡ codes "serve" → x ≡ decimal a → BeginsCommand (w ∷ x ∷ [])
+of_1 w x a f q ex = (serving a 1 1, f, decimal 1 ∷ decimal 1 ∷ [], rw (q, ex) refl)
 
 with_3 : (w x y z : List ℕ) (a b : ℕ) → Told 0 4294967295 x a → Told 1 16 y b → (u : Bool) → is_from 1 100000 z ≡ u → (rest : List (List ℕ)) → w ≡ codes "serve" → BeginsCommand (take (((if u then 0 + 1 else 0) + 1) + 1 + 1) (w ∷ x ∷ y ∷ z ∷ rest))
 with_3 w x y z a b ta tb true p rest q =
@@ -63,7 +62,7 @@ with_2 w x y a ta true p (z ∷ rest) q =
     with_3 w x y z a s.0 ta (told 1 16 y s.0 (omega arith) s.1) (is_from 1 100000 z) refl rest q
 
 with_1 : (w x : List ℕ) (u : Bool) → is_from 0 4294967295 x ≡ u → (rest : List (List ℕ)) → w ≡ codes "serve" → BeginsCommand (take ((if u then agreeing (is_from 1 16 ∷ is_from 1 100000 ∷ []) rest + 1 else 0) + 1) (w ∷ x ∷ rest))
-with_1 w x false p rest q = (Serve 0 1 1, some_serve 0 1 1 (omega arith) (omega arith) (omega arith) (omega arith) (omega arith), decimal 0 ∷ decimal 1 ∷ decimal 1 ∷ [], rw q refl)
+with_1 w x false p rest q = (serving 0 1 1, some_serve 0 1 1 (omega arith) (omega arith) (omega arith) (omega arith) (omega arith), decimal 0 ∷ decimal 1 ∷ decimal 1 ∷ [], rw q refl)
 with_1 w x true p [] q =
     let s = said_some (number_said 0 4294967295 x) p in
     let t = told 0 4294967295 x s.0 (omega arith) s.1 in
@@ -74,7 +73,7 @@ with_1 w x true p (y ∷ rest) q =
 
 named : (w : List ℕ) (v : Bool) → bytes_eq w (codes "serve") ≡ v → (words : List (List ℕ)) → BeginsCommand (take (if v then agreeing (is_from 0 4294967295 ∷ is_from 1 16 ∷ is_from 1 100000 ∷ []) words + 1 else 0) (w ∷ words))
 named w false q words = no_word
-named w true q [] = (Serve 0 1 1, some_serve 0 1 1 (omega arith) (omega arith) (omega arith) (omega arith) (omega arith), decimal 0 ∷ decimal 1 ∷ decimal 1 ∷ [], rw (name_is w (codes "serve") q) refl)
+named w true q [] = (serving 0 1 1, some_serve 0 1 1 (omega arith) (omega arith) (omega arith) (omega arith) (omega arith), decimal 0 ∷ decimal 1 ∷ decimal 1 ∷ [], rw (name_is w (codes "serve") q) refl)
 named w true q (x ∷ rest) = with_1 w x (is_from 0 4294967295 x) refl rest (name_is w (codes "serve") q)
 
 begun : (words : List (List ℕ)) → BeginsCommand (take (agreeing of_serve words) words)
@@ -89,7 +88,7 @@ unsaid c fits words h e =
     let l = spelled_agrees c fits in
     cc
 
-serve_said : (words : List (List ℕ)) → agrees of_serve words ≡ true → Says words (Ok (Serve (number_at words 1) (number_at words 2) (number_at words 3)))
+serve_said : (words : List (List ℕ)) → agrees of_serve words ≡ true → Says words (Ok (serving (number_at words 1) (number_at words 2) (number_at words 3)))
 serve_said [] h = absurd (let p = whole of_serve [] h in omega (arith, p.1))
 serve_said (w ∷ []) h = absurd (let p = whole of_serve (w ∷ []) h in omega (arith, p.1))
 serve_said (w ∷ x ∷ []) h = absurd (let p = whole of_serve (w ∷ x ∷ []) h in omega (arith, p.1))
@@ -98,7 +97,7 @@ serve_said (w ∷ x ∷ y ∷ z ∷ []) h = by_test (bytes_eq w (codes "serve"))
   where
     by_test : (v : Bool) → bytes_eq w (codes "serve") ≡ v → (a : Bool) → is_from 0 4294967295 x ≡ a → (b : Bool) → is_from 1 16 y ≡ b → (d : Bool) → is_from 1 100000 z ≡ d
         → (if v then (if a then (if b then (if d then 0 + 1 else 0) + 1 else 0) + 1 else 0) + 1 else 0) ≡ 4
-        → Says (w ∷ x ∷ y ∷ z ∷ []) (Ok (Serve (digits_value 10 x) (digits_value 10 y) (digits_value 10 z)))
+        → Says (w ∷ x ∷ y ∷ z ∷ []) (Ok (serving (digits_value 10 x) (digits_value 10 y) (digits_value 10 z)))
     by_test false q a p b r d s k = absurd (omega (arith, k))
     by_test true q false p b r d s k = absurd (omega (arith, k))
     by_test true q true p false r d s k = absurd (omega (arith, k))
@@ -119,7 +118,7 @@ pub rule : (words : List (List ℕ)) → Says words (command_of words)
 rule words = by_form (agrees of_serve words) refl
   where
     by_form : (u : Bool) → agrees of_serve words ≡ u
-        → Says words (if u then Ok (Serve (number_at words 1) (number_at words 2) (number_at words 3)) else Err (agreeing of_serve words))
+        → Says words (if u then Ok (serving (number_at words 1) (number_at words 2) (number_at words 3)) else Err (agreeing of_serve words))
     by_form true r = serve_said words r
     by_form false r = record {
       none = λ c fits e. unsaid c fits words r e;

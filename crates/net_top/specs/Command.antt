@@ -6,17 +6,20 @@ use Rattle.match_script.specs.Words.{number, number_from}
 use Rattle.match_top.specs.Command.{is_name, is_from, agreeing, agrees, number_at}
 use Rattle.net_rules.specs.declared.limits.TheConstants.{MAX_TURNS}
 use Rattle.net_top.specs.declared.command.NetCommand.{NetCommand}
-use Rattle.net_top.specs.declared.command.NetCommand.TheVariants.{Serve}
 
 -- ---- the rule
 
+-- the command with these numbers
+abbrev pub serving : ℕ → ℕ → ℕ → NetCommand
+serving seed clients turns = record { seed = seed; clients = clients; turns = turns }
+
 -- the numbers of a command are in their ranges
 abbrev pub CommandFits : NetCommand → Type 0
-CommandFits (Serve seed clients turns) = (seed < 2 ^ 32) × (1 ≤ clients) × (clients ≤ MAX_CLIENTS) × (1 ≤ turns) × (turns ≤ MAX_TURNS)
+CommandFits c = (c.seed < 2 ^ 32) × (1 ≤ c.clients) × (c.clients ≤ MAX_CLIENTS) × (1 ≤ c.turns) × (c.turns ≤ MAX_TURNS)
 
 -- the words of a command
 abbrev pub spelling : NetCommand → List (List ℕ)
-spelling (Serve seed clients turns) = codes "serve" ∷ decimal seed ∷ decimal clients ∷ decimal turns ∷ []
+spelling c = codes "serve" ∷ decimal c.seed ∷ decimal c.clients ∷ decimal c.turns ∷ []
 
 -- the words begin a command: they are its first words, or all of them
 abbrev pub BeginsCommand : List (List ℕ) → Type 0
@@ -43,9 +46,9 @@ of_serve = is_name (codes "serve") ∷ is_from 0 (2 ^ 32 - 1) ∷ is_from 1 MAX_
 -- the command that the words are, or how many of them begin one
 abbrev pub command_of : List (List ℕ) → Result NetCommand ℕ
 command_of words =
-    if agrees of_serve words then Ok (Serve (number_at words 1) (number_at words 2) (number_at words 3)) else Err (agreeing of_serve words)
+    if agrees of_serve words then Ok (serving (number_at words 1) (number_at words 2) (number_at words 3)) else Err (agreeing of_serve words)
 
-a_served_match : command_of (codes "serve" ∷ codes "7" ∷ codes "1" ∷ codes "20" ∷ []) ≡ Ok (Serve 7 1 20)
+a_served_match : command_of (codes "serve" ∷ codes "7" ∷ codes "1" ∷ codes "20" ∷ []) ≡ Ok (serving 7 1 20)
 unfolding number_from number
 a_served_match = refl
 

@@ -8,10 +8,9 @@ use Rattle.script_maker.specs.Made.{made}
 use Rattle.script_input.specs.declared.status.Status.{Status}
 use Rattle.script_input.specs.declared.status.Status.TheVariants.{Done, Usage, WriteFault, NoMemory, LinkFault, ClockFault}
 use Rattle.net_serve.specs.declared.fault.ServeFault.{ServeFault}
-use Rattle.net_serve.specs.declared.fault.ServeFault.TheVariants as serving
+use Rattle.net_serve.specs.declared.fault.ServeFault.TheVariants as fault
 use Rattle.net_serve.specs.Stages.{Begun, Begins, Served, ServedFront, ServedSome}
 use Rattle.net_top.specs.declared.command.NetCommand.{NetCommand}
-use Rattle.net_top.specs.declared.command.NetCommand.TheVariants.{Serve}
 
 -- ---- what is told before a call and after it
 
@@ -55,13 +54,13 @@ BeginsWith o m = Begins o m.link.old m.clock.old m.sink.old m.before
 -- where the link and the clock tell what they have ahead, the script that the rules ask for over the two lists was written, and what
 -- they ask for sent; and whatever they tell, it was so for some datagrams that were heard in so many turns
 abbrev pub IsDone : NetCommand → Met → Type 0
-IsDone (Serve seed clients turns) m =
-    ((o : Begun) → BeginsWith o m → Served (made seed clients 0).head turns o m.sink.new m.sent)
-    × ServedSome (made seed clients 0).head turns m.sink.old m.sink.new m.before m.sent
+IsDone c m =
+    ((o : Begun) → BeginsWith o m → Served (made c.seed c.clients 0).head c.turns o m.sink.new m.sent)
+    × ServedSome (made c.seed c.clients 0).head c.turns m.sink.old m.sink.new m.before m.sent
 
 -- or a front of it
 abbrev pub IsFront : NetCommand → Met → Type 0
-IsFront (Serve seed clients turns) m = (o : Begun) → BeginsWith o m → ServedFront (made seed clients 0).head turns o m.sink.new m.sent
+IsFront c m = (o : Begun) → BeginsWith o m → ServedFront (made c.seed c.clients 0).head c.turns o m.sink.new m.sent
 
 -- the cause of the answer to a command
 abbrev pub Cause : NetCommand → Met → Status → Type 0
@@ -113,7 +112,7 @@ pub record CanBeDone (command : Result NetCommand ℕ) (m : Met) : Type 0 where
 -- ---- a fault of a server, as an answer
 
 abbrev pub status_of : ServeFault → Status
-status_of serving.NoMemory = NoMemory
-status_of serving.LinkFault = LinkFault
-status_of serving.ClockFault = ClockFault
-status_of serving.WriteFault = WriteFault
+status_of fault.NoMemory = NoMemory
+status_of fault.LinkFault = LinkFault
+status_of fault.ClockFault = ClockFault
+status_of fault.WriteFault = WriteFault

@@ -9,12 +9,13 @@ use tn_types::MAX_CLIENTS;
 // The greatest number of clients.
 const MOST_CLIENTS: u32 = MAX_CLIENTS as u32;
 
-/// What the program is to do over a link.
+/// What the program is to do over a link, `serve SEED CLIENTS TURNS`: a match that is made of these numbers is served to those who say
+/// hello. CLIENTS is from 1 to 16, TURNS from 1 to 100,000.
 #[derive(Clone, Copy, Debug, PartialEq, Eq)]
-pub enum NetCommand {
-    /// `serve SEED CLIENTS TURNS`: a match that is made of these numbers is served to those who say hello. CLIENTS is from 1 to
-    /// 16, TURNS from 1 to 100,000.
-    Serve { seed: u32, clients: u8, turns: u32 },
+pub struct NetCommand {
+    pub seed: u32,
+    pub clients: u8,
+    pub turns: u32,
 }
 
 // The command with these words behind `serve`.
@@ -31,7 +32,7 @@ fn serve_of(words: &[String]) -> Result<NetCommand, u32>
         return Err(3);
     };
     if words.len() == 3 {
-        Ok(NetCommand::Serve {
+        Ok(NetCommand {
             seed,
             clients: clients as u8,
             turns,

@@ -31,20 +31,23 @@ fn status_of(fault: ServeFault) -> Status
 /// Serves a match, and hands on what the sink gathered.
 fn serve_match<L: Link, C: Clock, K: Sink>(
     alloc: Global,
-    seed: u32,
-    clients: u8,
-    turns: u32,
+    command: NetCommand,
     link: &mut L,
     clock: &mut C,
     sink: &mut K,
 ) -> Status
-    requires { CommandFits (NetCommand.Serve seed clients turns) }
-    ensures outcome { NetOutcome (Ok (NetCommand.Serve seed clients turns))
+    requires { CommandFits command }
+    ensures outcome { NetOutcome (Ok command)
         (met (told (L.ahead link.old) (L.ahead link.new) (L.faults link.old) (L.faults link.new))
         (told (C.ahead clock.old) (C.ahead clock.new) (C.faults clock.old) (C.faults clock.new))
         (told (K.written sink.old) (K.written sink.new) (K.faults sink.old) (K.faults sink.new)) (L.sent link.old) (L.sent link.new)) result }
     ensures handed { result ≡ Status.Done → K.gathered sink.new ≡ [] }
 {
+    let NetCommand {
+        seed,
+        clients,
+        turns,
+    } = command;
     match serve(alloc, seed, clients, turns, link, clock, sink) {
         Ok(()) => match sink.flush() {
             Ok(()) => Status::Done,
@@ -101,13 +104,7 @@ pub fn top_net<L: Link, C: Clock, K: Sink>(
     ticks_are_turns();
     is_read_again();
     match command_of(words) {
-        Ok(
-            NetCommand::Serve {
-                seed,
-                clients,
-                turns,
-            },
-        ) => serve_match(alloc, seed, clients, turns, link, clock, sink),
+        Ok(command) => serve_match(alloc, command, link, clock, sink),
         Err(place) => Status::Usage(place),
     }
 }

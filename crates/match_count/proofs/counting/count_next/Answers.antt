@@ -3,6 +3,7 @@ use Rattle.std.specs.Option.{option_copied}
 use Rattle.std.proofs.lemmas.Bool.{cases_lt}
 use Rattle.match_report.specs.declared.told.Told.{Told}
 use Rattle.match_engine.specs.Match.{IsPlayed, last_told}
+use Rattle.match_engine.proofs.Continued.{few_done}
 use Rattle.match_count.proofs.Counted.{lines_before, told_at, last_is, counted_more}
 use Rattle.match_count.proofs.counting.count_next.Goals as goal
 
@@ -35,3 +36,6 @@ returns-clause-counted c e =
     let same : c.in-Some.told.now ≡ told_at m.script m.place = cc in
     counted_more m.script m.place c.args.counts.now c.add.new.counts c.in-Some.told.now lt same c.requires.counted c.add.ensures.counts
     (c.add.ensures.bounds m.place c.requires.counted.bounds)
+
+pub next-requires-clause-few : goal.next-requires-clause-few
+next-requires-clause-few c = few_done c.args.game.now c.requires.played c.requires.ranges

@@ -81,8 +81,10 @@ returns-clause-stands c =
     let m : GameState = record { head = c.self.inside.head.now; seats = c.self.inside.seats.items; scopes = c.self.inside.scopes.items; world = c.self.inside.world; lanes = c.self.inside.lanes; done = c.self.inside.done } in
     let fits : LineFits m.head.clients c.args.line.now = subst (λ (x : GameState). LineFits x.head.clients c.args.line.now) (sym c.self.view_is) c.requires.fits in
     let done : m.done < 4000000 = subst (λ (x : GameState). x.done < 4000000) (sym c.self.view_is) c.requires.few in
-    let new : GameState = record { head = m.head; seats = set m.seats c.args.client c.line_on.new.seat; scopes = m.scopes; world = m.world; lanes = m.lanes; done = m.done + counted c.args.line.now } in
+    let new : GameState = record { head = m.head; seats = set m.seats c.args.client c.line_on.new.seat; scopes = m.scopes; world = m.world; lanes = m.lanes; done = m.done + c.counted.result } in
     subst (λ (x : GameState). OnOk c.line_on.result ((past : List BodyLine) → StandsFor x past → StandsFor new (c.args.line.now ∷ past))) c.self.view_is
     (map_on_ok c.line_on.result _ ((past : List BodyLine) → StandsFor m past → StandsFor new (c.args.line.now ∷ past))
-    (λ f past s. next m c.index_mut.result.now c.args.client c.args.line.now past c.requires.named c.index_mut.ensures.value s fits c.requires.direct done c.line_on.new.seat f)
+    (λ f past s.
+    subst (λ (k : ℕ). StandsFor (record { head = m.head; seats = set m.seats c.args.client c.line_on.new.seat; scopes = m.scopes; world = m.world; lanes = m.lanes; done = m.done + k }) (c.args.line.now ∷ past)) (sym c.counted.ensures.value)
+    (next m c.index_mut.result.now c.args.client c.args.line.now past c.requires.named c.index_mut.ensures.value s fits c.requires.direct done c.line_on.new.seat f))
     c.line_on.ensures.stands)

@@ -1,4 +1,4 @@
-use Rattle.std.proofs.Common.{◌≡◌, ◌<◌, ◌+◌, ℕ, List, ◌∷◌, get_or, sym, subst, arith, refl}
+use Rattle.std.proofs.Common.{◌≡◌, ◌<◌, ◌+◌, ℕ, List, ◌∷◌, get_or, sym, subst, arith, refl, add-zero}
 use Rattle.std.specs.Prelude.{Result, Ok, Err, IfOk, OnOk}
 use Rattle.match_script.specs.declared.types.BodyLine.{BodyLine}
 use Rattle.match_script.specs.declared.types.BodyLine.TheVariants as script
@@ -19,11 +19,12 @@ next : (m : GameState) (past : List BodyLine) (n : ℕ) (d : SeatState) (e : Tab
 next m past n d e lt done is_seat is_scope s =
     let own = own_line m.head (script.Show n) past n tt refl in
     let now = (serves m past n d d e e lt s is_seat is_scope).holds in
-    fed m past (script.Show n) n m.seats d m.scopes e m.lanes refl lt done s
+    subst (λ (k : ℕ). StandsFor (record { head = m.head; seats = m.seats; scopes = m.scopes; world = m.world; lanes = m.lanes; done = k }) (script.Show n ∷ past)) (add-zero m.done)
+    (fed m past (script.Show n) n m.seats d m.scopes e m.lanes refl lt done s
     (put_none n m.seats d d (omega (arith, lt, s.seat_count)) is_seat) (put_none n m.scopes e e (omega (arith, lt, s.scope_count)) is_scope)
     (record { objects = refl; clients = refl; masks = λ c o l apart. refl })
     (subst (λ (x : List OwnItem). ClientHolds d e m.lanes n (client_terms m.head n) ((after m.head past).scans n) (kept (client_terms m.head n) x)) (sym own.0)
-    (record { course = now.course; periods = now.periods; marks = now.marks }))
+    (record { course = now.course; periods = now.periods; marks = now.marks })))
 
 pub show_for-requires : goal.show_for-requires
 show_for-requires c =
