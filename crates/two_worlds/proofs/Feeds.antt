@@ -1,7 +1,7 @@
 -- A server is fed with the items that the maker of its own list makes: the condition of each, and the text that grows by it.
 use Rattle.std.proofs.Common.{◌≡◌, ◌∙◌, ◌<◌, ◌≤◌, ◌==◌, ℕ, Bool, true, false, cond, if◌then◌else◌, List, [], ◌∷◌, ◌++◌, length, take, drop, reverse, filter, refl, sym, ap, subst, arith, append_assoc, Option}
 use Rattle.std.proofs.lemmas.Bool.Decides.{nat_tests}
-use Rattle.std.proofs.lemmas.List.{append-nil, reverse-append, take-append-drop}
+use Rattle.std.proofs.lemmas.List.{append-nil, length-reverse, length-take, reverse-append, take-append-drop}
 use Rattle.tn_outside.specs.Totals.{Adds, AddsFront}
 use Rattle.tn_outside.proofs.Totals.{adds_then, adds_nothing, front_more}
 use Rattle.match_script.specs.declared.types.BodyLine.{BodyLine}
@@ -14,7 +14,7 @@ use Rattle.own_lists.specs.Past.{client_terms, after}
 use Rattle.own_lists.specs.Conditions.{AreOwn}
 use Rattle.own_lists.specs.Agreement.{AreLines}
 use Rattle.own_lists.proofs.Agreeing.{own_lists_agree}
-use Rattle.own_lists.proofs.Counting.{counted_item, counted_items}
+use Rattle.own_lists.proofs.Counting.{counted_item, counted_items, counted_few as lines_few}
 use Rattle.match_engine.proofs.Fed.{own_few}
 use Rattle.two_worlds.specs.declared.alone.Alone.{Alone}
 use Rattle.two_worlds.specs.Laws.{text_of}
@@ -114,8 +114,10 @@ module _ (s n : SourceState) (a : Alone) (item : OwnItem) (fed : IsFed s a) (sta
         let few = counted_few (made s) in
         let long = ap (λ l. counted_items l) grown in
         let own = own_few n.script.head (first_lines n.script n.place) n.client in
-        let lines = lines_are.few in
-        omega (arith, counted, few, long, own, lines));
+        let lines = lines_few (first_lines n.script n.place) in
+        let front = length-take n.place n.script.body in
+        let turned = length-reverse (take n.place n.script.body) in
+        omega (arith, counted, few, long, own, lines, front, turned, stands.ranges.few));
   }
 
   module _ (b : Alone) (feeds : Feeds a item b) where
