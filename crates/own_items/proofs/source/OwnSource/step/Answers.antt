@@ -1,10 +1,12 @@
-use Rattle.std.proofs.Common.{◌≡◌, ◌∙◌, List, ◌∷◌, Ok, Err, Some, ap, subst, sym}
+use Rattle.std.proofs.Common.{◌≡◌, ◌∙◌, List, ◌∷◌, Ok, Err, Some, ap, subst, sym, arith, take}
+use Rattle.std.proofs.lemmas.List.{length-reverse, length-take}
 use Rattle.std.specs.Prelude.{slice_get, OnOk, Result}
-use Rattle.own_items.specs.Source.{SourceState, StandsFor, Stands, made}
+use Rattle.own_items.specs.Source.{SourceState, StandsFor, Stands, first_lines, made}
 use Rattle.own_items.specs.declared.items.OwnItem.{OwnItem}
 use Rattle.own_items.specs.Items.{item_of}
 use Rattle.match_script.specs.declared.types.BodyLine.{BodyLine}
 use Rattle.own_lists.specs.Past.{after, taken_from}
+use Rattle.own_lists.proofs.Counting.{counted_few}
 use Rattle.own_items.proofs.Stepping.{stepped, added, makes_one, makes_none}
 use Rattle.own_items.proofs.source.OwnSource.step.Goals as goal
 use Rattle.own_items.proofs.source.OwnSource.step.Goals.{in-Some, in-None}
@@ -51,3 +53,12 @@ returns-clause-no_item c = elim c.match-branch-3.branch [
       let none = makes_none v c.args.line.now h there c.feed.new.self same does c.in_ok-next.field-0 w.in-None.is add in
       none ∙ ap (λ (x : SourceState). made x) c.self.view_is
 ]
+
+-- a match that is fed with a script's own lines has never too many
+pub feed-requires-clause-few : goal.feed-requires-clause-few
+feed-requires-clause-few c =
+    let v : SourceState = record { script = c.self.inside.script.now; client = c.self.inside.client; game = c.self.inside.game; place = c.self.inside.place } in
+    let h : Stands v = subst Stands (sym c.self.view_is) c.requires.stands in
+    let few = counted_few (first_lines v.script v.place) in
+    let turned = length-reverse (take v.place v.script.body) in
+    omega (arith, h.game.game.counted, few, turned, length-take v.place v.script.body, h.ranges.few)
