@@ -2,6 +2,7 @@
 //! of all of it, written line by line.
 #![tactic(auto)]
 
+mod arriving;
 mod fault;
 mod laws;
 mod listening;

@@ -1,18 +1,16 @@
 //! What a server holds, and what it does with what it meets.
-ghost use Rattle.std.specs.Prelude.{◌≡◌, ◌<◌, ◌≤◌, ◌∷◌, List, [], ℕ, length, reverse, Some, Err, IfOk, IfErr, OnOk, OnErr};
+ghost use Rattle.std.specs.Prelude.{◌≡◌, ◌<◌, ◌≤◌, ◌∷◌, List, [], ℕ, length, Some, Err, IfOk, IfErr, OnOk, OnErr};
+ghost use Rattle.std.specs.Option.{option_copied};
 
 use crate::fault::{ServeFault, fault_of};
-use crate::telling::delivered;
 use match_engine::{Match, RunFault, write_all};
 use match_report::Told;
-use match_script::{BodyLine, LineDatagram, LinePayload, Script, put_line};
+use match_script::{BodyLine, Script, put_line};
 use net_rules::{Hello, Peers, WELCOME_BYTES, hello_of, is_arrival, welcome};
 use std::alloc::Global;
 use std::marker::Model;
 use tn_outside::{Link, Peer, Sink};
-use tn_types::{
-    Class, MAX_CLIENTS, MAX_COUNTED_LINES, MAX_DATAGRAM_BYTES, NoMemory, Payload, are_bytes,
-};
+use tn_types::{MAX_CLIENTS, MAX_COUNTED_LINES, NoMemory, are_bytes};
 
 /// A match that is served, and who has a client.
 pub struct Server<'a> {
@@ -52,11 +50,11 @@ impl<'a> Server<'a> {
     ghost use Rattle.tn_outside.specs.Totals.{Adds, AddsFront};
     ghost use Rattle.match_script.specs.declared.types.BodyLine.{BodyLine as OneLine};
     ghost use Rattle.match_script.specs.declared.types.BodyLine.TheVariants as script;
-    ghost use Rattle.match_script.specs.Ranges.{HeadFits, LineFits, BytesFit, PayloadFits};
+    ghost use Rattle.match_script.specs.Ranges.{HeadFits, LineFits};
     ghost use Rattle.net_rules.specs.declared.hello.Hello.{Hello as OneHello};
     ghost use Rattle.net_rules.specs.Turns.{Event, Heard, Turned};
     ghost use Rattle.net_rules.specs.Hellos.{joined, client_of, hello_in, hello_at};
-    ghost use Rattle.net_serve.specs.Lines.{script_line, delivered_of, post_to, post_all, posts, arrival_lines, after_clients};
+    ghost use Rattle.net_serve.specs.Lines.{script_line, arrival_lines, after_clients};
     ghost use Rattle.net_serve.specs.Outgoing.{welcome_of, welcome_to, datagrams, packs, pack_of, packed_for};
     ghost use Rattle.net_serve.specs.Faults.{HasCause};
     ghost use Rattle.net_serve.specs.Stages.{Plays, Serves, PlaysOn, Writes, WritesFront, SendsMore, SendsFront, Same, Begun, IsAt, IsFront};
@@ -106,7 +104,7 @@ impl<'a> Server<'a> {
     }
 
     // Writes a line and does it.
-    fn line<K: Sink>(
+    pub(crate) fn line<K: Sink>(
         &mut self,
         alloc: Global,
         line: &BodyLine,
@@ -153,179 +151,11 @@ impl<'a> Server<'a> {
         }
     }
 
-    // Posts a guaranteed event to a client.
-    fn post<K: Sink>(
-        &mut self,
-        alloc: Global,
-        client: u8,
-        payload: &Payload,
-        sink: &mut K,
-    ) -> Result<(), RunFault>
-        requires stands { (past : List OneLine) × Plays self.old past }
-        requires client { client < self.old.script.head.clients }
-        ensures plays { OnOk result (PlaysOn self.old (λ past. script.Post client Class.Guaranteed payload.now ∷ past) self.new) }
-        ensures written { OnOk result (Writes self.old (λ past. script.Post client Class.Guaranteed payload.now ∷ past)
-            (K.written sink.old) (K.written sink.new)) }
-        ensures front { OnErr result (WritesFront self.old (λ past. script.Post client Class.Guaranteed payload.now ∷ past)
-            (K.written sink.old) (K.written sink.new)) }
-        ensures same { Same self.old self.new }
-        ensures cause { result ≡ Err RunFault.WriteFault → Rose (K.faults sink.old) (K.faults sink.new) }
-        ensures later { K.faults sink.old ≤ K.faults sink.new }
+    // What the last line told, if a line was done.
+    pub(crate) fn told(&self) -> Option<&Told>
+        ensures { option_copied result ≡ self.now.game.told }
     {
-        // its bytes are in their range
-        let _bytes = payload.as_slice();
-        let Ok(payload) = LinePayload::new(alloc, payload.copy()) else {
-            return Err(RunFault::NoMemory);
-        };
-        let line = BodyLine::Post {
-            client,
-            class: Class::Guaranteed,
-            payload,
-        };
-        self.line(alloc, &line, sink)
-    }
-
-    // Posts an event of a client to another one; to itself it posts nothing.
-    fn post_other<K: Sink>(
-        &mut self,
-        alloc: Global,
-        from: u8,
-        client: u8,
-        payload: &Payload,
-        sink: &mut K,
-    ) -> Result<(), RunFault>
-        requires stands { (past : List OneLine) × Plays self.old past }
-        requires client { client < self.old.script.head.clients }
-        ensures plays { OnOk result (PlaysOn self.old (post_to from payload.now client) self.new) }
-        ensures written { OnOk result (Writes self.old (post_to from payload.now client) (K.written sink.old) (K.written sink.new)) }
-        ensures front { OnErr result (WritesFront self.old (post_to from payload.now client) (K.written sink.old) (K.written sink.new)) }
-        ensures same { Same self.old self.new }
-        ensures cause { result ≡ Err RunFault.WriteFault → Rose (K.faults sink.old) (K.faults sink.new) }
-        ensures later { K.faults sink.old ≤ K.faults sink.new }
-    {
-        if client == from {
-            return Ok(());
-        }
-        self.post(alloc, client, payload, sink)
-    }
-
-    // Posts an event of a client to each other one that was joined.
-    fn post_all<K: Sink>(
-        &mut self,
-        alloc: Global,
-        from: u8,
-        payload: &Payload,
-        count: u8,
-        sink: &mut K,
-    ) -> Result<(), RunFault>
-        requires stands { (past : List OneLine) × Plays self.old past }
-        requires count { count ≤ self.old.script.head.clients }
-        ensures plays { OnOk result (PlaysOn self.old (post_all from payload.now count) self.new) }
-        ensures written { OnOk result (Writes self.old (post_all from payload.now count) (K.written sink.old) (K.written sink.new)) }
-        ensures front { OnErr result (WritesFront self.old (post_all from payload.now count) (K.written sink.old) (K.written sink.new)) }
-        ensures same { Same self.old self.new }
-        ensures cause { result ≡ Err RunFault.WriteFault → Rose (K.faults sink.old) (K.faults sink.new) }
-        ensures later { K.faults sink.old ≤ K.faults sink.new }
-    {
-        'clients: for client in 0..count {
-            self.post_other(alloc, from, client, payload, sink)?;
-        }
-        Ok(())
-    }
-
-    // Posts events of a client to each other one that was joined.
-    fn post_each<K: Sink>(
-        &mut self,
-        alloc: Global,
-        from: u8,
-        payloads: &[Payload],
-        count: u8,
-        sink: &mut K,
-    ) -> Result<(), RunFault>
-        requires stands { (past : List OneLine) × Plays self.old past }
-        requires count { count ≤ self.old.script.head.clients }
-        ensures plays { OnOk result (PlaysOn self.old (posts count from (reverse payloads.now)) self.new) }
-        ensures written { OnOk result
-            (Writes self.old (posts count from (reverse payloads.now)) (K.written sink.old) (K.written sink.new)) }
-        ensures front { OnErr result
-            (WritesFront self.old (posts count from (reverse payloads.now)) (K.written sink.old) (K.written sink.new)) }
-        ensures same { Same self.old self.new }
-        ensures cause { result ≡ Err RunFault.WriteFault → Rose (K.faults sink.old) (K.faults sink.new) }
-        ensures later { K.faults sink.old ≤ K.faults sink.new }
-    {
-        'events: for payload in payloads {
-            self.post_all(alloc, from, payload, count, sink)?;
-        }
-        Ok(())
-    }
-
-    // The line of a client's arrival.
-    fn raw<K: Sink>(
-        &mut self,
-        alloc: Global,
-        client: u8,
-        bytes: &[u8],
-        sink: &mut K,
-    ) -> Result<(), RunFault>
-        requires stands { (past : List OneLine) × Plays self.old past }
-        requires client { client < self.old.script.head.clients }
-        requires fits { BytesFit MAX_DATAGRAM_BYTES bytes.now }
-        ensures plays { OnOk result (PlaysOn self.old (λ past. script.Raw client bytes.now ∷ past) self.new) }
-        ensures written { OnOk result
-            (Writes self.old (λ past. script.Raw client bytes.now ∷ past) (K.written sink.old) (K.written sink.new)) }
-        ensures front { OnErr result
-            (WritesFront self.old (λ past. script.Raw client bytes.now ∷ past) (K.written sink.old) (K.written sink.new)) }
-        ensures same { Same self.old self.new }
-        ensures cause { result ≡ Err RunFault.WriteFault → Rose (K.faults sink.old) (K.faults sink.new) }
-        ensures later { K.faults sink.old ≤ K.faults sink.new }
-    {
-        let Ok(bytes) = LineDatagram::from_slice(alloc, bytes) else {
-            return Err(RunFault::NoMemory);
-        };
-        self.line(alloc, &BodyLine::Raw { client, bytes }, sink)
-    }
-
-    // What the last line delivered.
-    fn delivered(&self, alloc: Global) -> Result<Vec<Payload>, NoMemory>
-        ensures { IfOk result (λ v. v.items ≡ delivered_of self.now.game.told) }
-    {
-        match self.game.told() {
-            Some(told) => match delivered(alloc, told) {
-                Ok(payloads) => Ok(payloads),
-                Err(_) => Err(NoMemory),
-            },
-            None => Ok(Vec::new(alloc)),
-        }
-    }
-
-    // A client's arrival is done, and what it delivers is posted on.
-    fn arrive<K: Sink>(
-        &mut self,
-        alloc: Global,
-        client: u8,
-        bytes: &[u8],
-        count: u8,
-        sink: &mut K,
-    ) -> Result<(), RunFault>
-        requires stands { (past : List OneLine) × Plays self.old past }
-        requires client { client < self.old.script.head.clients }
-        requires fits { BytesFit MAX_DATAGRAM_BYTES bytes.now }
-        requires count { count ≤ self.old.script.head.clients }
-        ensures plays { OnOk result
-            (PlaysOn self.old (arrival_lines self.old.script.head count (Some client) bytes.now) self.new) }
-        ensures written { OnOk result (Writes self.old (arrival_lines self.old.script.head count (Some client) bytes.now)
-            (K.written sink.old) (K.written sink.new)) }
-        ensures front { OnErr result (WritesFront self.old (arrival_lines self.old.script.head count (Some client) bytes.now)
-            (K.written sink.old) (K.written sink.new)) }
-        ensures same { Same self.old self.new }
-        ensures cause { result ≡ Err RunFault.WriteFault → Rose (K.faults sink.old) (K.faults sink.new) }
-        ensures later { K.faults sink.old ≤ K.faults sink.new }
-    {
-        self.raw(alloc, client, bytes, sink)?;
-        let Ok(payloads) = self.delivered(alloc) else {
-            return Err(RunFault::NoMemory);
-        };
-        self.post_each(alloc, client, &payloads, count, sink)
+        self.game.told()
     }
 
     // How many have a client.
