@@ -8,11 +8,34 @@ TOP = pathlib.Path(__file__).resolve().parent.parent
 SECONDS = 120
 
 
+def below(crate):
+    """A crate and those of the repository that it stands on."""
+    lines = [line.split("#")[0] for line in (TOP / "crates.txt").read_text().splitlines()]
+    parts = [line.partition(":") for line in lines if ":" in line]
+    stands = {head.split()[0]: deps.split() for head, _, deps in parts}
+    found = []
+    for name in [crate, *stands.get(crate, [])]:
+        found += [name] if name == crate else below(name) if name in stands else []
+    return list(dict.fromkeys(found))
+
+
+def is_fresh(program, crate):
+    """Whether the program is there, and no file that it was made from is newer."""
+    folders = [TOP / "crates" / name / part for name in below(crate) for part in ("src", "specs", "proofs")]
+    made = [TOP / "crates.txt", *[file for folder in folders for file in folder.rglob("*") if file.is_file()]]
+    return program.exists() and max(file.stat().st_mtime for file in made) <= program.stat().st_mtime
+
+
 def build(crate, *flags):
-    """Proves what is new of a crate and of those below, builds it, and answers its program's bytes."""
+    """The bytes of a crate's program: that of `rt ci` or of `./tribes` where it is up to date, and else it is proved and built."""
+    folder = TOP / "crates" / crate / "out"
+    program = folder / crate
+    kept = folder / f"{crate}.by-rattle" if flags == ("--backend", "rattle") else program
+    if is_fresh(kept, crate):
+        return kept.read_bytes()
+    print(f"proving and building {crate}: up to half an hour where nothing of it is kept", file=sys.stderr, flush=True)
     if crate == "match_cli":
-        subprocess.run([TOP / "tribes", "run"], stdin=subprocess.DEVNULL, capture_output=True)
-    program = TOP / "crates" / crate / "out" / crate
+        subprocess.run([TOP / "tribes", "run"], stdin=subprocess.DEVNULL, stdout=subprocess.DEVNULL)
     # So that none is there that was built otherwise, or before.
     for old in (program, program.with_suffix(".stamp")):
         old.unlink(missing_ok=True)
