@@ -6,6 +6,7 @@ use Rattle.std.specs.List.{flat_map}
 use Rattle.tn_types.specs.declared.limits.TheConstants.{MAX_SCRIPT_BYTES}
 use Rattle.tn_outside.specs.Totals.{Adds, AddsFront}
 use Rattle.match_script.specs.Script.{script_of}
+use Rattle.match_script.specs.Ranges.{HasRanges}
 use Rattle.match_script.specs.declared.types.Script.{Script as OneScript}
 use Rattle.match_laws.specs.Laws.{packs_in}
 use Rattle.match_laws.specs.Report.{report, told_lines, text_behind}
@@ -33,11 +34,15 @@ AloneIsOfRun = (script : OneScript) (client : ℕ) → client < script.head.clie
 
 -- ---- the script of a command
 
--- the command has this script: it was read, or it is the one that is made of the command's numbers
+-- the command's script: it was read, or it is the one that is made of the command's numbers
+abbrev pub IsScriptOf : Command → Seen → OneScript → Type 0
+IsScriptOf Run source script = ReadAs script_of source.old source.new (Ok script)
+IsScriptOf (Alone client) source script = ReadAs script_of source.old source.new (Ok script)
+IsScriptOf (Big seed clients steps) source script = script ≡ made seed clients steps
+
+-- the command has this script, and each number of it lies in its range, which the laws on matches ask for
 abbrev pub HasScript : Command → Seen → OneScript → Type 0
-HasScript Run source script = ReadAs script_of source.old source.new (Ok script)
-HasScript (Alone client) source script = ReadAs script_of source.old source.new (Ok script)
-HasScript (Big seed clients steps) source script = script ≡ made seed clients steps
+HasScript c source script = IsScriptOf c source script × HasRanges script
 
 -- why the command has none
 abbrev pub NoScript : Command → Seen → Status → Type 0
