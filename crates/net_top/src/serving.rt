@@ -40,7 +40,8 @@ fn serve_match<L: Link, C: Clock, K: Sink>(
     ensures outcome { NetOutcome (Ok command)
         (met (told (L.ahead link.old) (L.ahead link.new) (L.faults link.old) (L.faults link.new))
         (told (C.ahead clock.old) (C.ahead clock.new) (C.faults clock.old) (C.faults clock.new))
-        (told (K.written sink.old) (K.written sink.new) (K.faults sink.old) (K.faults sink.new)) (L.sent link.old) (L.sent link.new)) result }
+        (told (K.written sink.old) (K.written sink.new) (K.faults sink.old) (K.faults sink.new))
+        (L.sent link.old) (L.sent link.new)) result }
     ensures handed { result ≡ Status.Done → K.gathered sink.new ≡ [] }
 {
     let NetCommand {
@@ -70,7 +71,8 @@ pub fn top_net<L: Link, C: Clock, K: Sink>(
     ensures outcome { NetOutcome (command_of (map string_bytes words.now.items))
         (met (told (L.ahead link.old) (L.ahead link.new) (L.faults link.old) (L.faults link.new))
         (told (C.ahead clock.old) (C.ahead clock.new) (C.faults clock.old) (C.faults clock.new))
-        (told (K.written sink.old) (K.written sink.new) (K.faults sink.old) (K.faults sink.new)) (L.sent link.old) (L.sent link.new)) result }
+        (told (K.written sink.old) (K.written sink.new) (K.faults sink.old) (K.faults sink.new))
+        (L.sent link.old) (L.sent link.new)) result }
     // Which command the words are, or where they stop being one.
     ensures words { Says (map string_bytes words.now.items) (command_of (map string_bytes words.now.items)) }
     // Where all was served, the sink keeps none of the script back.
@@ -79,12 +81,14 @@ pub fn top_net<L: Link, C: Clock, K: Sink>(
     ensures exact { IsWanted (command_of (map string_bytes words.now.items))
         (met (told (L.ahead link.old) (L.ahead link.new) (L.faults link.old) (L.faults link.new))
         (told (C.ahead clock.old) (C.ahead clock.new) (C.faults clock.old) (C.faults clock.new))
-        (told (K.written sink.old) (K.written sink.new) (K.faults sink.old) (K.faults sink.new)) (L.sent link.old) (L.sent link.new)) result }
+        (told (K.written sink.old) (K.written sink.new) (K.faults sink.old) (K.faults sink.new))
+        (L.sent link.old) (L.sent link.new)) result }
     // A command and no fault: all was served, or no memory for it.
     ensures complete { CanBeDone (command_of (map string_bytes words.now.items))
         (met (told (L.ahead link.old) (L.ahead link.new) (L.faults link.old) (L.faults link.new))
         (told (C.ahead clock.old) (C.ahead clock.new) (C.faults clock.old) (C.faults clock.new))
-        (told (K.written sink.old) (K.written sink.new) (K.faults sink.old) (K.faults sink.new)) (L.sent link.old) (L.sent link.new))
+        (told (K.written sink.old) (K.written sink.new) (K.faults sink.old) (K.faults sink.new))
+        (L.sent link.old) (L.sent link.new))
         → (result ≡ Status.Done) ⊎ (result ≡ Status.NoMemory) }
     // The rules ask for one run of so many turns.
     ensures one_run { TurnsAreOne }
