@@ -54,7 +54,7 @@ class Header:
         size = dice.choice((128, 129, 400, 1_200))
         radius = dice.choice((0, 300, 1_000, 65_535))
         blocks = dice.choice((0, 1, 2, 64))
-        self.lines = ["tribes 1", f"match {seed} {self.clients} {life} {size} {radius}"]
+        self.lines = [f"tribes {dice.choice((1, 2))}", f"match {seed} {self.clients} {life} {size} {radius}"]
         self.lines += [f"block {payload(dice, 40)}" for _ in range(blocks)]
         if blocks:
             self.objects(dice, blocks)
@@ -147,7 +147,7 @@ def played(dice, program, count):
     return Match(header.lines + lines, len(header.lines), DONE)
 
 
-PAST_LIMITS = ("-1", "-9", "8", "2", "17", "127", "1201", "65536", "16777216", "4294967296", "99999999999")
+PAST_LIMITS = ("-1", "-9", "8", "2", "3", "17", "127", "1201", "65536", "16777216", "4294967296", "99999999999")
 NO_WORDS = ("-0", "00", "6g", "616", "", "G", "-", "1.0", "+1")
 
 
@@ -175,7 +175,7 @@ def spoilt(dice, match):
 
 def most_lines(dice, more):
     """As many lines as a body may have, and so many more."""
-    head = ["tribes 1", f"match 1 1 {dice.choice((100, 16_777_215))} 128 1000", "go"]
+    head = [f"tribes {dice.choice((1, 2))}", f"match 1 1 {dice.choice((100, 16_777_215))} 128 1000", "go"]
     lines = dice.choices(("tick", "scan 0", "pack 0", "cpack 0", "show 0", "world", "down 0 0", "up 0 9"), k=MAX_BODY_LINES + more)
     fault = f"script {len(head) + MAX_BODY_LINES + 1} TooManyLines\n".encode()
     return Match(head + lines, len(head), (3, fault) if more else DONE)
@@ -183,7 +183,7 @@ def most_lines(dice, more):
 
 def most_bytes(dice, more):
     """As many bytes as a script may have, and so many more."""
-    head = ["tribes 1", "match 1 1 100 128 1000", "go"]
+    head = [f"tribes {dice.choice((1, 2))}", "match 1 1 100 128 1000", "go"]
     room = MAX_SCRIPT_BYTES + more - len(text_of(head))
     lines = []
     while room > 2_400:

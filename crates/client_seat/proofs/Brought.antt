@@ -9,19 +9,21 @@ use Rattle.move_manager.specs.Accepting.{new_count, accept}
 use Rattle.wire_format.specs.declared.client.ClientPacket.{ClientPacket}
 use Rattle.wire_format.specs.declared.client.ClientPacket.TheVariants as up
 use Rattle.stream_manager.specs.declared.fault.ArriveFault.{ArriveFault}
+use Rattle.stream_manager.specs.declared.fault.ClientFault.{ClientFault}
 use Rattle.stream_manager.specs.declared.server.Taken.{Taken}
 use Rattle.stream_manager.specs.Limits.{Terms}
-use Rattle.stream_manager.specs.Server.{ServerEvent, accepted_at, took_at_server, taken_of, server_answer}
-use Rattle.stream_manager.specs.Client.{client_datagrams}
+use Rattle.stream_manager.specs.Server.{ServerEvent, accepted_at, took_at_server, taken_of, server_answer, server_datagrams}
+use Rattle.stream_manager.specs.Client.{client_datagrams, arrive_answer}
+use Rattle.pair_core.specs.declared.step.Answer.{Answer}
 use Rattle.pair_core.specs.declared.step.Answer.TheVariants as says
 use Rattle.pair_core.specs.declared.step.PairStep.{PairStep as GivenStep}
 use Rattle.pair_core.specs.declared.step.PairStep.TheVariants as given
-use Rattle.pair_core.specs.History.{PairStep, history, server_gets}
-use Rattle.pair_core.specs.Answers.{accepted_in, answer, brought_up, came_up}
+use Rattle.pair_core.specs.History.{PairStep, Down, history, server_gets}
+use Rattle.pair_core.specs.Answers.{accepted_in, answer, brought_up, brought_down, came_up, came_down}
 use Rattle.pair_core.specs.Calls.{step_of, Does, Hands, HandsUp, Keeps, Accepts, LendsMoves}
 use Rattle.pair_core.specs.Stands.{PairState}
 use Rattle.own_lists.specs.Course.{Course, room_in, with_step}
-use Rattle.client_seat.specs.Answering.{TellsUp, ComesUp, room_for}
+use Rattle.client_seat.specs.Answering.{TellsUp, TellsDown, ComesUp, room_for}
 use Rattle.client_seat.specs.Stands.{SeatState, Holds, StandsFor}
 
 -- ---- few moves
@@ -82,6 +84,25 @@ pub up-tells : (t : Terms) (steps : List PairStep) (g : GivenStep) → ComesUp g
 up-tells t steps (given.Up k room) comes = brought-tells t steps k room (slice_get (client_datagrams t.config (history t steps).client) k)
 up-tells t steps (given.Raw bytes room) comes = came-tells (taken_of t.config (history t steps).server room (server_answer t.config (history t steps).server bytes))
 up-tells t steps other comes = absurd comes
+
+came-down-tells : (r : Result (Unit {0}) ClientFault) → TellsDown (came_down r)
+came-down-tells (Ok u) = tt
+came-down-tells (Err fault) = tt
+
+brought-down-tells : (t : Terms) (steps : List PairStep) (k : ℕ) (o : Option (List ℕ)) → TellsDown (brought_down t (history t steps) k o)
+brought-down-tells t steps k None = tt
+brought-down-tells t steps k (Some bytes) = came-down-tells (arrive_answer t.config t.kinds bytes (history t steps).client)
+
+pub down-tells : (t : Terms) (steps : List PairStep) (k : ℕ) → TellsDown (answer t steps (Down k))
+down-tells t steps k = brought-down-tells t steps k (slice_get (server_datagrams t (history t steps).server) k)
+
+-- there is no fourth answer
+pub no_other_down : (a : Answer) → TellsDown a → ((moves : ℕ) → a ≡ says.Came moves → ⊥) → ((fault : ClientFault) → a ≡ says.ClientRefused fault → ⊥)
+    → ((k sent : ℕ) → a ≡ says.NotSent k sent → ⊥) → ⊥
+no_other_down (says.NotSent k sent) h came refused lost = lost k sent refl
+no_other_down (says.ClientRefused fault) h came refused lost = refused fault refl
+no_other_down (says.Came moves) h came refused lost = came moves refl
+no_other_down other h came refused lost = absurd h
 
 pub up-hands : (old new : PairState) (g : GivenStep) → ComesUp g → Hands old (step_of g) new → HandsUp old (step_of g) new
 up-hands old new (given.Up k room) comes h = h

@@ -27,7 +27,7 @@ use Rattle.stream_manager.specs.Server.{ghost_log}
 use Rattle.stream_manager.specs.Client.{ghosts_came}
 use Rattle.pair_core.specs.History.{PairStep, history}
 use Rattle.pair_core.specs.Stands.{PairState, StandsFor}
-use Rattle.pair_core.proofs.Scoped.{up-alive, up-from, kind-here}
+use Rattle.conn_packing.proofs.Scoped.{up-alive, up-from, kind-here}
 use Rattle.client_seat.specs.Told.{is_newest, field_told}
 
 -- ---- the holder of a slot

@@ -16,13 +16,14 @@ use Rattle.stream_manager.specs.Client as client_log
 use Rattle.stream_manager.specs.Client.{client_state, client_datagrams, client_bytes, client_ping_bytes}
 use Rattle.pair_core.specs.declared.step.Answer.{Answer}
 use Rattle.pair_core.specs.declared.step.Answer.TheVariants as says
-use Rattle.pair_core.specs.History.{PairStep, Pack, ClientPack, absorbing, values_of, history}
+use Rattle.conn_packing.specs.Packs.{absorbing, values_of}
+use Rattle.pair_core.specs.History.{PairStep, Pack, ClientPack, history}
 use Rattle.pair_core.specs.Answers.{answer, made, accepted_in}
 use Rattle.pair_core.specs.Calls.{Stays}
-use Rattle.pair_core.specs.Conditions.{IsReadFor}
+use Rattle.conn_packing.specs.Reads.{IsReadFor}
 use Rattle.pair_core.specs.Stands.{PairState}
-use Rattle.pair_core.proofs.Good.{absorbed-end, absorbed-state, absorbed-sends}
-use Rattle.pair_core.proofs.Lists.{slice_get-at}
+use Rattle.conn_packing.proofs.Absorbed.{absorbed-end, absorbed-state, absorbed-sends}
+use Rattle.conn_packing.proofs.Lists.{slice_get-at}
 use Rattle.match_report.specs.declared.told.Told.{Told}
 use Rattle.match_report.specs.declared.told.Told.TheVariants as told_as
 use Rattle.own_lists.specs.Course.{Course, with_step}

@@ -28,6 +28,13 @@ TellsUp (says.ServerRefused fault) = Unit {0}
 TellsUp (says.Came moves) = Unit {0}
 TellsUp other = ⊥
 
+-- of a delivery to the client
+abbrev pub TellsDown : Answer → Type 0
+TellsDown (says.NotSent k sent) = Unit {0}
+TellsDown (says.ClientRefused fault) = Unit {0}
+TellsDown (says.Came moves) = Unit {0}
+TellsDown other = ⊥
+
 -- a step that brings something to the server, and the places that it has for moves
 abbrev pub ComesUp : GivenStep → Type 0
 ComesUp (given.Up k room) = Unit {0}

@@ -25,7 +25,8 @@ use Rattle.stream_manager.specs.Server.{ServerEvent, server_end, server_state, s
 use Rattle.stream_manager.specs.Client.{ClientEvent, client_end, client_state, client_datagrams, client_bytes, client_ping_bytes, posted_at_client, sampled_answer, control_at, ghosts_came}
 use Rattle.pair_core.specs.declared.step.Answer.{Answer}
 use Rattle.pair_core.specs.declared.step.Answer.TheVariants as says
-use Rattle.pair_core.specs.History.{PairStep, Down, Up, Raw, absorbing, values_of, history}
+use Rattle.conn_packing.specs.Packs.{absorbing, values_of}
+use Rattle.pair_core.specs.History.{PairStep, Down, Up, Raw, history}
 use Rattle.pair_core.specs.Answers.{answer, client_delivered, server_delivered, client_run, sampled_in, accepted_in}
 use Rattle.match_report.specs.declared.told.Way.{Way}
 use Rattle.match_report.specs.declared.told.Way.TheVariants as way

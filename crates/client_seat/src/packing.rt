@@ -82,7 +82,8 @@ fn packed_by(
 }
 
 impl Seat {
-    ghost use Rattle.pair_core.specs.Calls.{MayPack, Asks};
+    ghost use Rattle.conn_packing.specs.Asking.{Asks};
+    ghost use Rattle.pair_core.specs.Calls.{MayPack};
     ghost use Rattle.client_seat.specs.Told.{client_pack_told};
     ghost use Rattle.own_lists.specs.Course.{with_step};
     ghost use Rattle.client_seat.specs.Stands.{Stands, Answers, Becomes, Packs};

@@ -10,7 +10,7 @@ use Rattle.dirty_lanes.specs.Views.{owes}
 use Rattle.dirty_lanes.specs.declared.view.PackStep.{PackStep}
 use Rattle.lane_periods.specs.Periods.{PeriodList, has}
 use Rattle.lane_periods.specs.Views.{Stands}
-use Rattle.pair_periods.proofs.Journals.{kind_told}
+use Rattle.pair_steps.proofs.Journals.{kind_told}
 use Rattle.pair_periods.proofs.Agreeing.{passing_none}
 use Rattle.connection_lock.specs.Rule.{LockedState, LockHolds, IsLocked, AreLocked, IsQuiet, EachRead, OwedIsDue}
 use Rattle.kept_pair.proofs.Replaying.{newest-more}

@@ -21,18 +21,19 @@ use Rattle.stream_manager.specs.Limits.{Terms}
 use Rattle.stream_manager.specs.Server.{ghost_log}
 use Rattle.pair_core.specs.History.{PairStep, Show, Hide, Near, Post, ClientPost, Sample, Pack, ClientPack, Down, Up, Raw, history}
 use Rattle.pair_core.specs.Conditions.{IsMet, AreMet}
-use Rattle.pair_core.specs.Calls.{is_asked}
+use Rattle.conn_packing.specs.Asking.{is_asked}
 use Rattle.pair_core.proofs.LegalLogs.{IsLegalLog}
-use Rattle.pair_core.proofs.Lists.{all-map}
+use Rattle.conn_packing.proofs.Lists.{all-map}
 use Rattle.lane_periods.specs.Periods.{PeriodList, has, has_object, spec_at, field_count, ArePeriods}
 use Rattle.lane_periods.specs.Periods as periods
 use Rattle.lane_periods.specs.Views.{IsTheRead, Stands, owes_of, is_drained}
 use Rattle.lane_periods.proofs.Numbers.{or-cases, and-both, has-more, has-fewer, has-its-object}
-use Rattle.pair_periods.specs.Steps.{shows_in, is_hidden_in, traits_in}
-use Rattle.pair_periods.specs.Agreement.{Agree, server_log, is_due_after, HasField, IsNoPack}
-use Rattle.pair_periods.proofs.Journals.{shows_told, kind_told, up_from, up_to}
+use Rattle.pair_steps.specs.Steps.{shows_in, is_hidden_in, traits_in, IsNoPack}
+use Rattle.pair_periods.specs.Agreement.{Agree, server_log, is_due_after, HasField}
+use Rattle.pair_steps.proofs.Journals.{shows_told, kind_told, up_from, up_to}
 use Rattle.pair_periods.proofs.Agreeing.{up-listed, listed-up, agree-show, agree-hide, agree-quiet}
-use Rattle.pair_periods.proofs.Due.{step_due, pack_due}
+use Rattle.pair_steps.proofs.Due.{step_due}
+use Rattle.pair_periods.proofs.Due.{pack_due}
 use Rattle.dirty_lanes.specs.declared.view.PackView.{PackView}
 use Rattle.stream_manager.specs.Stands.{ConnState, ClientState}
 use Rattle.stream_manager.specs.Stands as stands

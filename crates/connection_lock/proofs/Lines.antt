@@ -14,16 +14,18 @@ use Rattle.stream_manager.specs.declared.fault.ArriveFault.{ArriveFault}
 use Rattle.stream_manager.specs.Limits.{Terms}
 use Rattle.stream_manager.specs.Faults.{checked_packet}
 use Rattle.stream_manager.specs.Wire.{read_up}
+use Rattle.event_manager.specs.Receiving.{run_of}
+use Rattle.stream_manager.specs.End.{came_of}
 use Rattle.stream_manager.specs.Server as server
-use Rattle.stream_manager.specs.Server.{ServerEvent, accepted_at, took_at_server, packet_answer, packet_check}
+use Rattle.stream_manager.specs.Server.{ServerEvent, server_end, accepted_at, took_at_server, packet_answer, packet_check}
 use Rattle.stream_manager.specs.Client.{client_datagrams}
 use Rattle.pair_core.specs.History.{PairStep, history, server_gets}
 use Rattle.pair_core.specs.Conditions.{IsMet}
 use Rattle.pair_core.specs.Answers.{accepted_in}
 use Rattle.pair_core.specs.Calls.{step_of}
 use Rattle.kept_pair.specs.Kept.{KeptState, IsReady}
-use Rattle.pair_periods.specs.Agreement.{IsNoPack}
-use Rattle.pair_periods.proofs.Journals.{IsQuiet}
+use Rattle.pair_steps.specs.Steps.{IsNoPack}
+use Rattle.pair_steps.proofs.Journals.{IsQuiet}
 use Rattle.connection_lock.specs.declared.message.NetLine.{NetLine}
 use Rattle.connection_lock.specs.declared.message.NetLine.TheVariants as line
 use Rattle.connection_lock.specs.Rule.{IsQuiet as IsQuietPair}
@@ -64,7 +66,7 @@ came-grows t log room (Err e) = none-new room _ _ refl
 
 gets-grows : (t : Terms) (log : List ServerEvent) (room : ℕ) (o : Option (List ℕ)) → Grows room (accepted_at t.config log) (accepted_at t.config (server_gets t.config room o log))
 gets-grows t log room None = none-new room _ _ refl
-gets-grows t log room (Some bytes) = came-grows t log room (read_up t.config bytes)
+gets-grows t log room (Some bytes) = came-grows t log room (read_up t.config (run_of (came_of (server_end log))) bytes)
 
 pub line-grows : (t : Terms) (past : List PairStep) (room : ℕ) (l : NetLine) → Grows room (accepted_in t past) (accepted_in t (line_step room l ∷ past))
 line-grows t past room (line.Up k) = gets-grows t (history t past).server room (slice_get (client_datagrams t.config (history t past).client) k)

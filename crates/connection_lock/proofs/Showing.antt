@@ -5,7 +5,7 @@ use Rattle.ghost_scope.specs.Shown.{show_count, up_count, has_control}
 use Rattle.stream_manager.specs.Stands.{ConnState, ConnStandsFor, terms_of}
 use Rattle.stream_manager.specs.Server.{ServerEvent, ghost_log}
 use Rattle.pair_core.specs.Conditions.{MayBeShown}
-use Rattle.pair_core.proofs.Scoped.{shows-told, ups-told, control-told}
+use Rattle.conn_packing.proofs.Scoped.{shows-told, ups-told, control-told}
 
 module _ (conn : ConnState) (log : List ServerEvent) (s : ConnStandsFor conn log) (kind block level : ℕ) (control : Bool) where
   pub may-be-shown : kind < length conn.masks.kinds → block < 64 → level ≤ 3 → (MAX_SHOWN_PERIODS ≤ up_count conn.masks.periods → ⊥) → show_count conn.masks.periods < MAX_SHOWS

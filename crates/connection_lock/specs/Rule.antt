@@ -16,7 +16,7 @@ use Rattle.pair_core.specs.History.{PairStep, Pack}
 use Rattle.kept_pair.specs.Kept.{KeptState, Replays, terms_in, newest_first}
 use Rattle.lane_periods.specs.Periods.{PeriodList, has}
 use Rattle.lane_periods.specs.Views.{Stands}
-use Rattle.pair_periods.specs.Steps.{shows_in}
+use Rattle.pair_steps.specs.Steps.{shows_in}
 use Rattle.pair_periods.specs.Agreement.{Agree, server_log, is_due_after, HasField}
 use Rattle.connection_lock.specs.declared.message.Message.{Message}
 use Rattle.connection_lock.specs.Taking.{Progress}

@@ -7,7 +7,7 @@ use Rattle.stream_manager.specs.Limits.{Terms}
 use Rattle.pair_core.specs.History.{PairStep, Show, Hide, Near, Post}
 use Rattle.pair_core.specs.Conditions.{IsMet}
 use Rattle.lane_periods.specs.Periods.{has_object}
-use Rattle.pair_periods.specs.Steps.{up_in}
+use Rattle.pair_steps.specs.Steps.{up_in}
 use Rattle.connection_lock.specs.declared.message.Message.{Message}
 use Rattle.connection_lock.specs.declared.message.Message.TheVariants as message
 

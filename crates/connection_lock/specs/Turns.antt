@@ -22,9 +22,9 @@ use Rattle.lane_periods.specs.Periods.{PeriodList}
 use Rattle.lane_periods.specs.Views.{Stands, Drains, owes_of, entries}
 use Rattle.dirty_lanes.specs.declared.view.PackStep.{PackStep}
 use Rattle.dirty_lanes.specs.Views.{drains}
-use Rattle.pair_core.specs.Calls.{is_asked}
+use Rattle.conn_packing.specs.Asking.{is_asked}
 use Rattle.std.specs.List.{AllByRecursion}
-use Rattle.pair_periods.specs.Steps.{up_in, traits_in}
+use Rattle.pair_steps.specs.Steps.{up_in, traits_in}
 use Rattle.pair_periods.specs.Agreement.{server_log}
 use Rattle.connection_lock.specs.declared.message.Message.{Message}
 use Rattle.connection_lock.specs.declared.message.NetLine.{NetLine}

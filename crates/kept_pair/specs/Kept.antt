@@ -12,7 +12,8 @@ use Rattle.pair_core.specs.declared.step.PairStep.{PairStep as GivenStep}
 use Rattle.pair_core.specs.declared.step.PairStep.TheVariants as given
 use Rattle.pair_core.specs.declared.step.Answer.{Answer}
 use Rattle.pair_core.specs.History.{PairStep, history}
-use Rattle.pair_core.specs.Conditions.{MayDrain, HasRanges, IsMet, AreMet}
+use Rattle.conn_packing.specs.Reads.{MayDrain, HasRanges}
+use Rattle.pair_core.specs.Conditions.{IsMet, AreMet}
 use Rattle.pair_core.specs.Answers.{answer, accepted_in}
 use Rattle.pair_core.specs.Laws.{StepFits}
 use Rattle.pair_core.specs.Stands.{PairState, StandsFor}

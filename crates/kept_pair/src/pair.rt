@@ -5,7 +5,8 @@ ghost use Rattle.tn_types.specs.declared.choices.Read.{Read};
 use crate::fault::KeepFault;
 use crate::given::{add_moves, brought, learn_payload};
 use crate::step_list::StepList;
-use pair_core::{Answer, MAX_PACKET_VALUES, Pair, PairStep};
+use conn_packing::MAX_PACKET_VALUES;
+use pair_core::{Answer, Pair, PairStep};
 use std::alloc::Global;
 use std::marker::Model;
 use tn_types::{
@@ -46,7 +47,7 @@ impl Drop for KeptPair {
 impl Model for KeptPair {
     ghost use Rattle.std.specs.Prelude.{◌+◌, ◌≤◌, nat_le, nat_lt, ◌&&◌, vec_len, vec_capacity};
     ghost use Rattle.tn_types.specs.declared.limits.TheConstants.{MAX_PACKET_MOVES};
-    ghost use Rattle.pair_core.specs.declared.asking.TheConstants.{MAX_PACKET_VALUES};
+    ghost use Rattle.conn_packing.specs.declared.asking.TheConstants.{MAX_PACKET_VALUES};
     ghost use Rattle.kept_pair.specs.Kept.{KeptState, AreKept};
 
     ghost Value = { KeptState };
@@ -65,7 +66,8 @@ impl Model for KeptPair {
 impl KeptPair {
     ghost use Rattle.stream_manager.specs.EndCalls.{popped};
     ghost use Rattle.pair_core.specs.History.{Pack};
-    ghost use Rattle.pair_core.specs.Calls.{step_of, Hands, Accepts, Keeps, KeepsAtServer, Unchanged, Asks};
+    ghost use Rattle.conn_packing.specs.Asking.{Asks};
+    ghost use Rattle.pair_core.specs.Calls.{step_of, Hands, Accepts, Keeps, KeepsAtServer, Unchanged};
     ghost use Rattle.kept_pair.specs.Kept.{KeptState, IsFresh, Replays, MayStep, IsReady, MayPack, HasCause, Prepares, terms_in, answer_after, accepted_by};
 
     /// A pair that keeps its steps from now on. None was made before.

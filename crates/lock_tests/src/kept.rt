@@ -12,6 +12,7 @@ const CONFIG: Config = Config {
     client: 0,
     life: 1_000,
     size: 128,
+    version: 1,
 };
 
 /// A new pair that keeps its steps, in a match with the six kinds and no block.

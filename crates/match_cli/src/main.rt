@@ -29,14 +29,15 @@ fn arguments(rt: &HostRuntime) -> Option<Vec<String>> {
     Some(words)
 }
 
-/// Serves the words over a link at the port of a server, and the system's clock.
+/// Serves the words over a link at this port, 0 for a free one, and the system's clock.
 fn serve_over_link<R: Net + SystemTimes, K: Sink>(
     rt: &R,
     alloc: Global,
     words: &Vec<String>,
+    port: u16,
     sink: &mut K,
 ) -> Status {
-    let Ok(mut link) = UdpLink::bind(rt, SERVER_PORT) else {
+    let Ok(mut link) = UdpLink::bind(rt, port) else {
         return Status::LinkFault;
     };
     let Ok(mut clock) = SystemClock::new(rt) else {
@@ -45,7 +46,7 @@ fn serve_over_link<R: Net + SystemTimes, K: Sink>(
     top_net(alloc, words, &mut link, &mut clock, sink)
 }
 
-/// Serves the words: `threads` in threads, `serve` over a link, and all others on one thread.
+/// Serves the words: `threads` in threads, `serve` and `join` over a link, and all others on one thread.
 fn serve<R: Threads + Wait + Net + SystemTimes + Sync, S: Source, K: Sink>(
     rt: &R,
     alloc: Global,
@@ -55,7 +56,10 @@ fn serve<R: Threads + Wait + Net + SystemTimes + Sync, S: Source, K: Sink>(
 ) -> Status {
     match words.first() {
         Some(name) if name.as_str() == "threads" => { top_threads(rt, alloc, words, source, sink) }
-        Some(name) if name.as_str() == "serve" => serve_over_link(rt, alloc, words, sink),
+        Some(name) if name.as_str() == "serve" => {
+            serve_over_link(rt, alloc, words, SERVER_PORT, sink)
+        }
+        Some(name) if name.as_str() == "join" => serve_over_link(rt, alloc, words, 0, sink),
         _ => top(alloc, words, source, sink),
     }
 }

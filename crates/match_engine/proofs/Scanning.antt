@@ -19,7 +19,7 @@ use Rattle.client_scope.specs.StandsFor.{Table, StandsFor as ScopeStandsFor}
 use Rattle.dirty_lanes.specs.Words.{Words, mask_at}
 use Rattle.own_lists.specs.declared.showing.Showing.{Showing}
 use Rattle.own_lists.specs.Own.{OwnItem, OwnShow}
-use Rattle.own_lists.specs.Steps.{shows_in}
+use Rattle.pair_steps.specs.Steps.{shows_in}
 use Rattle.own_lists.specs.Course.{Course, onto, with_steps, scan_steps, hide_step, near_step}
 use Rattle.own_lists.specs.Kept.{Kept, kept, with_course, all_begin, begins, after_scan}
 use Rattle.own_lists.specs.Past.{client_terms, kept_by, after, showing_of, own_show, scan_item}

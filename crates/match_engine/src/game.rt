@@ -114,6 +114,7 @@ fn seats_of(alloc: Global, head: &Head) -> Result<Vec<Seat>, NoMemory>
             client,
             life: head.life,
             size: head.size,
+            version: head.version,
         };
         let seat = Seat::new(alloc, config, &kinds, head.blocks.as_slice())?;
         if seats.push(seat).is_err() {

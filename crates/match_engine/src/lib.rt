@@ -4,7 +4,6 @@
 mod game;
 mod lanes;
 mod lines;
-mod output;
 mod played;
 mod running;
 mod serving;
@@ -13,6 +12,5 @@ mod values;
 
 pub use game::client_named;
 pub use lines::line_on;
-pub use output::write_all;
 pub use played::Match;
 pub use running::{RunFault, run, tell};

@@ -12,7 +12,6 @@ ghost use Rattle.match_laws.specs.Words.{PrintedInOrder};
 ghost use Rattle.match_engine.specs.Match.{IsPlayed};
 ghost use Rattle.match_engine.specs.Telling.{Tells};
 
-use crate::output::write_all;
 use crate::played::Match;
 use match_laws::{
     applied_in_order, changes_recover, copies_show_values, events_in_order, isolation,
@@ -21,7 +20,7 @@ use match_laws::{
 use match_report::{Told, put_line};
 use match_script::Script;
 use std::alloc::Global;
-use tn_outside::Sink;
+use tn_outside::{Sink, write_all};
 
 /// Why a report was not written to its end.
 #[derive(Clone, Copy, Debug, PartialEq, Eq)]

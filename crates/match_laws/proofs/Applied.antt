@@ -27,7 +27,8 @@ use Rattle.stream_manager.specs.Limits.{Terms}
 use Rattle.stream_manager.specs.Server as server
 use Rattle.stream_manager.specs.Server.{ServerEvent, server_state, server_answer, took_at_server, posted_at_server, accepted_at}
 use Rattle.stream_manager.specs.Client.{client_datagrams}
-use Rattle.pair_core.specs.History.{PairStep, Post, Pack, Up, Raw, history, absorbing, values_of, server_posts, server_gets}
+use Rattle.conn_packing.specs.Packs.{absorbing, values_of}
+use Rattle.pair_core.specs.History.{PairStep, Post, Pack, Up, Raw, history, server_posts, server_gets}
 use Rattle.pair_core.specs.Answers.{accepted_in, sampled_in}
 use Rattle.own_lists.specs.Own.{OwnShow, OwnItem, Line}
 use Rattle.own_lists.specs.Course.{Course, onto, with_step, with_steps, scan_steps}

@@ -16,8 +16,9 @@ use Rattle.stream_manager.specs.Limits.{Terms, IsBlockBytes, AreTerms}
 use Rattle.pair_core.specs.History.{PairStep}
 use Rattle.pair_core.specs.Conditions.{IsHonest}
 use Rattle.pair_core.specs.Laws.{StepFits}
-use Rattle.pair_core.proofs.Good.{AreGood, good}
-use Rattle.pair_core.proofs.Lists.{all-append}
+use Rattle.pair_core.proofs.Good.{AreGood}
+use Rattle.pair_core.proofs.Delivered.{good}
+use Rattle.conn_packing.proofs.Lists.{all-append}
 use Rattle.pair_core.proofs.InOrder.{delivers_down, delivers_up, accepts}
 use Rattle.pair_core.proofs.LooseEvents.{loose_down, loose_up}
 use Rattle.own_lists.specs.declared.showing.Showing.{Showing}
@@ -132,6 +133,8 @@ terms_fit head c h l = record {
     life = h.life;
     least = h.size_least;
     size = h.size;
+    some_version = h.version_least;
+    version = h.version;
   };
   kinds = refl;
   few = h.blocks_few;
@@ -144,7 +147,7 @@ module _ (own : OwnListsHold) where
   are_good s c n h l honest =
       let t = client_terms s.head c in
       let items = (after s.head (first n s)).own c in
-      good t (journal_of s c n) (journal_fits t s.head.clients items (own-fits s.head c (first n s) (first_fit s n h)))
+      good t (terms_fit s.head c h.head l) (journal_of s c n) (journal_fits t s.head.clients items (own-fits s.head c (first n s) (first_fit s n h)))
       (are_met t refl items (own s.head (first n s) c (are_lines s n h) l).0) honest
 
   pub in_order : EventsInOrder

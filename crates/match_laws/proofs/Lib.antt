@@ -2,7 +2,6 @@ pub mod Grown
 pub mod Isolated
 pub mod InOrder
 pub mod Refused
-pub mod ValuesDue
 pub mod ValuesNewest
 pub mod ValuesTold
 pub mod ValuesRead

@@ -25,11 +25,13 @@ use Rattle.ghost_model.specs.Legal.{IsUp}
 use Rattle.ghost_masks.specs.Plan.{kind_of, fields_of, IsItem}
 use Rattle.stream_manager.specs.Limits.{Terms}
 use Rattle.stream_manager.specs.Server.{ServerEvent, server_state, ghost_log, choices_at}
-use Rattle.pair_core.specs.History.{PairStep, Pack, history, absorbing}
-use Rattle.pair_core.specs.Conditions.{HasRanges, AreMet, asked_by, asked_by_all}
-use Rattle.pair_core.proofs.Lists.{all-append}
-use Rattle.pair_core.proofs.ReadValues.{supplies, all-may-be-asked}
-use Rattle.pair_core.proofs.Scoped.{absorbed-ranges}
+use Rattle.conn_packing.specs.Packs.{absorbing}
+use Rattle.pair_core.specs.History.{PairStep, Pack, history}
+use Rattle.conn_packing.specs.Reads.{HasRanges, asked_by, asked_by_all}
+use Rattle.pair_core.specs.Conditions.{AreMet}
+use Rattle.conn_packing.proofs.Lists.{all-append}
+use Rattle.conn_packing.proofs.ReadValues.{supplies, all-may-be-asked}
+use Rattle.conn_packing.proofs.Scoped.{absorbed-ranges}
 use Rattle.pair_copies.specs.Reads.{HasRead, WasRead}
 use Rattle.pair_copies.proofs.Runs.{run, fields-run}
 use Rattle.world_rules.specs.Kinds.{kind_of as kind_in_world}
@@ -38,18 +40,18 @@ use Rattle.world_sim.specs.Rows.{values_of}
 use Rattle.world_sim.specs.Worlds.{Worlds, kind_at, values_at}
 use Rattle.world_scope.specs.declared.viewer.Seen.{Seen}
 use Rattle.own_lists.specs.declared.showing.Showing.{Showing}
-use Rattle.own_lists.specs.Steps.{traits_in}
+use Rattle.pair_steps.specs.Steps.{traits_in}
 use Rattle.own_lists.specs.Own.{OwnItem, Line, Scan, Tick}
 use Rattle.own_lists.specs.Course.{onto, near_step, show_step, scan_steps}
 use Rattle.own_lists.specs.Kept.{Kept, undrained, drained, drains_of, read_of, reads_for, reads_of, after_line, follows}
 use Rattle.own_lists.specs.Agreement.{IsPeriodOf, Agrees}
-use Rattle.own_lists.proofs.Journals.{up_from, kind_told}
+use Rattle.pair_steps.proofs.Journals.{up_from, kind_told}
 use Rattle.own_lists.proofs.Meeting.{scan_journal}
 use Rattle.own_lists.proofs.KeptValues.{own_fields, wrote_course}
 use Rattle.own_lists.proofs.ScanFacts.{numbers}
 use Rattle.own_lists.proofs.ScanChanges.{has, held_at}
 use Rattle.own_lists.proofs.Standing.{IsShownIn}
-use Rattle.match_laws.proofs.ValuesDue.{IsNoPack}
+use Rattle.pair_steps.specs.Steps.{IsNoPack}
 use Rattle.match_laws.proofs.ValuesNewest.{newest_of}
 use Rattle.match_laws.proofs.ValuesTold.{up_has, pack_items}
 

@@ -22,7 +22,7 @@ use Rattle.pair_core.specs.History.{PairStep, Post, ClientPost, Sample, Pack, Cl
 use Rattle.pair_core.specs.Conditions.{IsHonest}
 use Rattle.pair_core.specs.Answers.{client_delivered, server_delivered}
 use Rattle.pair_core.specs.Laws.{posted_at}
-use Rattle.pair_core.proofs.Lists.{all-append}
+use Rattle.conn_packing.proofs.Lists.{all-append}
 use Rattle.client_scope.specs.declared.period.Near.{Near as NearPeriod}
 use Rattle.own_lists.specs.declared.showing.Showing.{Showing}
 use Rattle.own_lists.specs.Own.{OwnShow, OwnItem, Line}

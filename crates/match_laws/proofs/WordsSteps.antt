@@ -20,10 +20,11 @@ use Rattle.stream_manager.specs.Server as server
 use Rattle.stream_manager.specs.Server.{ServerEvent, server_end, server_state, server_answer, took_at_server, posted_at_server, server_datagrams, seen_up}
 use Rattle.stream_manager.specs.Client as client
 use Rattle.stream_manager.specs.Client.{ClientEvent, client_end, client_state, client_answer, took_at_client, posted_at_client, sampled_answer, client_datagrams, seen_down}
-use Rattle.pair_core.specs.History.{PairStep, Post, ClientPost, Sample, Pack, ClientPack, Down, Up, Raw, history, absorbing, values_of, server_posts, client_posts, client_gets, server_gets}
+use Rattle.conn_packing.specs.Packs.{absorbing, values_of}
+use Rattle.pair_core.specs.History.{PairStep, Post, ClientPost, Sample, Pack, ClientPack, Down, Up, Raw, history, server_posts, client_posts, client_gets, server_gets}
 use Rattle.pair_core.specs.Answers.{client_delivered, server_delivered}
 use Rattle.pair_core.specs.Laws.{posted_at}
-use Rattle.pair_core.proofs.Good.{absorbed-end}
+use Rattle.conn_packing.proofs.Absorbed.{absorbed-end}
 use Rattle.own_lists.specs.declared.showing.Showing.{Showing}
 use Rattle.own_lists.specs.Course.{onto, hide_step, near_step, show_step, scan_steps}
 

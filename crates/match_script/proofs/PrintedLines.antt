@@ -1,5 +1,5 @@
 -- Each line that is printed is read again, and the script with it.
-use Rattle.std.proofs.Common.{◌≡◌, ℕ, suc, ◌+◌, ◌^◌, ◌<◌, ◌≤◌, true, false, List, [], ◌∷◌, ◌++◌, length, map, arith, Ok, nat_lt, nat_le, nat_eq, refl, ap, sym, subst, ◌&&◌, length-append, ◌∙◌, append_assoc, Some, None, Option, Bool, cond}
+use Rattle.std.proofs.Common.{◌≡◌, ℕ, zero, suc, ◌+◌, ◌^◌, ◌<◌, ◌≤◌, true, false, List, [], ◌∷◌, ◌++◌, length, map, arith, Ok, nat_lt, nat_le, nat_eq, refl, ap, sym, subst, ◌&&◌, length-append, ◌∙◌, append_assoc, Some, None, Option, Bool, cond}
 use Rattle.std.specs.Prelude.{codes, ℤ, pos, negsuc, ◌≤ℤ◌}
 use Rattle.std.specs.List.{list_all, All}
 use Rattle.std.proofs.lemmas.List.Elements.{All-head, All-tail}
@@ -21,7 +21,7 @@ use Rattle.match_script.specs.declared.types.Script.{Script}
 use Rattle.std.proofs.lemmas.List.{map-append}
 use Rattle.match_script.specs.Text.{words_of, is_text, spelled}
 use Rattle.match_script.specs.Lines.{body_line, scan_line, post_line, client_post_line, pack_line, client_pack_line, down_line, up_line, raw_line, move_line, show_line}
-use Rattle.match_script.specs.Header.{match_numbers, version_line, match_line, block_line, is_go, is_earlier_player, may_follow, kind_named, placed, player_words, spawn_words, named, object_line}
+use Rattle.match_script.specs.Header.{match_numbers, version_named, version_line, match_line, block_line, is_go, is_earlier_player, may_follow, kind_named, placed, player_words, spawn_words, named, object_line}
 use Rattle.match_script.specs.Script.{script_in, script_of, body_of, line_at, opening, header, header_length, text_line, header_words, block_in, blocks_of, objects_of, with_objects}
 use Rattle.match_script.specs.Ranges.{LineFits, BlockFits, HeadFits, HasRanges}
 use Rattle.match_script.specs.Print.{line_words, version_words, match_words, block_words, place_words, owned_line, object_words, go_words, hex_word, flag_word, joined, text_of}
@@ -133,8 +133,14 @@ blocks_plain [] h = refl
 blocks_plain (block ∷ blocks) h = rw (block_plain block (All-head BlockFits block blocks h), blocks_plain blocks (All-tail BlockFits block blocks h)) refl
 
 version_read : (h : Head) → HeadFits h → version_line (version_words h.version) ≡ Some h.version
-unfolding version_line digits
-version_read h f = rw f.version refl
+unfolding version_line version_named digits
+version_read h f = named h.version f.version_least f.version
+  where
+    named : (v : ℕ) → 1 ≤ v → v ≤ 2 → version_line (version_words v) ≡ Some v
+    named zero least most = absurd (omega (arith, least))
+    named (suc zero) least most = refl
+    named (suc (suc zero)) least most = refl
+    named (suc (suc (suc v))) least most = absurd (omega (arith, most))
 
 match_read : (h : Head) → HeadFits h → match_line h.version (match_words h) ≡ Some (with_objects h [] [])
 unfolding match_line match_numbers

@@ -4,7 +4,6 @@ use Rattle.std.specs.List.{list_all}
 use Rattle.tn_types.specs.declared.limits.TheConstants.{MAX_CLIENTS, MAX_LIFE, MIN_DATAGRAM_BYTES, MAX_DATAGRAM_BYTES, MAX_RADIUS, MAX_BLOCKS, MAX_BLOCK_BYTES, MAX_OBJECTS, MAX_COORDINATE}
 use Rattle.world_rules.specs.declared.kinds.TheConstants.{PLAYER, MINE, DRONE, FLAG, CLOCK}
 use Rattle.world_rules.specs.declared.setup.Spawn.{Spawn}
-use Rattle.match_script.specs.declared.limits.TheConstants.{VERSION}
 use Rattle.match_script.specs.declared.types.ScriptFault.{ScriptFault}
 use Rattle.match_script.specs.declared.types.ScriptFault.TheVariants.{UnknownWord}
 use Rattle.match_script.specs.declared.types.Head.{Head}
@@ -15,9 +14,13 @@ abbrev pub without_fault : {A : Type 0} → Result A ScriptFault → Option A
 without_fault (Ok x) = Some x
 without_fault (Err e) = None
 
--- `tribes 1`: the version
+-- the version that a word names
+unfoldable pub version_named : List ℕ → Option ℕ
+version_named word = if is word (codes "1") then Some 1 else if is word (codes "2") then Some 2 else None
+
+-- `tribes VERSION`: the version
 unfoldable pub version_line : List (List ℕ) → Option ℕ
-version_line (kind ∷ version ∷ []) = if is kind (codes "tribes") && is version (codes "1") then Some VERSION else None
+version_line (kind ∷ version ∷ []) = if is kind (codes "tribes") then version_named version else None
 version_line _ = None
 
 -- the five numbers of `match SEED CLIENTS LIFE SIZE RADIUS`, as a header with no block and no object yet
@@ -114,6 +117,14 @@ abbrev pub object_line : ℕ → ℕ → List Spawn → List (List ℕ) → Opti
 object_line clients blocks before words = if_placed before (named clients blocks words)
 
 -- ---- examples
+
+version_2 : version_line (codes "tribes" ∷ codes "2" ∷ []) ≡ Some 2
+unfolding version_line version_named
+version_2 = refl
+
+no_version_3 : version_line (codes "tribes" ∷ codes "3" ∷ []) ≡ None
+unfolding version_line version_named
+no_version_3 = refl
 
 a_player : object_line 2 1 [] (codes "player" ∷ codes "1" ∷ codes "0" ∷ codes "1" ∷ codes "5" ∷ codes "65535" ∷ [])
     ≡ Some (record { kind = PLAYER; block = 0; team = 1; x = pos 5; y = pos 65535; owner = Some 1 })

@@ -5,7 +5,7 @@ use Rattle.std.specs.List.{All}
 use Rattle.tn_types.specs.Bytes.{AreBytes}
 use Rattle.tn_types.specs.declared.limits.TheConstants.{MAX_CLIENTS, MAX_LIFE, MIN_DATAGRAM_BYTES, MAX_DATAGRAM_BYTES, MAX_RADIUS, MAX_BODY_LINES, MAX_EVENT_BYTES, MAX_BLOCKS, MAX_BLOCK_BYTES}
 use Rattle.world_rules.specs.Spawning.{SetupFits}
-use Rattle.match_script.specs.declared.limits.TheConstants.{VERSION}
+use Rattle.match_script.specs.declared.limits.TheConstants.{MIN_VERSION, MAX_VERSION}
 use Rattle.match_script.specs.declared.types.BodyLine.{BodyLine}
 use Rattle.match_script.specs.declared.types.BodyLine.TheVariants.{Tick, Scan, Post, ClientPost, Pack, ClientPack, Down, Up, Raw, Move, Show, World}
 use Rattle.match_script.specs.declared.types.Head.{Head}
@@ -39,7 +39,8 @@ LineFits clients (Show c) = c < clients
 LineFits clients World = Unit {0}
 
 pub record HeadFits (h : Head) : Type 0 where
-  pub version : h.version ≡ VERSION
+  pub version_least : MIN_VERSION ≤ h.version
+  pub version : h.version ≤ MAX_VERSION
   pub seed : h.seed < 2 ^ 32
   pub clients_least : 1 ≤ h.clients
   pub clients : h.clients ≤ MAX_CLIENTS

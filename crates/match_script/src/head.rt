@@ -4,12 +4,12 @@ ghost use Rattle.std.specs.List.{All};
 ghost use Rattle.match_script.specs.declared.types.ParseFault.TheVariants.{Bad};
 ghost use Rattle.match_script.specs.declared.types.ScriptFault.TheVariants.{BadHeader};
 ghost use Rattle.match_script.specs.Text.{lines_of, words_of};
-ghost use Rattle.match_script.specs.Header.{match_numbers, version_line, match_line, block_line, is_go};
+ghost use Rattle.match_script.specs.Header.{match_numbers, version_named, version_line, match_line, block_line, is_go};
 ghost use Rattle.match_script.specs.Script.{Gives, header_words, block_in, blocks_of, with_objects, opening, header};
 ghost use Rattle.match_script.specs.Ranges.{BlockFits, HeadFits};
 
 use crate::cut::{cut_line, is_text};
-use crate::limits::VERSION;
+use crate::limits::{MAX_VERSION, MIN_VERSION};
 use crate::objects::objects_of;
 use crate::types::{Blocks, Head, ParseFault, ScriptFault};
 use crate::word;
@@ -40,16 +40,33 @@ pub(crate) fn header_line(n: u32, text: &[u8]) -> Result<(&[u8], &[u8]), ParseFa
     }
 }
 
-// The version that `tribes 1` names.
+// The version that a word names.
+#[tactic(auto, unfolding(crate::specs::Header::version_named))]
+fn version_named(word: &[u8]) -> Option<u8>
+    ensures value { result ≡ version_named word.now }
+    ensures least { IfSome result (λ version. MIN_VERSION ≤ version) }
+    ensures most { IfSome result (λ version. version ≤ MAX_VERSION) }
+{
+    if word == b"1".as_slice() {
+        Some(1)
+    } else if word == b"2".as_slice() {
+        Some(2)
+    } else {
+        None
+    }
+}
+
+// The version that `tribes VERSION` names.
 #[tactic(auto, unfolding(crate::specs::Header::version_line))]
 fn version_line(line: &[u8]) -> Option<u8>
     ensures value { result ≡ version_line (words_of line.now) }
-    ensures fits { IfSome result (λ version. version ≡ VERSION) }
+    ensures least { IfSome result (λ version. MIN_VERSION ≤ version) }
+    ensures most { IfSome result (λ version. version ≤ MAX_VERSION) }
 {
     match parted(line) {
         Words::Two(kind, version) => {
-            if kind == b"tribes".as_slice() && version == b"1".as_slice() {
-                Some(VERSION)
+            if kind == b"tribes".as_slice() {
+                version_named(version)
             } else {
                 None
             }
@@ -69,7 +86,7 @@ fn match_numbers(
     radius: &[u8],
 ) -> Result<Head, ScriptFault>
     ensures value { result ≡ match_numbers version seed.now clients.now life.now size.now radius.now }
-    ensures fits { version ≡ VERSION → IfOk result HeadFits }
+    ensures fits { MIN_VERSION ≤ version → version ≤ MAX_VERSION → IfOk result HeadFits }
 {
     let seed = word::number_32(seed)?;
     let clients = word::number_from(1, u32::from(MAX_CLIENTS), clients)?;
@@ -96,7 +113,7 @@ fn match_numbers(
 #[tactic(auto, unfolding(crate::specs::Header::match_line))]
 fn match_line(alloc: Global, version: u8, line: &[u8]) -> Option<Head>
     ensures value { result ≡ match_line version (words_of line.now) }
-    ensures fits { version ≡ VERSION → IfSome result HeadFits }
+    ensures fits { MIN_VERSION ≤ version → version ≤ MAX_VERSION → IfSome result HeadFits }
 {
     match parted(line) {
         Words::Six(kind, seed, clients, life, size, radius) => {

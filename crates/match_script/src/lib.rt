@@ -16,7 +16,7 @@ mod word;
 mod words;
 
 pub use held::{LineDatagram, LinePayload};
-pub use limits::VERSION;
+pub use limits::{MAX_VERSION, MIN_VERSION};
 pub use printer::{grows_by_a_line, print, print_head, put_line};
 pub use reader::{parse, parse_threads};
 pub use types::{Blocks, Body, BodyLine, Head, ParseFault, Script, ScriptFault};

@@ -1,4 +1,6 @@
-//! What this version of the format is.
+//! The versions of the format.
 
-/// The version of the format that the first line names.
-pub const VERSION: u8 = 1;
+/// The first version that a script's first line names.
+pub const MIN_VERSION: u8 = 1;
+/// The last one.
+pub const MAX_VERSION: u8 = 2;

@@ -213,7 +213,7 @@ fn copies(alloc: Global, blocks: &[BlockBytes]) -> Result<Vec<BlockBytes>, Alloc
 /// What the header says.
 #[derive(Drop)]
 pub struct Head {
-    /// The version of the format and of the datagrams: 1.
+    /// The version of the format and of the datagrams: 1 or 2.
     pub version: u8,
     /// Where the world's chances start: below 2^32.
     pub seed: u32,

@@ -5,13 +5,13 @@ ghost use Rattle.match_script.specs.Ranges.{HasRanges};
 ghost use Rattle.match_threads.specs.Telling.{IsRaceText, Tells, TellsFront};
 
 use legal_race::tell;
-use match_engine::{RunFault, write_all};
+use match_engine::RunFault;
 use match_script::Script;
 use race_run::{Gate, race, race_in_turn};
 use std::alloc::Global;
 use std::sync::Wait;
 use std::thread::Threads;
-use tn_outside::Sink;
+use tn_outside::{Sink, write_all};
 use tn_types::NoMemory;
 
 // The text of a match on one thread.

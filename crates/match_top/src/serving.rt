@@ -13,7 +13,7 @@ ghost use Rattle.match_top.specs.Outcome.{text_of, AloneIsOfRun, Outcome, IsWant
 
 use crate::command::{Command, command_of};
 use match_count::{count, put_counts};
-use match_engine::{RunFault, run, write_all};
+use match_engine::{RunFault, run};
 use match_laws::{
     applied_in_order, changes_recover, copies_show_values, events_in_order, isolation,
     little_is_refused, loose_events_in_order, moves_in_order, printed_in_order, settled_is_newest,
@@ -22,7 +22,7 @@ use match_script::Script;
 use script_input::{Status, read_script};
 use script_maker::make;
 use std::alloc::Global;
-use tn_outside::{Sink, Source};
+use tn_outside::{Sink, Source, write_all};
 use tn_types::MAX_SCRIPT_BYTES;
 use two_worlds::run_alone;
 

@@ -1,3 +1,5 @@
 pub mod Turns
+pub mod Faults
 pub mod Hellos
 pub mod Places
+pub mod Runs

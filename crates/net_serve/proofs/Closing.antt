@@ -18,7 +18,8 @@ use Rattle.net_rules.specs.Turns.{Event, Turned}
 use Rattle.net_rules.specs.Hellos.{firsts, joined, hello_at}
 use Rattle.net_serve.specs.Lines.{delivered, delivered_of, posts, arrival_lines, after_clients, lines, text_so_far}
 use Rattle.net_serve.specs.Outgoing.{Outgoing, datagrams, made, to_peer, packed_for, pack_of, packs, sends}
-use Rattle.net_serve.specs.Stages.{ServerState, Begun, Plays, Serves, Same, PlaysOn, Writes, WritesFront, SendsMore, SendsFront, IsAt, IsFront}
+use Rattle.net_rules.specs.Runs.{Begun}
+use Rattle.net_serve.specs.Stages.{ServerState, Plays, Serves, Same, PlaysOn, Writes, WritesFront, SendsMore, SendsFront, IsAt, IsFront}
 use Rattle.tn_outside.proofs.Totals.{whole_front}
 use Rattle.net_serve.proofs.Texts.{front_grows}
 use Rattle.net_serve.proofs.Sending.{sends_more, sends_whole, sends_grow}

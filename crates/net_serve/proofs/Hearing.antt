@@ -10,7 +10,8 @@ use Rattle.net_rules.specs.Turns.{Event, Heard}
 use Rattle.net_rules.specs.Hellos.{is_arrival, hello_of, hello_in, joined, client_of}
 use Rattle.net_serve.specs.Lines.{arrival_lines, sender, lines, text_so_far}
 use Rattle.net_serve.specs.Outgoing.{Outgoing, datagrams, welcome_to, sends}
-use Rattle.net_serve.specs.Stages.{ServerState, Begun, Plays, Serves, Same, PlaysOn, Writes, WritesFront, IsAt, IsFront}
+use Rattle.net_rules.specs.Runs.{Begun}
+use Rattle.net_serve.specs.Stages.{ServerState, Plays, Serves, Same, PlaysOn, Writes, WritesFront, IsAt, IsFront}
 use Rattle.net_serve.proofs.Sending.{sends_more, sends_whole}
 use Rattle.net_serve.proofs.Events.{hello_sender, no_sender, sender_is, lines_for, joined_stays, nobody_welcomed, welcomed}
 use Rattle.net_serve.proofs.Rounds.{front_later, at_front, at_sent}

@@ -14,7 +14,8 @@ use Rattle.net_rules.proofs.Places.{answer_later, place_came, came, not_due, pla
 use Rattle.net_rules.proofs.Turning.{turn_ends, turns_go_on, found_more, heard_more, events_more}
 use Rattle.net_serve.specs.Lines.{lines, text_so_far}
 use Rattle.net_serve.specs.Outgoing.{sends}
-use Rattle.net_serve.specs.Stages.{ServerState, Begun, Serves, IsAt, IsFront, ServedFront}
+use Rattle.net_rules.specs.Runs.{Begun}
+use Rattle.net_serve.specs.Stages.{ServerState, Serves, IsAt, IsFront, ServedFront}
 use Rattle.tn_outside.proofs.Totals.{adds_nothing, whole_front}
 use Rattle.net_serve.proofs.Texts.{front_grows}
 use Rattle.net_serve.proofs.Sending.{sends_grow, sends_whole}
@@ -44,47 +45,9 @@ at_front o s head w d past e at =
 
 -- ---- one turn's listening
 
-module _ (o : Begun) (t behind n : ℕ) where
-  pub nothing_yet : Listens o.ahead o.clock t behind 0
-  nothing_yet = record { most = omega arith; waits = λ k lt. absurd (omega (arith, lt)) }
-
-  pub goes_on : Listens o.ahead o.clock t behind n → n < MAX_RECEIVES → (IsDue o.ahead o.clock t (behind + n) → ⊥) → Listens o.ahead o.clock t behind (n + 1)
-  goes_on l lt not = record {
-    most = omega arith;
-    waits = λ k less. elim (cases_lt k n) [
-      | inl before ↦ l.waits k before
-      | inr here ↦ let e : n ≡ k = omega arith in subst (λ (i : ℕ). IsDue o.ahead o.clock t (behind + i) → ⊥) e not
-    ];
-  }
-
-  pub turn_over : Listens o.ahead o.clock t behind n → n < MAX_RECEIVES → IsDue o.ahead o.clock t (behind + n) → IsTurn o.ahead o.clock t behind (suc n)
-  turn_over l lt due = record {
-    some = omega arith;
-    most = omega arith;
-    waits = λ k less. l.waits k (omega (arith, less));
-    ends = inr (n, refl, due);
-  }
-
-  pub turn_full : Listens o.ahead o.clock t behind n → n ≡ MAX_RECEIVES → IsTurn o.ahead o.clock t behind n
-  turn_full l full = record {
-    some = omega (arith, full);
-    most = omega (arith, full);
-    waits = λ k less. l.waits k (omega (arith, less));
-    ends = inl full;
-  }
-
-  pub place_first : (a : Option Ahead) (c : Option (List ℕ)) → IsPlace o.ahead o.clock a c behind → IsPlace o.ahead o.clock a c (behind + 0)
-  place_first a c p = subst (λ (k : ℕ). IsPlace o.ahead o.clock a c k) (sym (add-zero behind)) p
-
-  pub place_on : (a : Option Ahead) (c : Option (List ℕ)) → IsPlace o.ahead o.clock a c (suc (behind + n)) → IsPlace o.ahead o.clock a c (behind + (n + 1))
-  place_on a c p = subst (λ (k : ℕ). IsPlace o.ahead o.clock a c k) (let e : suc (behind + n) ≡ behind + (n + 1) = omega arith in e) p
-
-  pub place_over : (a : Option Ahead) (c : Option (List ℕ)) → IsPlace o.ahead o.clock a c (suc (behind + n)) → IsPlace o.ahead o.clock a c (behind + suc n)
-  place_over a c p = subst (λ (k : ℕ). IsPlace o.ahead o.clock a c k) (let e : suc (behind + n) ≡ behind + suc n = omega arith in e) p
-
-  pub heard_on : (s : ServerState) (w : Option (List ℕ)) (d : Option (List Datagram)) (past : List Event)
-      → IsAt o s w d (with_found (found o.ahead (behind + n)) (heard o.ahead behind n past)) → IsAt o s w d (heard o.ahead behind (n + 1) past)
-  heard_on s w d past at = subst (λ (k : ℕ). IsAt o s w d (heard o.ahead behind k past)) (sym (add-one n)) at
+pub heard_on : (o : Begun) (behind n : ℕ) (s : ServerState) (w : Option (List ℕ)) (d : Option (List Datagram)) (past : List Event)
+    → IsAt o s w d (with_found (found o.ahead (behind + n)) (heard o.ahead behind n past)) → IsAt o s w d (heard o.ahead behind (n + 1) past)
+heard_on o behind n s w d past at = subst (λ (k : ℕ). IsAt o s w d (heard o.ahead behind k past)) (sym (add-one n)) at
 
 -- ---- turns
 
@@ -153,36 +116,6 @@ pub found_front : (o : Begun) (s : ServerState) (w : Option (List ℕ)) (d : Opt
 found_front o s w d k past at =
     let f = found_more (found o.ahead k) past in
     front_later o s.script.head w d f.0 past (with_found (found o.ahead k) past) f.1 (at_front o s s.script.head w d past refl at)
-
--- ---- by an answer
-
-pub on_ok : {T E : Type 0} (r : Result T E) {P Q : Type 0} → (P → Q) → OnOk r P → OnOk r Q
-on_ok (Ok x) f p = f p
-on_ok (Err e) f p = p
-
-pub on_err : {T E : Type 0} (r : Result T E) {P Q : Type 0} → (P → Q) → OnErr r P → OnErr r Q
-on_err (Ok x) f p = p
-on_err (Err e) f p = f p
-
-pub on_ok2 : {T E : Type 0} (r : Result T E) {P Q S : Type 0} → (P → Q → S) → OnOk r P → OnOk r Q → OnOk r S
-on_ok2 (Ok x) f p q = f p q
-on_ok2 (Err e) f p q = tt
-
-pub on_ok3 : {T E : Type 0} (r : Result T E) {P Q R S : Type 0} → (P → Q → R → S) → OnOk r P → OnOk r Q → OnOk r R → OnOk r S
-on_ok3 (Ok x) f p q r = f p q r
-on_ok3 (Err e) f p q r = tt
-
-pub on_err2 : {T E : Type 0} (r : Result T E) {P Q S : Type 0} → (P → Q → S) → OnErr r P → OnErr r Q → OnErr r S
-on_err2 (Ok x) f p q = tt
-on_err2 (Err e) f p q = f p q
-
-pub always_ok : {T E : Type 0} (r : Result T E) {P : Type 0} → P → OnOk r P
-always_ok (Ok x) p = p
-always_ok (Err e) p = tt
-
-pub always_err : {T E : Type 0} (r : Result T E) {P : Type 0} → P → OnErr r P
-always_err (Ok x) p = tt
-always_err (Err e) p = p
 
 -- ---- the start
 

@@ -1,7 +1,7 @@
 -- How far a server came: what it holds, what was written and what was sent, since a run began.
-use Rattle.std.specs.Prelude.{◌≡◌, ℕ, List, ◌++◌, length, Option, Some}
+use Rattle.std.specs.Prelude.{◌≡◌, ℕ, List, ◌++◌, length, Option}
 use Rattle.std.specs.List.{All}
-use Rattle.tn_outside.specs.Links.{Datagram, Ahead}
+use Rattle.tn_outside.specs.Links.{Datagram}
 use Rattle.tn_outside.specs.Totals.{Adds, AddsFront}
 use Rattle.match_script.specs.declared.types.BodyLine.{BodyLine}
 use Rattle.match_script.specs.declared.types.Head.{Head}
@@ -11,6 +11,7 @@ use Rattle.match_engine.specs.Match.{MatchState, StandsFor}
 use Rattle.net_rules.specs.declared.hello.Hello.{Hello}
 use Rattle.net_rules.specs.Hellos.{joined}
 use Rattle.net_rules.specs.Turns.{Event, turned, AreTurns, events}
+use Rattle.net_rules.specs.Runs.{Begun}
 use Rattle.net_serve.specs.Lines.{lines, text_so_far}
 use Rattle.net_serve.specs.Outgoing.{Outgoing, sends, datagrams}
 
@@ -66,20 +67,6 @@ SendsFront old g sent sent' =
     → AddsFront first sent' (datagrams (before ++ g past))
 
 -- ---- a run
-
--- how it began: what the link had ahead, what the clock was to answer, what was written and what was sent
-pub record Begun : Type 0 where
-  pub ahead : Ahead
-  pub clock : List ℕ
-  pub written : Option (List ℕ)
-  pub sent : Option (List Datagram)
-
--- it began with these
-pub record Begins (o : Begun) (ahead : Option Ahead) (clock written : Option (List ℕ)) (sent : Option (List Datagram)) : Type 0 where
-  pub ahead_is : ahead ≡ Some o.ahead
-  pub clock_is : clock ≡ Some o.clock
-  pub written_is : written ≡ o.written
-  pub sent_is : sent ≡ o.sent
 
 -- all of this happened since, the script of it was written, and what it asks for was sent
 pub record IsAt (o : Begun) (s : ServerState) (written : Option (List ℕ)) (sent : Option (List Datagram)) (past : List Event) : Type 0 where

@@ -10,6 +10,5 @@ mod server;
 mod serving;
 mod telling;
 
-pub use fault::ServeFault;
 pub use laws::{is_read_again, packs_are_sent, raws_are_arrivals, ticks_are_turns};
 pub use serving::serve;

@@ -2,14 +2,14 @@
 ghost use Rattle.std.specs.Prelude.{◌≡◌, ◌<◌, ◌≤◌, ◌∷◌, List, [], ℕ, length, Some, Err, IfOk, IfErr, OnOk, OnErr};
 ghost use Rattle.std.specs.Option.{option_copied};
 
-use crate::fault::{ServeFault, fault_of};
-use match_engine::{Match, RunFault, write_all};
+use crate::fault::fault_of;
+use match_engine::{Match, RunFault};
 use match_report::Told;
 use match_script::{BodyLine, Script, put_line};
-use net_rules::{Hello, Peers, WELCOME_BYTES, hello_of, is_arrival, welcome};
+use net_rules::{Hello, NetFault, Peers, WELCOME_BYTES, hello_of, is_arrival, welcome};
 use std::alloc::Global;
 use std::marker::Model;
-use tn_outside::{Link, Peer, Sink};
+use tn_outside::{Link, Peer, Sink, write_all};
 use tn_types::{MAX_CLIENTS, MAX_COUNTED_LINES, NoMemory, are_bytes};
 
 /// A match that is served, and who has a client.
@@ -56,8 +56,9 @@ impl<'a> Server<'a> {
     ghost use Rattle.net_rules.specs.Hellos.{joined, client_of, hello_in, hello_at};
     ghost use Rattle.net_serve.specs.Lines.{script_line, arrival_lines, after_clients};
     ghost use Rattle.net_serve.specs.Outgoing.{welcome_of, welcome_to, datagrams, packs, pack_of, packed_for};
-    ghost use Rattle.net_serve.specs.Faults.{HasCause};
-    ghost use Rattle.net_serve.specs.Stages.{Plays, Serves, PlaysOn, Writes, WritesFront, SendsMore, SendsFront, Same, Begun, IsAt, IsFront};
+    ghost use Rattle.net_rules.specs.Faults.{HasCause};
+    ghost use Rattle.net_rules.specs.Runs.{Begun};
+    ghost use Rattle.net_serve.specs.Stages.{Plays, Serves, PlaysOn, Writes, WritesFront, SendsMore, SendsFront, Same, IsAt, IsFront};
 
     /// A server of this script's header, of which nothing was done.
     pub(crate) fn new(alloc: Global, script: &'a Script) -> Result<Server<'a>, NoMemory>
@@ -135,7 +136,7 @@ impl<'a> Server<'a> {
         alloc: Global,
         line: &BodyLine,
         sink: &mut K,
-    ) -> Result<(), ServeFault>
+    ) -> Result<(), NetFault>
         requires stands { (past : List OneLine) × Plays self.old past }
         requires fits { LineFits self.old.script.head.clients line.now }
         ensures plays { OnOk result (PlaysOn self.old (λ past. line.now ∷ past) self.new) }
@@ -213,7 +214,7 @@ impl<'a> Server<'a> {
     }
 
     // A hello is answered, where its peer has a client or can have one.
-    fn greet<L: Link>(&mut self, hello: Hello, link: &mut L) -> Result<(), ServeFault>
+    fn greet<L: Link>(&mut self, hello: Hello, link: &mut L) -> Result<(), NetFault>
         requires fits { HeadFits self.old.script.head }
         requires few { length self.old.peers ≤ self.old.script.head.clients }
         ensures joined { OnOk result ((e : Event) (past : List Event) → hello_in e ≡ Some hello
@@ -228,7 +229,7 @@ impl<'a> Server<'a> {
         ensures later { L.faults link.old ≤ L.faults link.new }
     {
         let Ok(()) = self.join(hello) else {
-            return Err(ServeFault::NoMemory);
+            return Err(NetFault::NoMemory);
         };
         let Some(client) = self.client_of(hello.peer) else {
             return Ok(());
@@ -236,7 +237,7 @@ impl<'a> Server<'a> {
         let to = self.hello(client).peer;
         match link.send(to, &self.welcome(client)) {
             Ok(()) => Ok(()),
-            Err(_) => Err(ServeFault::LinkFault),
+            Err(_) => Err(NetFault::LinkFault),
         }
     }
 
@@ -248,7 +249,7 @@ impl<'a> Server<'a> {
         bytes: &[u8],
         link: &mut L,
         sink: &mut K,
-    ) -> Result<(), ServeFault>
+    ) -> Result<(), NetFault>
         requires stands { (past : List Event) × Serves self.old past }
         ensures serves { OnOk result ((past : List Event) → Serves self.old past
             → Serves self.new (Heard (record { peer = peer; bytes = bytes.now }) ∷ past)) }
@@ -282,7 +283,7 @@ impl<'a> Server<'a> {
     }
 
     // The line of a tick.
-    fn tick<K: Sink>(&mut self, alloc: Global, sink: &mut K) -> Result<(), ServeFault>
+    fn tick<K: Sink>(&mut self, alloc: Global, sink: &mut K) -> Result<(), NetFault>
         requires stands { (past : List OneLine) × Plays self.old past }
         ensures plays { OnOk result (PlaysOn self.old (λ past. script.Tick ∷ past) self.new) }
         ensures written { OnOk result (Writes self.old (λ past. script.Tick ∷ past) (K.written sink.old) (K.written sink.new)) }
@@ -296,7 +297,7 @@ impl<'a> Server<'a> {
     }
 
     // The line of a client's scan.
-    fn scan<K: Sink>(&mut self, alloc: Global, client: u8, sink: &mut K) -> Result<(), ServeFault>
+    fn scan<K: Sink>(&mut self, alloc: Global, client: u8, sink: &mut K) -> Result<(), NetFault>
         requires stands { (past : List OneLine) × Plays self.old past }
         requires client { client < self.old.script.head.clients }
         ensures plays { OnOk result (PlaysOn self.old (λ past. script.Scan client ∷ past) self.new) }
@@ -311,7 +312,7 @@ impl<'a> Server<'a> {
     }
 
     // The line of a client's pack.
-    fn pack<K: Sink>(&mut self, alloc: Global, client: u8, sink: &mut K) -> Result<(), ServeFault>
+    fn pack<K: Sink>(&mut self, alloc: Global, client: u8, sink: &mut K) -> Result<(), NetFault>
         requires stands { (past : List OneLine) × Plays self.old past }
         requires client { client < self.old.script.head.clients }
         ensures plays { OnOk result (PlaysOn self.old (λ past. script.Pack client ∷ past) self.new) }
@@ -326,7 +327,7 @@ impl<'a> Server<'a> {
     }
 
     // Sends the datagram that the last line made, if it made one.
-    fn send_made<L: Link>(&self, peer: Peer, link: &mut L) -> Result<(), ServeFault>
+    fn send_made<L: Link>(&self, peer: Peer, link: &mut L) -> Result<(), NetFault>
         ensures sent { OnOk result (Adds (L.sent link.old) (L.sent link.new) (packed_for peer self.now.game.told)) }
         ensures unsent { OnErr result (L.sent link.new ≡ L.sent link.old) }
         ensures ahead { L.ahead link.new ≡ L.ahead link.old }
@@ -345,7 +346,7 @@ impl<'a> Server<'a> {
         {
             return match link.send(peer, bytes.as_slice()) {
                 Ok(()) => Ok(()),
-                Err(_) => Err(ServeFault::LinkFault),
+                Err(_) => Err(NetFault::LinkFault),
             };
         }
         Ok(())
@@ -358,7 +359,7 @@ impl<'a> Server<'a> {
         client: u8,
         link: &mut L,
         sink: &mut K,
-    ) -> Result<(), ServeFault>
+    ) -> Result<(), NetFault>
         requires stands { (past : List OneLine) × Plays self.old past }
         requires client { client < self.old.script.head.clients }
         requires known { client < length self.old.peers }
@@ -394,7 +395,7 @@ impl<'a> Server<'a> {
         count: u8,
         link: &mut L,
         sink: &mut K,
-    ) -> Result<(), ServeFault>
+    ) -> Result<(), NetFault>
         requires stands { (past : List OneLine) × Plays self.old past }
         requires clients { count ≤ self.old.script.head.clients }
         requires known { count ≤ length self.old.peers }
@@ -424,7 +425,7 @@ impl<'a> Server<'a> {
         alloc: Global,
         link: &mut L,
         sink: &mut K,
-    ) -> Result<(), ServeFault>
+    ) -> Result<(), NetFault>
         requires stands { (past : List Event) × Serves self.old past }
         ensures serves { OnOk result ((past : List Event) → Serves self.old past → Serves self.new (Turned ∷ past)) }
         ensures done { OnOk result ((o : Begun) (past : List Event) → IsAt o self.old (K.written sink.old) (L.sent link.old) past

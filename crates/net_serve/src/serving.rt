@@ -8,21 +8,20 @@ ghost use Rattle.script_maker.specs.Made.{made};
 ghost use Rattle.net_rules.specs.declared.limits.TheConstants.{MAX_RECEIVED_BYTES};
 ghost use Rattle.net_rules.specs.Turns.{Event, total, AreTurns, events, heard, TurnsAreOne};
 ghost use Rattle.net_rules.specs.Places.{IsPlace};
-ghost use Rattle.net_serve.specs.Faults.{HasCause, IsDoneOrFull};
+ghost use Rattle.net_rules.specs.Faults.{HasCause, IsDoneOrFull};
 ghost use Rattle.net_serve.specs.Laws.{PacksAreSent, RawsAreArrivals, TicksAreTurns, IsReadAgain};
 ghost use Rattle.net_serve.specs.Lines.{text_so_far};
-ghost use Rattle.net_serve.specs.Stages.{Serves, Begun, Begins, IsAt, IsFront, Went, Served, ServedFront, ServedSome};
+ghost use Rattle.net_rules.specs.Runs.{Begun, Begins};
+ghost use Rattle.net_serve.specs.Stages.{Serves, IsAt, IsFront, Went, Served, ServedFront, ServedSome};
 
-use crate::fault::ServeFault;
 use crate::laws::{is_read_again, packs_are_sent, raws_are_arrivals, ticks_are_turns};
 use crate::listening::listen;
 use crate::server::Server;
-use match_engine::write_all;
 use match_script::{Body, Head, Script, print_head};
-use net_rules::{MAX_RECEIVED_BYTES, TURN_MILLISECONDS, turns_are_one};
+use net_rules::{MAX_RECEIVED_BYTES, NetFault, TURN_MILLISECONDS, turns_are_one};
 use script_maker::make;
 use std::alloc::Global;
-use tn_outside::{Clock, Link, Sink};
+use tn_outside::{Clock, Link, Sink, write_all};
 use tn_types::{MAX_CLIENTS, NoMemory};
 
 /// The script of a number with no line.
@@ -40,18 +39,18 @@ fn header(alloc: Global, seed: u32, clients: u8) -> Result<Script, NoMemory>
 }
 
 /// Writes the header's lines.
-fn write_header<K: Sink>(alloc: Global, head: &Head, sink: &mut K) -> Result<(), ServeFault>
+fn write_header<K: Sink>(alloc: Global, head: &Head, sink: &mut K) -> Result<(), NetFault>
     ensures written { OnOk result (Adds (K.written sink.old) (K.written sink.new) (text_so_far head.now [])) }
     ensures front { OnErr result (AddsFront (K.written sink.old) (K.written sink.new) (text_so_far head.now [])) }
     ensures cause { IfErr result (HasCause ⊥ ⊥ (Rose (K.faults sink.old) (K.faults sink.new))) }
     ensures later { K.faults sink.old ≤ K.faults sink.new }
 {
     let Ok(text) = print_head(alloc, head) else {
-        return Err(ServeFault::NoMemory);
+        return Err(NetFault::NoMemory);
     };
     match write_all(sink, text.as_slice()) {
         Ok(()) => Ok(()),
-        Err(_) => Err(ServeFault::WriteFault),
+        Err(_) => Err(NetFault::WriteFault),
     }
 }
 
@@ -65,7 +64,7 @@ fn turn<L: Link, C: Clock, K: Sink>(
     link: &mut L,
     clock: &mut C,
     sink: &mut K,
-) -> Result<(), ServeFault>
+) -> Result<(), NetFault>
     requires stands { (past : List Event) × Serves server.old past }
     requires buffer { length buf.old ≡ MAX_RECEIVED_BYTES }
     ensures stands { OnOk result ((past : List Event) × Serves server.new past) }
@@ -103,7 +102,7 @@ fn serve_turns<L: Link, C: Clock, K: Sink>(
     link: &mut L,
     clock: &mut C,
     sink: &mut K,
-) -> Result<(), ServeFault>
+) -> Result<(), NetFault>
     requires stands { (past : List Event) × Serves server.old past }
     ensures done { OnOk result ((o : Begun) → start ≡ answer_at o.clock 0 → IsPlace o.ahead o.clock (L.ahead link.old) (C.ahead clock.old) 0
         → IsAt o server.old (K.written sink.old) (L.sent link.old) []
@@ -137,7 +136,7 @@ fn serve_match<L: Link, C: Clock, K: Sink>(
     link: &mut L,
     clock: &mut C,
     sink: &mut K,
-) -> Result<(), ServeFault>
+) -> Result<(), NetFault>
     requires clients_least { 1 ≤ clients }
     requires clients { clients ≤ MAX_CLIENTS }
     ensures done { OnOk result ((o : Begun) → Begins o (L.ahead link.old) (C.ahead clock.old) (K.written sink.old) (L.sent link.old)
@@ -153,13 +152,13 @@ fn serve_match<L: Link, C: Clock, K: Sink>(
     ensures sink_later { K.faults sink.old ≤ K.faults sink.new }
 {
     let Ok(script) = header(alloc, seed, clients) else {
-        return Err(ServeFault::NoMemory);
+        return Err(NetFault::NoMemory);
     };
     let Ok(mut server) = Server::new(alloc, &script) else {
-        return Err(ServeFault::NoMemory);
+        return Err(NetFault::NoMemory);
     };
     let Ok(start) = clock.now() else {
-        return Err(ServeFault::ClockFault);
+        return Err(NetFault::ClockFault);
     };
     write_header(alloc, &script.head, sink)?;
     serve_turns(alloc, &mut server, start, turns, link, clock, sink)
@@ -175,7 +174,7 @@ pub fn serve<L: Link, C: Clock, K: Sink>(
     link: &mut L,
     clock: &mut C,
     sink: &mut K,
-) -> Result<(), ServeFault>
+) -> Result<(), NetFault>
     requires clients_least { 1 ≤ clients }
     requires clients { clients ≤ MAX_CLIENTS }
     // Where the link and the clock tell what they have ahead, the script written and the datagrams sent are those that the rules

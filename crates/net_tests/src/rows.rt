@@ -128,11 +128,15 @@ raw 0 40000000000000000000000000002002000008b434c2ed0d\ntick\nscan 0\npack 0\nsc
 }
 
 #[test]
-fn usage_of_serve(rt: HostRuntime) -> Result<(), Fail> {
-    let rows: [(&[&str], u32); 11] = [
+fn usage(rt: HostRuntime) -> Result<(), Fail> {
+    let rows: [(&[&str], u32); 15] = [
         (&[], 0),
         (&["run"], 0),
-        (&["join", "5"], 0),
+        (&["join"], 1),
+        (&["join", "0"], 1),
+        (&["join", "100001"], 1),
+        (&["join", "5", "5"], 2),
+        (&["joins", "5"], 0),
         (&["serve"], 1),
         (&["serve", "07", "1", "1"], 1),
         (&["serve", "7", "0", "1"], 2),
@@ -153,10 +157,11 @@ fn usage_of_serve(rt: HostRuntime) -> Result<(), Fail> {
 }
 
 #[test]
-fn statuses_of_link_and_clock(rt: HostRuntime) -> Result<(), Fail> {
+fn statuses_of_link_clock_and_demo(rt: HostRuntime) -> Result<(), Fail> {
     for (status, exit, words) in [
         (Status::LinkFault, 8, "linkfault"),
         (Status::ClockFault, 9, "clockfault"),
+        (Status::Demo(11), 10, "demo 11"),
     ] {
         assert_eq!(rt; exit_of(status), exit);
         let said = format!(in rt.alloc(); "{status}")?;

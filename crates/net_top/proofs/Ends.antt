@@ -1,21 +1,24 @@
 -- Each end of a command has its outcome, and an outcome says which answer it is.
 use Rattle.std.proofs.Common.{ℕ, ◌≡◌, ◌≤◌, ◌⊎◌, inl, inr, List, Option, Result, Ok, Err, refl, sym, subst, arith}
 use Rattle.tn_outside.specs.Causes.{Rose}
-use Rattle.tn_outside.specs.Links.{Datagram, Ahead}
+use Rattle.tn_outside.specs.Links.{Datagram, Ahead, answer_at}
 use Rattle.tn_outside.proofs.Totals.{whole_front}
 use Rattle.match_script.specs.declared.types.Head.{Head}
 use Rattle.script_maker.specs.Made.{made}
 use Rattle.script_input.specs.declared.status.Status.{Status}
-use Rattle.script_input.specs.declared.status.Status.TheVariants.{Done, Usage, Script, TooLong, ReadFault, WriteFault, NoMemory, LinkFault, ClockFault}
-use Rattle.net_serve.specs.declared.fault.ServeFault.{ServeFault}
-use Rattle.net_serve.specs.declared.fault.ServeFault.TheVariants as fault
-use Rattle.net_serve.specs.Faults.{HasCause}
+use Rattle.script_input.specs.declared.status.Status.TheVariants.{Done, Usage, Script, TooLong, ReadFault, WriteFault, NoMemory, LinkFault, ClockFault, Demo}
+use Rattle.net_rules.specs.declared.fault.NetFault.{NetFault}
+use Rattle.net_rules.specs.declared.fault.NetFault.TheVariants as fault
+use Rattle.net_rules.specs.Faults.{HasCause}
 use Rattle.net_serve.specs.Lines.{text_so_far, lines}
 use Rattle.net_serve.specs.Outgoing.{sends, datagrams}
 use Rattle.net_rules.specs.Turns.{events}
-use Rattle.net_serve.specs.Stages.{Begun, Begins, Served, ServedFront, ServedSome}
+use Rattle.net_rules.specs.Runs.{Begun, Begins}
+use Rattle.net_serve.specs.Stages.{Served, ServedFront, ServedSome}
+use Rattle.net_join.specs.Joining.{sends as join_sends, ending}
+use Rattle.net_join.specs.Stages.{Joined, JoinedFront, JoinedSome, nonce_of}
 use Rattle.net_top.specs.declared.command.NetCommand.{NetCommand}
-use Rattle.net_top.specs.Command.{serving}
+use Rattle.net_top.specs.declared.command.NetCommand.TheVariants.{Serve, Join}
 use Rattle.net_top.specs.Outcome.{Told, told, Met, met, HasFailed, IsDone, IsFront, BeginsWith, NetOutcome, IsWanted, CanBeDone, status_of}
 
 -- a fault that comes later in a call is one of the call
@@ -34,6 +37,16 @@ served_front head turns o w d s = record {
   };
 }
 
+joined_front : (turns : ℕ) (o : Begun) (w : Option (List ℕ)) (d : Option (List Datagram)) → Joined turns o w d → JoinedFront turns o w d
+joined_front turns o w d s =
+    let nonce = nonce_of (answer_at o.clock 0) in record {
+      counts = s.counts;
+      turns_are = s.turns_are;
+      are = s.are;
+      sends = whole_front o.sent d (join_sends nonce (events o.ahead s.counts)) s.sends;
+      text = whole_front o.written w (ending nonce (events o.ahead s.counts)) s.text;
+    }
+
 module _ (seed clients turns : ℕ) (a a' : Option Ahead) (c c' w w' w2 : Option (List ℕ)) (d d' : Option (List Datagram)) (lf lf' cf cf' kf kf' kf2 : ℕ) where
   abbrev head : Head
   head = (made seed clients 0).head
@@ -47,7 +60,7 @@ module _ (seed clients turns : ℕ) (a a' : Option Ahead) (c c' w w' w2 : Option
 
   module _ (done : (o : Begun) → Begins o a c w d → Served head turns o w' d') (heard : ServedSome head turns w w' d d') (same : w2 ≡ w')
       (link : lf ≤ lf') (clock : cf ≤ cf') (sink : kf ≤ kf') (later : kf' ≤ kf2) where
-    pub all_done : NetOutcome (Ok (serving seed clients turns)) now Done
+    pub all_done : NetOutcome (Ok (Serve seed clients turns)) now Done
     all_done = record {
       answer = (
         λ o b. subst (λ (x : Option (List ℕ)). Served head turns o x d') (sym same) (done o b),
@@ -58,7 +71,7 @@ module _ (seed clients turns : ℕ) (a a' : Option Ahead) (c c' w w' w2 : Option
       sink = omega (arith, sink, later);
     }
 
-    pub not_handed : Rose kf' kf2 → NetOutcome (Ok (serving seed clients turns)) now WriteFault
+    pub not_handed : Rose kf' kf2 → NetOutcome (Ok (Serve seed clients turns)) now WriteFault
     not_handed rose = record {
       answer = (
         rose_later kf kf' kf2 sink rose,
@@ -70,11 +83,50 @@ module _ (seed clients turns : ℕ) (a a' : Option Ahead) (c c' w w' w2 : Option
     }
 
   module _ (front : (o : Begun) → Begins o a c w d → ServedFront head turns o w' d') (link : lf ≤ lf') (clock : cf ≤ cf') (sink : kf ≤ kf') where
-    pub stopped : (f : ServeFault) → HasCause (Rose lf lf') (Rose cf cf') (Rose kf kf') f → NetOutcome (Ok (serving seed clients turns)) then (status_of f)
+    pub stopped : (f : NetFault) → HasCause (Rose lf lf') (Rose cf cf') (Rose kf kf') f → NetOutcome (Ok (Serve seed clients turns)) then (status_of f)
     stopped fault.NoMemory h = record { answer = front; link = link; clock = clock; sink = sink }
     stopped fault.LinkFault h = record { answer = (h, front); link = link; clock = clock; sink = sink }
     stopped fault.ClockFault h = record { answer = (h, front); link = link; clock = clock; sink = sink }
     stopped fault.WriteFault h = record { answer = (h, front); link = link; clock = clock; sink = sink }
+
+module _ (turns : ℕ) (a a' : Option Ahead) (c c' w w' w2 : Option (List ℕ)) (d d' : Option (List Datagram)) (lf lf' cf cf' kf kf' kf2 : ℕ) where
+  -- after joining, and after the sink's last call
+  abbrev joined_then : Met
+  joined_then = met (told a a' lf lf') (told c c' cf cf') (told w w' kf kf') d d'
+
+  abbrev joined_now : Met
+  joined_now = met (told a a' lf lf') (told c c' cf cf') (told w w2 kf kf2) d d'
+
+  module _ (done : (o : Begun) → Begins o a c w d → Joined turns o w' d') (heard : JoinedSome turns w w' d d') (same : w2 ≡ w')
+      (link : lf ≤ lf') (clock : cf ≤ cf') (sink : kf ≤ kf') (later : kf' ≤ kf2) where
+    pub all_joined : NetOutcome (Ok (Join turns)) joined_now Done
+    all_joined = record {
+      answer = (
+        λ o b. subst (λ (x : Option (List ℕ)). Joined turns o x d') (sym same) (done o b),
+        subst (λ (x : Option (List ℕ)). JoinedSome turns w x d d') (sym same) heard,
+      );
+      link = link;
+      clock = clock;
+      sink = omega (arith, sink, later);
+    }
+
+    pub join_not_handed : Rose kf' kf2 → NetOutcome (Ok (Join turns)) joined_now WriteFault
+    join_not_handed rose = record {
+      answer = (
+        rose_later kf kf' kf2 sink rose,
+        λ o b. joined_front turns o w2 d' (subst (λ (x : Option (List ℕ)). Joined turns o x d') (sym same) (done o b)),
+      );
+      link = link;
+      clock = clock;
+      sink = omega (arith, sink, later);
+    }
+
+  module _ (front : (o : Begun) → Begins o a c w d → JoinedFront turns o w' d') (link : lf ≤ lf') (clock : cf ≤ cf') (sink : kf ≤ kf') where
+    pub join_stopped : (f : NetFault) → HasCause (Rose lf lf') (Rose cf cf') (Rose kf kf') f → NetOutcome (Ok (Join turns)) joined_then (status_of f)
+    join_stopped fault.NoMemory h = record { answer = front; link = link; clock = clock; sink = sink }
+    join_stopped fault.LinkFault h = record { answer = (h, front); link = link; clock = clock; sink = sink }
+    join_stopped fault.ClockFault h = record { answer = (h, front); link = link; clock = clock; sink = sink }
+    join_stopped fault.WriteFault h = record { answer = (h, front); link = link; clock = clock; sink = sink }
 
 -- ---- which answer it is
 
@@ -88,6 +140,7 @@ exact (Ok c) m WriteFault h = (tt, (h.answer).0)
 exact (Ok c) m NoMemory h = tt
 exact (Ok c) m LinkFault h = (tt, (h.answer).0)
 exact (Ok c) m ClockFault h = (tt, (h.answer).0)
+exact (Ok c) m (Demo place) h = absurd (h.answer)
 exact (Err place) m Done h = absurd (let e = (h.answer).0 in cc)
 exact (Err place) m (Usage p) h = (h.answer).0
 exact (Err place) m (Script line fault) h = absurd (let e = (h.answer).0 in cc)
@@ -97,6 +150,7 @@ exact (Err place) m WriteFault h = absurd (let e = (h.answer).0 in cc)
 exact (Err place) m NoMemory h = absurd (let e = (h.answer).0 in cc)
 exact (Err place) m LinkFault h = absurd (let e = (h.answer).0 in cc)
 exact (Err place) m ClockFault h = absurd (let e = (h.answer).0 in cc)
+exact (Err place) m (Demo p) h = absurd (let e = (h.answer).0 in cc)
 
 pub complete : (command : Result NetCommand ℕ) (m : Met) (s : Status) → NetOutcome command m s → CanBeDone command m → (s ≡ Done) ⊎ (s ≡ NoMemory)
 complete (Err place) m s h can = absurd (can.is_command)
@@ -109,3 +163,4 @@ complete (Ok c) m WriteFault h can = absurd (can.sink (h.answer).0)
 complete (Ok c) m NoMemory h can = inr refl
 complete (Ok c) m LinkFault h can = absurd (can.link (h.answer).0)
 complete (Ok c) m ClockFault h can = absurd (can.clock (h.answer).0)
+complete (Ok c) m (Demo place) h can = absurd (h.answer)

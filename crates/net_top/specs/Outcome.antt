@@ -1,5 +1,5 @@
--- How a call over a link ends, and what it leaves of the link, of the clock and of the sink: the script of what was heard was written
--- and what it asks for was sent; or a front of both, and the cause.
+-- How a call over a link ends, and what it leaves of the link, of the clock and of the sink: what the rules ask for of what was heard
+-- was written and sent; or a front of both, and the cause.
 use Rattle.std.specs.Prelude.{ℕ, ◌≡◌, ◌≤◌, ◌⊎◌, List, Option, Result, Ok, Err}
 use Rattle.tn_outside.specs.Causes.{Rose}
 use Rattle.tn_outside.specs.Links.{Datagram, Ahead}
@@ -7,10 +7,13 @@ use Rattle.match_script.specs.declared.types.Head.{Head}
 use Rattle.script_maker.specs.Made.{made}
 use Rattle.script_input.specs.declared.status.Status.{Status}
 use Rattle.script_input.specs.declared.status.Status.TheVariants.{Done, Usage, WriteFault, NoMemory, LinkFault, ClockFault}
-use Rattle.net_serve.specs.declared.fault.ServeFault.{ServeFault}
-use Rattle.net_serve.specs.declared.fault.ServeFault.TheVariants as fault
-use Rattle.net_serve.specs.Stages.{Begun, Begins, Served, ServedFront, ServedSome}
+use Rattle.net_rules.specs.declared.fault.NetFault.{NetFault}
+use Rattle.net_rules.specs.declared.fault.NetFault.TheVariants as fault
+use Rattle.net_rules.specs.Runs.{Begun, Begins}
+use Rattle.net_serve.specs.Stages.{Served, ServedFront, ServedSome}
+use Rattle.net_join.specs.Stages.{Joined, JoinedFront, JoinedSome}
 use Rattle.net_top.specs.declared.command.NetCommand.{NetCommand}
+use Rattle.net_top.specs.declared.command.NetCommand.TheVariants.{Serve, Join}
 
 -- ---- what is told before a call and after it
 
@@ -51,16 +54,20 @@ IsUntouched m = Stays m.link × Stays m.clock × Stays m.sink × (m.sent ≡ m.b
 abbrev pub BeginsWith : Begun → Met → Type 0
 BeginsWith o m = Begins o m.link.old m.clock.old m.sink.old m.before
 
--- where the link and the clock tell what they have ahead, the script that the rules ask for over the two lists was written, and what
+-- where the link and the clock tell what they have ahead, the text that the rules ask for over the two lists was written, and what
 -- they ask for sent; and whatever they tell, it was so for some datagrams that were heard in so many turns
 abbrev pub IsDone : NetCommand → Met → Type 0
-IsDone c m =
-    ((o : Begun) → BeginsWith o m → Served (made c.seed c.clients 0).head c.turns o m.sink.new m.sent)
-    × ServedSome (made c.seed c.clients 0).head c.turns m.sink.old m.sink.new m.before m.sent
+IsDone (Serve seed clients turns) m =
+    ((o : Begun) → BeginsWith o m → Served (made seed clients 0).head turns o m.sink.new m.sent)
+    × ServedSome (made seed clients 0).head turns m.sink.old m.sink.new m.before m.sent
+IsDone (Join turns) m =
+    ((o : Begun) → BeginsWith o m → Joined turns o m.sink.new m.sent)
+    × JoinedSome turns m.sink.old m.sink.new m.before m.sent
 
 -- or a front of it
 abbrev pub IsFront : NetCommand → Met → Type 0
-IsFront c m = (o : Begun) → BeginsWith o m → ServedFront (made c.seed c.clients 0).head c.turns o m.sink.new m.sent
+IsFront (Serve seed clients turns) m = (o : Begun) → BeginsWith o m → ServedFront (made seed clients 0).head turns o m.sink.new m.sent
+IsFront (Join turns) m = (o : Begun) → BeginsWith o m → JoinedFront turns o m.sink.new m.sent
 
 -- the cause of the answer to a command
 abbrev pub Cause : NetCommand → Met → Status → Type 0
@@ -111,7 +118,7 @@ pub record CanBeDone (command : Result NetCommand ℕ) (m : Met) : Type 0 where
 
 -- ---- a fault of a server, as an answer
 
-abbrev pub status_of : ServeFault → Status
+abbrev pub status_of : NetFault → Status
 status_of fault.NoMemory = NoMemory
 status_of fault.LinkFault = LinkFault
 status_of fault.ClockFault = ClockFault

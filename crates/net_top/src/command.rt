@@ -9,13 +9,13 @@ use tn_types::MAX_CLIENTS;
 // The greatest number of clients.
 const MOST_CLIENTS: u32 = MAX_CLIENTS as u32;
 
-/// What the program is to do over a link, `serve SEED CLIENTS TURNS`: a match that is made of these numbers is served to those who say
-/// hello. CLIENTS is from 1 to 16, TURNS from 1 to 100,000.
+/// What the program is to do over a link. TURNS is from 1 to 100,000.
 #[derive(Clone, Copy, Debug, PartialEq, Eq)]
-pub struct NetCommand {
-    pub seed: u32,
-    pub clients: u8,
-    pub turns: u32,
+pub enum NetCommand {
+    /// `serve SEED CLIENTS TURNS`: a match that is made of these numbers is served to those who say hello. CLIENTS is from 1 to 16.
+    Serve { seed: u32, clients: u8, turns: u32 },
+    /// `join TURNS`: a match is joined that is served at this machine.
+    Join { turns: u32 },
 }
 
 // The command with these words behind `serve`.
@@ -32,13 +32,27 @@ fn serve_of(words: &[String]) -> Result<NetCommand, u32>
         return Err(3);
     };
     if words.len() == 3 {
-        Ok(NetCommand {
+        Ok(NetCommand::Serve {
             seed,
             clients: clients as u8,
             turns,
         })
     } else {
         Err(4)
+    }
+}
+
+// The command with these words behind `join`.
+fn join_of(words: &[String]) -> Result<NetCommand, u32>
+    ensures { result ≡ command_of (codes "join" ∷ map string_bytes words.now) }
+{
+    let Some(turns) = number_at(words, 0, 1, MAX_TURNS) else {
+        return Err(1);
+    };
+    if words.len() == 1 {
+        Ok(NetCommand::Join { turns })
+    } else {
+        Err(2)
     }
 }
 
@@ -52,6 +66,8 @@ pub fn command_of(words: &Vec<String>) -> Result<NetCommand, u32>
         Some((name, rest)) => {
             if name.as_str() == "serve" {
                 serve_of(rest)
+            } else if name.as_str() == "join" {
+                join_of(rest)
             } else {
                 Err(0)
             }

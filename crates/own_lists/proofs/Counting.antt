@@ -19,9 +19,10 @@ use Rattle.stream_manager.specs.Server as server_log
 use Rattle.stream_manager.specs.Server.{ServerEvent, server_datagrams, server_state, posted_at_server, next_body, server_ping_bytes}
 use Rattle.stream_manager.specs.Client as client_log
 use Rattle.stream_manager.specs.Client.{ClientEvent, client_datagrams, client_state, posted_at_client, client_bytes, client_ping_bytes, sampled_answer}
-use Rattle.pair_core.specs.History.{PairStep, Show, Hide, Near, Post, ClientPost, Sample, Pack, ClientPack, Down, Up, Raw, history, absorbing, values_of, server_posts, client_posts, client_samples}
+use Rattle.conn_packing.specs.Packs.{absorbing, values_of}
+use Rattle.pair_core.specs.History.{PairStep, Show, Hide, Near, Post, ClientPost, Sample, Pack, ClientPack, Down, Up, Raw, history, server_posts, client_posts, client_samples}
 use Rattle.pair_core.proofs.Brought.{gets_sends_up, gets_sends_down}
-use Rattle.pair_core.proofs.Good.{absorbed-sends}
+use Rattle.conn_packing.proofs.Absorbed.{absorbed-sends}
 use Rattle.own_lists.specs.Own.{OwnShow, OwnItem, Line, Scan, Tick}
 use Rattle.own_lists.specs.Counted.{counted, counted_in}
 use Rattle.own_lists.specs.Course.{onto, hide_step, near_step, show_step, scan_steps}

@@ -33,9 +33,10 @@ use Rattle.stream_manager.specs.Limits.{Terms}
 use Rattle.stream_manager.specs.Server as server
 use Rattle.stream_manager.specs.Server.{ServerEvent, server_state, server_answer, took_at_server, posted_at_server, accepted_at}
 use Rattle.stream_manager.specs.Client.{client_datagrams}
-use Rattle.pair_core.specs.History.{PairStep, Show, Hide, Near, Post, ClientPost, Sample, Pack, ClientPack, Down, Up, Raw, history, absorbing, values_of, server_posts, server_gets}
+use Rattle.conn_packing.specs.Packs.{absorbing, values_of}
+use Rattle.pair_core.specs.History.{PairStep, Show, Hide, Near, Post, ClientPost, Sample, Pack, ClientPack, Down, Up, Raw, history, server_posts, server_gets}
 use Rattle.pair_core.specs.Answers.{accepted_in}
-use Rattle.own_lists.specs.Steps.{shows_in, is_hidden_in, traits_in}
+use Rattle.pair_steps.specs.Steps.{shows_in, is_hidden_in, traits_in}
 use Rattle.own_lists.specs.Own.{OwnShow, OwnWrite, OwnItem, Line, Scan, Tick, StandsAlone}
 use Rattle.own_lists.specs.Course.{Course, with_steps, room_in, near_step, scan_steps}
 use Rattle.own_lists.specs.Kept.{Kept, packs, left, drains_of, reads_of, after_step, after_line, with_course, begins, all_begin, wrote, wrote_all, after_tick, follows, kept}

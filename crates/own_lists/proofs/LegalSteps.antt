@@ -20,13 +20,15 @@ use Rattle.stream_manager.specs.declared.fault.ArriveFault.{ArriveFault}
 use Rattle.stream_manager.specs.Faults.{head_at_server, checked_packet}
 use Rattle.stream_manager.specs.Limits.{Terms}
 use Rattle.stream_manager.specs.Wire.{read_up}
-use Rattle.stream_manager.specs.End.{Seen, EndEvent, window_log, head_answer}
+use Rattle.event_manager.specs.Receiving.{run_of}
+use Rattle.stream_manager.specs.End.{Seen, EndEvent, window_log, came_of, head_answer}
 use Rattle.stream_manager.specs.Server as server
 use Rattle.stream_manager.specs.Server.{ServerEvent, server_end, server_state, seen_up, packet_check, packet_answer, body_check, took_at_server, posted_at_server, ghost_log}
 use Rattle.stream_manager.specs.Client.{client_datagrams}
-use Rattle.pair_core.specs.History.{PairStep, Show, Hide, Near, Post, ClientPost, Sample, Pack, ClientPack, Down, Up, Raw, history, absorbing, values_of, server_posts, server_gets}
+use Rattle.conn_packing.specs.Packs.{absorbing, values_of}
+use Rattle.pair_core.specs.History.{PairStep, Show, Hide, Near, Post, ClientPost, Sample, Pack, ClientPack, Down, Up, Raw, history, server_posts, server_gets}
 use Rattle.pair_core.specs.Conditions.{AreMet}
-use Rattle.pair_core.proofs.Good.{all-drained}
+use Rattle.conn_packing.proofs.Absorbed.{all-drained}
 use Rattle.pair_core.proofs.LegalLogs.{IsLegalLog, absorbs-legal, packed-legal, took-legal}
 
 -- ---- what is not refused acknowledges no packet that was not sent
@@ -37,9 +39,9 @@ head-within client log p ok =
     go (not (p.head.client == client)) (not p.ping && nat_le p.head.seq (horizon_of (window_log log))) (nat_lt (sent_of (window_log log)) p.head.horizon) refl ok
   where
     go : (other old ahead : Bool) → nat_lt (sent_of (window_log log)) p.head.horizon ≡ ahead
-        → is_ok {T = Unit {0}} (if other then Err (WrongClient p.head.client)
-        else if old then Err (Old p.head.seq (horizon_of (window_log log)))
-        else if ahead then Err (AckAhead p.head.horizon (sent_of (window_log log))) else Ok tt) ≡ true → p.head.horizon ≤ sent_of (window_log log)
+        → is_ok {T = Unit {0}} (then_check (if other then Err (WrongClient p.head.client)
+        else if old then Err (Old p.head.seq (horizon_of (window_log log))) else Ok tt)
+        (if ahead then Err (AckAhead p.head.horizon (sent_of (window_log log))) else Ok tt)) ≡ true → p.head.horizon ≤ sent_of (window_log log)
     go true old ahead e ok = absurd cc
     go false true ahead e ok = absurd cc
     go false false true e ok = absurd cc
@@ -94,7 +96,7 @@ module _ (t : Terms) (table : table_fault t.kinds ≡ None) where
 
   gets-legal : (s : List ServerEvent) (room : ℕ) (o : Option (List ℕ)) → Legal s → Legal (server_gets t.config room o s)
   gets-legal s room None legal = legal
-  gets-legal s room (Some bytes) legal = took s room (read_up t.config bytes) legal
+  gets-legal s room (Some bytes) legal = took s room (read_up t.config (run_of (came_of (server_end s))) bytes) legal
 
   pub legal_steps : (steps : List PairStep) → AreMet t steps → IsLegalLog t.kinds (history t steps).server
   legal_steps [] met = tt

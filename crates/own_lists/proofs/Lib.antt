@@ -1,4 +1,3 @@
-pub mod Journals
 pub mod LegalSteps
 pub mod KeptValues
 pub mod Meeting

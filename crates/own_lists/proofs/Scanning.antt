@@ -31,14 +31,14 @@ use Rattle.client_scope.specs.Scans.{level_in, last, is_new, periods, shown}
 use Rattle.client_scope.specs.Changes.{hidden, hides, nears, shows}
 use Rattle.client_scope.specs.Marks.{with_level, goes_on, begun}
 use Rattle.own_lists.specs.declared.showing.Showing.{Showing}
-use Rattle.own_lists.specs.Steps.{shows_in, is_hidden_in, up_in, traits_in}
+use Rattle.pair_steps.specs.Steps.{shows_in, is_hidden_in, up_in, traits_in}
 use Rattle.own_lists.specs.Own.{OwnShow}
 use Rattle.own_lists.specs.Course.{onto, hide_step, near_step, show_step, scan_steps, with_steps}
 use Rattle.own_lists.specs.Kept.{Kept, begins, all_begin, with_course, after_scan}
 use Rattle.own_lists.specs.Conditions.{MeetEach, HasValues, IsOwnScan}
 use Rattle.own_lists.specs.Past.{client_terms, showing_of, own_show}
 use Rattle.own_lists.specs.Agreement.{IsPeriodOf}
-use Rattle.own_lists.proofs.Journals.{shows_told, up_count_told, control_told}
+use Rattle.pair_steps.proofs.Journals.{shows_told, up_count_told, control_told}
 use Rattle.own_lists.proofs.ScanFacts.{IsSight, IsNone, AreNew, numbers, objects, first_of, below_rising, kept_shown, new_beside_kept, shown_more, new_more, step_on, numbers_on, shows_are_new, many_periods, shown_next, few_shown}
 use Rattle.own_lists.proofs.ScanChanges.{has, IsNear, hidden_rise, held_at, has_not, hidden_tells, kept_are, hidden_were_shown, nears_go_on}
 use Rattle.own_lists.proofs.WorldFacts.{object_values_fit, kind_below, object_at, one_player}

@@ -11,12 +11,12 @@ use Rattle.pair_core.specs.History.{PairStep, Hide, Near}
 use Rattle.world_sim.specs.Worlds.{Worlds}
 use Rattle.client_scope.specs.declared.period.ShownPeriod.{ShownPeriod}
 use Rattle.client_scope.specs.declared.period.Near.{Near as NearPeriod}
-use Rattle.own_lists.specs.Steps.{shows_in, is_hidden_in, up_in, traits_in}
+use Rattle.pair_steps.specs.Steps.{shows_in, is_hidden_in, up_in, traits_in}
 use Rattle.own_lists.specs.Course.{onto, hide_step, near_step}
 use Rattle.own_lists.specs.Kept.{Kept}
 use Rattle.own_lists.specs.Conditions.{MeetEach}
 use Rattle.own_lists.specs.Agreement.{IsPeriodOf}
-use Rattle.own_lists.proofs.Journals.{up_to}
+use Rattle.pair_steps.proofs.Journals.{up_to}
 use Rattle.own_lists.proofs.ScanFacts.{RiseTo, IsNone, AreShown, numbers, none_less, all_on}
 use Rattle.own_lists.proofs.ScanChanges.{has}
 

@@ -14,7 +14,7 @@ use Rattle.world_rules.specs.Identity.{Identity}
 use Rattle.world_sim.specs.declared.rows.Write.{Write}
 use Rattle.world_sim.specs.Worlds.{Worlds, IsWorld, next}
 use Rattle.client_scope.specs.declared.period.ShownPeriod.{ShownPeriod}
-use Rattle.own_lists.specs.Steps.{shows_in, is_hidden_in, up_in, traits_in}
+use Rattle.pair_steps.specs.Steps.{shows_in, is_hidden_in, up_in, traits_in}
 use Rattle.own_lists.specs.Own.{OwnWrite}
 use Rattle.own_lists.specs.Course.{Course, waiting_in}
 use Rattle.own_lists.specs.Kept.{Kept, wrote, wrote_all, after_tick}

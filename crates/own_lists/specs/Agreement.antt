@@ -15,7 +15,7 @@ use Rattle.world_scope.specs.declared.viewer.Seen.{Seen}
 use Rattle.client_scope.specs.declared.period.ShownPeriod.{ShownPeriod}
 use Rattle.client_scope.specs.Scans.{periods, shown}
 use Rattle.own_lists.specs.Counted.{counted_in}
-use Rattle.own_lists.specs.Steps.{shows_in, up_in, traits_in}
+use Rattle.pair_steps.specs.Steps.{shows_in, up_in, traits_in}
 use Rattle.own_lists.specs.Kept.{Kept}
 use Rattle.own_lists.specs.Conditions.{AreOwn}
 use Rattle.own_lists.specs.Past.{client_terms, kept_by, after}

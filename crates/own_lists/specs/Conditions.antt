@@ -9,7 +9,7 @@ use Rattle.stream_manager.specs.Limits.{Terms}
 use Rattle.pair_core.specs.History.{PairStep}
 use Rattle.pair_core.specs.Conditions.{IsMet}
 use Rattle.client_scope.specs.declared.period.Near.{Near}
-use Rattle.own_lists.specs.Steps.{shows_in, is_hidden_in, traits_in}
+use Rattle.pair_steps.specs.Steps.{shows_in, is_hidden_in, traits_in}
 use Rattle.own_lists.specs.Own.{OwnShow, OwnWrite, OwnItem, Line, Scan, Tick, StandsAlone}
 use Rattle.own_lists.specs.Course.{waiting_in, scan_steps}
 use Rattle.own_lists.specs.Kept.{Kept, kept}

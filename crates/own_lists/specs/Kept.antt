@@ -10,9 +10,10 @@ use Rattle.notify_window.specs.declared.SendState.{SendState}
 use Rattle.notify_window.specs.declared.SendState.TheVariants.{Held, Worn, Room}
 use Rattle.stream_manager.specs.Limits.{Terms}
 use Rattle.stream_manager.specs.Server.{ServerEvent, server_state, choices_at}
-use Rattle.pair_core.specs.History.{PairStep, Post, ClientPost, Sample, Pack, ClientPack, Down, Up, Raw, absorbing, history}
-use Rattle.pair_core.specs.Conditions.{asked_by_all}
-use Rattle.own_lists.specs.Steps.{shows_in, up_in}
+use Rattle.conn_packing.specs.Packs.{absorbing}
+use Rattle.pair_core.specs.History.{PairStep, Post, ClientPost, Sample, Pack, ClientPack, Down, Up, Raw, history}
+use Rattle.conn_packing.specs.Reads.{asked_by_all}
+use Rattle.pair_steps.specs.Steps.{shows_in, up_in}
 use Rattle.own_lists.specs.Own.{OwnShow, OwnWrite, OwnItem, Line, Scan, Tick}
 use Rattle.own_lists.specs.Course.{Course, beginning, room_in, with_step, with_steps, ticked, show_step, scan_steps}
 

@@ -1,4 +1,3 @@
-pub mod Steps
 pub mod Own
 pub mod Course
 pub mod Kept

@@ -30,7 +30,7 @@ pub record Past : Type 0 where
 -- what the header says of a client's connection
 abbrev pub client_terms : Head → ℕ → Terms
 client_terms head c = record {
-  config = record { client = c; life = head.life; size = head.size };
+  config = record { client = c; life = head.life; size = head.size; version = head.version };
   kinds = match_kinds;
   blocks = head.blocks;
 }

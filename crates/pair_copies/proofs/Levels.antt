@@ -27,8 +27,8 @@ use Rattle.ghost_masks.proofs.Items.{few_fields}
 use Rattle.ghost_client.specs.Fields.{place_in, carried_level}
 use Rattle.ghost_pair.specs.Levels.{put}
 use Rattle.ghost_logs.specs.Sent.{items_of}
-use Rattle.pair_core.specs.History.{values_of}
-use Rattle.pair_core.specs.Conditions.{fields_in, field_of, asked_by, asked_by_all}
+use Rattle.conn_packing.specs.Packs.{values_of}
+use Rattle.conn_packing.specs.Reads.{fields_in, field_of, asked_by, asked_by_all}
 use Rattle.pair_copies.specs.Reads.{newest_in}
 use Rattle.pair_copies.proofs.Runs.{run, fields-run, halved, none-above, run-count, others-leave, other-period, other-field, level-of-field}
 

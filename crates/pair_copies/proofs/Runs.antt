@@ -13,8 +13,8 @@ use Rattle.quantised_fields.specs.Levels.{level_of}
 use Rattle.ghost_client.specs.Fields.{place_in}
 use Rattle.ghost_masks.specs.Plan.{masked}
 use Rattle.ghost_masks.specs.Carried.{levels_for}
-use Rattle.pair_core.specs.History.{values_of}
-use Rattle.pair_core.specs.Conditions.{fields_in, field_of}
+use Rattle.conn_packing.specs.Packs.{values_of}
+use Rattle.conn_packing.specs.Reads.{fields_in, field_of}
 use Rattle.pair_copies.specs.Reads.{newest_in}
 
 -- ---- the fields of a mask, rising

@@ -32,9 +32,11 @@ use Rattle.stream_manager.specs.Server.{ServerEvent, ScopeChange, ghost_log, ser
 use Rattle.stream_manager.specs.Client.{client_datagrams}
 use Rattle.ghost_logs.specs.Sent.{items_of, sent_items}
 use Rattle.ghost_logs.proofs.Kept.{AreKept, same-kept, scope-kept, sent-kept, took-kept, choices-shown}
-use Rattle.pair_core.specs.History.{PairStep, Show, Hide, Near, Post, ClientPost, Sample, Pack, ClientPack, Down, Up, Raw, history, absorbing, values_of, server_posts, server_gets}
-use Rattle.pair_core.specs.Conditions.{AreReads, IsReadFor}
-use Rattle.pair_core.proofs.Good.{AreGood, absorbed-state, absorbed-scope}
+use Rattle.conn_packing.specs.Packs.{absorbing, values_of}
+use Rattle.pair_core.specs.History.{PairStep, Show, Hide, Near, Post, ClientPost, Sample, Pack, ClientPack, Down, Up, Raw, history, server_posts, server_gets}
+use Rattle.conn_packing.specs.Reads.{AreReads, IsReadFor}
+use Rattle.conn_packing.proofs.Absorbed.{absorbed-state, absorbed-scope}
+use Rattle.pair_core.proofs.Good.{AreGood}
 use Rattle.pair_core.proofs.LegalLogs.{IsLegalLog, packed-legal}
 use Rattle.pair_core.proofs.Carried.{carried-absorbed}
 use Rattle.pair_copies.specs.Reads.{HasRead, WasRead, newest_in, last_read}

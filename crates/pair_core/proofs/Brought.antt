@@ -1,5 +1,5 @@
 -- What a pair stands for after a delivery.
-use Rattle.std.proofs.Common.{◌≡◌, ℕ, List, ◌∷◌, Some, None, Result, Ok, Err, refl, sym, subst, ap, ◌∙◌}
+use Rattle.std.proofs.Common.{◌≡◌, ℕ, List, ◌∷◌, ◌++◌, Some, None, Result, Ok, Err, refl, sym, subst, ap, ◌∙◌}
 use Rattle.std.specs.Prelude.{slice_get, Option}
 use Rattle.wire_format.specs.declared.client.ClientPacket.{ClientPacket}
 use Rattle.wire_format.specs.declared.server.ServerPacket.{ServerPacket}
@@ -8,11 +8,18 @@ use Rattle.stream_manager.specs.declared.fault.ArriveFault.{ArriveFault}
 use Rattle.stream_manager.specs.declared.fault.ClientFault.{ClientFault}
 use Rattle.quantised_fields.specs.declared.kind.Kind.{Kind}
 use Rattle.stream_manager.specs.Limits.{Terms}
-use Rattle.stream_manager.specs.ClientCalls.{KeepsTerms}
+use Rattle.tn_types.specs.Checks.{Checked}
+use Rattle.stream_manager.specs.declared.server.Taken.{Taken}
+use Rattle.stream_manager.specs.ConnCalls.{Answers as AnswersServer, Hands as HandsServer, Accepts as AcceptsServer}
+use Rattle.stream_manager.specs.ClientCalls.{KeepsTerms, Answers as AnswersClient, Hands as HandsClient}
+use Rattle.stream_manager.specs.End.{delivered_at}
 use Rattle.stream_manager.specs.Stands.{ConnState, ConnStandsFor, terms_of, ClientState, ClientStandsFor}
-use Rattle.stream_manager.specs.Server.{ServerEvent, server_datagrams, server_answer, took_at_server}
-use Rattle.stream_manager.specs.Client.{ClientEvent, client_datagrams, client_answer, took_at_client}
+use Rattle.stream_manager.specs.Server as server
+use Rattle.stream_manager.specs.Server.{ServerEvent, server_end, accepted_at, server_datagrams, server_answer, took_at_server}
+use Rattle.stream_manager.specs.Client as client
+use Rattle.stream_manager.specs.Client.{ClientEvent, client_end, client_datagrams, client_answer, took_at_client}
 use Rattle.pair_core.specs.History.{PairStep, Down, Up, Raw, history, client_gets, server_gets}
+use Rattle.pair_core.specs.Answers.{answer, came_down, brought_down, came_up, brought_up, client_delivered, server_delivered, accepted_in}
 use Rattle.pair_core.specs.Stands.{PairState, StandsFor}
 
 -- an arrival sends nothing
@@ -83,3 +90,57 @@ raw_stands p new t steps bytes room terms gets s =
       down = s.down ∙ sym (gets_sends_down t room (Some bytes) (history t steps).server);
       up = s.up;
     }
+
+-- ---- what a delivery answers, hands out and lends
+
+module _ (p : PairState) (t : Terms) (steps : List PairStep) (s : StandsFor p t steps) where
+  config : p.conn.common.config ≡ t.config
+  config = ap (λ (x : Terms). x.config) s.terms
+
+  module _ (k : ℕ) (bytes : List ℕ) (there : slice_get p.down k ≡ Some bytes) where
+    sent-down : slice_get (server_datagrams t (history t steps).server) k ≡ Some bytes
+    sent-down = ap (λ (l : List (List ℕ)). slice_get l k) (sym s.down) ∙ there
+
+    -- what the client's end was made with is what the pair was
+    as-made : {A : Type 0} (f : Config → List Kind → A) → f p.client.common.config p.client.copies.kinds ≡ f t.config t.kinds
+    as-made f = ap (λ (x : Config). f x p.client.copies.kinds) s.client_config ∙ ap (λ (x : List Kind). f t.config x) s.client_kinds
+
+    pub down_answer : (r : Checked ClientFault) → AnswersClient p.client (client.arrive_answer p.client.common.config p.client.copies.kinds bytes) r → came_down r ≡ answer t steps (Down k)
+    down_answer r told =
+        ap came_down (told (history t steps).client s.client)
+        ∙ as-made (λ x y. came_down (client.arrive_answer x y bytes (history t steps).client))
+        ∙ ap (λ (o : Option (List ℕ)). brought_down t (history t steps) k o) (sym sent-down)
+
+    pub down_handed : (new : ClientState) → HandsClient p.client (client.arriving p.client.common.config p.client.copies.kinds bytes) new
+        → client_delivered t (Down k ∷ steps) ≡ client_delivered t steps ++ new.common.receiver.ready
+    down_handed new hands =
+        ap (λ (o : Option (List ℕ)). delivered_at (client_end (client_gets t o (history t steps).client))) sent-down
+        ∙ sym (as-made (λ x y. delivered_at (client_end (client.arriving x y bytes (history t steps).client))))
+        ∙ hands (history t steps).client s.client
+
+  module _ (bytes : List ℕ) (room : ℕ) where
+    pub raw_answer : (r : Result Taken ArriveFault) → AnswersServer p.conn (server.arrive_answer p.conn.common.config room bytes) r → came_up r ≡ answer t steps (Raw bytes room)
+    raw_answer r told = ap came_up (told (history t steps).server s.conn) ∙ ap (λ (x : Config). came_up (server.arrive_answer x room bytes (history t steps).server)) config
+
+    pub raw_handed : (new : ConnState) → HandsServer p.conn (server.arriving p.conn.common.config room bytes) new
+        → server_delivered t (Raw bytes room ∷ steps) ≡ server_delivered t steps ++ new.common.receiver.ready
+    raw_handed new hands =
+        sym (ap (λ (x : Config). delivered_at (server_end (server.arriving x room bytes (history t steps).server))) config) ∙ hands (history t steps).server s.conn
+
+    pub raw_moves : (new : ConnState) → AcceptsServer p.conn (server.arriving p.conn.common.config room bytes) new → accepted_in t (Raw bytes room ∷ steps) ≡ accepted_in t steps ++ new.taken
+    raw_moves new accepts =
+        subst (λ (x : Config). accepted_at x (server.arriving x room bytes (history t steps).server) ≡ accepted_at x (history t steps).server ++ new.taken) config (accepts (history t steps).server s.conn)
+
+    module _ (k : ℕ) (there : slice_get p.up k ≡ Some bytes) where
+      sent-up : slice_get (client_datagrams t.config (history t steps).client) k ≡ Some bytes
+      sent-up = ap (λ (l : List (List ℕ)). slice_get l k) (sym s.up) ∙ there
+
+      pub up_answer : (r : Result Taken ArriveFault) → AnswersServer p.conn (server.arrive_answer p.conn.common.config room bytes) r → came_up r ≡ answer t steps (Up k room)
+      up_answer r told = raw_answer r told ∙ ap (λ (o : Option (List ℕ)). brought_up t (history t steps) k room o) (sym sent-up)
+
+      pub up_handed : (new : ConnState) → HandsServer p.conn (server.arriving p.conn.common.config room bytes) new
+          → server_delivered t (Up k room ∷ steps) ≡ server_delivered t steps ++ new.common.receiver.ready
+      up_handed new hands = ap (λ (o : Option (List ℕ)). delivered_at (server_end (server_gets t.config room o (history t steps).server))) sent-up ∙ raw_handed new hands
+
+      pub up_moves : (new : ConnState) → AcceptsServer p.conn (server.arriving p.conn.common.config room bytes) new → accepted_in t (Up k room ∷ steps) ≡ accepted_in t steps ++ new.taken
+      up_moves new accepts = ap (λ (o : Option (List ℕ)). accepted_at t.config (server_gets t.config room o (history t steps).server)) sent-up ∙ raw_moves new accepts

@@ -1,11 +1,13 @@
 -- Datagrams that lie one behind another: each by its place, and one more.
-use Rattle.std.proofs.Common.{◌≡◌, ℕ, zero, suc, ◌+◌, ◌-◌, ◌<◌, ◌≤◌, List, [], ◌∷◌, ◌++◌, length, take, drop, get_or, Some, None, refl, sym, ap, ◌∙◌, subst, arith, length-append, length-drop}
+use Rattle.std.proofs.Common.{◌≡◌, ℕ, zero, suc, ◌+◌, ◌-◌, ◌<◌, ◌≤◌, List, [], ◌∷◌, ◌++◌, length, take, drop, get_or, Some, None, refl, sym, ap, ◌∙◌, subst, arith, length-append, length-drop, append-nil}
 use Rattle.std.specs.Prelude.{slice_get}
 use Rattle.std.specs.List.{AllByRecursion}
 use Rattle.std.proofs.lemmas.List.{take-append-le, drop-append-le}
 use Rattle.std.proofs.Math.Seq.{take-length, drop-append_seam}
-use Rattle.pair_core.specs.Flat.{cut, Rise, IsShort, AreFlat}
-use Rattle.pair_core.proofs.Lists.{all-append, all-at}
+use Rattle.conn_packing.specs.declared.made.Made.{Made}
+use Rattle.conn_packing.specs.declared.made.Made.TheVariants as made
+use Rattle.pair_core.specs.Flat.{cut, Rise, IsShort, AreFlat, with_made}
+use Rattle.conn_packing.proofs.Lists.{all-append, all-at}
 
 pub cut-length : (start : ℕ) (stops bytes : List ℕ) → length (cut start stops bytes) ≡ length stops
 cut-length start [] bytes = refl
@@ -67,3 +69,36 @@ flat-more stops xs ys stop is few short h = record {
 
 pub short-at : (stops bytes : List ℕ) (k : ℕ) (v : List ℕ) → AreFlat stops bytes → slice_get (cut 0 stops bytes) k ≡ Some v → length v ≤ 1200
 short-at stops bytes k v h e = all-at IsShort (cut 0 stops bytes) k v h.short e
+
+-- ---- what a pack made, if it made anything
+
+-- where nothing was made there are no bytes
+abbrev pub IsNoneWhereWorn : Made → List ℕ → Type 0
+IsNoneWhereWorn (made.Ping len) bytes = Unit {0}
+IsNoneWhereWorn (made.Body len) bytes = Unit {0}
+IsNoneWhereWorn (made.Worn life) bytes = bytes ≡ []
+
+pub flat-made : (m : Made) (stops xs ys : List ℕ) (stop : ℕ) → IsNoneWhereWorn m ys → stop ≡ length xs + length ys → length stops < 4294967295 → IsShort ys → AreFlat stops xs
+    → AreFlat (with_made m stop stops) (xs ++ ys)
+flat-made (made.Ping len) stops xs ys stop none is few short h = flat-more stops xs ys stop is few short h
+flat-made (made.Body len) stops xs ys stop none is few short h = flat-more stops xs ys stop is few short h
+flat-made (made.Worn life) stops xs ys stop none is few short h = subst (AreFlat stops) (sym (ap (λ (l : List ℕ). xs ++ l) none ∙ append-nil xs)) h
+
+pub cut-made : (m : Made) (stops xs ys : List ℕ) (stop : ℕ) → IsNoneWhereWorn m ys → stop ≡ length xs + length ys → Rise 0 stops (length xs)
+    → cut 0 (with_made m stop stops) (xs ++ ys) ≡ with_made m ys (cut 0 stops xs)
+cut-made (made.Ping len) stops xs ys stop none is h = cut-more 0 stops xs ys stop is h
+cut-made (made.Body len) stops xs ys stop none is h = cut-more 0 stops xs ys stop is h
+cut-made (made.Worn life) stops xs ys stop none is h = ap (cut 0 stops) (ap (λ (l : List ℕ). xs ++ l) none ∙ append-nil xs)
+
+-- the same of lists that are known by what they are
+module _ (m : Made) (stops xs ys ends bytes : List ℕ) (stop : ℕ) (none : IsNoneWhereWorn m ys) (is : bytes ≡ xs ++ ys) (so : ends ≡ with_made m stop stops) (at : stop ≡ length bytes) where
+  sum : stop ≡ length xs + length ys
+  sum = omega (arith, at, ap (λ (l : List ℕ). length l) is, length-append xs ys)
+
+  pub made-flat : length bytes ≤ length xs + 1200 → length stops < 4294967295 → AreFlat stops xs → AreFlat ends bytes
+  made-flat short few h =
+      subst (λ (x : List ℕ × List ℕ). AreFlat x.0 x.1) (λ j. (sym so j, sym is j))
+      (flat-made m stops xs ys stop none sum few (omega (arith, short, ap (λ (l : List ℕ). length l) is, length-append xs ys)) h)
+
+  pub made-cut : Rise 0 stops (length xs) → cut 0 ends bytes ≡ with_made m ys (cut 0 stops xs)
+  made-cut h = (λ j. cut 0 (so j) (is j)) ∙ cut-made m stops xs ys stop none sum h

@@ -19,7 +19,8 @@ use Rattle.stream_manager.specs.Server as server_log
 use Rattle.stream_manager.specs.Server.{ServerEvent, server_end, server_datagrams, server_state, server_answer, posted_at_server, took_at_server}
 use Rattle.stream_manager.specs.Client as client_log
 use Rattle.stream_manager.specs.Client.{ClientEvent, client_end, client_datagrams, client_state, client_answer, posted_at_client, sampled_answer, took_at_client}
-use Rattle.pair_core.specs.History.{PairStep, Show, Hide, Near, Post, ClientPost, Sample, Pack, ClientPack, Down, Up, Raw, history, absorbing, values_of, server_posts, client_posts, client_samples, client_gets, server_gets}
+use Rattle.conn_packing.specs.Packs.{absorbing, values_of}
+use Rattle.pair_core.specs.History.{PairStep, Show, Hide, Near, Post, ClientPost, Sample, Pack, ClientPack, Down, Up, Raw, history, server_posts, client_posts, client_samples, client_gets, server_gets}
 
 -- new is old with more events
 abbrev pub Grew : List WindowEvent → List WindowEvent → Type 0

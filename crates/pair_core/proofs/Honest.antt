@@ -1,6 +1,6 @@
 -- Over every list of steps, what is on its way between the ends is what an honest end sent: its packets name the client, and
 -- their events, blocks and moves fit what the other end has.
-use Rattle.std.proofs.Common.{◌≡◌, ℕ, ◌-◌, ◌*◌, ◌≤◌, Bool, true, false, List, [], ◌∷◌, length, map, take, Option, Some, None, if◌then◌else◌, Result, Ok, Err, refl, sym, subst, arith}
+use Rattle.std.proofs.Common.{◌≡◌, ℕ, ◌-◌, ◌*◌, ◌≤◌, Bool, true, false, List, [], ◌∷◌, length, map, take, Option, Some, None, if◌then◌else◌, Ok, Err, refl, sym, subst, arith}
 use Rattle.std.specs.Prelude.{slice_get, ℤ}
 use Rattle.std.specs.Result.{is_ok}
 use Rattle.std.specs.List.{AllByRecursion, slice_index_or}
@@ -10,7 +10,6 @@ use Rattle.tn_types.specs.declared.choices.Class.TheVariants.{Guaranteed, Loose}
 use Rattle.tn_types.specs.declared.moves.Move.{Move}
 use Rattle.notify_window.specs.declared.SendState.{SendState}
 use Rattle.notify_window.specs.declared.SendState.TheVariants.{Held, Worn, Room}
-use Rattle.wire_format.specs.declared.fault.BitsFault.{BitsFault}
 use Rattle.wire_format.specs.declared.blocks.BlockItem.{BlockItem}
 use Rattle.wire_format.specs.declared.server.ServerPacket.{ServerPacket}
 use Rattle.wire_format.specs.declared.server.ServerPacket.TheVariants as down
@@ -25,7 +24,6 @@ use Rattle.move_manager.specs.Sending.{acked_of}
 use Rattle.stream_manager.specs.declared.fault.ArriveFault.{ArriveFault}
 use Rattle.stream_manager.specs.declared.fault.ClientFault.{ClientFault}
 use Rattle.stream_manager.specs.Limits.{Terms, AreTerms}
-use Rattle.stream_manager.specs.Wire.{read_down, read_up, bytes_down, bytes_up}
 use Rattle.tn_types.specs.Checks.{Checked}
 use Rattle.stream_manager.specs.Faults.{checked_packet}
 use Rattle.event_manager.specs.Receiving.{run_of}
@@ -36,12 +34,13 @@ use Rattle.stream_manager.specs.Server as server_log
 use Rattle.stream_manager.specs.Server.{ServerEvent, server_end, block_log, server_datagrams, server_state, posted_at_server, seen_up, next_body, server_ping, took_at_server, block_item, accepted_at, move_log}
 use Rattle.stream_manager.specs.Client as client_log
 use Rattle.stream_manager.specs.Client.{ClientEvent, client_end, client_datagrams, client_state, posted_at_client, sampled_answer, seen_down, client_body, client_ping, took_at_client, sample_log, sampled_at}
-use Rattle.pair_core.specs.History.{PairStep, Show, Hide, Near, Post, ClientPost, Sample, Pack, ClientPack, Down, Up, Raw, history, absorbing, values_of, server_posts, client_posts, client_samples, client_gets, server_gets}
-use Rattle.pair_core.proofs.Good.{AreGood, FitRoom, reads-fit}
+use Rattle.conn_packing.specs.Packs.{absorbing, values_of}
+use Rattle.pair_core.specs.History.{PairStep, Show, Hide, Near, Post, ClientPost, Sample, Pack, ClientPack, Down, Up, Raw, history, server_posts, client_posts, client_samples}
+use Rattle.pair_core.proofs.Good.{AreGood}
 use Rattle.pair_core.specs.Laws.{posted_at}
-use Rattle.pair_core.proofs.Spelled.{reads-down, reads-up}
-use Rattle.pair_core.proofs.Lists.{all-at, all-take}
-use Rattle.pair_core.proofs.Carried.{Carried, carried, carried-absorbed, ping-down, body-down, ping-up, body-up, HoldsMoves, IsUp, moves-up}
+use Rattle.conn_packing.proofs.Lists.{all-at, all-take}
+use Rattle.pair_core.specs.Exchange.{server_packets, client_packets, given_down, given_up}
+use Rattle.pair_core.proofs.Carried.{Carried, carried, HoldsMoves, IsUp, moves-up}
 use Rattle.pair_core.proofs.VerdictLaw.{Windows, windows, true-verdicts, absorbs-down as windows-absorbed}
 use Rattle.pair_core.proofs.Reached.{events_of, Brings, EventsOn, start-events, near-events, sends-events, pings-events, takes-events, better}
 
@@ -64,20 +63,16 @@ begins-later m n l (up.Ping head) h = tt
 begins-later m n l (up.Body p) h = omega arith
 
 pub record Honest (t : Terms) (s : List ServerEvent) (u : List ClientEvent) : Type 0 where
-  pub down : EventsOn (read_down t.config t.kinds) seen_down (IsScript t.blocks) t.config.client (server_end s) (client_end u) (server_datagrams t s)
-  pub up : EventsOn (read_up t.config) seen_up (BeginsWithin (length (accepted_at t.config s))) t.config.client (client_end u) (server_end s) (client_datagrams t.config u)
+  pub down : EventsOn seen_down (IsScript t.blocks) t.config.client (server_end s) (client_end u) (server_packets s)
+  pub up : EventsOn seen_up (BeginsWithin (length (accepted_at t.config s))) t.config.client (client_end u) (server_end s) (client_packets u)
 
 are-of : (blocks : List (List ℕ)) (ns : List ℕ) → AllByRecursion (IsOf blocks) (map (block_item blocks) ns)
 are-of blocks [] = tt
 are-of blocks (n ∷ ns) = (refl, are-of blocks ns)
 
--- what bytes spell is one packet
-pub same-packet : {P : Type 0} (r : Result P BitsFault) (p q : P) → r ≡ Ok p → r ≡ Ok q → p ≡ q
-same-packet r p q e f = cc
-
 module _ (t : Terms) (limits : AreTerms t) where
   start : Honest t [] []
-  start = record { down = start-events (read_down t.config t.kinds) seen_down (IsScript t.blocks) t.config.client; up = start-events (read_up t.config) seen_up (BeginsWithin 0) t.config.client }
+  start = record { down = start-events seen_down (IsScript t.blocks) t.config.client; up = start-events seen_up (BeginsWithin 0) t.config.client }
 
   -- ---- posts and samples
 
@@ -119,21 +114,21 @@ module _ (t : Terms) (limits : AreTerms t) where
       script : (ns : List ℕ) → AllByRecursion (IsOf t.blocks) (fitting block_size (4 * t.config.size - SERVER_FIXED_BITS) (take MAX_PACKET_BLOCKS (map (block_item t.blocks) ns)))
       script ns = fitting-all (IsOf t.blocks) block_size (4 * t.config.size - SERVER_FIXED_BITS) (take MAX_PACKET_BLOCKS (map (block_item t.blocks) ns)) (all-take (IsOf t.blocks) MAX_PACKET_BLOCKS (map (block_item t.blocks) ns) (are-of t.blocks ns))
 
-  packs-down : (s : List ServerEvent) (u : List ClientEvent) (values : List ℤ) → FitRoom t s values → Carried t s u → Windows t s u → Honest t s u → Honest t (server_log.packing t s values) u
-  packs-down s u values fit c w h = go (server_state t.config s) refl
+  packs-down : (s : List ServerEvent) (u : List ClientEvent) (values : List ℤ) → Windows t s u → Honest t s u → Honest t (server_log.packing t s values) u
+  packs-down s u values w h = go (server_state t.config s) refl
     where
       go : (state : SendState) → server_state t.config s ≡ state → Honest t (server_log.packed_onto t s values state) u
       go Worn e = h
       go Held e = record {
-        down = pings-events (read_down t.config t.kinds) seen_down (IsScript t.blocks) t.config.client (server_end s) (client_end u) (server_datagrams t s) h.down (down.Ping (server_ping t.config s)) (bytes_down t (down.Ping (server_ping t.config s)))
-            refl (reads-down t (down.Ping (server_ping t.config s)) (ping-down t limits s u e c)) refl refl refl tt;
+        down = pings-events seen_down (IsScript t.blocks) t.config.client (server_end s) (client_end u) (server_packets s) h.down (down.Ping (server_ping t.config s))
+            refl refl refl refl tt;
         up = h.up;
       }
       go Room e = record {
-        down = sends-events (read_down t.config t.kinds) seen_down (IsScript t.blocks) t.config.client (server_end s) (client_end u) (server_datagrams t s) h.down (down.Body (next_body t s values)) (bytes_down t (down.Body (next_body t s values)))
-            refl (reads-down t (down.Body (next_body t s values)) (body-down t limits s u values e (fit e) c)) refl
-            (near-events (read_down t.config t.kinds) seen_down (IsScript t.blocks) t.config.client (server_end s) (client_end u) (server_datagrams t s) h.down
-            (true-verdicts (read_down t.config t.kinds) seen_down (server_end s) (client_end u) (server_datagrams t s) w.down).0 t.config _)
+        down = sends-events seen_down (IsScript t.blocks) t.config.client (server_end s) (client_end u) (server_packets s) h.down (down.Body (next_body t s values))
+            refl refl
+            (near-events seen_down (IsScript t.blocks) t.config.client (server_end s) (client_end u) (server_packets s) h.down
+            (true-verdicts seen_down (server_end s) (client_end u) (server_packets s) w.down).0 t.config _)
             (script-next s values) w.down.known;
         up = h.up;
       }
@@ -145,52 +140,47 @@ module _ (t : Terms) (limits : AreTerms t) where
       go Worn e = h
       go Held e = record {
         down = h.down;
-        up = pings-events (read_up t.config) seen_up (BeginsWithin (length (accepted_at t.config s))) t.config.client (client_end u) (server_end s) (client_datagrams t.config u) h.up (up.Ping (client_ping t.config u)) (bytes_up t.config (up.Ping (client_ping t.config u)))
-            refl (reads-up t.config (up.Ping (client_ping t.config u)) (ping-up t limits s u e c)) refl refl refl tt;
+        up = pings-events seen_up (BeginsWithin (length (accepted_at t.config s))) t.config.client (client_end u) (server_end s) (client_packets u) h.up (up.Ping (client_ping t.config u))
+            refl refl refl refl tt;
       }
       go Room e = record {
         down = h.down;
-        up = sends-events (read_up t.config) seen_up (BeginsWithin (length (accepted_at t.config s))) t.config.client (client_end u) (server_end s) (client_datagrams t.config u) h.up (up.Body (client_body t.config u)) (bytes_up t.config (up.Body (client_body t.config u)))
-            refl (reads-up t.config (up.Body (client_body t.config u)) (body-up t limits s u e c)) refl
-            (near-events (read_up t.config) seen_up (BeginsWithin (length (accepted_at t.config s))) t.config.client (client_end u) (server_end s) (client_datagrams t.config u) h.up
-            (true-verdicts (read_up t.config) seen_up (client_end u) (server_end s) (client_datagrams t.config u) w.up).0 t.config _)
+        up = sends-events seen_up (BeginsWithin (length (accepted_at t.config s))) t.config.client (client_end u) (server_end s) (client_packets u) h.up (up.Body (client_body t.config u))
+            refl refl
+            (near-events seen_up (BeginsWithin (length (accepted_at t.config s))) t.config.client (client_end u) (server_end s) (client_packets u) h.up
+            (true-verdicts seen_up (client_end u) (server_end s) (client_packets u) w.up).0 t.config _)
             c.moves.acked w.up.known;
       }
 
   -- ---- arrivals
 
-  took-down : (s : List ServerEvent) (u : List ClientEvent) (bytes : List ℕ) (a : Checked ClientFault) (b : Brings (read_down t.config t.kinds) seen_down (IsScript t.blocks) t.config.client (λ n. events_of n (server_end s)) (sent_of (window_log (server_end s))) (run_of (came_of (client_end u))) bytes)
-      → Honest t s u → Honest t s (took_at_client u (checked_packet b.packet a))
-  took-down s u bytes (Err e) b h = h
-  took-down s u bytes (Ok x) b h = record {
-    down = takes-events (read_down t.config t.kinds) seen_down (IsScript t.blocks) t.config.client (server_end s) (client_end u) (server_datagrams t s) h.down (seen_down b.packet) b.own;
+  took-down : (s : List ServerEvent) (u : List ClientEvent) (p : ServerPacket) (a : Checked ClientFault) (b : Brings seen_down (IsScript t.blocks) t.config.client (λ n. events_of n (server_end s)) (sent_of (window_log (server_end s))) (run_of (came_of (client_end u))) p)
+      → Honest t s u → Honest t s (took_at_client u (checked_packet p a))
+  took-down s u p (Err e) b h = h
+  took-down s u p (Ok x) b h = record {
+    down = takes-events seen_down (IsScript t.blocks) t.config.client (server_end s) (client_end u) (server_packets s) h.down (seen_down p) b.own;
     up = h.up;
   }
 
-  took-up : (s : List ServerEvent) (u : List ClientEvent) (room : ℕ) (bytes : List ℕ) (a : Checked ArriveFault) (b : Brings (read_up t.config) seen_up (BeginsWithin (length (accepted_at t.config s))) t.config.client (λ n. events_of n (client_end u)) (sent_of (window_log (client_end u))) (run_of (came_of (server_end s))) bytes)
-      → HoldsMoves (sampled_at u) b.packet → Carried t s u → Honest t s u → Honest t (took_at_server s room (checked_packet b.packet a)) u
-  took-up s u room bytes (Err e) b holds c h = h
-  took-up s u room bytes (Ok x) b holds c h = record {
+  took-up : (s : List ServerEvent) (u : List ClientEvent) (room : ℕ) (p : ClientPacket) (a : Checked ArriveFault) (b : Brings seen_up (BeginsWithin (length (accepted_at t.config s))) t.config.client (λ n. events_of n (client_end u)) (sent_of (window_log (client_end u))) (run_of (came_of (server_end s))) p)
+      → HoldsMoves (sampled_at u) p → Carried t s u → Honest t s u → Honest t (took_at_server s room (checked_packet p a)) u
+  took-up s u room p (Err e) b holds c h = h
+  took-up s u room p (Ok x) b holds c h = record {
     down = h.down;
-    up = better (read_up t.config) seen_up (BeginsWithin (length (accepted_at t.config s))) (BeginsWithin (length (accepted_at t.config (server_log.Took b.packet room ∷ s)))) t.config.client (client_end u) (server_end (server_log.Took b.packet room ∷ s)) (client_datagrams t.config u)
-        (begins-later (length (accepted_at t.config s)) (length (accepted_at t.config (server_log.Took b.packet room ∷ s))) (moves-up t limits b.packet room (move_log s) (sampled_at u) (acked_of (sample_log u)) holds c.moves).longer)
-        (takes-events (read_up t.config) seen_up (BeginsWithin (length (accepted_at t.config s))) t.config.client (client_end u) (server_end s) (client_datagrams t.config u) h.up (seen_up b.packet) b.own);
+    up = better seen_up (BeginsWithin (length (accepted_at t.config s))) (BeginsWithin (length (accepted_at t.config (server_log.Took p room ∷ s)))) t.config.client (client_end u) (server_end (server_log.Took p room ∷ s)) (client_packets u)
+        (begins-later (length (accepted_at t.config s)) (length (accepted_at t.config (server_log.Took p room ∷ s))) (moves-up t limits p room (move_log s) (sampled_at u) (acked_of (sample_log u)) holds c.moves).longer)
+        (takes-events seen_up (BeginsWithin (length (accepted_at t.config s))) t.config.client (client_end u) (server_end s) (client_packets u) h.up (seen_up p) b.own);
   }
 
-  gets-down : (s : List ServerEvent) (u : List ClientEvent) (k : ℕ) (o : Option (List ℕ)) → slice_get (server_datagrams t s) k ≡ o → Honest t s u → Honest t s (client_gets t o u)
-  gets-down s u k None e h = h
-  gets-down s u k (Some bytes) e h =
-      let b : Brings (read_down t.config t.kinds) seen_down (IsScript t.blocks) t.config.client (λ n. events_of n (server_end s)) (sent_of (window_log (server_end s))) (run_of (came_of (client_end u))) bytes = all-at _ (server_datagrams t s) k bytes h.down.brings e in
-      subst (λ (r : Result ServerPacket BitsFault). Honest t s (took_at_client u (client_log.packet_answer t.config u r))) (sym b.reads)
-      (took-down s u bytes (client_log.packet_check t.config u b.packet) b h)
+  given-down : (s : List ServerEvent) (u : List ClientEvent) (k : ℕ) (o : Option ServerPacket) → slice_get (server_packets s) k ≡ o → Honest t s u → Honest t s (given_down t.config o u)
+  given-down s u k None e h = h
+  given-down s u k (Some p) e h = took-down s u p (client_log.packet_check t.config u p) (all-at (Brings seen_down (IsScript t.blocks) t.config.client (λ n. events_of n (server_end s)) (sent_of (window_log (server_end s))) (run_of (came_of (client_end u)))) (server_packets s) k p h.down.brings e) h
 
-  gets-up : (s : List ServerEvent) (u : List ClientEvent) (k room : ℕ) (o : Option (List ℕ)) → slice_get (client_datagrams t.config u) k ≡ o → Carried t s u → Honest t s u → Honest t (server_gets t.config room o s) u
-  gets-up s u k room None e c h = h
-  gets-up s u k room (Some bytes) e c h =
-      let b : Brings (read_up t.config) seen_up (BeginsWithin (length (accepted_at t.config s))) t.config.client (λ n. events_of n (client_end u)) (sent_of (window_log (client_end u))) (run_of (came_of (server_end s))) bytes = all-at _ (client_datagrams t.config u) k bytes h.up.brings e in
-      let d : IsUp t.config (posted_at (client_end u)) (sampled_at u) bytes = all-at (IsUp t.config (posted_at (client_end u)) (sampled_at u)) (client_datagrams t.config u) k bytes c.up e in
-      subst (λ (r : Result ClientPacket BitsFault). Honest t (took_at_server s room (server_log.packet_answer t.config s r)) u) (sym b.reads)
-      (took-up s u room bytes (server_log.packet_check t.config s b.packet) b (subst (HoldsMoves (sampled_at u)) (same-packet (read_up t.config bytes) d.packet b.packet d.reads b.reads) d.moves) c h)
+  given-up : (s : List ServerEvent) (u : List ClientEvent) (k room : ℕ) (o : Option ClientPacket) → slice_get (client_packets u) k ≡ o → Carried t s u → Honest t s u → Honest t (given_up t.config room o s) u
+  given-up s u k room None e c h = h
+  given-up s u k room (Some p) e c h =
+      let d : IsUp (posted_at (client_end u)) (sampled_at u) p = all-at (IsUp (posted_at (client_end u)) (sampled_at u)) (client_packets u) k p c.up e in
+      took-up s u room p (server_log.packet_check t.config s p) (all-at (Brings seen_up (BeginsWithin (length (accepted_at t.config s))) t.config.client (λ n. events_of n (client_end u)) (sent_of (window_log (client_end u))) (run_of (came_of (server_end s)))) (client_packets u) k p h.up.brings e) d.moves c h
 
   -- ---- all steps
 
@@ -203,10 +193,10 @@ module _ (t : Terms) (limits : AreTerms t) where
   honest (Hide n ∷ steps) fit = scoped (server_log.Hide n) (history t steps).server (history t steps).client (honest steps fit.1)
   honest (Near n level ∷ steps) fit = scoped (server_log.Near n level) (history t steps).server (history t steps).client (honest steps fit.1)
   honest (Pack drains reads ∷ steps) fit =
-      packs-down (absorbing drains (history t steps).server) (history t steps).client (values_of reads) (reads-fit t (history t steps).server drains reads fit.0.met.1)
-      (carried-absorbed t limits steps drains reads fit.0 fit.1) (windows-absorbed t limits drains (history t steps).server (history t steps).client (windows t limits steps fit.1))
+      packs-down (absorbing drains (history t steps).server) (history t steps).client (values_of reads)
+      (windows-absorbed t limits drains (history t steps).server (history t steps).client (windows t limits steps fit.1))
       (absorbs-down drains (history t steps).server (history t steps).client (honest steps fit.1))
   honest (Raw bytes room ∷ steps) fit = absurd fit.0.honest
   honest (ClientPack ∷ steps) fit = packs-up (history t steps).server (history t steps).client (carried t limits steps fit.1) (windows t limits steps fit.1) (honest steps fit.1)
-  honest (Down k ∷ steps) fit = gets-down (history t steps).server (history t steps).client k (slice_get (server_datagrams t (history t steps).server) k) refl (honest steps fit.1)
-  honest (Up k room ∷ steps) fit = gets-up (history t steps).server (history t steps).client k room (slice_get (client_datagrams t.config (history t steps).client) k) refl (carried t limits steps fit.1) (honest steps fit.1)
+  honest (Down k ∷ steps) fit = subst (Honest t (history t steps).server) (sym fit.0.read) (given-down (history t steps).server (history t steps).client k (slice_get (server_packets (history t steps).server) k) refl (honest steps fit.1))
+  honest (Up k room ∷ steps) fit = subst (λ (s : List ServerEvent). Honest t s (history t steps).client) (sym fit.0.read) (given-up (history t steps).server (history t steps).client k room (slice_get (client_packets (history t steps).client) k) refl (carried t limits steps fit.1) (honest steps fit.1))

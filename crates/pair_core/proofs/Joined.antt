@@ -1,6 +1,6 @@
 -- Over every list of steps the two ends are joined by a network: the server's plans and packets are those that its rules
 -- give, and each data packet that the client took was sent, and is newer than those before.
-use Rattle.std.proofs.Common.{◌≡◌, inl, inr, ℕ, Bool, true, false, List, [], ◌∷◌, if◌then◌else◌, Option, Some, None, Result, Ok, Err, refl, sym, subst}
+use Rattle.std.proofs.Common.{◌≡◌, inl, inr, ℕ, Bool, true, false, List, [], ◌∷◌, if◌then◌else◌, Option, Some, None, Ok, Err, refl, sym, subst}
 use Rattle.std.specs.Prelude.{slice_get, ℤ}
 use Rattle.std.specs.Result.{is_ok}
 use Rattle.std.specs.List.{AllByRecursion}
@@ -10,7 +10,6 @@ use Rattle.tn_types.specs.declared.choices.Drain.{Drain}
 use Rattle.tn_types.specs.declared.moves.Move.{Move}
 use Rattle.notify_window.specs.declared.SendState.{SendState}
 use Rattle.notify_window.specs.declared.SendState.TheVariants.{Held, Worn, Room}
-use Rattle.wire_format.specs.declared.fault.BitsFault.{BitsFault}
 use Rattle.wire_format.specs.declared.server.ServerBody.{ServerBody}
 use Rattle.wire_format.specs.declared.server.ServerPacket.{ServerPacket}
 use Rattle.wire_format.specs.declared.server.ServerPacket.TheVariants as down
@@ -18,7 +17,6 @@ use Rattle.wire_format.specs.declared.client.ClientPacket.{ClientPacket}
 use Rattle.stream_manager.specs.declared.fault.ArriveFault.{ArriveFault}
 use Rattle.stream_manager.specs.declared.fault.ClientFault.{ClientFault}
 use Rattle.stream_manager.specs.Limits.{Terms, AreTerms}
-use Rattle.stream_manager.specs.Wire.{read_down}
 use Rattle.tn_types.specs.Checks.{Checked}
 use Rattle.stream_manager.specs.Faults.{checked_packet}
 use Rattle.stream_manager.specs.End.{with_event}
@@ -28,29 +26,24 @@ use Rattle.stream_manager.specs.Client as client_log
 use Rattle.stream_manager.specs.Client.{ClientEvent, client_datagrams, client_state, posted_at_client, sampled_answer, took_at_client}
 use Rattle.ghost_logs.specs.Sent.{WasPacked}
 use Rattle.ghost_logs.specs.Ends.{IsMade, CameFrom, AreJoined}
-use Rattle.pair_core.specs.History.{PairStep, Show, Hide, Near, Post, ClientPost, Sample, Pack, ClientPack, Down, Up, Raw, history, absorbing, values_of, server_posts, client_posts, client_samples, client_gets, server_gets}
+use Rattle.conn_packing.specs.Packs.{absorbing, values_of}
+use Rattle.pair_core.specs.History.{PairStep, Show, Hide, Near, Post, ClientPost, Sample, Pack, ClientPack, Down, Up, Raw, history, server_posts, client_posts, client_samples}
 use Rattle.pair_core.proofs.Good.{AreGood, FitRoom, reads-fit}
-use Rattle.pair_core.proofs.Spelled.{reads-down}
-use Rattle.pair_core.proofs.Lists.{all-append, all-map, all-at}
-use Rattle.pair_core.proofs.Carried.{Carried, carried-absorbed, ping-down, body-down}
+use Rattle.conn_packing.proofs.Lists.{all-append, all-map, all-at}
+use Rattle.pair_core.specs.Exchange.{server_packets, client_packets, given_down, given_up}
 use Rattle.pair_core.proofs.VerdictLaw.{windows}
 use Rattle.pair_core.proofs.LooseEvents.{new-down}
 
--- bytes that spell a packet that was sent
+-- a packet that was sent
 abbrev pub WasSent : List ServerEvent → ServerPacket → Type 0
 WasSent s (down.Ping head) = Unit {0}
 WasSent s (down.Body p) = WasPacked p s
-
-pub record SpellsSent (t : Terms) (s : List ServerEvent) (bytes : List ℕ) : Type 0 where
-  pub packet : ServerPacket
-  pub reads : read_down t.config t.kinds bytes ≡ Ok packet
-  pub sent : WasSent s packet
 
 -- the invariant over the steps
 pub record Joins (t : Terms) (s : List ServerEvent) (u : List ClientEvent) : Type 0 where
   pub made : IsMade t s
   pub came : CameFrom s u
-  pub spelled : AllByRecursion (SpellsSent t s) (server_datagrams t s)
+  pub sent : AllByRecursion (WasSent s) (server_packets s)
 
 -- ---- what was sent stays sent
 
@@ -70,16 +63,13 @@ sent-later : (s new : List ServerEvent) → Later s new → (p : ServerPacket) �
 sent-later s new later (down.Ping head) h = tt
 sent-later s new later (down.Body p) h = later p h
 
-spells-later : (t : Terms) (s new : List ServerEvent) → Later s new → (bytes : List ℕ) → SpellsSent t s bytes → SpellsSent t new bytes
-spells-later t s new later bytes d = record { packet = d.packet; reads = d.reads; sent = sent-later s new later d.packet d.sent }
-
 module _ (t : Terms) (limits : AreTerms t) where
   -- the same packets were sent
-  alike : (s new : List ServerEvent) (u : List ClientEvent) → Later s new → server_datagrams t new ≡ server_datagrams t s → IsMade t new → Joins t s u → Joins t new u
+  alike : (s new : List ServerEvent) (u : List ClientEvent) → Later s new → server_packets new ≡ server_packets s → IsMade t new → Joins t s u → Joins t new u
   alike s new u later same made h = record {
     made = made;
     came = came-later s new later u h.came;
-    spelled = subst (AllByRecursion (SpellsSent t new)) (sym same) (all-map (SpellsSent t s) (SpellsSent t new) (spells-later t s new later) (server_datagrams t s) h.spelled);
+    sent = subst (AllByRecursion (WasSent new)) (sym same) (all-map (WasSent s) (WasSent new) (sent-later s new later) (server_packets s) h.sent);
   }
 
   posts-down : (class : Class) (v : List ℕ) (s : List ServerEvent) (u : List ClientEvent) → Joins t s u → Joins t (server_posts t.config class v s) u
@@ -91,19 +81,19 @@ module _ (t : Terms) (limits : AreTerms t) where
       go true = alike s (server_log.Posted Guaranteed v ∷ s) u (λ p w. w) refl h.made h
 
   posts-up : (class : Class) (v : List ℕ) (s : List ServerEvent) (u : List ClientEvent) → Joins t s u → Joins t s (client_posts t.config class v u)
-  posts-up Loose v s u h = record { made = h.made; came = h.came; spelled = h.spelled }
+  posts-up Loose v s u h = record { made = h.made; came = h.came; sent = h.sent }
   posts-up Guaranteed v s u h = go (is_ok (posted_at_client t.config u))
     where
       go : (b : Bool) → Joins t s (if b then client_log.Posted Guaranteed v ∷ u else u)
       go false = h
-      go true = record { made = h.made; came = h.came; spelled = h.spelled }
+      go true = record { made = h.made; came = h.came; sent = h.sent }
 
   samples-up : (m : Move) (s : List ServerEvent) (u : List ClientEvent) → Joins t s u → Joins t s (client_samples t.config m u)
   samples-up m s u h = go (is_ok (sampled_answer t.config u))
     where
       go : (b : Bool) → Joins t s (if b then client_log.Sampled m ∷ u else u)
       go false = h
-      go true = record { made = h.made; came = h.came; spelled = h.spelled }
+      go true = record { made = h.made; came = h.came; sent = h.sent }
 
   scoped : (change : server_log.ScopeChange) (s : List ServerEvent) (u : List ClientEvent) → Joins t s u → Joins t (server_log.Scoped change ∷ s) u
   scoped change s u h = alike s (server_log.Scoped change ∷ s) u (λ p w. w) refl h.made h
@@ -114,8 +104,8 @@ module _ (t : Terms) (limits : AreTerms t) where
 
   -- ---- packs
 
-  packs-down : (s : List ServerEvent) (u : List ClientEvent) (values : List ℤ) → FitRoom t s values → Carried t s u → Joins t s u → Joins t (server_log.packing t s values) u
-  packs-down s u values fit c h = go (server_state t.config s) refl
+  packs-down : (s : List ServerEvent) (u : List ClientEvent) (values : List ℤ) → FitRoom t s values → Joins t s u → Joins t (server_log.packing t s values) u
+  packs-down s u values fit h = go (server_state t.config s) refl
     where
       new : List ServerEvent
       new = server_log.Packed (next_body t s values) ∷ with_plan t s
@@ -125,16 +115,13 @@ module _ (t : Terms) (limits : AreTerms t) where
       go Held e = record {
         made = h.made;
         came = came-later s (server_log.Pinged (server_ping t.config s) ∷ s) (λ p w. w) u h.came;
-        spelled = all-append (SpellsSent t (server_log.Pinged (server_ping t.config s) ∷ s)) (server_datagrams t s) _
-            (all-map (SpellsSent t s) (SpellsSent t (server_log.Pinged (server_ping t.config s) ∷ s)) (spells-later t s (server_log.Pinged (server_ping t.config s) ∷ s) (λ p w. w)) (server_datagrams t s) h.spelled)
-            (record { packet = down.Ping (server_ping t.config s); reads = reads-down t (down.Ping (server_ping t.config s)) (ping-down t limits s u e c); sent = tt }, tt);
+        sent = all-append (WasSent (server_log.Pinged (server_ping t.config s) ∷ s)) (server_packets s) _
+            (all-map (WasSent s) (WasSent (server_log.Pinged (server_ping t.config s) ∷ s)) (sent-later s (server_log.Pinged (server_ping t.config s) ∷ s) (λ p w. w)) (server_packets s) h.sent) (tt, tt);
       }
       go Room e = record {
         made = (record { values = values; fit = fit e; value = refl }, (refl, h.made));
         came = came-later s new (λ p w. inr w) u h.came;
-        spelled = all-append (SpellsSent t new) (server_datagrams t s) _
-            (all-map (SpellsSent t s) (SpellsSent t new) (spells-later t s new (λ p w. inr w)) (server_datagrams t s) h.spelled)
-            (record { packet = down.Body (next_body t s values); reads = reads-down t (down.Body (next_body t s values)) (body-down t limits s u values e (fit e) c); sent = inl refl }, tt);
+        sent = all-append (WasSent new) (server_packets s) _ (all-map (WasSent s) (WasSent new) (sent-later s new (λ p w. inr w)) (server_packets s) h.sent) (inl refl, tt);
       }
 
   packs-up : (s : List ServerEvent) (u : List ClientEvent) → Joins t s u → Joins t s (with_event (client_log.packing t.config u) u)
@@ -142,8 +129,8 @@ module _ (t : Terms) (limits : AreTerms t) where
     where
       go : (state : SendState) → Joins t s (with_event (client_log.pack_event t.config u state) u)
       go Worn = h
-      go Held = record { made = h.made; came = h.came; spelled = h.spelled }
-      go Room = record { made = h.made; came = h.came; spelled = h.spelled }
+      go Held = record { made = h.made; came = h.came; sent = h.sent }
+      go Room = record { made = h.made; came = h.came; sent = h.sent }
 
   -- ---- arrivals
 
@@ -153,27 +140,24 @@ module _ (t : Terms) (limits : AreTerms t) where
 
   took-down : (s : List ServerEvent) (u : List ClientEvent) (p : ServerPacket) (a : Checked ClientFault) → client_log.packet_check t.config u p ≡ a → WasSent s p → Joins t s u → Joins t s (took_at_client u (checked_packet p a))
   took-down s u p (Err fault) e sent h = h
-  took-down s u p (Ok x) e sent h = record { made = h.made; came = comes s u p e sent h.came; spelled = h.spelled }
+  took-down s u p (Ok x) e sent h = record { made = h.made; came = comes s u p e sent h.came; sent = h.sent }
 
-  gets-down : (s : List ServerEvent) (u : List ClientEvent) (k : ℕ) (o : Option (List ℕ)) → slice_get (server_datagrams t s) k ≡ o → Joins t s u → Joins t s (client_gets t o u)
-  gets-down s u k None e h = h
-  gets-down s u k (Some bytes) e h =
-      let d : SpellsSent t s bytes = all-at (SpellsSent t s) (server_datagrams t s) k bytes h.spelled e in
-      subst (λ (r : Result ServerPacket BitsFault). Joins t s (took_at_client u (client_log.packet_answer t.config u r))) (sym d.reads)
-      (took-down s u d.packet (client_log.packet_check t.config u d.packet) refl d.sent h)
+  given-down : (s : List ServerEvent) (u : List ClientEvent) (k : ℕ) (o : Option ServerPacket) → slice_get (server_packets s) k ≡ o → Joins t s u → Joins t s (given_down t.config o u)
+  given-down s u k None e h = h
+  given-down s u k (Some p) e h = took-down s u p (client_log.packet_check t.config u p) refl (all-at (WasSent s) (server_packets s) k p h.sent e) h
 
-  took-up : (s : List ServerEvent) (u : List ClientEvent) (room : ℕ) (a : Result ClientPacket ArriveFault) → Joins t s u → Joins t (took_at_server s room a) u
-  took-up s u room (Err e) h = h
-  took-up s u room (Ok p) h = alike s (server_log.Took p room ∷ s) u (λ q w. w) refl h.made h
+  took-up : (s : List ServerEvent) (u : List ClientEvent) (room : ℕ) (p : ClientPacket) (a : Checked ArriveFault) → Joins t s u → Joins t (took_at_server s room (checked_packet p a)) u
+  took-up s u room p (Err e) h = h
+  took-up s u room p (Ok x) h = alike s (server_log.Took p room ∷ s) u (λ q w. w) refl h.made h
 
-  gets-up : (s : List ServerEvent) (u : List ClientEvent) (room : ℕ) (o : Option (List ℕ)) → Joins t s u → Joins t (server_gets t.config room o s) u
-  gets-up s u room None h = h
-  gets-up s u room (Some bytes) h = took-up s u room (server_answer t.config s bytes) h
+  given-up : (s : List ServerEvent) (u : List ClientEvent) (room : ℕ) (o : Option ClientPacket) → Joins t s u → Joins t (given_up t.config room o s) u
+  given-up s u room None h = h
+  given-up s u room (Some p) h = took-up s u room p (server_log.packet_check t.config s p) h
 
   -- ---- all steps
 
   pub joins : (steps : List PairStep) → AreGood t steps → Joins t (history t steps).server (history t steps).client
-  joins [] fit = record { made = tt; came = tt; spelled = tt }
+  joins [] fit = record { made = tt; came = tt; sent = tt }
   joins (Show kind block level control ∷ steps) fit = scoped (server_log.Show kind block level control) (history t steps).server (history t steps).client (joins steps fit.1)
   joins (Hide n ∷ steps) fit = scoped (server_log.Hide n) (history t steps).server (history t steps).client (joins steps fit.1)
   joins (Near n level ∷ steps) fit = scoped (server_log.Near n level) (history t steps).server (history t steps).client (joins steps fit.1)
@@ -182,10 +166,10 @@ module _ (t : Terms) (limits : AreTerms t) where
   joins (Sample m ∷ steps) fit = samples-up m (history t steps).server (history t steps).client (joins steps fit.1)
   joins (Pack drains reads ∷ steps) fit =
       packs-down (absorbing drains (history t steps).server) (history t steps).client (values_of reads) (reads-fit t (history t steps).server drains reads fit.0.met.1)
-      (carried-absorbed t limits steps drains reads fit.0 fit.1) (absorbs-down drains (history t steps).server (history t steps).client (joins steps fit.1))
+      (absorbs-down drains (history t steps).server (history t steps).client (joins steps fit.1))
   joins (ClientPack ∷ steps) fit = packs-up (history t steps).server (history t steps).client (joins steps fit.1)
-  joins (Down k ∷ steps) fit = gets-down (history t steps).server (history t steps).client k (slice_get (server_datagrams t (history t steps).server) k) refl (joins steps fit.1)
-  joins (Up k room ∷ steps) fit = gets-up (history t steps).server (history t steps).client room (slice_get (client_datagrams t.config (history t steps).client) k) (joins steps fit.1)
+  joins (Down k ∷ steps) fit = subst (Joins t (history t steps).server) (sym fit.0.read) (given-down (history t steps).server (history t steps).client k (slice_get (server_packets (history t steps).server) k) refl (joins steps fit.1))
+  joins (Up k room ∷ steps) fit = subst (λ (s : List ServerEvent). Joins t s (history t steps).client) (sym fit.0.read) (given-up (history t steps).server (history t steps).client room (slice_get (client_packets (history t steps).client) k) (joins steps fit.1))
   joins (Raw bytes room ∷ steps) fit = absurd fit.0.honest
 
   pub joined : (steps : List PairStep) → AreGood t steps → AreJoined t (history t steps).server (history t steps).client

@@ -1,18 +1,13 @@
 pub mod Brought
-pub mod Lists
 pub mod Fits
 pub mod Posted
 pub mod Sections
 pub mod Flat
-pub mod Asked
-pub mod ReadValues
 pub mod Packed
+mod Packets
 pub mod Good
-pub mod Scoped
 mod GhostItems
 pub mod LegalLogs
-mod Halves
-mod Spelled
 mod Heads
 pub mod Carried
 mod Windows
@@ -21,6 +16,9 @@ pub mod VerdictLaw
 mod Reached
 mod Honest
 pub mod Joined
+mod JoinedUp
+mod Spelled
+pub mod Delivered
 pub mod RefusalLaw
 pub mod InOrder
 pub mod HeldBlocks

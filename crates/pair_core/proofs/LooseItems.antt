@@ -1,6 +1,6 @@
 -- The unguaranteed events of one end: what its packets carry of those that were posted, and what it delivers of those
 -- that the other end's packets carry.
-use Rattle.std.proofs.Common.{◌≡◌, ℕ, suc, ◌+◌, ◌-◌, ◌<◌, ◌≤◌, max, Bool, true, false, ◌==◌, ◌&&◌, not, nat_le, nat_lt, List, [], ◌∷◌, ◌++◌, if◌then◌else◌, length, map, take, drop, Option, Some, None, Ok, Err, refl, sym, ◌∙◌, ap, subst, arith, append_assoc, length-append}
+use Rattle.std.proofs.Common.{◌≡◌, ℕ, suc, ◌+◌, ◌-◌, ◌<◌, ◌≤◌, max, Bool, true, false, ◌==◌, ◌&&◌, not, nat_le, List, [], ◌∷◌, ◌++◌, if◌then◌else◌, length, map, take, drop, Option, Some, None, Ok, Err, refl, sym, ◌∙◌, ap, subst, arith, append_assoc, length-append}
 use Rattle.std.specs.Prelude.{slice_get}
 use Rattle.std.proofs.lemmas.Bool.Decides.{nat_tests}
 use Rattle.std.proofs.lemmas.List.{append-nil, take-append-drop}
@@ -13,15 +13,15 @@ use Rattle.event_manager.specs.Sending.{SenderEvent, posted_of, waiting_of, is_d
 use Rattle.event_manager.specs.Receiving.{items_onto, run_of, payloads, guaranteed_event, by_class, news, delivered_of}
 use Rattle.stream_manager.specs.declared.config.Config.{Config}
 use Rattle.stream_manager.specs.declared.fault.HeadFault.{HeadFault}
-use Rattle.stream_manager.specs.declared.fault.HeadFault.TheVariants.{WrongClient, Old, AckAhead}
-use Rattle.tn_types.specs.Checks.{Checked}
+use Rattle.stream_manager.specs.declared.fault.HeadFault.TheVariants.{WrongClient, Old}
+use Rattle.tn_types.specs.Checks.{Checked, then_check}
 use Rattle.tn_types.specs.Fitting.{fitting}
 use Rattle.stream_manager.specs.Wire.{event_bits}
-use Rattle.stream_manager.specs.End.{Seen, EndEvent, Posted, Packed, Pinged, Took, window_log, sender_log, fates, events_for, came_of, delivered_at, head_answer}
+use Rattle.stream_manager.specs.End.{Seen, EndEvent, Posted, Packed, Pinged, Took, window_log, sender_log, fates, events_for, came_of, delivered_at, client_or_old, ack_answer, head_answer}
 use Rattle.tn_types.specs.Prefix.{IsPrefixOf}
 use Rattle.tn_types.specs.Subsequence.{IsSubsequenceOf}
 use Rattle.pair_core.specs.LooseEvents.{of_loose, loose_of, loose_posted_at}
-use Rattle.pair_core.proofs.Lists.{slice_get-at}
+use Rattle.conn_packing.proofs.Lists.{slice_get-at}
 use Rattle.pair_core.proofs.Subsequences.{sub-same, sub-drop, sub-front, sub-trans, sub-append, joined, joined-push, sub-take, sub-all, sub-push, joined-more, get-push}
 
 -- ---- the unguaranteed ones of a packet
@@ -205,23 +205,27 @@ IsNew false seq horizon = horizon < seq
 abbrev Passes : Checked HeadFault → Type 0
 Passes a = a ≡ Ok tt
 
-pub not-old : (client : ℕ) (log : List EndEvent) (p : Seen) → Passes (head_answer client log p) → IsNew p.ping p.head.seq (horizon_of (window_log log))
-not-old client log p ok = first (p.head.client == client) ok
+pub not-passed : (client : ℕ) (log : List EndEvent) (p : Seen) → Passes (client_or_old client log p) → IsNew p.ping p.head.seq (horizon_of (window_log log))
+not-passed client log p ok = first (p.head.client == client) ok
   where
     horizon : ℕ
     horizon = horizon_of (window_log log)
 
-    ahead : Checked HeadFault
-    ahead = if nat_lt (sent_of (window_log log)) p.head.horizon then Err (AckAhead p.head.horizon (sent_of (window_log log))) else Ok tt
-
-    last : (ping old : Bool) → nat_le p.head.seq horizon ≡ old → Passes (if not ping && old then Err (Old p.head.seq horizon) else ahead) → IsNew ping p.head.seq horizon
+    last : (ping old : Bool) → nat_le p.head.seq horizon ≡ old → Passes (if not ping && old then Err (Old p.head.seq horizon) else Ok tt) → IsNew ping p.head.seq horizon
     last true old e ok = tt
     last false true e ok = absurd cc
     last false false e ok = grind (arith, nat_tests)
 
-    first : (b : Bool) → Passes (if not b then Err (WrongClient p.head.client) else (if not p.ping && nat_le p.head.seq horizon then Err (Old p.head.seq horizon) else ahead)) → IsNew p.ping p.head.seq horizon
+    first : (b : Bool) → Passes (if not b then Err (WrongClient p.head.client) else (if not p.ping && nat_le p.head.seq horizon then Err (Old p.head.seq horizon) else Ok tt)) → IsNew p.ping p.head.seq horizon
     first false ok = absurd cc
     first true ok = last p.ping (nat_le p.head.seq horizon) refl ok
+
+pub not-old : (client : ℕ) (log : List EndEvent) (p : Seen) → Passes (head_answer client log p) → IsNew p.ping p.head.seq (horizon_of (window_log log))
+not-old client log p ok = not-passed client log p (first (client_or_old client log p) (ack_answer log p) ok)
+  where
+    first : (a b : Checked HeadFault) → Passes (then_check a b) → Passes a
+    first (Ok u) b ok = refl
+    first (Err e) b ok = absurd cc
 
 -- what an end delivered was in packets up to its horizon
 abbrev pub Gets : List (List (List ℕ)) → List EndEvent → Type 0

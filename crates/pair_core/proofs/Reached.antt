@@ -1,13 +1,12 @@
 -- The events of one way between two ends: which packet carries which, and that the other end has those of the packets that
 -- it processed. So no packet that comes has an event too far ahead of what the other end has delivered.
-use Rattle.std.proofs.Common.{◌≡◌, ℕ, suc, ◌+◌, ◌<◌, ◌≤◌, Bool, true, false, not, ◌&&◌, ◌||◌, ◌==◌, nat_le, nat_lt, List, [], ◌∷◌, ◌++◌, length, map, Option, Some, None, if◌then◌else◌, Result, Ok, refl, sym, ◌∙◌, ap, subst, arith, inl, inr}
+use Rattle.std.proofs.Common.{◌≡◌, ℕ, suc, ◌+◌, ◌<◌, ◌≤◌, Bool, true, false, not, ◌&&◌, ◌||◌, ◌==◌, nat_le, nat_lt, List, [], ◌∷◌, ◌++◌, length, map, Option, Some, None, if◌then◌else◌, refl, sym, ◌∙◌, ap, subst, arith, inl, inr}
 use Rattle.std.specs.Option.{is_some}
 use Rattle.std.specs.List.{AllByRecursion}
 use Rattle.std.proofs.lemmas.Bool.Decides.{nat_tests}
 use Rattle.std.proofs.lemmas.Bool.{cases_lt}
 use Rattle.notify_window.specs.Log.{sent_of, horizon_of, is_processed, Fate, Unjudged, Received, Lost, is_received}
 use Rattle.notify_window.proofs.Horizons.{processed-above}
-use Rattle.wire_format.specs.declared.fault.BitsFault.{BitsFault}
 use Rattle.wire_format.specs.declared.events.EventItem.{EventItem}
 use Rattle.event_manager.specs.Sending.{SenderEvent, posted_of, holds, has_number, carriers, is_unacked, first_unacked, is_due, guaranteed_item, loose_item, items_that, due_guaranteed, waiting_of, due_of}
 use Rattle.notify_window.specs.Fates.{any_received, all_lost}
@@ -22,7 +21,7 @@ use Rattle.stream_manager.specs.Wire.{event_bits}
 use Rattle.stream_manager.specs.End.{Seen, EndEvent, Posted, Packed, Pinged, Took, window_log, sender_log, fates, came_of, events_for}
 use Rattle.stream_manager.proofs.Fitting.{fitting-all}
 use Rattle.pair_core.specs.Verdicts.{ReceivedIsTrue}
-use Rattle.pair_core.proofs.Lists.{all-append, all-map, all-take}
+use Rattle.conn_packing.proofs.Lists.{all-append, all-map, all-take}
 
 -- the events of packet s, none where it was not sent
 abbrev pub events_of : ℕ → List EndEvent → List EventItem
@@ -40,21 +39,19 @@ IsNear run item = is_ahead run item.number ≡ false
 abbrev pub IsCarrier : (ℕ → List EventItem) → ℕ → ℕ → ℕ → Type 0
 IsCarrier events sent i s = (s ≤ sent) × (holds i (events s) ≡ true)
 
--- bytes that spell a packet of an end that sent so many with these events, for an end that delivered so many
-pub record Brings {P : Type 0} (read : List ℕ → Result P BitsFault) (seen : P → Seen) (IsGood : P → Type 0) (named : ℕ) (events : ℕ → List EventItem) (sent run : ℕ) (bytes : List ℕ) : Type 0 where
-  pub packet : P
-  pub reads : read bytes ≡ Ok packet
+-- a packet of an end that sent so many with these events, for an end that delivered so many
+pub record Brings {P : Type 0} (seen : P → Seen) (IsGood : P → Type 0) (named : ℕ) (events : ℕ → List EventItem) (sent run : ℕ) (packet : P) : Type 0 where
   pub client : (seen packet).head.client ≡ named
   pub seq : (seen packet).head.seq ≤ sent
   pub own : (seen packet).ping ≡ false → events (seen packet).head.seq ≡ (seen packet).events
   pub near : AllByRecursion (IsNear run) (seen packet).events
   pub good : IsGood packet
 
--- the carriers of each event, and what came of them; and the datagrams
-pub record EventWay {P : Type 0} (read : List ℕ → Result P BitsFault) (seen : P → Seen) (IsGood : P → Type 0) (named : ℕ) (carried : ℕ → List ℕ) (events : ℕ → List EventItem) (sent : ℕ) (processed : ℕ → Bool) (came : List EventItem) (datagrams : List (List ℕ)) : Type 0 where
+-- the carriers of each event, and what came of them; and the packets
+pub record EventWay {P : Type 0} (seen : P → Seen) (IsGood : P → Type 0) (named : ℕ) (carried : ℕ → List ℕ) (events : ℕ → List EventItem) (sent : ℕ) (processed : ℕ → Bool) (came : List EventItem) (packets : List P) : Type 0 where
   pub written : (i : ℕ) → AllByRecursion (IsCarrier events sent i) (carried i)
   pub reached : (s i : ℕ) → processed s ≡ true → holds i (events s) ≡ true → has_come i came ≡ true
-  pub brings : AllByRecursion (Brings read seen IsGood named events sent (run_of came)) datagrams
+  pub brings : AllByRecursion (Brings seen IsGood named events sent (run_of came)) packets
 
 -- ---- what came
 
@@ -121,25 +118,25 @@ near-due fate log run l =
 
 -- ---- one way
 
-module _ {P : Type 0} (read : List ℕ → Result P BitsFault) (seen : P → Seen) where
-  abbrev pub EventsOn : (P → Type 0) → ℕ → List EndEvent → List EndEvent → List (List ℕ) → Type 0
-  EventsOn IsGood named x y datagrams =
-      EventWay read seen IsGood named (λ i. carriers i (sender_log x)) (λ s. events_of s x) (sent_of (window_log x)) (λ s. is_processed s (window_log y)) (came_of y) datagrams
+module _ {P : Type 0} (seen : P → Seen) where
+  abbrev pub EventsOn : (P → Type 0) → ℕ → List EndEvent → List EndEvent → List P → Type 0
+  EventsOn IsGood named x y packets =
+      EventWay seen IsGood named (λ i. carriers i (sender_log x)) (λ s. events_of s x) (sent_of (window_log x)) (λ s. is_processed s (window_log y)) (came_of y) packets
 
   -- a packet that comes is good in more ways
-  pub better : (IsGood IsBetter : P → Type 0) (named : ℕ) (x y : List EndEvent) (datagrams : List (List ℕ)) → ((p : P) → IsGood p → IsBetter p) → EventsOn IsGood named x y datagrams → EventsOn IsBetter named x y datagrams
-  better IsGood IsBetter named x y datagrams f h = record {
+  pub better : (IsGood IsBetter : P → Type 0) (named : ℕ) (x y : List EndEvent) (packets : List P) → ((p : P) → IsGood p → IsBetter p) → EventsOn IsGood named x y packets → EventsOn IsBetter named x y packets
+  better IsGood IsBetter named x y packets f h = record {
     written = h.written;
     reached = h.reached;
-    brings = all-map (Brings read seen IsGood named (λ s. events_of s x) (sent_of (window_log x)) (run_of (came_of y))) (Brings read seen IsBetter named (λ s. events_of s x) (sent_of (window_log x)) (run_of (came_of y)))
-        (λ bytes b. record { packet = b.packet; reads = b.reads; client = b.client; seq = b.seq; own = b.own; near = b.near; good = f b.packet b.good }) datagrams h.brings;
+    brings = all-map (Brings seen IsGood named (λ s. events_of s x) (sent_of (window_log x)) (run_of (came_of y))) (Brings seen IsBetter named (λ s. events_of s x) (sent_of (window_log x)) (run_of (came_of y)))
+        (λ p b. record { client = b.client; seq = b.seq; own = b.own; near = b.near; good = f p b.good }) packets h.brings;
   }
 
   module _ (IsGood : P → Type 0) (named : ℕ) where
     pub start-events : EventsOn IsGood named [] [] []
     start-events = record { written = λ i. tt; reached = λ s i done h. cc; brings = tt }
 
-    module _ (x y : List EndEvent) (datagrams : List (List ℕ)) (h : EventsOn IsGood named x y datagrams) where
+    module _ (x y : List EndEvent) (packets : List P) (h : EventsOn IsGood named x y packets) where
       received-came : ReceivedIsTrue x y → (i : ℕ) (ss : List ℕ) → AllByRecursion (IsCarrier (λ s. events_of s x) (sent_of (window_log x)) i) ss → any_received (fates x) ss ≡ true → has_come i (came_of y) ≡ true
       received-came truth i [] all e = cc
       received-came truth i (s ∷ ss) all e = go (fates x s) refl (received-came truth i ss all.1) e
@@ -169,7 +166,7 @@ module _ {P : Type 0} (read : List ℕ → Result P BitsFault) (seen : P → See
           fitting-all (IsNear (run_of (came_of y))) (event_bits c) room _ (all-take (IsNear (run_of (came_of y))) 31 (due_of (fates x) (sender_log x)) (near-due (fates x) (sender_log x) (run_of (came_of y)) (unacked-run truth)))
 
       -- the sender sends a data packet
-      module _ (p : P) (bytes : List ℕ) (next : (seen p).head.seq ≡ sent_of (window_log x) + 1) where
+      module _ (p : P) (next : (seen p).head.seq ≡ sent_of (window_log x) + 1) where
         newer : (s : ℕ) → s ≤ sent_of (window_log x) → ((seen p).head.seq == s) ≡ false
         newer s l = grind (arith, nat_tests)
 
@@ -179,23 +176,23 @@ module _ {P : Type 0} (read : List ℕ → Result P BitsFault) (seen : P → See
         itself : events_of (seen p).head.seq (Packed (seen p) ∷ x) ≡ (seen p).events
         itself = let t : ((seen p).head.seq == (seen p).head.seq) ≡ true = grind (arith, nat_tests) in rw t
 
-        pub sends-events : read bytes ≡ Ok p → (seen p).head.client ≡ named → AllByRecursion (IsNear (run_of (came_of y))) (seen p).events → IsGood p → horizon_of (window_log y) ≤ sent_of (window_log x)
-            → EventsOn IsGood named (Packed (seen p) ∷ x) y (datagrams ++ bytes ∷ [])
-        sends-events reads client near good known = record {
+        pub sends-events : (seen p).head.client ≡ named → AllByRecursion (IsNear (run_of (came_of y))) (seen p).events → IsGood p → horizon_of (window_log y) ≤ sent_of (window_log x)
+            → EventsOn IsGood named (Packed (seen p) ∷ x) y (packets ++ p ∷ [])
+        sends-events client near good known = record {
           written = λ i. writes i (holds i (seen p).events) refl;
           reached = λ s i done holding. elim (cases_lt (sent_of (window_log x)) s) [
             | inl above ↦ (let never : is_processed s (window_log y) ≡ false = processed-above s (window_log y) (omega arith) in absurd cc)
             | inr below ↦ h.reached s i done (sym (ap (holds i) (same-own s below)) ∙ holding)
           ];
-          brings = all-append (Brings read seen IsGood named (λ s. events_of s (Packed (seen p) ∷ x)) (sent_of (window_log x) + 1) (run_of (came_of y))) datagrams (bytes ∷ [])
-              (all-map (Brings read seen IsGood named (λ s. events_of s x) (sent_of (window_log x)) (run_of (came_of y))) (Brings read seen IsGood named (λ s. events_of s (Packed (seen p) ∷ x)) (sent_of (window_log x) + 1) (run_of (came_of y)))
-              older datagrams h.brings)
-              (record { packet = p; reads = reads; client = client; seq = omega arith; own = λ e. itself; near = near; good = good }, tt);
+          brings = all-append (Brings seen IsGood named (λ s. events_of s (Packed (seen p) ∷ x)) (sent_of (window_log x) + 1) (run_of (came_of y))) packets (p ∷ [])
+              (all-map (Brings seen IsGood named (λ s. events_of s x) (sent_of (window_log x)) (run_of (came_of y))) (Brings seen IsGood named (λ s. events_of s (Packed (seen p) ∷ x)) (sent_of (window_log x) + 1) (run_of (came_of y)))
+              older packets h.brings)
+              (record { client = client; seq = omega arith; own = λ e. itself; near = near; good = good }, tt);
         }
           where
-            older : (bytes : List ℕ) → Brings read seen IsGood named (λ s. events_of s x) (sent_of (window_log x)) (run_of (came_of y)) bytes
-                → Brings read seen IsGood named (λ s. events_of s (Packed (seen p) ∷ x)) (sent_of (window_log x) + 1) (run_of (came_of y)) bytes
-            older bytes b = record { packet = b.packet; reads = b.reads; client = b.client; seq = omega (arith, b.seq); own = λ e. same-own (seen b.packet).head.seq b.seq ∙ b.own e; near = b.near; good = b.good }
+            older : (q : P) → Brings seen IsGood named (λ s. events_of s x) (sent_of (window_log x)) (run_of (came_of y)) q
+                → Brings seen IsGood named (λ s. events_of s (Packed (seen p) ∷ x)) (sent_of (window_log x) + 1) (run_of (came_of y)) q
+            older q b = record { client = b.client; seq = omega (arith, b.seq); own = λ e. same-own (seen q).head.seq b.seq ∙ b.own e; near = b.near; good = b.good }
 
             carrier : (i s : ℕ) → IsCarrier (λ s. events_of s x) (sent_of (window_log x)) i s → IsCarrier (λ s. events_of s (Packed (seen p) ∷ x)) (sent_of (window_log x) + 1) i s
             carrier i s c = (omega (arith, c.0), ap (holds i) (same-own s c.0) ∙ c.1)
@@ -209,30 +206,28 @@ module _ {P : Type 0} (read : List ℕ → Result P BitsFault) (seen : P → See
             )
 
       -- it sends a ping
-      pub pings-events : (p : P) (bytes : List ℕ) → (seen p).head.seq ≡ sent_of (window_log x) → read bytes ≡ Ok p → (seen p).head.client ≡ named → (seen p).ping ≡ true → (seen p).events ≡ [] → IsGood p
-          → EventsOn IsGood named x y (datagrams ++ bytes ∷ [])
-      pings-events p bytes last reads client ping none good = record {
+      pub pings-events : (p : P) → (seen p).head.seq ≡ sent_of (window_log x) → (seen p).head.client ≡ named → (seen p).ping ≡ true → (seen p).events ≡ [] → IsGood p
+          → EventsOn IsGood named x y (packets ++ p ∷ [])
+      pings-events p last client ping none good = record {
         written = h.written;
         reached = h.reached;
-        brings = all-append (Brings read seen IsGood named (λ s. events_of s x) (sent_of (window_log x)) (run_of (came_of y))) datagrams (bytes ∷ []) h.brings
-            (record { packet = p; reads = reads; client = client; seq = omega arith; own = λ e. absurd cc; near = subst (AllByRecursion (IsNear (run_of (came_of y)))) (sym none) tt; good = good }, tt);
+        brings = all-append (Brings seen IsGood named (λ s. events_of s x) (sent_of (window_log x)) (run_of (came_of y))) packets (p ∷ []) h.brings
+            (record { client = client; seq = omega arith; own = λ e. absurd cc; near = subst (AllByRecursion (IsNear (run_of (came_of y)))) (sym none) tt; good = good }, tt);
       }
 
       -- the receiver takes a packet of the sender
-      pub takes-events : (p : Seen) → (p.ping ≡ false → events_of p.head.seq x ≡ p.events) → EventsOn IsGood named x (Took p ∷ y) datagrams
+      pub takes-events : (p : Seen) → (p.ping ≡ false → events_of p.head.seq x ≡ p.events) → EventsOn IsGood named x (Took p ∷ y) packets
       takes-events p own = record {
         written = h.written;
         reached = λ s i done holding. comes s i holding p.ping refl (p.head.seq == s) refl done;
-        brings = all-map (Brings read seen IsGood named (λ s. events_of s x) (sent_of (window_log x)) (run_of (came_of y))) (Brings read seen IsGood named (λ s. events_of s x) (sent_of (window_log x)) (run_of (items_onto p.events (came_of y))))
-            (λ bytes b. record {
-              packet = b.packet;
-              reads = b.reads;
+        brings = all-map (Brings seen IsGood named (λ s. events_of s x) (sent_of (window_log x)) (run_of (came_of y))) (Brings seen IsGood named (λ s. events_of s x) (sent_of (window_log x)) (run_of (items_onto p.events (came_of y))))
+            (λ q b. record {
               client = b.client;
               seq = b.seq;
               own = b.own;
-              near = all-map (IsNear (run_of (came_of y))) (IsNear (run_of (items_onto p.events (came_of y)))) (near-more (run_of (came_of y)) (run_of (items_onto p.events (came_of y))) (run-items p.events (came_of y))) (seen b.packet).events b.near;
+              near = all-map (IsNear (run_of (came_of y))) (IsNear (run_of (items_onto p.events (came_of y)))) (near-more (run_of (came_of y)) (run_of (items_onto p.events (came_of y))) (run-items p.events (came_of y))) (seen q).events b.near;
               good = b.good;
-            }) datagrams h.brings;
+            }) packets h.brings;
       }
         where
           comes : (s i : ℕ) → holds i (events_of s x) ≡ true → (ping : Bool) → p.ping ≡ ping → (b : Bool) → (p.head.seq == s) ≡ b → ((not ping && b) || is_processed s (window_log y)) ≡ true → has_come i (items_onto p.events (came_of y)) ≡ true

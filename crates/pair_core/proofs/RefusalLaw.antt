@@ -6,7 +6,6 @@ use Rattle.std.specs.List.{AllByRecursion, slice_index_or}
 use Rattle.std.proofs.lemmas.Bool.Decides.{nat_tests}
 use Rattle.std.proofs.lemmas.Slice.Eq.{bytes_eq-Decides}
 use Rattle.notify_window.specs.Log.{sent_of, horizon_of}
-use Rattle.wire_format.specs.declared.fault.BitsFault.{BitsFault}
 use Rattle.wire_format.specs.declared.blocks.BlockItem.{BlockItem}
 use Rattle.wire_format.specs.declared.events.EventItem.{EventItem}
 use Rattle.wire_format.specs.declared.server.ServerPacket.{ServerPacket}
@@ -20,7 +19,6 @@ use Rattle.stream_manager.specs.declared.fault.HeadFault.TheVariants.{WrongClien
 use Rattle.stream_manager.specs.declared.fault.ArriveFault.{ArriveFault}
 use Rattle.stream_manager.specs.declared.fault.ClientFault.{ClientFault}
 use Rattle.stream_manager.specs.Limits.{Terms, AreTerms}
-use Rattle.stream_manager.specs.Wire.{read_down, read_up}
 use Rattle.tn_types.specs.declared.choices.Class.TheVariants.{Guaranteed, Loose}
 use Rattle.notify_window.specs.declared.SendState.{SendState}
 use Rattle.notify_window.specs.declared.SendState.TheVariants.{Held, Worn, Room}
@@ -31,29 +29,32 @@ use Rattle.tn_types.specs.Checks.{Checked, then_check}
 use Rattle.stream_manager.specs.Faults.{head_at_server, head_at_client, events_at_server, events_at_client, checked_packet, without_packet}
 use Rattle.stream_manager.specs.End.{Seen, EndEvent, window_log, came_of, head_answer, events_answer}
 use Rattle.stream_manager.specs.Server as server_log
-use Rattle.stream_manager.specs.Server.{ServerEvent, server_end, server_datagrams, seen_up, server_state, posted_at_server, accepted_at, taken_of}
+use Rattle.stream_manager.specs.Server.{ServerEvent, server_end, server_datagrams, seen_up, server_state, posted_at_server, accepted_at, taken_of, server_answer}
 use Rattle.stream_manager.specs.Client as client_log
-use Rattle.stream_manager.specs.Client.{ClientEvent, client_end, client_datagrams, client_state, posted_at_client, sampled_answer, seen_down, blocks_check, blocks_came, sampled_at}
+use Rattle.stream_manager.specs.Client.{ClientEvent, client_end, client_datagrams, client_state, posted_at_client, sampled_answer, seen_down, blocks_check, blocks_came, sampled_at, client_answer}
 use Rattle.ghost_logs.specs.Blocks.{RefusesNoGhosts}
 use Rattle.ghost_logs.proofs.Refused.{refuses-no-ghosts}
 use Rattle.pair_core.specs.History.{PairStep, Show, Hide, Near, Post, ClientPost, Sample, Pack, ClientPack, Down, Up, Raw, history}
 use Rattle.pair_core.specs.Conditions.{IsHonestStep}
 use Rattle.pair_core.specs.Answers.{answer, made, post_answer, sample_answer, came_down, brought_down, came_up, brought_up}
 use Rattle.pair_core.proofs.Good.{AreGood}
-use Rattle.pair_core.proofs.Joined.{WasSent, SpellsSent, Joins, joins, joined}
+use Rattle.pair_core.proofs.Joined.{WasSent, Joins, joins, joined}
 use Rattle.pair_core.proofs.ReceivedBlocks.{holds_received}
 use Rattle.pair_core.proofs.LooseItems.{not-old}
 use Rattle.pair_core.proofs.LooseEvents.{passed-at_client}
 use Rattle.pair_core.specs.Laws.{posted_at}
 use Rattle.pair_core.specs.Refusals.{IsOldAtClient, IsOldAtServer, RefusesLittle}
-use Rattle.pair_core.proofs.Lists.{all-at, all-map}
+use Rattle.conn_packing.proofs.Lists.{all-at, all-map}
+use Rattle.pair_core.specs.Exchange.{server_packets, client_packets}
+use Rattle.pair_core.proofs.Packets.{IsReadDown, IsReadUp, packet-down, packet-up}
+use Rattle.pair_core.proofs.Delivered.{read-down, read-up}
 use Rattle.pair_core.proofs.Carried.{Carried, carried, IsDown, TellsAtMost}
-use Rattle.pair_core.proofs.Windows.{Spells, tested}
+use Rattle.pair_core.proofs.Windows.{TellsOf, tested}
 use Rattle.pair_core.proofs.VerdictLaw.{Windows, windows}
 use Rattle.pair_core.proofs.Reached.{events_of, IsNear, Brings}
 use Rattle.pair_core.specs.HeldBlocks.{IsAsGiven}
 use Rattle.pair_core.proofs.HeldBlocks.{given}
-use Rattle.pair_core.proofs.Honest.{IsOf, IsScript, BeginsWithin, Honest, honest, same-packet}
+use Rattle.pair_core.proofs.Honest.{IsOf, IsScript, BeginsWithin, Honest, honest}
 
 -- ---- the header
 
@@ -146,27 +147,31 @@ module _ (t : Terms) where
   tells-fewer m n (down.Ping head) l h = tt
   tells-fewer m n (down.Body p) l h = omega arith
 
-  brings-down : (s : List ServerEvent) (u : List ClientEvent) (k : ℕ) (o : Option (List ℕ)) → slice_get (server_datagrams t s) k ≡ o → Carried t s u → Windows t s u → Honest t s u → Joins t s u → RefusesNoGhosts s u → AllByRecursion (IsOf t.blocks) (blocks_came u) → RefusesLittle (brought_down t (record { server = s; client = u }) k o)
-  brings-down s u k None e c w h j none came = tt
-  brings-down s u k (Some bytes) e c w h j none came =
-      let b : Brings (read_down t.config t.kinds) seen_down (IsScript t.blocks) t.config.client (λ n. events_of n (server_end s)) (sent_of (window_log (server_end s))) (run_of (came_of (client_end u))) bytes = all-at _ (server_datagrams t s) k bytes h.down.brings e in
-      let d : IsDown t (posted_at (server_end s)) (length (accepted_at t.config s)) bytes = all-at _ (server_datagrams t s) k bytes c.down e in
-      let x : Spells (read_down t.config t.kinds) seen_down (window_log (server_end s)) bytes = all-at _ (server_datagrams t s) k bytes w.down.spelled e in
-      let y : SpellsSent t s bytes = all-at _ (server_datagrams t s) k bytes j.spelled e in
-      let told : TellsAtMost (length (accepted_at t.config s)) b.packet = subst (TellsAtMost (length (accepted_at t.config s))) (same-packet (read_down t.config t.kinds bytes) d.packet b.packet d.reads b.reads) d.tells in
-      let same : x.packet ≡ b.packet = same-packet (read_down t.config t.kinds bytes) x.packet b.packet x.reads b.reads in
-      let known : (seen_down b.packet).head.horizon ≤ horizon_of (window_log (server_end s)) = subst (λ (p : ServerPacket). (seen_down p).head.horizon ≤ horizon_of (window_log (server_end s))) same x.tells.known in
-      subst (λ (r : Result ServerPacket BitsFault). RefusesLittle (came_down (without_packet (client_log.packet_answer t.config u r)))) (sym b.reads)
-      (answer-down b.packet (client_log.packet_check t.config u b.packet)
-      (check-down u b.packet b.client (omega (arith, known, w.up.known)) (tells-fewer (length (accepted_at t.config s)) (length (sampled_at u)) b.packet c.moves.front.within told) b.near b.good
-      (λ q is above. none q (subst (WasSent s) (same-packet (read_down t.config t.kinds bytes) y.packet b.packet y.reads b.reads ∙ is) y.sent) above) came))
+  module _ (s : List ServerEvent) (u : List ClientEvent) (c : Carried t s u) (w : Windows t s u) (h : Honest t s u) (j : Joins t s u) (none : RefusesNoGhosts s u) (came : AllByRecursion (IsOf t.blocks) (blocks_came u)) where
+    given-down : (k : ℕ) (p : ServerPacket) → slice_get (server_packets s) k ≡ Some p → RefusesLittle (came_down (without_packet (checked_packet p (client_log.packet_check t.config u p))))
+    given-down k p e =
+        let b : Brings seen_down (IsScript t.blocks) t.config.client (λ n. events_of n (server_end s)) (sent_of (window_log (server_end s))) (run_of (came_of (client_end u))) p = all-at _ (server_packets s) k p h.down.brings e in
+        let d : IsDown t (posted_at (server_end s)) (length (accepted_at t.config s)) p = all-at _ (server_packets s) k p c.down e in
+        let x : TellsOf seen_down (window_log (server_end s)) p = all-at (TellsOf seen_down (window_log (server_end s))) (server_packets s) k p w.down.told e in
+        let y : WasSent s p = all-at (WasSent s) (server_packets s) k p j.sent e in
+        answer-down p (client_log.packet_check t.config u p)
+        (check-down u p b.client (omega (arith, x.known, w.up.known)) (tells-fewer (length (accepted_at t.config s)) (length (sampled_at u)) p c.moves.front.within d.tells) b.near b.good
+        (λ q is above. none q (subst (WasSent s) is y) above) came)
+
+    brings-down : AllByRecursion (IsReadDown t u) (server_packets s) → (k : ℕ) (o : Option (List ℕ)) → slice_get (server_datagrams t s) k ≡ o → RefusesLittle (brought_down t (record { server = s; client = u }) k o)
+    brings-down read k None e = tt
+    brings-down read k (Some bytes) e =
+        let it = packet-down t s k bytes e in
+        subst (λ (v : List ℕ). RefusesLittle (came_down (without_packet (client_answer t.config t.kinds u v)))) it.spelled
+        (subst (λ (a : Result ServerPacket ClientFault). RefusesLittle (came_down (without_packet a))) (sym (all-at (IsReadDown t u) (server_packets s) k it.packet read it.there)) (given-down k it.packet it.there))
 
 pub little_down : (t : Terms) (steps : List PairStep) (k : ℕ) → AreTerms t → AreGood t steps → RefusesLittle (answer t steps (Down k))
 little_down t steps k limits fit =
     let c = carried t limits steps fit in
-    brings-down t (history t steps).server (history t steps).client k (slice_get (server_datagrams t (history t steps).server) k) refl c (windows t limits steps fit) (honest t limits steps fit) (joins t limits steps fit)
+    brings-down t (history t steps).server (history t steps).client c (windows t limits steps fit) (honest t limits steps fit) (joins t limits steps fit)
     (refuses-no-ghosts t (history t steps).server (history t steps).client c.legal (joined t limits steps fit) (holds_received t steps limits fit))
     (all-map (IsAsGiven t.blocks) (IsOf t.blocks) (λ item is. given-bytes t.blocks item.number item.bytes is) (blocks_came (history t steps).client) (given t limits steps fit).came)
+    (read-down t limits steps fit) k (slice_get (server_datagrams t (history t steps).server) k) refl
 
 -- ---- the server
 
@@ -201,19 +206,24 @@ module _ (t : Terms) where
   answer-up s room p (Ok u) h = tt
   answer-up s room p (Err e) h = h
 
-  brings-up : (s : List ServerEvent) (u : List ClientEvent) (k room : ℕ) (o : Option (List ℕ)) → slice_get (client_datagrams t.config u) k ≡ o → Windows t s u → Honest t s u → RefusesLittle (brought_up t (record { server = s; client = u }) k room o)
-  brings-up s u k room None e w h = tt
-  brings-up s u k room (Some bytes) e w h =
-      let b : Brings (read_up t.config) seen_up (BeginsWithin (length (accepted_at t.config s))) t.config.client (λ n. events_of n (client_end u)) (sent_of (window_log (client_end u))) (run_of (came_of (server_end s))) bytes = all-at _ (client_datagrams t.config u) k bytes h.up.brings e in
-      let x : Spells (read_up t.config) seen_up (window_log (client_end u)) bytes = all-at _ (client_datagrams t.config u) k bytes w.up.spelled e in
-      let same : x.packet ≡ b.packet = same-packet (read_up t.config bytes) x.packet b.packet x.reads b.reads in
-      let known : (seen_up b.packet).head.horizon ≤ horizon_of (window_log (client_end u)) = subst (λ (p : ClientPacket). (seen_up p).head.horizon ≤ horizon_of (window_log (client_end u))) same x.tells.known in
-      subst (λ (r : Result ClientPacket BitsFault). RefusesLittle (came_up (taken_of t.config s room (server_log.packet_answer t.config s r)))) (sym b.reads)
-      (answer-up s room b.packet (server_log.packet_check t.config s b.packet) (check-up s b.packet b.client (omega (arith, known, w.down.known)) b.near b.good))
+  module _ (s : List ServerEvent) (u : List ClientEvent) (w : Windows t s u) (h : Honest t s u) (room : ℕ) where
+    given-up : (k : ℕ) (p : ClientPacket) → slice_get (client_packets u) k ≡ Some p → RefusesLittle (came_up (taken_of t.config s room (checked_packet p (server_log.packet_check t.config s p))))
+    given-up k p e =
+        let b : Brings seen_up (BeginsWithin (length (accepted_at t.config s))) t.config.client (λ n. events_of n (client_end u)) (sent_of (window_log (client_end u))) (run_of (came_of (server_end s))) p = all-at _ (client_packets u) k p h.up.brings e in
+        let x : TellsOf seen_up (window_log (client_end u)) p = all-at (TellsOf seen_up (window_log (client_end u))) (client_packets u) k p w.up.told e in
+        answer-up s room p (server_log.packet_check t.config s p) (check-up s p b.client (omega (arith, x.known, w.down.known)) b.near b.good)
+
+    brings-up : AllByRecursion (IsReadUp t.config s) (client_packets u) → (k : ℕ) (o : Option (List ℕ)) → slice_get (client_datagrams t.config u) k ≡ o → RefusesLittle (brought_up t (record { server = s; client = u }) k room o)
+    brings-up read k None e = tt
+    brings-up read k (Some bytes) e =
+        let it = packet-up t.config u k bytes e in
+        subst (λ (v : List ℕ). RefusesLittle (came_up (taken_of t.config s room (server_answer t.config s v)))) it.spelled
+        (subst (λ (a : Result ClientPacket ArriveFault). RefusesLittle (came_up (taken_of t.config s room a))) (sym (all-at (IsReadUp t.config s) (client_packets u) k it.packet read it.there)) (given-up k it.packet it.there))
 
 pub little_up : (t : Terms) (steps : List PairStep) (k room : ℕ) → AreTerms t → AreGood t steps → RefusesLittle (answer t steps (Up k room))
 little_up t steps k room limits fit =
-    brings-up t (history t steps).server (history t steps).client k room (slice_get (client_datagrams t.config (history t steps).client) k) refl (windows t limits steps fit) (honest t limits steps fit)
+    brings-up t (history t steps).server (history t steps).client (windows t limits steps fit) (honest t limits steps fit) room
+    (read-up t limits steps fit) k (slice_get (client_datagrams t.config (history t steps).client) k) refl
 
 -- ---- all steps
 

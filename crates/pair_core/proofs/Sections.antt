@@ -12,7 +12,7 @@ use Rattle.stream_manager.specs.End.{fates}
 use Rattle.stream_manager.specs.Limits.{Terms, IsBlockBytes, AreTerms}
 use Rattle.stream_manager.specs.Server.{ServerEvent, server_end, block_log, block_item, blocks_at}
 use Rattle.stream_manager.proofs.Fitting.{fitting-all, fitting-short}
-use Rattle.pair_core.proofs.Lists.{all-append, all-take}
+use Rattle.conn_packing.proofs.Lists.{all-append, all-take}
 
 -- ---- blocks
 

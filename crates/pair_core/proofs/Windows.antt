@@ -1,6 +1,6 @@
--- What each end of a connection knows of the other's packets, and what its datagrams tell: one way between two ends, from
+-- What each end of a connection knows of the other's packets, and what its own tell: one way between two ends, from
 -- the one that sends to the one that receives, seen by their windows.
-use Rattle.std.proofs.Common.{◌≡◌, ◌≢◌, ℕ, ◌+◌, ◌-◌, ◌<◌, ◌≤◌, Bool, true, false, not, ◌&&◌, ◌==◌, nat_le, nat_lt, List, [], ◌∷◌, ◌++◌, if◌then◌else◌, Result, Ok, Err, refl, sym, ◌∙◌, ap, arith, inl, inr}
+use Rattle.std.proofs.Common.{◌≡◌, ◌≢◌, ℕ, ◌+◌, ◌-◌, ◌<◌, ◌≤◌, Bool, true, false, not, ◌&&◌, ◌==◌, nat_le, nat_lt, List, [], ◌∷◌, ◌++◌, if◌then◌else◌, Ok, Err, refl, sym, ◌∙◌, ap, arith, inl, inr}
 use Rattle.std.specs.Result.{is_ok}
 use Rattle.std.specs.List.{AllByRecursion}
 use Rattle.std.specs.Int.{bit_at}
@@ -13,13 +13,12 @@ use Rattle.notify_window.specs.Log.{WindowEvent, Sent, Came, Told, sent_of, hori
 use Rattle.notify_window.proofs.Words.{bit_at-from_bits}
 use Rattle.notify_window.proofs.Verdicts.{fate-told, fate-told_judged}
 use Rattle.notify_window.proofs.Horizons.{processed-fresh}
-use Rattle.wire_format.specs.declared.fault.BitsFault.{BitsFault}
 use Rattle.wire_format.specs.declared.header.Header.{Header}
 use Rattle.stream_manager.specs.declared.fault.HeadFault.{HeadFault}
 use Rattle.stream_manager.specs.declared.fault.HeadFault.TheVariants.{WrongClient, Old, AckAhead}
-use Rattle.tn_types.specs.Checks.{Checked}
+use Rattle.tn_types.specs.Checks.{Checked, then_check}
 use Rattle.stream_manager.specs.End.{Seen, EndEvent, window_log, data_head, ping_head, head_answer}
-use Rattle.pair_core.proofs.Lists.{all-append, all-map}
+use Rattle.conn_packing.proofs.Lists.{all-append, all-map}
 
 -- the header of a packet that an end sent, by what its window has seen by now: the packet's number is one that was sent,
 -- and what it acknowledges is so
@@ -28,19 +27,17 @@ pub record Tells (head : Header) (w : List WindowEvent) : Type 0 where
   pub known : head.horizon ≤ horizon_of w
   pub bits : (s : ℕ) → 0 < s → s ≤ head.horizon → head.horizon < s + 32 → bit_at head.mask (head.horizon - s) ≡ bit_of (is_processed s w)
 
--- bytes that spell such a packet
-pub record Spells {P : Type 0} (read : List ℕ → Result P BitsFault) (seen : P → Seen) (w : List WindowEvent) (bytes : List ℕ) : Type 0 where
-  pub packet : P
-  pub reads : read bytes ≡ Ok packet
-  pub tells : Tells (seen packet).head w
+-- and of the whole packet
+abbrev pub TellsOf : {P : Type 0} → (P → Seen) → List WindowEvent → P → Type 0
+TellsOf seen w p = Tells (seen p).head w
 
--- what the end that saw x knows of the end that saw y, and the datagrams that it sent
-pub record Way {P : Type 0} (read : List ℕ → Result P BitsFault) (seen : P → Seen) (x y : List WindowEvent) (sent : List (List ℕ)) : Type 0 where
+-- what the end that saw x knows of the end that saw y, and the packets that it sent
+pub record Way {P : Type 0} (seen : P → Seen) (x y : List WindowEvent) (sent : List P) : Type 0 where
   pub few : sent_of x ≤ judged_of x + 32
   pub known : horizon_of y ≤ sent_of x
   pub judged : judged_of x ≤ horizon_of y
   pub right : (s : ℕ) → 0 < s → s ≤ judged_of x → fate_of s x ≡ fate_of_bit (bit_of (is_processed s y))
-  pub spelled : AllByRecursion (Spells read seen x) sent
+  pub told : AllByRecursion (TellsOf seen x) sent
 
 -- ---- one packet
 
@@ -72,9 +69,9 @@ tells-came head ping seq horizon mask w fresh t = record {
 
 -- ---- one way
 
-module _ {P : Type 0} (read : List ℕ → Result P BitsFault) (seen : P → Seen) where
-  pub start-way : Way read seen [] [] []
-  start-way = record { few = omega arith; known = omega arith; judged = omega arith; right = λ s pos l. absurd (omega arith); spelled = tt }
+module _ {P : Type 0} (seen : P → Seen) where
+  pub start-way : Way seen [] [] []
+  start-way = record { few = omega arith; known = omega arith; judged = omega arith; right = λ s pos l. absurd (omega arith); told = tt }
 
   not-full : (life : ℕ) (w : List WindowEvent) → send_state_of life w ≡ Room → sent_of w ≢ judged_of w + 32
   not-full life w room same =
@@ -82,35 +79,29 @@ module _ {P : Type 0} (read : List ℕ → Result P BitsFault) (seen : P → See
       let never : Held ≡ Room = rw full at room in
       absurd cc
 
-  spells-sent : (w : List WindowEvent) (bytes : List ℕ) → Spells read seen w bytes → Spells read seen (Sent ∷ w) bytes
-  spells-sent w bytes b = record { packet = b.packet; reads = b.reads; tells = tells-sent (seen b.packet).head w b.tells }
-
-  spells-came : (ping : Bool) (seq horizon mask : ℕ) (w : List WindowEvent) → arrival_of ping seq (horizon_of w) ≡ Fresh → (bytes : List ℕ) → Spells read seen w bytes → Spells read seen (Told horizon mask ∷ Came ping seq ∷ w) bytes
-  spells-came ping seq horizon mask w fresh bytes b = record { packet = b.packet; reads = b.reads; tells = tells-came (seen b.packet).head ping seq horizon mask w fresh b.tells }
-
   -- the sender sends a data packet
-  pub sends : (life : ℕ) (x y : List WindowEvent) (sent : List (List ℕ)) (bytes : List ℕ) → send_state_of life x ≡ Room → Spells read seen (Sent ∷ x) bytes → Way read seen x y sent → Way read seen (Sent ∷ x) y (sent ++ bytes ∷ [])
-  sends life x y sent bytes room spells way =
+  pub sends : (life : ℕ) (x y : List WindowEvent) (sent : List P) (p : P) → send_state_of life x ≡ Room → TellsOf seen (Sent ∷ x) p → Way seen x y sent → Way seen (Sent ∷ x) y (sent ++ p ∷ [])
+  sends life x y sent p room tells way =
       let apart = not-full life x room in
       record {
         few = omega (arith, way.few, apart);
         known = omega (arith, way.known);
         judged = way.judged;
         right = way.right;
-        spelled = all-append (Spells read seen (Sent ∷ x)) sent (bytes ∷ []) (all-map (Spells read seen x) (Spells read seen (Sent ∷ x)) (spells-sent x) sent way.spelled) (spells, tt);
+        told = all-append (TellsOf seen (Sent ∷ x)) sent (p ∷ []) (all-map (TellsOf seen x) (TellsOf seen (Sent ∷ x)) (λ q. tells-sent (seen q).head x) sent way.told) (tells, tt);
       }
 
   -- it sends a ping
-  pub pings : (x y : List WindowEvent) (sent : List (List ℕ)) (bytes : List ℕ) → Spells read seen x bytes → Way read seen x y sent → Way read seen x y (sent ++ bytes ∷ [])
-  pings x y sent bytes spells way = record { few = way.few; known = way.known; judged = way.judged; right = way.right; spelled = all-append (Spells read seen x) sent (bytes ∷ []) way.spelled (spells, tt) }
+  pub pings : (x y : List WindowEvent) (sent : List P) (p : P) → TellsOf seen x p → Way seen x y sent → Way seen x y (sent ++ p ∷ [])
+  pings x y sent p tells way = record { few = way.few; known = way.known; judged = way.judged; right = way.right; told = all-append (TellsOf seen x) sent (p ∷ []) way.told (tells, tt) }
 
   -- the receiver sends a data packet
-  pub other-sends : (x y : List WindowEvent) (sent : List (List ℕ)) → Way read seen x y sent → Way read seen x (Sent ∷ y) sent
-  other-sends x y sent way = record { few = way.few; known = way.known; judged = way.judged; right = way.right; spelled = way.spelled }
+  pub other-sends : (x y : List WindowEvent) (sent : List P) → Way seen x y sent → Way seen x (Sent ∷ y) sent
+  other-sends x y sent way = record { few = way.few; known = way.known; judged = way.judged; right = way.right; told = way.told }
 
   -- the sender takes a packet of the receiver
-  pub takes : (head : Header) (ping : Bool) (x y : List WindowEvent) (sent : List (List ℕ)) → Tells head y → arrival_of ping head.seq (horizon_of x) ≡ Fresh → head.horizon ≤ sent_of x → Way read seen x y sent
-      → Way read seen (Told head.horizon head.mask ∷ Came ping head.seq ∷ x) y sent
+  pub takes : (head : Header) (ping : Bool) (x y : List WindowEvent) (sent : List P) → Tells head y → arrival_of ping head.seq (horizon_of x) ≡ Fresh → head.horizon ≤ sent_of x → Way seen x y sent
+      → Way seen (Told head.horizon head.mask ∷ Came ping head.seq ∷ x) y sent
   takes head ping x y sent tells fresh within way = record {
     few = omega (arith, way.few);
     known = way.known;
@@ -120,18 +111,18 @@ module _ {P : Type 0} (read : List ℕ → Result P BitsFault) (seen : P → See
           fate-told s head.horizon head.mask (Came ping head.seq ∷ x) new reached ∙ ap fate_of_bit (tells.bits s pos reached (omega (arith, way.few, within))))
       | inr old ↦ fate-told_judged s head.horizon head.mask (Came ping head.seq ∷ x) old ∙ way.right s pos old
     ];
-    spelled = all-map (Spells read seen x) (Spells read seen (Told head.horizon head.mask ∷ Came ping head.seq ∷ x)) (spells-came ping head.seq head.horizon head.mask x fresh) sent way.spelled;
+    told = all-map (TellsOf seen x) (TellsOf seen (Told head.horizon head.mask ∷ Came ping head.seq ∷ x)) (λ q. tells-came (seen q).head ping head.seq head.horizon head.mask x fresh) sent way.told;
   }
 
   -- the receiver takes a packet of the sender
-  pub other-takes : (head : Header) (ping : Bool) (x y : List WindowEvent) (sent : List (List ℕ)) → Tells head x → arrival_of ping head.seq (horizon_of y) ≡ Fresh → Way read seen x y sent
-      → Way read seen x (Told head.horizon head.mask ∷ Came ping head.seq ∷ y) sent
+  pub other-takes : (head : Header) (ping : Bool) (x y : List WindowEvent) (sent : List P) → Tells head x → arrival_of ping head.seq (horizon_of y) ≡ Fresh → Way seen x y sent
+      → Way seen x (Told head.horizon head.mask ∷ Came ping head.seq ∷ y) sent
   other-takes head ping x y sent tells fresh way = record {
     few = way.few;
     known = omega (arith, way.known, tells.seq);
     judged = omega (arith, way.judged);
     right = λ s pos l. way.right s pos l ∙ ap (λ b. fate_of_bit (bit_of b)) (sym (processed-fresh s head.seq ping y fresh (omega (arith, way.judged))));
-    spelled = way.spelled;
+    told = way.told;
   }
 
 -- ---- arrivals
@@ -148,7 +139,8 @@ fresh-is false seq horizon e = rw e
 -- the answer, by its three tests
 abbrev pub tested : List EndEvent → Seen → (other old ahead : Bool) → Checked HeadFault
 tested log p other old ahead =
-    if other then Err (WrongClient p.head.client) else if old then Err (Old p.head.seq (horizon_of (window_log log))) else if ahead then Err (AckAhead p.head.horizon (sent_of (window_log log))) else Ok tt
+    then_check (if other then Err (WrongClient p.head.client) else if old then Err (Old p.head.seq (horizon_of (window_log log))) else Ok tt)
+    (if ahead then Err (AckAhead p.head.horizon (sent_of (window_log log))) else Ok tt)
 
 pub head-meets : (client : ℕ) (log : List EndEvent) (p : Seen) → is_ok (head_answer client log p) ≡ true → Meets log p
 head-meets client log p ok = go (not (p.head.client == client)) (not p.ping && nat_le p.head.seq (horizon_of (window_log log))) (nat_lt (sent_of (window_log log)) p.head.horizon) refl refl ok

@@ -19,6 +19,8 @@ use Rattle.stream_manager.specs.Server as server
 use Rattle.stream_manager.specs.Server.{server_end, server_state, server_datagrams, accepted_at, posted_at_server, ghost_log}
 use Rattle.stream_manager.specs.Client as client
 use Rattle.stream_manager.specs.Client.{client_end, client_state, client_datagrams, sampled_at, posted_at_client, sampled_answer}
+use Rattle.conn_packing.specs.declared.made.Made.{Made}
+use Rattle.conn_packing.specs.declared.made.Made.TheVariants as packs
 use Rattle.pair_core.specs.declared.step.Answer.{Answer}
 use Rattle.pair_core.specs.declared.step.Answer.TheVariants as says
 use Rattle.pair_core.specs.History.{PairStep, Show, Hide, Near, Post, ClientPost, Sample, Pack, ClientPack, Down, Up, Raw, History, history}
@@ -36,6 +38,12 @@ abbrev pub made : SendState → ℕ → ℕ → Answer
 made Held life place = says.Packed true place
 made Worn life place = says.Worn life
 made Room life place = says.Packed false place
+
+-- by what a pack made
+abbrev pub of_made : Made → ℕ → Answer
+of_made (packs.Ping len) place = says.Packed true place
+of_made (packs.Body len) place = says.Packed false place
+of_made (packs.Worn life) place = says.Worn life
 
 abbrev pub came_down : Result (Unit {0}) ClientFault → Answer
 came_down (Ok u) = says.Came 0
@@ -96,7 +104,7 @@ accepted_in t steps = accepted_at t.config (history t steps).server
 -- ---- examples
 
 new : Terms
-new = record { config = record { client = 0; life = 2; size = 128 }; kinds = []; blocks = [] }
+new = record { config = record { client = 0; life = 2; size = 128; version = 1 }; kinds = []; blocks = [] }
 
 -- nothing was sent at place 3
 nothing_sent : answer new [] (Down 3) ≡ says.NotSent 3 0

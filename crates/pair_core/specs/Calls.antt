@@ -1,6 +1,5 @@
 -- What a call on a pair does to the steps that it stands for, what it answers of them, and what it leaves alone.
-use Rattle.std.specs.Prelude.{◌≡◌, ℕ, ℤ, ◌<◌, Bool, true, false, not, ◌&&◌, ◌||◌, ◌==◌, Option, List, [], ◌∷◌, ◌++◌, length}
-use Rattle.std.specs.List.{AllByRecursion}
+use Rattle.std.specs.Prelude.{◌≡◌, ℕ, ℤ, ◌<◌, true, Option, List, [], ◌∷◌, ◌++◌, length}
 use Rattle.tn_types.specs.Histories as histories
 use Rattle.tn_types.specs.declared.limits.TheConstants.{MAX_DATAGRAMS}
 use Rattle.tn_types.specs.declared.choices.Drain.{Drain}
@@ -14,10 +13,11 @@ use Rattle.pair_core.specs.declared.step.PairStep.TheVariants as given
 use Rattle.pair_core.specs.declared.step.Answer.{Answer}
 use Rattle.pair_core.specs.declared.step.Answer.TheVariants as says
 use Rattle.pair_core.specs.History.{PairStep, Show, Hide, Near, Post, ClientPost, Sample, Pack, ClientPack, Down, Up, Raw, history}
-use Rattle.pair_core.specs.Conditions.{MayDrain, IsReadFor, IsMet, HasRanges}
+use Rattle.conn_packing.specs.Reads.{MayDrain, IsReadFor, HasRanges}
+use Rattle.pair_core.specs.Conditions.{IsMet}
 use Rattle.pair_core.specs.Answers.{client_delivered, server_delivered, accepted_in}
 use Rattle.pair_core.specs.Stands.{PairState, StandsFor}
-use Rattle.pair_core.specs.History.{absorbing}
+use Rattle.conn_packing.specs.Packs.{absorbing}
 
 -- the step that is given; a pack is made by a call of its own
 abbrev pub step_of : GivenStep → PairStep
@@ -147,18 +147,3 @@ pub record Packs (old : PairState) (drains : List Drain) (reads : List Read) (ne
   pub stands : Does old (Pack drains reads) new
   pub read : (t : Terms) (steps : List PairStep) → StandsFor old t steps →
       let log = (history t steps).server in IsReadFor t (absorbing drains log) (server_state t.config log) reads
-
--- one of the reads is of this field of this period
-abbrev pub is_asked : List Read → ℕ → ℕ → Bool
-is_asked [] n f = false
-is_asked (r ∷ reads) n f = ((r.n == n) && (r.field == f)) || is_asked reads n f
-
--- what the asking for these reads did to the values: each read stands, what stood before stands, the fields that were asked
--- are owed no more, and all else is as it was
-pub record Asks {V : Type 0} (ranges : V → ℕ → ℕ → Option (ℤ × ℤ)) (stands : V → Read → Type 0)
-    (owes : V → ℕ → ℕ → Bool) (same : V → V → Type 0) (before after : V) (reads : List Read) : Type 0 where
-  pub stand : AllByRecursion (stands after) reads
-  pub kept : (r : Read) → stands before r → stands after r
-  pub owed : (n f : ℕ) → owes after n f ≡ (owes before n f && not (is_asked reads n f))
-  pub ranges_kept : (n f : ℕ) → ranges after n f ≡ ranges before n f
-  pub alike : same before after

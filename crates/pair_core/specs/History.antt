@@ -2,7 +2,7 @@
 -- sampled and packed at each end, and what the network does; and what has happened at both ends after them. The network
 -- brings only datagrams that were sent, named by their place: any number of times, in any order, as late as it likes. A raw
 -- datagram is any bytes that come to the server's end.
-use Rattle.std.specs.Prelude.{◌≡◌, refl, pos, ℕ, ℤ, Bool, false, List, [], ◌∷◌, map, if◌then◌else◌, slice_get, Option, Some, None}
+use Rattle.std.specs.Prelude.{◌≡◌, refl, ℕ, Bool, false, List, [], ◌∷◌, if◌then◌else◌, slice_get, Option, Some, None}
 use Rattle.std.specs.Result.{is_ok}
 use Rattle.tn_types.specs.declared.choices.Class.{Class}
 use Rattle.tn_types.specs.declared.choices.Class.TheVariants.{Guaranteed, Loose}
@@ -16,6 +16,7 @@ use Rattle.stream_manager.specs.Server as server
 use Rattle.stream_manager.specs.Server.{ServerEvent, posted_at_server, server_datagrams}
 use Rattle.stream_manager.specs.Client as client
 use Rattle.stream_manager.specs.Client.{ClientEvent, posted_at_client, sampled_answer, client_datagrams}
+use Rattle.conn_packing.specs.Packs.{server_packs}
 
 pub data PairStep : Type 0 where
   Show : (kind block level : ℕ) (control : Bool) → PairStep  -- a period of an object begins at the server
@@ -46,19 +47,6 @@ client_posts c Loose v log = client.Posted Loose v ∷ log
 -- a move, unless it is refused
 abbrev pub client_samples : Config → Move → List ClientEvent → List ClientEvent
 client_samples c m log = if is_ok (sampled_answer c log) then client.Sampled m ∷ log else log
-
--- what was drained is absorbed, in this order
-abbrev pub absorbing : List Drain → List ServerEvent → List ServerEvent
-absorbing [] log = log
-absorbing (d ∷ drains) log = absorbing drains (server.Scoped (server.Absorb d.n d.bits) ∷ log)
-
--- what was read, whatever its versions
-abbrev pub values_of : List Read → List ℤ
-values_of reads = map (λ r. r.value) reads
-
--- a pack absorbs what was drained, and packs with what was read
-abbrev pub server_packs : Terms → List Drain → List Read → List ServerEvent → List ServerEvent
-server_packs t drains reads log = server.packing t (absorbing drains log) (values_of reads)
 
 -- an arrival, unless nothing of that place was sent or it is refused
 abbrev pub client_gets : Terms → Option (List ℕ) → List ClientEvent → List ClientEvent
@@ -96,7 +84,7 @@ history t (step ∷ steps) = happens t step (history t steps)
 -- ---- examples: an object of kind 2 is shown, brought nearer and hidden
 
 unlimited : Terms
-unlimited = record { config = record { client = 0; life = 100; size = 128 }; kinds = []; blocks = [] }
+unlimited = record { config = record { client = 0; life = 100; size = 128; version = 1 }; kinds = []; blocks = [] }
 
 shown_and_hidden : history unlimited (Hide 0 ∷ Near 0 1 ∷ Show 2 0 3 false ∷ [])
     ≡ record {
@@ -105,13 +93,3 @@ shown_and_hidden : history unlimited (Hide 0 ∷ Near 0 1 ∷ Show 2 0 3 false �
     }
 unfolding unlimited
 shown_and_hidden = refl
-
--- drains are absorbed in the order in which they are given, so that the last is the newest
-two_drains : absorbing (record { n = 0; bits = 1 } ∷ record { n = 1; bits = 6 } ∷ []) []
-    ≡ server.Scoped (server.Absorb 1 6) ∷ server.Scoped (server.Absorb 0 1) ∷ []
-two_drains = refl
-
--- reads that differ in versions alone are the same to a pair
-without_versions : values_of (record { n = 0; field = 1; version = 7; value = pos 3 } ∷ [])
-    ≡ values_of (record { n = 0; field = 1; version = 0; value = pos 3 } ∷ [])
-without_versions = refl

@@ -1,13 +1,12 @@
 pub mod History
+pub mod Exchange
 pub mod Conditions
 pub mod Answers
 pub mod Laws
 pub mod HeldBlocks
 pub mod LooseEvents
-pub mod Asking
 pub mod Flat
 pub mod Stands
 pub mod Calls
 pub mod Verdicts
 pub mod Refusals
-pub mod Packing

@@ -1,11 +1,17 @@
 //! The datagrams that were sent one way.
 ghost use Rattle.std.specs.Prelude.{◌≡◌, true, false, ℕ, List, ◌+◌, ◌-◌, ◌<◌, ◌≤◌, ◌++◌, ◌∷◌, [], OnOk, OnErr, IfOk, IfSome, IsNone, IsTrue, ◌↔◌, Some, None, length, take, drop, slice_get};
 ghost use Rattle.std.specs.Option.{option_copied};
-ghost use Rattle.pair_core.specs.Flat.{cut, Rise};
+ghost use Rattle.std.specs.Prelude.{vec_len, vec_capacity};
+ghost use Rattle.tn_types.specs.declared.choices.Read.{Read};
+ghost use Rattle.conn_packing.specs.Asking.{Asks};
+ghost use Rattle.conn_packing.specs.Calls.{MayPackEnd, PacksEnd};
+ghost use Rattle.pair_core.specs.Flat.{cut, Rise, with_made};
 
+use conn_packing::{MAX_PACKET_VALUES, Made, Packer};
 use std::alloc::Global;
 use std::marker::Model;
-use tn_types::{MAX_DATAGRAM_BYTES, MAX_DATAGRAMS, NoMemory};
+use stream_manager::Conn;
+use tn_types::{Drain, MAX_DATAGRAM_BYTES, MAX_DATAGRAMS, NoMemory, Read, Values};
 
 /// The room for datagrams, and for their bytes, that a list begins with.
 const FIRST_DATAGRAMS: usize = 1_024;
@@ -103,6 +109,66 @@ impl Datagrams {
             unreachable!()
         }
         self.ends.push_reserved(self.bytes.len());
+    }
+
+    /// A server's end packs, and the datagram that it makes is added, for which there is room.
+    pub(crate) fn pack<V: Values>(
+        &mut self,
+        packer: &mut Packer,
+        conn: &mut Conn,
+        drains: &[Drain],
+        values: &mut V,
+    ) -> Made
+        requires room { self.old.has_room ≡ true }
+        requires few { length self.old.list < MAX_DATAGRAMS }
+        requires may { MayPackEnd conn.old drains.now (V.ranges values.old) }
+        ensures told { (reads : List Read) × (bytes : List ℕ) × PacksEnd conn.old drains.now reads result bytes conn.new
+            × (self.new.list ≡ with_made result bytes self.old.list)
+            × Asks V.ranges V.stands V.owes V.same values.old values.new reads }
+    {
+        // no datagram is longer than its size, nor that than 1,200
+        let _config = conn.config();
+        let made = packer.pack(conn, drains, values, &mut self.bytes);
+        note_end(&made, &mut self.ends, self.bytes.len());
+        made
+    }
+
+    /// The same, and what was read is noted in place of what was noted before.
+    pub(crate) fn pack_noting<V: Values>(
+        &mut self,
+        packer: &mut Packer,
+        conn: &mut Conn,
+        drains: &[Drain],
+        values: &mut V,
+        noted: &mut Vec<Read>,
+    ) -> Made
+        requires room { self.old.has_room ≡ true }
+        requires few { length self.old.list < MAX_DATAGRAMS }
+        requires may { MayPackEnd conn.old drains.now (V.ranges values.old) }
+        requires note_room { MAX_PACKET_VALUES ≤ vec_capacity noted.old }
+        ensures told { (bytes : List ℕ) × PacksEnd conn.old drains.now noted.new.items result bytes conn.new
+            × (self.new.list ≡ with_made result bytes self.old.list) }
+        ensures asks { Asks V.ranges V.stands V.owes V.same values.old values.new noted.new.items }
+        ensures few { length noted.new.items ≤ MAX_PACKET_VALUES }
+        ensures note_room { vec_capacity noted.new ≡ vec_capacity noted.old }
+    {
+        // no datagram is longer than its size, nor that than 1,200
+        let _config = conn.config();
+        let made = packer.pack_noting(conn, drains, values, noted, &mut self.bytes);
+        note_end(&made, &mut self.ends, self.bytes.len());
+        made
+    }
+}
+
+/// Notes where the datagram ends that was made, if any was.
+fn note_end(made: &Made, ends: &mut Vec<usize>, end: usize)
+    requires { vec_len ends.old < vec_capacity ends.old }
+    ensures { ends.new.items ≡ with_made made.now end ends.old.items }
+{
+    match made {
+        Made::Ping { len: _ } => ends.push_reserved(end),
+        Made::Body { len: _ } => ends.push_reserved(end),
+        Made::Worn { life: _ } => {}
     }
 }
 

@@ -4,8 +4,8 @@
 //! it likes (docs/connection.md, "The network"). Beside it stands whoever sends the server raw bytes.
 #![tactic(auto)]
 
-mod asking;
 mod datagrams;
+mod exchange;
 mod held_blocks;
 mod laws;
 mod loose_events;
@@ -16,7 +16,7 @@ mod step;
 mod steps;
 mod verdicts;
 
-pub use asking::MAX_PACKET_VALUES;
+pub use exchange::packets_are_exchanged;
 pub use held_blocks::{held_blocks_are_as_given, received_blocks_are_held};
 pub use laws::{accepts_in_order, delivers_in_order};
 pub use loose_events::loose_events_in_order;

@@ -2,15 +2,15 @@
 ghost use Rattle.std.specs.Prelude.{◌≡◌, true, ◌≤◌, [], IfOk, IfSome, OnOk, OnErr, IsTrue, ◌↔◌, if◌then◌else◌, length, slice_get};
 ghost use Rattle.std.specs.Option.{option_copied};
 
-use crate::asking::MAX_PACKET_VALUES;
 use crate::datagrams::Datagrams;
 use crate::step::{Answer, PairStep};
+use conn_packing::Packer;
 use event_manager::MAX_READY_EVENTS;
 use quantised_fields::KindTable;
 use std::alloc::Global;
 use std::marker::Model;
 use stream_manager::{Client, Config, Conn};
-use tn_types::{BlockBytes, Class, MAX_BLOCKS, MAX_DATAGRAM_BYTES, NoMemory, Payload, Read};
+use tn_types::{BlockBytes, Class, MAX_BLOCKS, MAX_DATAGRAM_BYTES, NoMemory, Payload};
 
 /// The server's end, the client's end, and the datagrams that each sent.
 ///
@@ -20,10 +20,7 @@ pub struct Pair {
     pub(crate) client: Client,
     pub(crate) down: Datagrams,
     pub(crate) up: Datagrams,
-    // the values that the last pack was given
-    pub(crate) values: Vec<i64>,
-    // no pack notes its reads here
-    pub(crate) noted: Vec<Read>,
+    pub(crate) packer: Packer,
 }
 
 // Written out, so that a function above that lets a pair go calls this, and doesn't prove again how its parts are let go.
@@ -34,16 +31,14 @@ impl Drop for Pair {
             client: _client,
             down: _down,
             up: _up,
-            values: _values,
-            noted: _noted,
+            packer: _packer,
         } = self;
     }
 }
 
 impl Model for Pair {
-    ghost use Rattle.std.specs.Prelude.{◌&&◌, ◌≤◌, vec_capacity};
+    ghost use Rattle.std.specs.Prelude.{◌&&◌};
     ghost use Rattle.pair_core.specs.Stands.{PairState};
-    ghost use Rattle.pair_core.specs.declared.asking.TheConstants.{MAX_PACKET_VALUES};
 
     ghost Value = { PairState };
 
@@ -54,8 +49,6 @@ impl Model for Pair {
       up = p.up.list;
       prepared = p.down.has_room && p.up.has_room;
     } };
-
-    ghost invariant = { λ p. (MAX_PACKET_VALUES ≤ vec_capacity p.values) × (MAX_PACKET_VALUES ≤ vec_capacity p.noted) };
 }
 
 impl Pair {
@@ -81,12 +74,7 @@ impl Pair {
     {
         let conn = Conn::new(alloc, config, kinds, blocks)?;
         let client = Client::new(alloc, config, kinds)?;
-        let Ok(values) = Vec::with_capacity(alloc, MAX_PACKET_VALUES) else {
-            return Err(NoMemory);
-        };
-        let Ok(noted) = Vec::with_capacity(alloc, MAX_PACKET_VALUES) else {
-            return Err(NoMemory);
-        };
+        let packer = Packer::new(alloc)?;
         let down = Datagrams::new(alloc)?;
         let up = Datagrams::new(alloc)?;
         Ok(Pair {
@@ -94,8 +82,7 @@ impl Pair {
             client,
             down,
             up,
-            values,
-            noted,
+            packer,
         })
     }
 

@@ -14,13 +14,14 @@ use Rattle.ghost_masks.specs.Plan.{kind_of, fields_in}
 use Rattle.stream_manager.specs.Limits.{Terms}
 use Rattle.stream_manager.specs.Server.{ghost_log}
 use Rattle.pair_core.specs.History.{PairStep, Show, Hide, Near, history}
-use Rattle.pair_core.specs.Conditions.{AreMet, HasRanges}
+use Rattle.conn_packing.specs.Reads.{HasRanges}
+use Rattle.pair_core.specs.Conditions.{AreMet}
 use Rattle.lane_periods.specs.Periods.{PeriodList, has, spec_at}
 use Rattle.lane_periods.specs.Views.{ranges}
-use Rattle.pair_periods.specs.Steps.{shows_in, is_hidden_in, up_in, traits_in}
+use Rattle.pair_steps.specs.Steps.{shows_in, is_hidden_in, up_in, traits_in}
 use Rattle.pair_periods.specs.Agreement.{Agree}
 use Rattle.lane_periods.proofs.Numbers.{or-cases, or-second}
-use Rattle.pair_periods.proofs.Journals.{IsQuiet, up_from, up_to, kind_told}
+use Rattle.pair_steps.proofs.Journals.{IsQuiet, up_from, up_to, kind_told}
 
 -- ---- what is up
 

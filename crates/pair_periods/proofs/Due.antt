@@ -1,4 +1,4 @@
--- A field that is due stays due until a packet that carries it is sent. A pack absorbs its drains first, so what is drained is due
+-- A field that is due stays due after a pack that doesn't read it. The pack absorbs its drains first, so what is drained is due
 -- before the packet is made; and what the packet carries of a period is what the pack reads.
 use Rattle.std.proofs.Common.{◌≡◌, ◌⊎◌, inl, inr, ⊎_elim, ℕ, zero, suc, ◌+◌, ◌-◌, ◌<◌, ◌≤◌, ◌==◌, ◌&&◌, ◌||◌, not, length, refl, sym, ap, ◌∙◌, subst, arith, Bool, true, false, cond, List, [], ◌∷◌, Option, Some, None, Result, Ok, Err}
 use Rattle.std.specs.Prelude.{slice_get, map, filter}
@@ -36,138 +36,18 @@ use Rattle.stream_manager.specs.End.{fates, judged_at}
 use Rattle.stream_manager.specs.Server as server
 use Rattle.stream_manager.specs.Server.{ServerEvent, server_end, server_state, server_answer, took_at_server, posted_at_server, ghost_log, choices_at, packed_onto}
 use Rattle.stream_manager.specs.Client.{client_datagrams}
-use Rattle.pair_core.specs.History.{PairStep, Show, Hide, Near, Post, ClientPost, Sample, Pack, ClientPack, Down, Up, Raw, History, history, happens, absorbing, values_of, server_posts, server_gets}
-use Rattle.pair_core.specs.Conditions.{IsMet, IsReadFor, field_of, fields_in, asked_by, asked_by_all}
-use Rattle.pair_core.specs.Calls.{is_asked}
-use Rattle.pair_core.proofs.Good.{absorbed-state, all-drained}
+use Rattle.conn_packing.specs.Packs.{absorbing, values_of}
+use Rattle.pair_core.specs.History.{PairStep, Show, Hide, Near, Post, ClientPost, Sample, Pack, ClientPack, Down, Up, Raw, History, history, happens, server_posts, server_gets}
+use Rattle.conn_packing.specs.Reads.{IsReadFor, field_of, fields_in, asked_by, asked_by_all}
+use Rattle.pair_core.specs.Conditions.{IsMet}
+use Rattle.conn_packing.specs.Asking.{is_asked}
+use Rattle.conn_packing.proofs.Absorbed.{absorbed-state, all-drained}
 use Rattle.pair_core.proofs.LegalLogs.{IsLegalLog, absorbs-legal, packed-legal}
-use Rattle.pair_core.proofs.Scoped.{absorbed-kind}
+use Rattle.conn_packing.proofs.Scoped.{absorbed-kind}
 use Rattle.lane_periods.specs.Views.{is_drained}
 use Rattle.lane_periods.proofs.Numbers.{or-cases}
-use Rattle.pair_periods.specs.Agreement.{IsNoPack}
-
-module _ (n f : ℕ) where
-  abbrev pub Due : List ServerEvent → Type 0
-  Due s = is_due (ghost_log s) n f ≡ true
-
-  judged-due : (fate : ℕ → Fate) (start count : ℕ) (g : List GhostEvent) → is_due g n f ≡ true
-      → is_due (judgements fate start count g) n f ≡ true
-  judged-due fate start zero g due = due
-  judged-due fate start (suc count) g due =
-      let said = judgements fate start count g in
-      or_right (is_cause (Judged (verdict_of (fate (start + count)))) said n f) (is_due said n f) (judged-due fate start count g due)
-
-  took-due : (s : List ServerEvent) (room : ℕ) (a : Result ClientPacket ArriveFault) → Due s → Due (took_at_server s room a)
-  took-due s room (Err e) due = due
-  took-due s room (Ok p) due =
-      judged-due (fates (server_end (server.Took p room ∷ s))) (judged_at (server_end s) + 1)
-      (judged_at (server_end (server.Took p room ∷ s)) - judged_at (server_end s))
-      (ghost_log s) due
-
-  gets-due : (c : Config) (s : List ServerEvent) (room : ℕ) (o : Option (List ℕ)) → Due s → Due (server_gets c room o s)
-  gets-due c s room None due = due
-  gets-due c s room (Some bytes) due = took-due s room (server_answer c s bytes) due
-
-  posts-due : (c : Config) (class : Class) (v : List ℕ) (s : List ServerEvent) → Due s → Due (server_posts c class v s)
-  posts-due c Loose v s due = due
-  posts-due c Guaranteed v s due = go (is_ok (posted_at_server c s))
-    where
-      go : (b : Bool) → Due (cond b (server.Posted Guaranteed v ∷ s) s)
-      go true = due
-      go false = due
-
-  pub shows_due : (kind block level : ℕ) (control : Bool) (s : List ServerEvent) → Due s
-      → Due (server.Scoped (server.Show kind block level control) ∷ s)
-  shows_due kind block level control s due = or_right (n == shows (scope_log (ghost_log s))) (is_due (ghost_log s) n f) due
-
-  pub absorbs_due : (drains : List Drain) (s : List ServerEvent) → Due s → Due (absorbing drains s)
-  absorbs_due [] s due = due
-  absorbs_due (d ∷ drains) s due =
-      absorbs_due drains (server.Scoped (server.Absorb d.n d.bits) ∷ s)
-      (or_right ((d.n == n) && has_bit d.bits f) (is_due (ghost_log s) n f) due)
-
-  pub step_due : (t : Terms) (step : PairStep) (h : History) → IsNoPack step → Due h.server → Due (happens t step h).server
-  step_due t (Show kind block level control) h none due = shows_due kind block level control h.server due
-  step_due t (Hide m) h none due = due
-  step_due t (Near m level) h none due = due
-  step_due t (Post class v) h none due = posts-due t.config class v h.server due
-  step_due t (ClientPost class v) h none due = due
-  step_due t (Sample m) h none due = due
-  step_due t (Pack drains reads) h none due = absurd none
-  step_due t ClientPack h none due = due
-  step_due t (Down k) h none due = due
-  step_due t (Up k room) h none due = gets-due t.config h.server room (slice_get (client_datagrams t.config h.client) k) due
-  step_due t (Raw bytes room) h none due = gets-due t.config h.server room (Some bytes) due
-
--- ---- the fields of a mask, rising
-
-abbrev from : ℕ → ℕ → List ℕ
-from k zero = []
-from k (suc m) = k ∷ from (suc k) m
-
-abbrev run : ℕ → ℕ → ℕ → List ℕ
-run mask k m = filter (has_bit mask) (from k m)
-
-fields-run : (mask : ℕ) → fields_in mask ≡ run mask 0 16
-unfolding upto
-fields-run mask = refl
-
-abbrev is-it : ℕ → ℕ → ℕ × ℕ → Bool
-is-it n f x = (x.0 == n) && (x.1 == f)
-
--- ---- what is carried is asked for
-
-same-test : (m : ℕ) → (m == m) ≡ true
-same-test m = eq-eqb m m refl
-
-run-has : (m mask f k count : ℕ) → k ≤ f → f < k + count → has_bit mask f ≡ true
-    → list_any (is-it m f) (map {B = ℕ × ℕ} (λ g. (m, g)) (run mask k count)) ≡ true
-run-has m mask f k zero le lt has = absurd (omega arith)
-run-has m mask f k (suc count) le lt has =
-    go (λ apart. run-has m mask f (suc k) count (omega (arith, le, apart)) (omega (arith, lt)) has) (cases_eq k f) (has_bit mask k) refl
-  where
-    go : ((k ≡ f → ⊥) → list_any (is-it m f) (map {B = ℕ × ℕ} (λ g. (m, g)) (run mask (suc k) count)) ≡ true) → (k ≡ f) ⊎ (k ≡ f → ⊥)
-        → (b : Bool) → has_bit mask k ≡ b
-        → list_any (is-it m f) (map {B = ℕ × ℕ} (λ g. (m, g)) (cond b (k ∷ run mask (suc k) count) (run mask (suc k) count))) ≡ true
-    go later (inl same) true e =
-        ap (λ b. (b && (k == f)) || list_any (is-it m f) (map {B = ℕ × ℕ} (λ g. (m, g)) (run mask (suc k) count))) (same-test m)
-        ∙ ap (λ b. b || list_any (is-it m f) (map {B = ℕ × ℕ} (λ g. (m, g)) (run mask (suc k) count))) (eq-eqb k f same)
-    go later (inl same) false e = absurd (let never : true ≡ false = sym has ∙ ap (has_bit mask) (sym same) ∙ e in cc)
-    go later (inr apart) true e =
-        or_right (is-it m f (m, k)) (list_any (is-it m f) (map {B = ℕ × ℕ} (λ g. (m, g)) (run mask (suc k) count)))
-        (later apart)
-    go later (inr apart) false e = later apart
-
-module _ (kinds : List Kind) (log : List GhostEvent) (n f : ℕ) (own : f < length (fields_of kinds (kind_of log n))) (few : f < 16) where
-  bit-of : (m mask : ℕ) (op : Op) → f < length (fields_of kinds (kind_of log m)) → IsItsMask (sizes kinds) log m mask op
-      → op_carries op mask f ≡ true → has_bit mask f ≡ true
-  bit-of m mask Kill lt its e = absurd (cc)
-  bit-of m mask Create lt its e = ap (λ x. has_bit x f) its
-      ∙ ap (λ b. b == 1) (bit_at_ones (length (fields_of kinds (kind_of log m))) f lt)
-  bit-of m mask Update lt its e = e
-
-  item-has : (c : Choice) → IsItsMask (sizes kinds) log c.n c.mask c.op → item_carries n f c ≡ true
-      → list_any (is-it n f) (asked_by c) ≡ true
-  item-has c its e =
-      let p = and_parts (c.n == n) (op_carries c.op c.mask f) e in
-      let same : c.n ≡ n = eqb-true c.n n p.0 in
-      let has : has_bit c.mask f ≡ true = bit-of c.n c.mask c.op
-      (subst (λ m. f < length (fields_of kinds (kind_of log m))) (sym same) own) its p.1 in
-      subst (λ m. list_any (is-it m f) (map {B = ℕ × ℕ} (λ g. (c.n, g)) (fields_in c.mask)) ≡ true) same
-      (ap (λ (l : List ℕ). list_any (is-it c.n f) (map {B = ℕ × ℕ} (λ g. (c.n, g)) l)) (fields-run c.mask)
-      ∙ run-has c.n c.mask f 0 16 (omega arith) (omega (arith, few)) has)
-
-  pub asked_has : (cs : List Choice) → AllByRecursion (λ (c : Choice). IsItsMask (sizes kinds) log c.n c.mask c.op) cs
-      → carries n f cs ≡ true
-      → list_any (is-it n f) (asked_by_all cs) ≡ true
-  asked_has [] its e = absurd (cc)
-  asked_has (c ∷ cs) its e = list_any-append (is-it n f) (asked_by c) (asked_by_all cs)
-      ∙ go (λ rest. asked_has cs its.1 rest) (item_carries n f c) refl e
-    where
-      go : (carries n f cs ≡ true → list_any (is-it n f) (asked_by_all cs) ≡ true) → (b : Bool) → item_carries n f c ≡ b
-          → (b || carries n f cs) ≡ true → (list_any (is-it n f) (asked_by c) || list_any (is-it n f) (asked_by_all cs)) ≡ true
-      go later true here rest = ap (λ b. b || list_any (is-it n f) (asked_by_all cs)) (item-has c its.0 here)
-      go later false here rest = or_right (list_any (is-it n f) (asked_by c)) (list_any (is-it n f) (asked_by_all cs)) (later rest)
+use Rattle.pair_steps.proofs.Carriers.{is-it, asked_has}
+use Rattle.pair_steps.proofs.Due.{Due, absorbs_due}
 
 -- ---- what is carried is read
 

@@ -4,9 +4,9 @@ use Rattle.ghost_model.specs.Ghosts.{is_due}
 use Rattle.ghost_masks.specs.Plan.{kind_of, fields_of}
 use Rattle.stream_manager.specs.Limits.{Terms}
 use Rattle.stream_manager.specs.Server.{ServerEvent, ghost_log}
-use Rattle.pair_core.specs.History.{PairStep, Pack, history}
+use Rattle.pair_core.specs.History.{PairStep, history}
 use Rattle.lane_periods.specs.Periods.{PeriodList}
-use Rattle.pair_periods.specs.Steps.{shows_in, up_in, traits_in}
+use Rattle.pair_steps.specs.Steps.{shows_in, up_in, traits_in}
 
 -- as many periods, the same of them up, and each with the kind that it was shown with
 pub record Agree (steps : List PairStep) (p : PeriodList) : Type 0 where
@@ -24,8 +24,3 @@ is_due_after t steps n field = is_due (ghost_log (server_log t steps)) n field
 -- the period has a field of this number
 abbrev pub HasField : Terms → List PairStep → ℕ → ℕ → Type 0
 HasField t steps n field = field < length (fields_of t.kinds (kind_of (ghost_log (server_log t steps)) n))
-
--- no pack
-abbrev pub IsNoPack : PairStep → Type 0
-IsNoPack (Pack drains reads) = ⊥
-IsNoPack step = Unit {0}

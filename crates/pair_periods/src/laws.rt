@@ -11,11 +11,11 @@ ghost use Rattle.stream_manager.specs.Limits.{Terms};
 ghost use Rattle.stream_manager.specs.Server.{ghost_log};
 ghost use Rattle.pair_core.specs.History.{PairStep, Pack};
 ghost use Rattle.pair_core.specs.Conditions.{IsMet};
-ghost use Rattle.pair_core.specs.Calls.{is_asked};
+ghost use Rattle.conn_packing.specs.Asking.{is_asked};
 ghost use Rattle.lane_periods.specs.Periods.{has};
 ghost use Rattle.lane_periods.specs.Views.{is_drained};
-ghost use Rattle.pair_periods.specs.Steps.{shows_in, up_in, traits_in};
-ghost use Rattle.pair_periods.specs.Agreement.{server_log, is_due_after, HasField, IsNoPack};
+ghost use Rattle.pair_steps.specs.Steps.{shows_in, up_in, traits_in, IsNoPack};
+ghost use Rattle.pair_periods.specs.Agreement.{server_log, is_due_after, HasField};
 
 /// What a list of steps says of periods is what the server's list says.
 pub fn steps_tell_periods()

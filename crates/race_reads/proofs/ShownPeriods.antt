@@ -8,7 +8,7 @@ use Rattle.stream_manager.specs.Limits.{Terms}
 use Rattle.pair_core.specs.History.{PairStep}
 use Rattle.kept_pair.specs.Kept.{newest_first}
 use Rattle.lane_periods.specs.Periods.{has}
-use Rattle.pair_periods.specs.Steps.{shows_in, is_hidden_in, up_in}
+use Rattle.pair_steps.specs.Steps.{shows_in, is_hidden_in, up_in}
 use Rattle.pair_periods.proofs.Agreeing.{passing-has}
 use Rattle.race_history.specs.Deciding.{Decides}
 use Rattle.race_history.specs.History.{Values, fields_told}

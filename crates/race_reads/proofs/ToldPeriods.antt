@@ -15,12 +15,12 @@ use Rattle.stream_manager.specs.ConnCalls.{Answers}
 use Rattle.stream_manager.specs.Server.{ServerEvent, ghost_log}
 use Rattle.pair_core.specs.History.{PairStep}
 use Rattle.pair_core.specs.Stands.{PairState}
-use Rattle.pair_core.proofs.Scoped.{up-alive, up-from, up-to}
+use Rattle.conn_packing.proofs.Scoped.{up-alive, up-from, up-to}
 use Rattle.kept_pair.specs.Kept.{Replays, newest_first}
 use Rattle.lane_periods.specs.Periods.{has}
-use Rattle.pair_periods.specs.Steps.{shows_in, up_in}
+use Rattle.pair_steps.specs.Steps.{shows_in, up_in}
 use Rattle.pair_periods.specs.Agreement.{server_log}
-use Rattle.pair_periods.proofs.Journals.{shows_told}
+use Rattle.pair_steps.proofs.Journals.{shows_told}
 use Rattle.pair_periods.proofs.Agreeing.{up-listed, listed-up}
 use Rattle.race_reads.specs.Legal.{is_field_due}
 

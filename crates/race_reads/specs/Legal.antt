@@ -11,7 +11,7 @@ use Rattle.pair_core.specs.History.{PairStep}
 use Rattle.kept_pair.specs.StepLists.{reads_in}
 use Rattle.kept_pair.specs.Kept.{newest_first}
 use Rattle.lane_periods.specs.Periods.{has}
-use Rattle.pair_periods.specs.Steps.{up_in}
+use Rattle.pair_steps.specs.Steps.{up_in}
 use Rattle.pair_periods.specs.Agreement.{server_log, is_due_after}
 use Rattle.race_history.specs.History.{Values, fields_told}
 use Rattle.race_reads.specs.Reads.{object_of, ReadStands, NeverFalls, last_read, IsCurrent}

@@ -4,7 +4,7 @@ ghost use Rattle.std.specs.List.{AllByRecursion};
 ghost use Rattle.dirty_lanes.specs.Words.{mask_at};
 ghost use Rattle.kept_pair.specs.Kept.{newest_first, terms_in};
 ghost use Rattle.lane_periods.specs.Periods.{has};
-ghost use Rattle.pair_periods.specs.Steps.{shows_in, up_in};
+ghost use Rattle.pair_steps.specs.Steps.{shows_in, up_in};
 ghost use Rattle.tn_types.specs.BitWords.{has_bit};
 ghost use Rattle.race_history.specs.Deciding.{Decides};
 ghost use Rattle.race_history.specs.History.{fields_told, newest};

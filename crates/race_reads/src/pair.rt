@@ -3,7 +3,7 @@ ghost use Rattle.std.specs.Prelude.{◌≡◌, ℕ, true};
 ghost use Rattle.tn_types.specs.BitWords.{has_bit};
 ghost use Rattle.kept_pair.specs.Kept.{newest_first, terms_in};
 ghost use Rattle.lane_periods.specs.Periods.{has};
-ghost use Rattle.pair_periods.specs.Steps.{shows_in, up_in};
+ghost use Rattle.pair_steps.specs.Steps.{shows_in, up_in};
 ghost use Rattle.race_reads.specs.Legal.{is_field_due};
 
 use kept_pair::KeptPair;

@@ -46,6 +46,7 @@ fn new_pair(alloc: Global, head: &Head, client: u8) -> Result<KeptPair, NoMemory
         client,
         life: head.life,
         size: head.size,
+        version: head.version,
     };
     let pair = Pair::new(alloc, config, &match_kinds(), head.blocks.as_slice())?;
     Ok(KeptPair::new(alloc, pair))

@@ -12,11 +12,14 @@ use stream_manager::{Config, Conn};
 use tn_types::{BlockBytes, MAX_BLOCKS};
 use world_rules::match_kinds;
 
-// Whether the connection has this client, life and size.
-fn is_config(config: &Config, client: u8, life: u32, size: u32) -> bool
-    ensures { Decides result (config.now ≡ record { client = client; life = life; size = size }) }
+// Whether the connection has this client, life, size and version.
+fn is_config(config: &Config, client: u8, life: u32, size: u32, version: u8) -> bool
+    ensures { Decides result (config.now ≡ record { client = client; life = life; size = size; version = version }) }
 {
-    config.client == client && config.life == life && config.size == size
+    config.client == client
+        && config.life == life
+        && config.size == size
+        && config.version == version
 }
 
 // Whether the connection has this block under this number.
@@ -48,7 +51,7 @@ pub fn terms_are(pair: &KeptPair, head: &Head, client: u8) -> bool
     ensures { Decides result (terms_in pair.now ≡ client_terms head.now client) }
 {
     let conn = pair.pair().conn();
-    is_config(conn.config(), client, head.life, head.size)
+    is_config(conn.config(), client, head.life, head.size, head.version)
         && are_same_kinds(conn.kinds(), &match_kinds())
         && are_blocks(conn, head.blocks.as_slice())
 }

@@ -3,7 +3,7 @@ use Rattle.std.specs.Prelude.{ℕ, List, ◌++◌, codes}
 use Rattle.std.specs.Fmt.{decimal}
 use Rattle.match_script.specs.Said.{fault_word}
 use Rattle.script_input.specs.declared.status.Status.{Status}
-use Rattle.script_input.specs.declared.status.Status.TheVariants.{Done, Usage, Script, TooLong, ReadFault, WriteFault, NoMemory, LinkFault, ClockFault}
+use Rattle.script_input.specs.declared.status.Status.TheVariants.{Done, Usage, Script, TooLong, ReadFault, WriteFault, NoMemory, LinkFault, ClockFault, Demo}
 
 abbrev pub exit_of : Status → ℕ
 exit_of Done = 0
@@ -15,6 +15,7 @@ exit_of WriteFault = 6
 exit_of NoMemory = 7
 exit_of LinkFault = 8
 exit_of ClockFault = 9
+exit_of (Demo place) = 10
 
 abbrev pub words_of : Status → List ℕ
 words_of Done = codes ""
@@ -26,3 +27,4 @@ words_of WriteFault = codes "writefault"
 words_of NoMemory = codes "nomemory"
 words_of LinkFault = codes "linkfault"
 words_of ClockFault = codes "clockfault"
+words_of (Demo place) = codes "demo " ++ decimal place

@@ -26,6 +26,8 @@ pub enum Status {
     LinkFault,
     /// The clock failed; the same.
     ClockFault,
+    /// The bytes are no demo; the first byte of the least part of a demo's head that is missing or out of range.
+    Demo(u32),
 }
 
 /// The exit status of an answer.
@@ -42,6 +44,7 @@ pub fn exit_of(status: Status) -> u8
         Status::NoMemory => 7,
         Status::LinkFault => 8,
         Status::ClockFault => 9,
+        Status::Demo(_) => 10,
     }
 }
 
@@ -63,6 +66,7 @@ impl fmt::Display for Status {
             Status::NoMemory => write!(f, "nomemory"),
             Status::LinkFault => write!(f, "linkfault"),
             Status::ClockFault => write!(f, "clockfault"),
+            Status::Demo(place) => write!(f, "demo {place}"),
         }
     }
 }

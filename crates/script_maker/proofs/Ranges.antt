@@ -23,7 +23,8 @@ head_fits seed clients g s least most =
     let spawns = (objects clients g).0 in
     let fit : All (Fits clients) spawns = objects_fit clients g in
     record {
-      version = refl;
+      version_least = omega arith;
+      version = omega arith;
       seed = s;
       clients_least = least;
       clients = most;
@@ -49,7 +50,7 @@ head_fits seed clients g s least most =
 pub made_has_ranges : (seed clients steps : ℕ) → seed < 2 ^ 32 → 1 ≤ clients → clients ≤ MAX_CLIENTS → steps ≤ MAX_BODY_LINES → HasRanges (made seed clients steps)
 unfolding script_drawn
 made_has_ranges seed clients steps s least most few =
-    let g = generator seed in
+    let g = generator seed 0 in
     let o = objects clients g in record {
       head = head_fits seed clients g s least most;
       few = omega (arith, lines_few clients steps o.1);

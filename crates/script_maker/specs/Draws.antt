@@ -17,9 +17,9 @@ infixl 10 ◌>>=◌
 abbrev pub ◌>>=◌ : {A B : Type 0} → Drawn A → (A → Drawn B) → Drawn B
 (first >>= next) g = next (first g).0 (first g).1
 
--- the generator of a seed
-unfoldable pub generator : ℕ → Lcg
-generator seed = started 64 multiplier_64 seed (increment_of 64 0)
+-- the generator of a seed, on one of its streams: two streams of a seed draw apart
+unfoldable pub generator : ℕ → ℕ → Lcg
+generator seed stream = started 64 multiplier_64 seed (increment_of 64 stream)
 
 -- a number below n
 unfoldable pub draw : ℕ → Drawn ℕ

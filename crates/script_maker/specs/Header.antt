@@ -4,9 +4,8 @@ use Rattle.std.specs.Prelude.{ℕ, pos, ◌+◌, ◌-◌, ◌/◌, ◌%◌, ◌=
 use Rattle.tn_types.specs.declared.limits.TheConstants.{MAX_LIFE}
 use Rattle.world_rules.specs.declared.kinds.TheConstants.{PLAYER, MINE, DRONE, FLAG, CLOCK}
 use Rattle.world_rules.specs.declared.setup.Spawn.{Spawn}
-use Rattle.match_script.specs.declared.limits.TheConstants.{VERSION}
 use Rattle.match_script.specs.declared.types.Head.{Head}
-use Rattle.script_maker.specs.declared.numbers.TheConstants.{MADE_SIZE, MADE_RADIUS, MADE_BLOCKS, MADE_BLOCK_BYTES, MADE_OBJECTS, FLAG_NEAR, FLAG_FAR, COORDINATES}
+use Rattle.script_maker.specs.declared.numbers.TheConstants.{MADE_VERSION, MADE_SIZE, MADE_RADIUS, MADE_BLOCKS, MADE_BLOCK_BYTES, MADE_OBJECTS, FLAG_NEAR, FLAG_FAR, COORDINATES}
 use Rattle.script_maker.specs.Draws.{Drawn, just, ◌>>=◌, draw, each_below}
 
 -- block i is eight bytes of value i
@@ -51,7 +50,7 @@ objects clients = do
 
 abbrev pub head_with : ℕ → ℕ → List Spawn → Head
 head_with seed clients spawns = record {
-  version = VERSION;
+  version = MADE_VERSION;
   seed = seed;
   clients = clients;
   life = MAX_LIFE;

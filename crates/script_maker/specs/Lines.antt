@@ -13,9 +13,9 @@ use Rattle.script_maker.specs.Draws.{Drawn, just, ◌>>=◌, draw, each_below}
 abbrev pub step_drawn : ℕ → ℤ
 step_drawn d = pos (d % 16) -ℤ pos 8
 
--- the move of four draws
-abbrev pub move_drawn : ℕ → ℕ → ℕ → ℕ → PlayerMove
-move_drawn dx dy fire act = record {
+-- the move of four numbers
+abbrev pub move_of : ℕ → ℕ → ℕ → ℕ → PlayerMove
+move_of dx dy fire act = record {
   dx = step_drawn dx;
   dy = step_drawn dy;
   fire = fire == 0;
@@ -24,14 +24,20 @@ move_drawn dx dy fire act = record {
   dy_range = step_of_four_bits dy;
 }
 
--- client c samples a move
-unfoldable pub sample : ℕ → Drawn BodyLine
-sample c = do
+-- a move by chance
+unfoldable pub move_drawn : Drawn PlayerMove
+move_drawn = do
   dx ← draw STEPS
   dy ← draw STEPS
   fire ← draw ACTS_ONCE_IN
   act ← draw ACTS_ONCE_IN
-  just (Move c (move_drawn dx dy fire act))
+  just (move_of dx dy fire act)
+
+-- client c samples one
+unfoldable pub sample : ℕ → Drawn BodyLine
+sample c = do
+  m ← move_drawn
+  just (Move c m)
 
 -- the line that brings a datagram of a client's connection, up or down
 abbrev pub way_line : Bool → ℕ → ℕ → BodyLine

@@ -20,4 +20,4 @@ script_drawn seed clients steps = do
   just (record { head = head_with seed clients spawns; body = lines })
 
 abbrev pub made : ℕ → ℕ → ℕ → Script
-made seed clients steps = (script_drawn seed clients steps (generator seed)).0
+made seed clients steps = (script_drawn seed clients steps (generator seed 0)).0

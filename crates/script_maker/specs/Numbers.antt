@@ -1,7 +1,10 @@
 -- Each number of a made script is the one that docs/maker.md tells: who changes one of them changes what is made, and has to say
 -- so here as well.
 use Rattle.std.specs.Prelude.{◌≡◌, pos, refl}
-use Rattle.script_maker.specs.declared.numbers.TheConstants.{MADE_SIZE, MADE_RADIUS, MADE_BLOCKS, MADE_BLOCK_BYTES, MADE_OBJECTS, FLAG_NEAR, FLAG_FAR, COORDINATES, STEPS, ACTS_ONCE_IN, POSTS_ONCE_IN, PAYLOADS, CHANCES}
+use Rattle.script_maker.specs.declared.numbers.TheConstants.{MADE_VERSION, MADE_SIZE, MADE_RADIUS, MADE_BLOCKS, MADE_BLOCK_BYTES, MADE_OBJECTS, FLAG_NEAR, FLAG_FAR, COORDINATES, STEPS, ACTS_ONCE_IN, POSTS_ONCE_IN, PAYLOADS, CHANCES}
+
+made_version : MADE_VERSION ≡ 1
+made_version = refl
 
 made_size : MADE_SIZE ≡ 400
 made_size = refl

@@ -5,12 +5,12 @@ ghost use Rattle.script_maker.specs.Draws.{draw, generator};
 use rand_pcg::Lcg64Xsh32;
 use rand_pcg::rand_core::utils::NextWord;
 
-// The generator of a seed.
+/// The generator of a seed, on one of its streams: a made script draws from stream 0 of its seed (docs/maker.md).
 #[tactic(auto, unfolding(crate::specs::Draws::generator))]
-pub(crate) fn generator(seed: u32) -> Lcg64Xsh32
-    ensures { result ≡ generator seed }
+pub fn generator(seed: u32, stream: u32) -> Lcg64Xsh32
+    ensures { result ≡ generator seed stream }
 {
-    Lcg64Xsh32::new(u64::from(seed), 0)
+    Lcg64Xsh32::new(u64::from(seed), u64::from(stream))
 }
 
 // A number below n.

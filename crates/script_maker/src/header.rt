@@ -7,9 +7,9 @@ ghost use Rattle.script_maker.specs.Header.{blocks, player, fixed, other, object
 use crate::draws::draw;
 use crate::numbers::{
     COORDINATES, FLAG_FAR, FLAG_NEAR, MADE_BLOCK_BYTES, MADE_BLOCKS, MADE_OBJECTS, MADE_RADIUS,
-    MADE_SIZE,
+    MADE_SIZE, MADE_VERSION,
 };
-use match_script::{Blocks, Head, VERSION};
+use match_script::{Blocks, Head};
 use rand_pcg::Lcg64Xsh32;
 use std::alloc::Global;
 use tn_types::{BlockBytes, MAX_CLIENTS, MAX_LIFE, NoMemory};
@@ -148,7 +148,7 @@ pub(crate) fn head_with(
 {
     let blocks = blocks(alloc)?;
     Ok(Head {
-        version: VERSION,
+        version: MADE_VERSION,
         seed,
         clients,
         life: MAX_LIFE,

@@ -7,4 +7,6 @@ mod lines;
 mod making;
 mod numbers;
 
+pub use draws::generator;
+pub use lines::draw_move;
 pub use making::make;

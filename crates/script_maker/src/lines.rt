@@ -4,7 +4,7 @@ ghost use Rattle.tn_types.specs.Steps.{is_step};
 ghost use Rattle.match_script.specs.declared.types.BodyLine.TheVariants as script;
 ghost use Rattle.script_maker.specs.Adding.{Adds};
 ghost use Rattle.script_maker.specs.Draws.{each_below};
-ghost use Rattle.script_maker.specs.Lines.{step_drawn, move_drawn, sample, way_line, brought, delivery, event, post, client_lines, round};
+ghost use Rattle.script_maker.specs.Lines.{step_drawn, move_of, move_drawn, sample, way_line, brought, delivery, event, post, client_lines, round};
 
 use crate::draws::draw;
 use crate::numbers::{ACTS_ONCE_IN, CHANCES, PAYLOADS, POSTS_ONCE_IN, STEPS};
@@ -32,11 +32,11 @@ fn step_drawn(d: u32) -> i8
     d as i8 + MIN_STEP
 }
 
-// The move of four draws.
-fn move_drawn(dx: u32, dy: u32, fire: u32, act: u32) -> Move
+// The move of four numbers.
+fn move_of(dx: u32, dy: u32, fire: u32, act: u32) -> Move
     requires dx { dx < STEPS }
     requires dy { dy < STEPS }
-    ensures { result ≡ move_drawn dx dy fire act }
+    ensures { result ≡ move_of dx dy fire act }
 {
     Move {
         dx: step_drawn(dx),
@@ -46,16 +46,25 @@ fn move_drawn(dx: u32, dy: u32, fire: u32, act: u32) -> Move
     }
 }
 
-// A client samples a move.
-#[tactic(auto, unfolding(crate::specs::Lines::sample))]
-fn sample(rng: &mut Lcg64Xsh32, client: u8) -> BodyLine
-    ensures { (result, rng.new) ≡ sample client rng.old }
+/// The move that a player makes by chance: two steps, each of -8 to 7 alike, and whether it fires and uses, each once in eight
+/// moves (docs/maker.md). It takes four draws.
+#[tactic(auto, unfolding(crate::specs::Lines::move_drawn))]
+pub fn draw_move(rng: &mut Lcg64Xsh32) -> Move
+    ensures { (result, rng.new) ≡ move_drawn rng.old }
 {
     let dx = draw(rng, STEPS);
     let dy = draw(rng, STEPS);
     let fire = draw(rng, ACTS_ONCE_IN);
     let act = draw(rng, ACTS_ONCE_IN);
-    let m = move_drawn(dx, dy, fire, act);
+    move_of(dx, dy, fire, act)
+}
+
+// A client samples a move.
+#[tactic(auto, unfolding(crate::specs::Lines::sample))]
+fn sample(rng: &mut Lcg64Xsh32, client: u8) -> BodyLine
+    ensures { (result, rng.new) ≡ sample client rng.old }
+{
+    let m = draw_move(rng);
     BodyLine::Move { client, m }
 }
 

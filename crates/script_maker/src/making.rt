@@ -52,7 +52,7 @@ pub fn make(alloc: Global, seed: u32, clients: u8, steps: u32) -> Result<Script,
     ensures made { IfOk result (λ s. s ≡ made seed clients steps) }
     ensures ranges { steps ≤ MAX_BODY_LINES → IfOk result HasRanges }
 {
-    let mut rng = generator(seed);
+    let mut rng = generator(seed, 0);
     let spawns = objects(alloc, &mut rng, clients)?;
     let head = head_with(alloc, seed, clients, spawns)?;
     let body = first_lines(alloc, &mut rng, clients, steps)?;

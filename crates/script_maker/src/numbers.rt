@@ -1,5 +1,8 @@
 //! The numbers of a made script.
 
+/// The version of the format and of the datagrams.
+pub const MADE_VERSION: u8 = 1;
+
 /// Bytes of a datagram at the most.
 pub const MADE_SIZE: u32 = 400;
 

@@ -17,7 +17,10 @@ fn first_fault(alloc: Global, text: &str) -> Option<(u32, ScriptFault)> {
 fn header_faults(rt: HostRuntime) {
     for (text, line) in [
         ("", 1),
-        ("tribes 2\n\t\n", 1),
+        ("tribes 3\n\t\n", 1),
+        ("tribes 0\nmatch 1 1 100 128 1000\n", 1),
+        ("tribes 12\nmatch 1 1 100 128 1000\n", 1),
+        ("tribes 2\n", 2),
         ("tribes 1\n", 2),
         ("tribes 1\nmatch 4294967296 1 100 128 1000\n", 2),
         ("tribes 1\nmatch 1 0 100 128 1000\n", 2),
@@ -64,6 +67,7 @@ fn header_faults(rt: HostRuntime) {
     for text in [
         "tribes 1\nmatch 0 1 1 128 0\ngo",
         "tribes 1\nmatch 4294967295 16 16777215 1200 65535\ngo\n",
+        "tribes 2\nmatch 1 1 100 128 1000\ngo\n",
     ] {
         assert_eq!(rt; first_fault(rt.alloc(), text), None, "at {text:?}");
     }

@@ -8,15 +8,20 @@ ghost use Rattle.notify_window.specs.Log.{arrival_of};
 ghost use Rattle.tn_types.specs.declared.choices.Class.TheVariants.{Guaranteed, Loose};
 ghost use Rattle.wire_format.specs.declared.server.ServerPacket.TheVariants as down;
 ghost use Rattle.wire_format.specs.Header.{IsHeader};
-ghost use Rattle.wire_format.specs.Ghosts.{none_held};
+ghost use Rattle.wire_format.specs.declared.ghosts.GhostItem.{GhostItem as OneGhost};
+ghost use Rattle.wire_format.specs.Events.{IsEventInRange};
+ghost use Rattle.ghost_client.specs.StandsFor.{StandsFor as CopiesStandFor};
+ghost use Rattle.stream_manager.specs.Client.{ClientEvent as OneEvent, ghosts_came, kind_at};
+ghost use Rattle.stream_manager.specs.EndCalls.{whole_at};
 ghost use Rattle.wire_format.specs.Reading.{IsWhole};
 ghost use Rattle.wire_format.specs.Server.{IsServer, IsServerBody, read_server, server_meant};
-ghost use Rattle.stream_manager.specs.ClientCalls.{AdmitsDown, TakesDown, client_of};
+ghost use Rattle.stream_manager.specs.ClientCalls.{AdmitsDown, TakesDown, client_of, made_whole};
 
 use crate::arriving::{check_control, check_same, take_blocks};
-use crate::config::{Config, VERSION};
+use crate::config::Config;
 use crate::end::End;
 use crate::fault::ClientFault;
+use crate::taking::take_down;
 use bit_stream::BitWriter;
 use datablocks::BlockReceiver;
 use event_manager::{EventAhead, MAX_READY_EVENTS, PostFault};
@@ -29,7 +34,7 @@ use std::marker::Model;
 use tn_types::{Class, MAX_READ_BYTES, Move, NoMemory, PacketKind, Payload};
 use wire_format::{
     BitsFault, CLIENT_FIXED_BITS, EventList, Header, MOVE_BITS, ServerBody, decode_server_into,
-    put_client_front, put_moves, put_ping,
+    put_client_front, put_moves, put_ping, server_head,
 };
 
 /// What a client's pack makes: the bytes of a datagram, or nothing.
@@ -47,15 +52,17 @@ pub enum ClientOut<'a> {
 ///
 /// A clause sees `ClientState`, and what it means by the list of what happened at this end.
 pub struct Client {
-    common: End,
-    moves: MoveSender,
-    blocks: BlockReceiver,
+    pub(crate) common: End,
+    pub(crate) moves: MoveSender,
+    pub(crate) blocks: BlockReceiver,
     copies: Copies,
     control: Option<u8>,
     // where a datagram is written; it holds the one that was made last
     out: BitWriter,
     // where the next packet that comes is read
     body: Box<ServerBody>,
+    // the packet that was taken last
+    pub(crate) took: Box<ServerBody>,
 }
 
 // Written out, so that a function above that lets an end go calls this, and doesn't prove again how its parts are let go.
@@ -69,6 +76,7 @@ impl Drop for Client {
             control: _control,
             out: _out,
             body: _body,
+            took: _took,
         } = self;
     }
 }
@@ -79,20 +87,27 @@ impl Model for Client {
 
     ghost Value = { ClientState };
 
-    ghost view = { λ c. record { common = c.common; moves = c.moves; blocks = c.blocks; copies = c.copies; control = c.control } };
+    ghost view = { λ c. record {
+      common = c.common;
+      moves = c.moves;
+      blocks = c.blocks;
+      copies = c.copies;
+      control = c.control;
+      changes = c.took.value.ghosts;
+    } };
 
     ghost invariant = { λ c. c.moves.life ≡ c.common.config.life };
 }
 
 impl Client {
     ghost use Rattle.stream_manager.specs.Limits.{IsConfig};
-    ghost use Rattle.stream_manager.specs.End.{seen, dropped_of, came_of, events_answer};
+    ghost use Rattle.stream_manager.specs.End.{seen, dropped_of, came_of, client_or_old, events_answer};
     ghost use Rattle.stream_manager.specs.EndCalls.{popped};
     ghost use Rattle.event_manager.specs.Receiving.{run_of, take_answer};
-    ghost use Rattle.stream_manager.specs.Client.{ClientEvent, Posted, Sampled, Packed, Took, client_end, sampled_at, control_at, posted_at_client, sampled_answer, client_body, client_bytes, client_ping_bytes, arrive_answer, arriving, head_check, packet_check, moves_check, ghosts_check};
+    ghost use Rattle.stream_manager.specs.Client.{ClientEvent, Posted, Sampled, Packed, Took, client_end, sampled_at, control_at, posted_at_client, sampled_answer, client_body, client_bytes, client_ping_bytes, arrive_answer, arriving, whole_answer, took_at_client, head_first, head_check, packet_check, moves_check, ghosts_check};
     ghost use Rattle.stream_manager.specs.Stands.{ClientStandsFor};
     ghost use Rattle.stream_manager.specs.ClientCalls.{Does, Answers, Becomes, Hands, KeepsTerms, Keeps, ClientSealed, ClientPinging, ClientPacked, IsOut, IsShort, FitGhosts};
-    ghost use Rattle.stream_manager.specs.Faults.{events_at_client};
+    ghost use Rattle.stream_manager.specs.Faults.{head_at_client, events_at_client, without_packet};
     ghost use Rattle.stream_manager.specs.contracts.client.Client.{the_row};
 
     /// A client's end of a new connection, in a match of these kinds. It alone takes memory.
@@ -109,6 +124,9 @@ impl Client {
         let Ok(body) = Box::new(alloc, ServerBody::new()) else {
             return Err(NoMemory);
         };
+        let Ok(took) = Box::new(alloc, ServerBody::new()) else {
+            return Err(NoMemory);
+        };
         Ok(Client {
             common,
             moves: MoveSender::new(config.life),
@@ -117,6 +135,7 @@ impl Client {
             control: None,
             out: BitWriter::new(config.size),
             body,
+            took,
         })
     }
 
@@ -240,7 +259,29 @@ impl Client {
         ensures unchanged { OnErr result (self.new ≡ self.old) }
         ensures terms { KeepsTerms self.old self.new }
     {
-        match read(bytes, &self.copies, &mut *self.body) {
+        self.look_first(bytes)?;
+        self.arrive_whole(bytes)
+    }
+
+    /// Takes bytes by the whole of them, or refuses them by the first refusal that holds; nothing changes then.
+    fn arrive_whole(&mut self, bytes: &[u8]) -> Result<(), ClientFault>
+        requires few { length bytes.now ≤ MAX_READ_BYTES }
+        requires none_waits { self.old.common.receiver.ready ≡ [] }
+        ensures answer { Answers self.old (λ log.
+            without_packet (whole_answer self.old.common.config self.old.copies.kinds log bytes.now)) result }
+        ensures stands { Becomes self.old (λ log.
+            took_at_client log (whole_answer self.old.common.config self.old.copies.kinds log bytes.now)) self.new }
+        ensures handed { Hands self.old (λ log.
+            took_at_client log (whole_answer self.old.common.config self.old.copies.kinds log bytes.now)) self.new }
+        ensures unchanged { OnErr result (self.new ≡ self.old) }
+        ensures terms { KeepsTerms self.old self.new }
+    {
+        match read(
+            bytes,
+            self.common.config().version,
+            &self.copies,
+            &mut *self.body,
+        ) {
             Ok(PacketKind::Ping) => {
                 let head = self.body.head;
                 self.check_ping(&head)?;
@@ -249,17 +290,43 @@ impl Client {
             }
             Ok(PacketKind::Body) => {
                 self.check(&*self.body)?;
-                take_body(
+                take_down(
                     &mut self.common,
                     &mut self.moves,
                     &mut self.blocks,
                     &mut self.copies,
                     &mut self.control,
-                    &*self.body,
+                    &mut self.body,
+                    &mut self.took,
                 );
                 Ok(())
             }
             Err(fault) => Err(ClientFault::Bits(fault)),
+        }
+    }
+
+    /// In version 2 what the header of these bytes says of whether to read the rest; nothing changes.
+    fn look_first(&self, bytes: &[u8]) -> Result<(), ClientFault>
+        requires few { length bytes.now ≤ MAX_READ_BYTES }
+        ensures answer { Answers self.now (λ log. head_first self.now.common.config log bytes.now) result }
+    {
+        if self.common.config().version != 2 {
+            return Ok(());
+        }
+        match server_head(bytes) {
+            Ok((kind, head)) => self.client_or_old(kind, &head),
+            Err(fault) => Err(ClientFault::Bits(fault)),
+        }
+    }
+
+    /// Whether a packet is of another client, or a data packet that is old; nothing changes.
+    fn client_or_old(&self, kind: PacketKind, head: &Header) -> Result<(), ClientFault>
+        ensures answer { Answers self.now (λ log. head_at_client
+            (client_or_old self.now.common.config.client (client_end log) (seen (is_ping kind) head.now []))) result }
+    {
+        match self.common.client_or_old(kind, head) {
+            Ok(()) => Ok(()),
+            Err(fault) => Err(fault.at_client()),
         }
     }
 
@@ -286,9 +353,10 @@ impl Client {
 
     /// The first refusal of a data packet; nothing changes.
     fn check(&self, body: &ServerBody) -> Result<(), ClientFault>
-        requires fits { IsServerBody 1 self.now.copies.kinds body.now }
-        ensures answer { Answers self.now (λ log. packet_check self.now.common.config log (down.Body body.now)) result }
-        ensures admits { OnOk result (AdmitsDown self.now body.now) }
+        requires fits { IsServerBody self.now.common.config.version self.now.copies.kinds body.now }
+        ensures answer { Answers self.now (λ log.
+            packet_check self.now.common.config log (down.Body (made_whole self.now body.now))) result }
+        ensures admits { OnOk result (AdmitsDown self.now (made_whole self.now body.now)) }
     {
         self.check_head(PacketKind::Body, &body.head)?;
         self.check_moves(body.accepted)?;
@@ -311,8 +379,10 @@ impl Client {
 
     /// Whether an event is too far ahead.
     fn check_events(&self, events: &EventList) -> Result<(), ClientFault>
-        ensures answer { Answers self.now (λ log. events_at_client (events_answer (client_end log) events.now)) result }
-        ensures near { OnOk result (take_answer self.now.common.receiver.delivered events.now ≡ Ok tt) }
+        requires numbers { All (IsEventInRange self.now.common.config.version) events.now }
+        ensures answer { Answers self.now (λ log.
+            events_at_client (events_answer (client_end log) (whole_at self.now.common events.now))) result }
+        ensures near { OnOk result (take_answer self.now.common.receiver.delivered (whole_at self.now.common events.now) ≡ Ok tt) }
     {
         match self.common.check_events(events) {
             Ok(()) => Ok(()),
@@ -325,7 +395,7 @@ impl Client {
 
     /// The first fault of the ghosts of a packet, or of its control slot.
     fn check_ghosts(&self, body: &ServerBody) -> Result<(), ClientFault>
-        requires fits { IsServerBody 1 self.now.copies.kinds body.now }
+        requires fits { IsServerBody self.now.common.config.version self.now.copies.kinds body.now }
         ensures answer { Answers self.now (λ log. ghosts_check log body.now) result }
         ensures fit { OnOk result (FitGhosts self.now body.now) }
     {
@@ -347,6 +417,7 @@ impl Client {
         ensures terms { KeepsTerms self.old self.new }
     {
         let _ = self.common.take(PacketKind::Ping, head, &EventList::new());
+        self.took.ghosts.clear();
     }
 
     /// How many guaranteed events were delivered, those that wait included.
@@ -375,16 +446,22 @@ impl Client {
 }
 
 /// Reads a packet of the server into a body, as `decode_server_into` does, by what the copies are.
-fn read(bytes: &[u8], copies: &Copies, body: &mut ServerBody) -> Result<PacketKind, BitsFault>
+fn read(
+    bytes: &[u8],
+    version: u8,
+    copies: &Copies,
+    body: &mut ServerBody,
+) -> Result<PacketKind, BitsFault>
     requires few { length bytes.now ≤ MAX_READ_BYTES }
-    ensures found { IfOk result (λ kind. IsServer 1 copies.now.kinds (server_meant kind body.new)) }
-    ensures exact { IsWhole server_meant result body.new (read_server 1 copies.now.kinds none_held bytes.now) }
+    ensures found { IfOk result (λ kind. IsServer version copies.now.kinds (server_meant kind body.new)) }
+    ensures exact { (log : List OneEvent) → CopiesStandFor copies.now (ghosts_came log)
+        → IsWhole server_meant result body.new (read_server version copies.now.kinds (kind_at log) bytes.now) }
 {
-    decode_server_into(bytes, VERSION, copies.table(), copies.kinds(), body)
+    decode_server_into(bytes, version, copies.table(), copies.kinds(), body)
 }
 
 /// Takes a data packet that nothing refuses into these parts of a client's end.
-fn take_body(
+pub(crate) fn take_body(
     common: &mut End,
     moves: &mut MoveSender,
     blocks: &mut BlockReceiver,
@@ -392,11 +469,13 @@ fn take_body(
     control: &mut Option<u8>,
     body: &ServerBody,
 )
-    requires fits { IsServerBody 1 copies.old.kinds body.now }
-    requires admits { AdmitsDown (client_of common.old moves.old blocks.old copies.old control.old) body.now }
+    requires fits { IsServerBody common.old.config.version copies.old.kinds body.now }
+    requires admits { let old = client_of common.old moves.old blocks.old copies.old control.old [] in
+        AdmitsDown old (made_whole old body.now) }
     requires none_waits { common.old.receiver.ready ≡ [] }
-    ensures took { TakesDown (client_of common.old moves.old blocks.old copies.old control.old) body.now
-        (client_of common.new moves.new blocks.new copies.new control.new) }
+    ensures took { (changes : List OneGhost) →
+        let old = client_of common.old moves.old blocks.old copies.old control.old changes in
+        TakesDown old (made_whole old body.now) (client_of common.new moves.new blocks.new copies.new control.new body.now.ghosts) }
     ensures life { moves.new.life ≡ moves.old.life }
 {
     let _ = common.take(PacketKind::Body, &body.head, &body.events);

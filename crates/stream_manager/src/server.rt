@@ -8,11 +8,13 @@ ghost use Rattle.tn_types.specs.declared.choices.Class.TheVariants.{Guaranteed, 
 ghost use Rattle.wire_format.specs.declared.client.ClientPacket.TheVariants as up;
 ghost use Rattle.wire_format.specs.Header.{IsHeader};
 ghost use Rattle.wire_format.specs.Client.{IsClientBody};
+ghost use Rattle.wire_format.specs.Events.{IsEventInRange};
+ghost use Rattle.stream_manager.specs.EndCalls.{whole_at};
 ghost use Rattle.stream_manager.specs.Server.{Took, moves_new};
 ghost use Rattle.stream_manager.specs.Stands.{ConnStandsForSome, terms_of};
-ghost use Rattle.stream_manager.specs.ConnCalls.{Does, Answers, Hands, Accepts, Admits, conn_of};
+ghost use Rattle.stream_manager.specs.ConnCalls.{Does, Answers, Hands, Accepts, Admits, conn_of, made_whole};
 
-use crate::config::{Config, VERSION};
+use crate::config::Config;
 use crate::end::End;
 use crate::fault::ArriveFault;
 use crate::settling::{settle_blocks, settle_ghosts};
@@ -206,7 +208,7 @@ impl Conn {
         ensures unchanged { OnErr result (self.new ≡ self.old) }
         ensures terms { terms_of self.new ≡ terms_of self.old }
     {
-        match decode_client_into(bytes, VERSION, &mut *self.body) {
+        match decode_client_into(bytes, self.common.config().version, &mut *self.body) {
             Ok(PacketKind::Ping) => {
                 let head = self.body.head;
                 self.check_ping(&head)?;
@@ -253,8 +255,9 @@ impl Conn {
 
     /// The first refusal of a data packet; nothing changes.
     fn check(&self, body: &ClientBody) -> Result<(), ArriveFault>
-        ensures answer { Answers self.now (λ log. packet_check self.now.common.config log (up.Body body.now)) result }
-        ensures admits { OnOk result (Admits self.now body.now) }
+        requires fits { IsClientBody self.now.common.config.version body.now }
+        ensures answer { Answers self.now (λ log. packet_check self.now.common.config log (up.Body (made_whole self.now body.now))) result }
+        ensures admits { OnOk result (Admits self.now (made_whole self.now body.now)) }
     {
         self.check_head(PacketKind::Body, &body.head)?;
         self.check_gap(body.first)?;
@@ -275,8 +278,10 @@ impl Conn {
 
     /// Whether an event is too far ahead.
     fn check_events(&self, events: &EventList) -> Result<(), ArriveFault>
-        ensures answer { Answers self.now (λ log. events_at_server (events_answer (server_end log) events.now)) result }
-        ensures near { OnOk result (take_answer self.now.common.receiver.delivered events.now ≡ Ok tt) }
+        requires numbers { All (IsEventInRange self.now.common.config.version) events.now }
+        ensures answer { Answers self.now (λ log.
+            events_at_server (events_answer (server_end log) (whole_at self.now.common events.now))) result }
+        ensures near { OnOk result (take_answer self.now.common.receiver.delivered (whole_at self.now.common events.now) ≡ Ok tt) }
     {
         match self.common.check_events(events) {
             Ok(()) => Ok(()),
@@ -340,18 +345,20 @@ fn take_body(
     body: &ClientBody,
     room: u32,
 ) -> u32
-    requires fits { IsClientBody 1 body.now }
+    requires fits { IsClientBody common.old.config.version body.now }
     requires some { ConnStandsForSome (conn_of common.old masks.old blocks.old moves.old taken.old) }
-    requires admits { Admits (conn_of common.old masks.old blocks.old moves.old taken.old) body.now }
+    requires admits { let old = conn_of common.old masks.old blocks.old moves.old taken.old in Admits old (made_whole old body.now) }
     requires none_waits { common.old.receiver.ready ≡ [] }
-    ensures count { Answers (conn_of common.old masks.old blocks.old moves.old taken.old)
-        (λ log. moves_new common.old.config log room (up.Body body.now)) result }
-    ensures stands { Does (conn_of common.old masks.old blocks.old moves.old taken.old) (Took (up.Body body.now) room)
+    ensures count { let old = conn_of common.old masks.old blocks.old moves.old taken.old in
+        Answers old (λ log. moves_new common.old.config log room (up.Body (made_whole old body.now))) result }
+    ensures stands { let old = conn_of common.old masks.old blocks.old moves.old taken.old in
+        Does old (Took (up.Body (made_whole old body.now)) room) (conn_of common.new masks.new blocks.new moves.new taken.new) }
+    ensures handed { let old = conn_of common.old masks.old blocks.old moves.old taken.old in
+        Hands old (λ log. Took (up.Body (made_whole old body.now)) room ∷ log)
         (conn_of common.new masks.new blocks.new moves.new taken.new) }
-    ensures handed { Hands (conn_of common.old masks.old blocks.old moves.old taken.old)
-        (λ log. Took (up.Body body.now) room ∷ log) (conn_of common.new masks.new blocks.new moves.new taken.new) }
-    ensures accepts { Accepts (conn_of common.old masks.old blocks.old moves.old taken.old)
-        (λ log. Took (up.Body body.now) room ∷ log) (conn_of common.new masks.new blocks.new moves.new taken.new) }
+    ensures accepts { let old = conn_of common.old masks.old blocks.old moves.old taken.old in
+        Accepts old (λ log. Took (up.Body (made_whole old body.now)) room ∷ log)
+        (conn_of common.new masks.new blocks.new moves.new taken.new) }
     ensures terms { terms_of (conn_of common.new masks.new blocks.new moves.new taken.new)
         ≡ terms_of (conn_of common.old masks.old blocks.old moves.old taken.old) }
 {

@@ -1,6 +1,7 @@
 //! Both ends on datagrams that were worked out beforehand: those that are refused, and those of shown objects byte for byte.
 ghost use Rattle.std.specs.Prelude.{◌≡◌, ◌<◌, ◌≤◌, length};
 ghost use Rattle.notify_window.specs.State.{send_state};
+ghost use Rattle.stream_manager.specs.Limits.{IsConfig};
 
 use ghost_client::GhostFault;
 use notify_window::SendState;
@@ -14,16 +15,19 @@ use tn_types::{BlockBytes, MAX_READ_BYTES, MAX_SHOWS, Steps};
 use wire_format::{BitsCause, BitsFault};
 use world_rules::match_kinds;
 
-const CONFIG: Config = Config {
+pub(crate) const CONFIG: Config = Config {
     client: 0,
     life: 100,
     size: 128,
+    version: 1,
 };
 
 /// The server's end of a new connection of client 0, in a match with one block, the byte `a`.
-fn new_conn(alloc: Global, kinds: &KindTable) -> Result<Conn, Fail> {
+pub(crate) fn new_conn(alloc: Global, config: Config, kinds: &KindTable) -> Result<Conn, Fail>
+    requires { IsConfig config }
+{
     let blocks = [BlockBytes::from_slice(b"a").ok_or("too long")?];
-    Ok(Conn::new(alloc, CONFIG, kinds, &blocks)?)
+    Ok(Conn::new(alloc, config, kinds, &blocks)?)
 }
 
 /// What is done at an end, and what it has to give.
@@ -50,7 +54,7 @@ enum Step {
 }
 
 /// Shows an object; whether it could be shown.
-fn shows(conn: &mut Conn, kind: u8, control: bool) -> bool {
+pub(crate) fn shows(conn: &mut Conn, kind: u8, control: bool) -> bool {
     if !conn.has_kind(kind) || conn.is_full() || conn.shows() == MAX_SHOWS {
         return false;
     }
@@ -62,7 +66,7 @@ fn shows(conn: &mut Conn, kind: u8, control: bool) -> bool {
 }
 
 /// Hides a period; whether it was shown.
-fn hides(conn: &mut Conn, n: u32) -> bool {
+pub(crate) fn hides(conn: &mut Conn, n: u32) -> bool {
     if !conn.is_up(n) {
         return false;
     }
@@ -76,7 +80,7 @@ fn holds(conn: &Conn, n: u32, slot: Option<u8>) -> bool {
 }
 
 /// Plans with a counter that nobody reads.
-fn plan<L: Ledger>(conn: &mut Conn, blank: Blank)
+pub(crate) fn plan<L: Ledger>(conn: &mut Conn, blank: Blank)
     requires name { blank.name ≡ L.name }
     requires parts { blank.parts ≡ L.parts }
     requires some { 0 < blank.parts }
@@ -104,7 +108,7 @@ fn answers(client: &mut Client, bytes: &[u8]) -> bool {
 }
 
 /// What the client says of a datagram; `None` where an event waits, or it is too long.
-fn at_client(client: &mut Client, bytes: &[u8]) -> Option<Result<(), ClientFault>> {
+pub(crate) fn at_client(client: &mut Client, bytes: &[u8]) -> Option<Result<(), ClientFault>> {
     if client.waiting() > 0 || bytes.len() > MAX_READ_BYTES {
         return None;
     }
@@ -112,7 +116,7 @@ fn at_client(client: &mut Client, bytes: &[u8]) -> Option<Result<(), ClientFault
 }
 
 /// What the server says of a datagram; `None` where an event waits, or it is too long.
-fn at_server(conn: &mut Conn, bytes: &[u8]) -> Option<Result<u32, ArriveFault>> {
+pub(crate) fn at_server(conn: &mut Conn, bytes: &[u8]) -> Option<Result<u32, ArriveFault>> {
     if conn.waiting() > 0 || bytes.len() > MAX_READ_BYTES {
         return None;
     }
@@ -155,23 +159,23 @@ fn first_wrong(conn: &mut Conn, client: &mut Client, steps: &[Step]) -> Option<u
 /// The same for the steps of a new connection.
 fn first_wrong_of_new(alloc: Global, steps: &[Step]) -> Result<Option<usize>, Fail> {
     let kinds = match_kinds();
-    let mut conn = new_conn(alloc, &kinds)?;
+    let mut conn = new_conn(alloc, CONFIG, &kinds)?;
     let mut client = Client::new(alloc, CONFIG, &kinds)?;
     Ok(first_wrong(&mut conn, &mut client, steps))
 }
 
 /// Block 0 alone in the server's first packet, and the client's first, which tells that it came.
-const BLOCK: &[u8] = &[
+pub(crate) const BLOCK: &[u8] = &[
     0x40, 0, 0, 0, 0, 0, 0, 0, 0, 0, 0, 0, 0, 0x80, 0, 0x82, 0x30, 0, 0,
 ];
 
-const BLOCK_CAME: &[u8] = &[0x40, 0, 0, 0x40, 0, 0, 0x40, 0, 0, 0, 0, 0, 0, 0, 0, 0];
+pub(crate) const BLOCK_CAME: &[u8] = &[0x40, 0, 0, 0x40, 0, 0, 0x40, 0, 0, 0, 0, 0, 0, 0, 0, 0];
 
 /// The client's second packet, which tells that the server's second one came.
 const SECOND_CAME: &[u8] = &[0x80, 0, 0, 0x80, 0, 0, 0xc0, 0, 0, 0, 0, 0, 0, 0, 0, 0];
 
 /// A clock in slot 0.
-const CLOCK: &[u8] = &[
+pub(crate) const CLOCK: &[u8] = &[
     0x80, 0, 0, 0x40, 0, 0, 0x40, 0, 0, 0, 0, 0, 0, 0, 0, 1, 0, 0x15, 0, 0, 0, 0, 0, 0,
 ];
 

@@ -3,6 +3,10 @@
 #![tactic(auto)]
 
 #[cfg(test)]
+mod asked;
+#[cfg(test)]
+mod buffers;
+#[cfg(test)]
 mod ends;
 #[cfg(test)]
 mod pairs;

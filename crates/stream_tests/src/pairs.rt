@@ -1,39 +1,49 @@
 //! Both ends and the network on rows that were worked out beforehand, byte for byte: what is lost, and what comes of it.
-ghost use Rattle.std.specs.Prelude.{◌≡◌, ℕ, true, false, ◌<◌, ◌≤ℤ◌, List, IsTrue, IsSome, Some, slice_get, length, if◌then◌else◌};
+ghost use Rattle.std.specs.Prelude.{◌≡◌, ℕ, true, false, ◌<◌, ◌≤ℤ◌, List, IfOk, IsTrue, IsSome, Some, slice_get, length, if◌then◌else◌};
 ghost use Rattle.std.specs.Option.{option_and_then};
 ghost use Rattle.ghost_masks.specs.Plan.{kind_of, fields_of};
 ghost use Rattle.ghost_model.specs.Legal.{IsUp};
 ghost use Rattle.ghost_scope.specs.Shown.{has_control};
 ghost use Rattle.stream_manager.specs.Server.{ServerEvent, ghost_log};
 ghost use Rattle.stream_manager.specs.Stands.{ConnStandsFor, terms_of};
+ghost use Rattle.stream_manager.specs.Limits.{IsConfig};
 ghost use Rattle.pair_core.specs.Calls.{Stands};
-ghost use Rattle.pair_core.specs.Conditions.{MayBeDrained};
+ghost use Rattle.conn_packing.specs.Reads.{MayBeDrained};
 
+mod low;
 mod worked;
 
+use self::low::{EVENT, LOW_SUPERSEDED, OLD_BY_ITS_HEAD};
 use self::worked::{HIDDEN, RAISED, SHARED, SUPERSEDED, TAKEN};
 use notify_window::SendState;
 use pair_core::{Answer, Pair, PairStep};
 use quantised_fields::{FieldSpec, KindTable};
 use std::alloc::Global;
 use std::test::Fail;
-use stream_manager::{Config, Conn};
-use tn_types::{BlockBytes, Drain, MAX_DATAGRAMS, MAX_FIELDS, MAX_SHOWS, Move, Read, Values};
+use stream_manager::{ClientFault, Config, Conn};
+use tn_types::{
+    BlockBytes, Class, Drain, MAX_DATAGRAMS, MAX_FIELDS, MAX_SHOWS, Move, Payload, Read, Values,
+};
 use world_rules::match_kinds;
 
-const CONFIG: Config = Config {
-    client: 0,
-    life: 100,
-    size: 128,
-};
+/// The configuration of both ends, by the version of their datagrams.
+fn config(version: u8) -> Result<Config, Fail>
+    ensures { IfOk result IsConfig }
+{
+    Ok(
+        Config::new(0, 100, 128, version)
+            .ok()
+            .ok_or("no configuration")?,
+    )
+}
 
 /// The values of a packet in the order in which they are asked for, of periods that were shown with these kinds.
 #[derive(Drop)]
-struct Given<'a> {
-    kinds: KindTable,
-    shown: &'a [u8],
-    values: &'a [i64],
-    asked: usize,
+pub(crate) struct Given<'a> {
+    pub(crate) kinds: KindTable,
+    pub(crate) shown: &'a [u8],
+    pub(crate) values: &'a [i64],
+    pub(crate) asked: usize,
 }
 
 /// The field of a period.
@@ -135,6 +145,12 @@ enum Step {
     Slot(u32, Option<u8>),
     /// The client's control slot is this.
     Control(Option<u8>),
+    /// The server posts this guaranteed event.
+    Post(&'static [u8]),
+    /// The client hands out this guaranteed event, and no other waits.
+    Handed(&'static [u8]),
+    /// The client refuses the server's datagram of this place as old.
+    OldDown(u32),
     /// The copy of this slot is of this kind with these levels, if there is one.
     Copy(u8, Option<(u8, &'static [u32])>),
 }
@@ -196,7 +212,7 @@ fn is_listed(conn: &Conn, shown: &[u8], n: u32) -> bool
 }
 
 /// Whether each period that is up was shown with the kind that is listed for it.
-fn are_listed(conn: &Conn, shown: &[u8]) -> bool
+pub(crate) fn are_listed(conn: &Conn, shown: &[u8]) -> bool
     ensures { IsTrue result → (log : List ServerEvent) → ConnStandsFor conn.now log → (n : ℕ) → IsUp (ghost_log log) n
         → slice_get shown.now n ≡ Some (kind_of (ghost_log log) n) }
 {
@@ -303,6 +319,48 @@ fn comes_up(pair: &mut Pair, k: u32) -> Option<u32>
     }
 }
 
+/// Whether the client refuses the server's datagram of this place as old.
+fn is_old(pair: &mut Pair, k: u32) -> bool
+    requires { Stands pair.old }
+    ensures { Stands pair.new }
+{
+    if pair.client_waiting() > 0 {
+        return false;
+    }
+    matches!(
+        pair.step(&PairStep::Down { k }),
+        Answer::ClientRefused(ClientFault::Old { .. })
+    )
+}
+
+/// Whether the server may post the event.
+fn posts(pair: &mut Pair, bytes: &[u8]) -> bool
+    requires { Stands pair.old }
+    ensures { Stands pair.new }
+{
+    let Some(payload) = Payload::from_slice(bytes) else {
+        return false;
+    };
+    let class = Class::Guaranteed;
+    matches!(
+        pair.step(&PairStep::Post { class, payload }),
+        Answer::Posted { .. }
+    )
+}
+
+/// Whether the client hands out this event, and no other waits.
+fn hands(pair: &mut Pair, bytes: &[u8]) -> bool
+    requires { Stands pair.old }
+    ensures { Stands pair.new }
+{
+    match pair.pop_client_event() {
+        Some((Class::Guaranteed, payload)) => {
+            payload.as_slice() == bytes && pair.client_waiting() == 0
+        }
+        _ => false,
+    }
+}
+
 /// Whether the client takes up the move.
 fn moves(pair: &mut Pair, m: Move) -> bool
     requires { Stands pair.old }
@@ -351,6 +409,9 @@ fn does(alloc: Global, pair: &mut Pair, shown: &[u8], step: &Step) -> bool
         Step::Settled(n, field, settled) => is_settled(pair.conn(), *n, *field) == Some(*settled),
         Step::Slot(n, slot) => holds(pair.conn(), *n, *slot),
         Step::Control(slot) => pair.client().control() == *slot,
+        Step::Post(bytes) => posts(pair, bytes),
+        Step::Handed(bytes) => hands(pair, bytes),
+        Step::OldDown(k) => is_old(pair, *k),
         Step::Copy(slot, wanted) => copies(pair, *slot, *wanted),
     }
 }
@@ -368,10 +429,15 @@ fn first_wrong(alloc: Global, pair: &mut Pair, shown: &[u8], steps: &[Step]) -> 
 }
 
 /// The same for the steps of a new pair, in a match with one block, the byte `a`.
-fn first_wrong_of_new(alloc: Global, shown: &[u8], steps: &[Step]) -> Result<Option<usize>, Fail> {
+fn first_wrong_of_new(
+    alloc: Global,
+    version: u8,
+    shown: &[u8],
+    steps: &[Step],
+) -> Result<Option<usize>, Fail> {
     let kinds = match_kinds();
     let blocks = [BlockBytes::from_slice(b"a").ok_or("too long")?];
-    let mut pair = Pair::new(alloc, CONFIG, &kinds, &blocks)?;
+    let mut pair = Pair::new(alloc, config(version)?, &kinds, &blocks)?;
     Ok(first_wrong(alloc, &mut pair, shown, steps))
 }
 
@@ -379,20 +445,28 @@ const PLAYER_AND_MINES: [u8; 21] = [
     0, 2, 2, 2, 2, 2, 2, 2, 2, 2, 2, 2, 2, 2, 2, 2, 2, 2, 2, 2, 2,
 ];
 
-/// Each row by its name, with the kinds that its objects are shown with.
-const ROWS: [(&str, &[u8], &[Step]); 5] = [
-    ("lost_update_superseded", &[5], &SUPERSEDED),
-    ("lost_update_raised_again", &[5], &RAISED),
-    ("slot_taken_until_kill_received", &[0, 2, 2], &TAKEN),
-    ("hidden_before_create_received", &[0, 2], &HIDDEN),
-    ("priority_and_share", &PLAYER_AND_MINES, &SHARED),
+/// Each row by its name, with the version of its datagrams and the kinds that its objects are shown with.
+const ROWS: [(&str, u8, &[u8], &[Step]); 8] = [
+    ("lost_update_superseded", 1, &[5], &SUPERSEDED),
+    ("lost_update_raised_again", 1, &[5], &RAISED),
+    ("slot_taken_until_kill_received", 1, &[0, 2, 2], &TAKEN),
+    ("hidden_before_create_received", 1, &[0, 2], &HIDDEN),
+    ("priority_and_share", 1, &PLAYER_AND_MINES, &SHARED),
+    ("event_version_2", 2, &[], &EVENT),
+    ("lost_update_superseded_version_2", 2, &[5], &LOW_SUPERSEDED),
+    (
+        "old_before_the_rest_version_2",
+        2,
+        &[0, 2, 2],
+        &OLD_BY_ITS_HEAD,
+    ),
 ];
 
 #[test]
 fn rows(rt: HostRuntime) -> Result<(), Fail> {
-    for (name, shown, steps) in ROWS {
+    for (name, version, shown, steps) in ROWS {
         assert_eq!(rt;
-            first_wrong_of_new(rt.alloc(), shown, steps)?,
+            first_wrong_of_new(rt.alloc(), version, shown, steps)?,
             None,
             "{name}"
         );

@@ -19,6 +19,8 @@ mod served;
 #[cfg(test)]
 mod tests;
 #[cfg(test)]
+mod version_examples;
+#[cfg(test)]
 mod world_examples;
 #[cfg(test)]
 mod world_rows;

@@ -6,6 +6,7 @@ use crate::raw_rows::RAW_ROWS;
 use crate::refusals::REFUSALS;
 use crate::rows::ROWS;
 use crate::served::{ALL, hold, hold_call, served, written_out};
+use crate::version_examples::VERSION_EXAMPLES;
 use crate::world_examples::WORLD_EXAMPLES;
 use crate::world_rows::WORLD_ROWS;
 use match_script::ScriptFault;
@@ -33,6 +34,7 @@ fn reports(rt: HostRuntime) -> Result<(), Fail> {
     hold(&rt, &ROWS)?;
     hold(&rt, &WORLD_ROWS)?;
     hold(&rt, &RAW_ROWS)?;
+    hold(&rt, &VERSION_EXAMPLES)?;
     hold(&rt, &EXAMPLES)?;
     hold(&rt, &WORLD_EXAMPLES)
 }

@@ -18,11 +18,11 @@ use Rattle.pair_core.specs.History.{PairStep, Hide}
 use Rattle.pair_core.specs.Answers.{accepted_in}
 use Rattle.own_lists.specs.declared.showing.Showing.{Showing}
 use Rattle.own_lists.specs.Own.{OwnItem, OwnShow, OwnWrite, Line, Scan, Tick}
-use Rattle.own_lists.specs.Steps.{shows_in, traits_in}
+use Rattle.pair_steps.specs.Steps.{shows_in, traits_in}
 use Rattle.own_lists.specs.Course.{Course, onto, hide_step, near_step, show_step, scan_steps, with_steps, ticked}
 use Rattle.own_lists.specs.Kept.{Kept, kept, begins, all_begin, after_scan, after_line, wrote_all, with_course}
 use Rattle.own_lists.specs.Conditions.{MeetEach, HasValues, IsOwnWrite, IsOwnScan, IsOwnTick, MayFollow}
-use Rattle.own_lists.proofs.Journals.{up_from, shows_told}
+use Rattle.pair_steps.proofs.Journals.{up_from, shows_told}
 use Rattle.own_lists.proofs.KeptValues.{wrote_course}
 use Rattle.own_lists.proofs.Meeting.{scan_journal, values_kept, taken_kept}
 use Rattle.own_lists.proofs.Standing.{shows_hides, shows_nears}

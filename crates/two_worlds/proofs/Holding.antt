@@ -9,7 +9,7 @@ use Rattle.ghost_model.specs.Words.{upto}
 use Rattle.ghost_model.specs.Scope.{Traits}
 use Rattle.client_scope.specs.declared.period.Near.{Near as NearPeriod}
 use Rattle.pair_core.specs.History.{PairStep, Show}
-use Rattle.own_lists.specs.Steps.{shows_in, is_hidden_in, up_in, traits_in}
+use Rattle.pair_steps.specs.Steps.{shows_in, is_hidden_in, up_in, traits_in}
 use Rattle.own_lists.specs.Own.{OwnShow, OwnWrite}
 use Rattle.own_lists.specs.Course.{Course, onto, hide_step, near_step, scan_steps, with_steps}
 use Rattle.own_lists.specs.Kept.{Kept, begins, all_begin, wrote, wrote_all, with_course, undrained}

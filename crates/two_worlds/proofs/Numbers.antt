@@ -10,7 +10,7 @@ use Rattle.std.proofs.lemmas.Bool.{eqb-true, eq-eqb, ne_eqb, cases_eq}
 use Rattle.std.proofs.lemmas.Bool.Decides.{nat_tests}
 use Rattle.ghost_model.specs.Words.{upto}
 use Rattle.pair_core.specs.History.{PairStep}
-use Rattle.own_lists.specs.Steps.{shows_in, is_hidden_in, up_in}
+use Rattle.pair_steps.specs.Steps.{shows_in, is_hidden_in, up_in}
 use Rattle.own_lists.proofs.ScanFacts.{RiseTo, rise_sooner, rise_on}
 use Rattle.own_lists.proofs.ScanChanges.{has, has_itself}
 use Rattle.two_worlds.specs.declared.periods.OwnPeriod.{OwnPeriod}

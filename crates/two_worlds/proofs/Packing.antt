@@ -16,15 +16,16 @@ use Rattle.ghost_masks.specs.Plan.{fields_of, kind_of as kind_shown}
 use Rattle.ghost_masks.specs.Carried.{AreValues}
 use Rattle.stream_manager.specs.Limits.{Terms}
 use Rattle.stream_manager.specs.Server.{ServerEvent, server_state, ghost_log}
-use Rattle.pair_core.specs.History.{history, absorbing, Pack}
-use Rattle.pair_core.specs.Conditions.{MayDrain, IsReadFor, HasRanges}
+use Rattle.conn_packing.specs.Packs.{absorbing}
+use Rattle.pair_core.specs.History.{history, Pack}
+use Rattle.conn_packing.specs.Reads.{MayDrain, IsReadFor, HasRanges}
 use Rattle.pair_core.specs.Calls.{MayPack}
 use Rattle.own_lists.specs.Own.{OwnItem, Line}
-use Rattle.own_lists.specs.Steps.{traits_in}
+use Rattle.pair_steps.specs.Steps.{traits_in}
 use Rattle.own_lists.specs.Course.{with_step}
 use Rattle.own_lists.specs.Kept.{Kept, kept, drained, left, drains_of, read_of, reads_for, reads_of, packs}
 use Rattle.own_lists.proofs.ScanChanges.{has}
-use Rattle.own_lists.proofs.Journals.{up_from, kind_told}
+use Rattle.pair_steps.proofs.Journals.{up_from, kind_told}
 use Rattle.own_lists.proofs.Meeting.{are_met, reads_forced, values_kept}
 use Rattle.client_seat.specs.Stands.{SeatState, Packs, StandsFor as SeatStandsFor}
 use Rattle.client_seat.specs.Told.{packed_told, pack_told}

@@ -23,7 +23,8 @@ use Rattle.stream_manager.specs.Server as server_log
 use Rattle.stream_manager.specs.Server.{ServerEvent, server_datagrams, server_state, server_answer, took_at_server, posted_at_server, accepted_at}
 use Rattle.stream_manager.specs.Client as client_log
 use Rattle.stream_manager.specs.Client.{ClientEvent, client_datagrams, posted_at_client, sampled_answer}
-use Rattle.pair_core.specs.History.{PairStep, Show, Hide, Near, Post, ClientPost, Sample, Pack, ClientPack, Down, Up, Raw, history, absorbing, values_of, server_posts, client_posts, client_samples, server_gets}
+use Rattle.conn_packing.specs.Packs.{absorbing, values_of}
+use Rattle.pair_core.specs.History.{PairStep, Show, Hide, Near, Post, ClientPost, Sample, Pack, ClientPack, Down, Up, Raw, history, server_posts, client_posts, client_samples, server_gets}
 use Rattle.pair_core.specs.Answers.{accepted_in}
 use Rattle.pair_core.proofs.Brought.{gets_sends_up, gets_sends_down}
 use Rattle.own_lists.specs.Own.{OwnShow, OwnItem, Line, Scan, Tick}

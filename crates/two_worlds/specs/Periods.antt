@@ -6,7 +6,7 @@ use Rattle.tn_types.specs.declared.choices.Drain.{Drain}
 use Rattle.tn_types.specs.declared.limits.TheConstants.{MAX_SHOWS}
 use Rattle.notify_window.specs.declared.SendState.{SendState}
 use Rattle.notify_window.specs.declared.SendState.TheVariants.{Held, Worn, Room}
-use Rattle.own_lists.specs.Steps.{shows_in, is_hidden_in, up_in, traits_in}
+use Rattle.pair_steps.specs.Steps.{shows_in, is_hidden_in, up_in, traits_in}
 use Rattle.own_lists.specs.Own.{OwnWrite}
 use Rattle.own_lists.specs.Kept.{Kept}
 use Rattle.two_worlds.specs.declared.periods.OwnPeriod.{OwnPeriod}

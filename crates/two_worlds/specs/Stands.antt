@@ -20,7 +20,7 @@ use Rattle.two_worlds.specs.Periods.{Table, Holds}
 -- what the header says of the client's connection, in a match
 abbrev pub terms_of : AloneHeader → Terms
 terms_of h = record {
-  config = record { client = h.client; life = h.life; size = h.size };
+  config = record { client = h.client; life = h.life; size = h.size; version = h.version };
   kinds = match_kinds;
   blocks = h.blocks;
 }

@@ -31,6 +31,8 @@ pub struct AloneHeader {
     pub life: u32,
     /// Bytes of a datagram at the most: 128 to 1,200.
     pub size: u32,
+    /// The version of the datagrams: 1 or 2.
+    pub version: u8,
     /// What the client is to hold: at most 64 blocks.
     pub blocks: Blocks,
 }
@@ -99,6 +101,7 @@ impl Alone {
             client: header.client,
             life: header.life,
             size: header.size,
+            version: header.version,
         };
         let seat = Seat::new(alloc, config, &match_kinds(), header.blocks.as_slice())?;
         Ok(Alone {

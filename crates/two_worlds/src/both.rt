@@ -84,6 +84,7 @@ fn feed_all<K: Sink>(
         client,
         life: script.head.life,
         size: script.head.size,
+        version: script.head.version,
         blocks,
     };
     let Ok(mut server) = Alone::new(alloc, &header) else {

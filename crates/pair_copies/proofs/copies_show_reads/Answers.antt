@@ -18,7 +18,8 @@ use Rattle.ghost_logs.specs.Recovery.{IsRight, IsRecovered}
 use Rattle.ghost_logs.proofs.Agree.{agree, loses-nothing}
 use Rattle.ghost_logs.proofs.Kept.{same-kept}
 use Rattle.pair_core.specs.History.{PairStep, history}
-use Rattle.pair_core.proofs.Good.{AreGood, good}
+use Rattle.pair_core.proofs.Good.{AreGood}
+use Rattle.pair_core.proofs.Delivered.{good}
 use Rattle.pair_core.proofs.Carried.{carried}
 use Rattle.pair_core.proofs.Joined.{joined}
 use Rattle.pair_copies.specs.Reads.{IsReadLevel, ShowsReads, IsLastLevel, IsNewest, last_read}
@@ -73,14 +74,14 @@ module _ (t : Terms) (limits : AreTerms t) (steps : List PairStep) (all : AreGoo
           record { spec = spec.0; field = spec.1; value = k.of; last = k.is; level_is = k.level_is }
 
 pub returns-clause-reads : goal.returns-clause-reads
-returns-clause-reads c t steps limits fit met honest = shows-reads t limits steps (good t steps fit met honest)
+returns-clause-reads c t steps limits fit met honest = shows-reads t limits steps (good t limits steps fit met honest)
 
 pub returns-clause-newest : goal.returns-clause-newest
 returns-clause-newest c t steps limits fit met honest n f up =
-    let all = good t steps fit met honest in
+    let all = good t limits steps fit met honest in
     go (loses-nothing t (history t steps).server (history t steps).client (carried t limits steps all).legal (joined t limits steps all) n f up)
   where
     go : IsRecovered (history t steps).server (history t steps).client n f → (is_due (ghost_log (history t steps).server) n f ≡ true) ⊎ ((list_any (carries n f) (unjudged (ghost_log (history t steps).server)) ≡ true) ⊎ IsNewest t steps n f)
     go (inl due) = inl due
     go (inr (inl way)) = inr (inl way)
-    go (inr (inr right)) = inr (inr (newest t limits steps (good t steps fit met honest) n f right))
+    go (inr (inr right)) = inr (inr (newest t limits steps (good t limits steps fit met honest) n f right))

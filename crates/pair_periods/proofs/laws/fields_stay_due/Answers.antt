@@ -1,5 +1,6 @@
 use Rattle.pair_core.specs.History.{history}
-use Rattle.pair_periods.proofs.Due.{step_due, pack_due}
+use Rattle.pair_steps.proofs.Due.{step_due}
+use Rattle.pair_periods.proofs.Due.{pack_due}
 use Rattle.pair_periods.proofs.laws.fields_stay_due.Goals as goal
 
 pub returns-clause-steps : goal.returns-clause-steps

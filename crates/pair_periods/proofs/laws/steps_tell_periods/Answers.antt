@@ -1,4 +1,4 @@
-use Rattle.pair_periods.proofs.Journals.{shows_told, kind_told}
+use Rattle.pair_steps.proofs.Journals.{shows_told, kind_told}
 use Rattle.pair_periods.proofs.Agreeing.{up-listed, listed-up}
 use Rattle.pair_periods.proofs.laws.steps_tell_periods.Goals as goal
 

@@ -1,6 +1,6 @@
 use Rattle.std.proofs.Common.{arith}
 use Rattle.kept_pair.specs.Kept.{newest_first, terms_in}
-use Rattle.pair_periods.specs.Steps.{shows_in}
+use Rattle.pair_steps.specs.Steps.{shows_in}
 use Rattle.race_reads.proofs.ShownPeriods.{up_shown, period_decided}
 use Rattle.race_reads.proofs.current.period_is_current.Goals as goal
 

@@ -8,7 +8,7 @@ use Rattle.stream_manager.specs.Stands.{ConnState, ConnStandsFor}
 use Rattle.stream_manager.specs.Server.{ghost_log}
 use Rattle.pair_core.specs.History.{history}
 use Rattle.client_seat.specs.Told.{is_newest}
-use Rattle.pair_core.proofs.Scoped.{up-alive}
+use Rattle.conn_packing.proofs.Scoped.{up-alive}
 use Rattle.client_seat.proofs.Copies.{not-of-kind, not-settled, newest-bit}
 use Rattle.race_show.proofs.copies.is_settled.Goals as goal
 use Rattle.race_show.proofs.copies.is_settled.Goals.{then-has_fields, else-has_fields}

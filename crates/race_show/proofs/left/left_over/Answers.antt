@@ -8,8 +8,8 @@ use Rattle.stream_manager.specs.Limits.{Terms}
 use Rattle.stream_manager.specs.Stands.{ConnState, ConnStandsFor}
 use Rattle.pair_core.specs.History.{PairStep, history}
 use Rattle.pair_core.specs.Stands.{StandsFor}
-use Rattle.pair_periods.specs.Steps.{shows_in, is_hidden_in}
-use Rattle.pair_periods.proofs.Journals.{shows_told}
+use Rattle.pair_steps.specs.Steps.{shows_in, is_hidden_in}
+use Rattle.pair_steps.proofs.Journals.{shows_told}
 use Rattle.race_show.specs.Showing.{left_of}
 use Rattle.race_show.proofs.Listed.{made_yes, made_no, made_none, all_push, up-passes, down-fails}
 use Rattle.race_show.proofs.left.left_over.Goals as goal
@@ -27,7 +27,7 @@ loop-n-preserved c =
     let n : ℕ = c.loop-n.n in
     let f : ℕ → Drain = left_of c.args.words.now c.args.client c.args.objects.now in
     let of_up : IsTrue c.is_up.result ↔ IsUp p.conn.masks.periods n =
-    subst (λ (o : ConnState). IsTrue c.is_up.result ↔ IsUp o.masks.periods n) c.conn-in-loop-n.ensures c.is_up.ensures in
+    subst (λ (o : ConnState). IsTrue c.is_up.result ↔ IsUp o.masks.periods n) c.conn-in-loop-n.ensures c.is_up.ensures.up in
     let shown : (t : Terms) (steps : List PairStep) → StandsFor p t steps → n < shows_in steps =
     λ t steps s. (let all = c.shows-n-end.ensures.told (history t steps).server (subst (λ (o : ConnState). ConnStandsFor o (history t steps).server) (sym c.conn.ensures) s.conn) ∙ shows_told t steps in omega (arith, all)) in
     elim c.if-is_up.branch [

@@ -4,7 +4,7 @@ use Rattle.stream_manager.specs.Limits.{Terms}
 use Rattle.stream_manager.specs.Server.{ghost_log}
 use Rattle.stream_manager.specs.Stands.{ConnState, ConnStandsFor}
 use Rattle.pair_core.specs.History.{history}
-use Rattle.pair_core.proofs.Scoped.{ups-told, control-told}
+use Rattle.conn_packing.proofs.Scoped.{ups-told, control-told}
 use Rattle.stream_tests.proofs.pairs.shows.Goals as goal
 
 pub step-requires-clause-meets : goal.step-requires-clause-meets

@@ -1,7 +1,8 @@
 use Rattle.std.proofs.Common.{sym, subst, List}
 use Rattle.tn_types.specs.declared.choices.Read.{Read}
 use Rattle.stream_manager.specs.Limits.{Terms}
-use Rattle.pair_core.specs.Calls.{Asks, MayPack}
+use Rattle.conn_packing.specs.Asking.{Asks}
+use Rattle.pair_core.specs.Calls.{MayPack}
 use Rattle.pair_core.specs.History.{Pack}
 use Rattle.own_lists.specs.Course.{Course, with_step}
 use Rattle.client_seat.specs.Stands.{SeatState, StandsFor, Becomes}

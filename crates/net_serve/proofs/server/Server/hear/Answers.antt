@@ -1,7 +1,7 @@
 use Rattle.std.proofs.Common.{sym}
 use Rattle.net_rules.specs.Turns.{Heard}
-use Rattle.net_serve.proofs.Rounds.{on_ok, on_ok2, on_err}
-use Rattle.net_serve.proofs.Hearing.{stopped_at, hello_serves, hello_at, arrival_front}
+use Rattle.net_rules.proofs.ByAnswer.{on_ok, on_ok2, on_err}
+use Rattle.net_serve.proofs.Hearing.{stopped_at, hello_serves, hello_at, arrival_front, arrival_serves, arrival_at}
 use Rattle.net_serve.proofs.server.Server.hear.Goals as goal
 
 pub returns-in-Some-clause-serves : goal.returns-in-Some-clause-serves
@@ -31,3 +31,14 @@ returns-in-Err-clause-front g c o past at =
     arrival_front c.args.self.now (record { peer = c.args.peer; bytes = c.args.bytes.now }) (sym c.in_default.ensures) c.args.self.now c.in-Some-client_of.client c.joined-count.result
     (sym c.if-not-is_arrival.ensures) (sym c.in-Some-client_of.ensures) c.joined-count.ensures o (g.K.Sink.written c.args.sink.now) (g.K.Sink.written c.arrive.new.sink) (g.L.Link.sent c.args.link.now) past
     c.in-Err.ensures.front at
+
+pub returns-in-Ok-clause-serves : goal.returns-in-Ok-clause-serves
+returns-in-Ok-clause-serves g c =
+    arrival_serves c.args.self.now (record { peer = c.args.peer; bytes = c.args.bytes.now }) (sym c.in_default.ensures) c.arrive.new.self c.in-Some-client_of.client c.joined-count.result
+    (sym c.if-not-is_arrival.ensures) (sym c.in-Some-client_of.ensures) c.joined-count.ensures c.in-Ok.ensures.same c.in-Ok.ensures.plays
+
+pub returns-in-Ok-clause-done : goal.returns-in-Ok-clause-done
+returns-in-Ok-clause-done g c o past at =
+    arrival_at c.args.self.now (record { peer = c.args.peer; bytes = c.args.bytes.now }) (sym c.in_default.ensures) c.arrive.new.self c.in-Some-client_of.client c.joined-count.result
+    (sym c.if-not-is_arrival.ensures) (sym c.in-Some-client_of.ensures) c.joined-count.ensures c.in-Ok.ensures.same c.in-Ok.ensures.plays
+    o (g.K.Sink.written c.args.sink.now) (g.K.Sink.written c.arrive.new.sink) (g.L.Link.sent c.args.link.now) past c.in-Ok.ensures.written at

@@ -1,17 +1,38 @@
-use Rattle.std.proofs.Common.{◌&&◌}
-use Rattle.pair_core.proofs.Halves.{may-end, answers-end, packs-end}
+use Rattle.std.proofs.Common.{◌&&◌, [], ap, sym, subst}
+use Rattle.stream_manager.specs.ConnCalls.{Keeps as KeepsConn}
+use Rattle.pair_core.specs.History.{Pack}
+use Rattle.pair_core.specs.Answers.{answer}
+use Rattle.pair_core.specs.Stands.{PairState}
+use Rattle.pair_core.specs.Calls.{MayPack, Packs, Answers}
+use Rattle.pair_core.proofs.Packed.{may-end, pair-packs, pair-answers}
 use Rattle.pair_core.proofs.pair.Pair.pack.Goals as goal
 
-pub pack_end-requires-clause-may : goal.pack_end-requires-clause-may
-pack_end-requires-clause-may g c =
-    may-end c.args.self.now c.self.inside.conn c.self.inside.down.list (record { client = c.self.inside.client; up = c.self.inside.up.list; prepared = c.self.inside.down.has_room && c.self.inside.up.has_room }) c.self.view_is c.args.drains.now (g.V.Values.ranges c.args.values.now) c.requires.may
+pub pack-made-requires-clause-may : goal.pack-made-requires-clause-may
+pack-made-requires-clause-may g c =
+    let p : PairState = (record { conn = c.self.inside.conn; client = c.self.inside.client; down = c.self.inside.down.list; up = c.self.inside.up.list; prepared = c.self.inside.down.has_room && c.self.inside.up.has_room }) in
+    may-end p c.args.drains.now (g.V.Values.ranges c.args.values.now)
+    (subst (λ (x : PairState). MayPack x c.args.drains.now (g.V.Values.ranges c.args.values.now)) (sym c.self.view_is) c.requires.may)
 
 pub returns-clause-answer : goal.returns-clause-answer
-returns-clause-answer g c = answers-end c.args.self.now c.self.inside.conn c.self.inside.down.list (record { client = c.self.inside.client; up = c.self.inside.up.list; prepared = c.self.inside.down.has_room && c.self.inside.up.has_room }) c.self.view_is c.args.drains.now c.pack_end.result c.pack_end.ensures.answer
+returns-clause-answer g c =
+    let p : PairState = (record { conn = c.self.inside.conn; client = c.self.inside.client; down = c.self.inside.down.list; up = c.self.inside.up.list; prepared = c.self.inside.down.has_room && c.self.inside.up.has_room }) in
+    let told = c.pack-made.ensures.told in
+    subst (λ (x : PairState). Answers x (λ t steps. answer t steps (Pack c.args.drains.now [])) c.packed.result) c.self.view_is
+    (subst (λ r. Answers p (λ t steps. answer t steps (Pack c.args.drains.now [])) r) (sym c.packed.ensures)
+    (pair-answers p c.args.drains.now told.0 c.pack-made.result told.1 c.pack-made.new.conn told.2 c.len-place.result c.len-place.ensures))
 
 pub returns-clause-told : goal.returns-clause-told
-returns-clause-told g c = (
-  c.pack_end.ensures.told.0,
-  packs-end c.args.self.now c.self.inside.conn c.self.inside.down.list (record { client = c.self.inside.client; up = c.self.inside.up.list; prepared = c.self.inside.down.has_room && c.self.inside.up.has_room }) c.self.view_is c.args.drains.now c.pack_end.ensures.told.0 c.pack_end.new.conn c.pack_end.new.down.list (c.pack_end.new.down.has_room && c.self.inside.up.has_room) c.pack_end.ensures.told.1,
-  c.pack_end.ensures.told.2,
-)
+returns-clause-told g c =
+    let p : PairState = (record { conn = c.self.inside.conn; client = c.self.inside.client; down = c.self.inside.down.list; up = c.self.inside.up.list; prepared = c.self.inside.down.has_room && c.self.inside.up.has_room }) in
+    let told = c.pack-made.ensures.told in (
+      told.0,
+      subst (λ (x : PairState). Packs x c.args.drains.now told.0 (record { conn = c.pack-made.new.conn; client = c.self.inside.client; down = c.pack-made.new.self.list; up = c.self.inside.up.list; prepared = c.pack-made.new.self.has_room && c.self.inside.up.has_room })) c.self.view_is
+          (pair-packs p c.args.drains.now told.0 c.pack-made.result told.1 c.pack-made.new.conn told.2 (c.pack-made.new.self.has_room && c.self.inside.up.has_room) c.pack-made.new.self.list told.3),
+      told.4,
+    )
+
+pub returns-clause-keeps : goal.returns-clause-keeps
+returns-clause-keeps g c = record {
+  server = subst (λ (x : PairState). KeepsConn x.conn c.pack-made.new.conn) c.self.view_is c.pack-made.ensures.told.2.keeps;
+  client = ap (λ (x : PairState). x.client) c.self.view_is;
+}

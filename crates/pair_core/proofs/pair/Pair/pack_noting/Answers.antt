@@ -1,22 +1,35 @@
-use Rattle.std.proofs.Common.{◌&&◌, List, refl, sym, subst}
-use Rattle.tn_types.specs.declared.choices.Read.{Read}
-use Rattle.pair_core.specs.Calls.{Packs, Asks}
-use Rattle.pair_core.proofs.Halves.{may-end, answers-end, packs-end}
+use Rattle.std.proofs.Common.{◌&&◌, [], ap, sym, subst}
+use Rattle.stream_manager.specs.ConnCalls.{Keeps as KeepsConn}
+use Rattle.pair_core.specs.History.{Pack}
+use Rattle.pair_core.specs.Answers.{answer}
+use Rattle.pair_core.specs.Stands.{PairState}
+use Rattle.pair_core.specs.Calls.{MayPack, Packs, Answers}
+use Rattle.pair_core.proofs.Packed.{may-end, pair-packs, pair-answers}
 use Rattle.pair_core.proofs.pair.Pair.pack_noting.Goals as goal
 
-pub pack_end-requires-clause-may : goal.pack_end-requires-clause-may
-pack_end-requires-clause-may g c =
-    may-end c.args.self.now c.self.inside.conn c.self.inside.down.list (record { client = c.self.inside.client; up = c.self.inside.up.list; prepared = c.self.inside.down.has_room && c.self.inside.up.has_room }) c.self.view_is c.args.drains.now (g.V.Values.ranges c.args.values.now) c.requires.may
+pub pack_noting-made-requires-clause-may : goal.pack_noting-made-requires-clause-may
+pack_noting-made-requires-clause-may g c =
+    let p : PairState = (record { conn = c.self.inside.conn; client = c.self.inside.client; down = c.self.inside.down.list; up = c.self.inside.up.list; prepared = c.self.inside.down.has_room && c.self.inside.up.has_room }) in
+    may-end p c.args.drains.now (g.V.Values.ranges c.args.values.now)
+    (subst (λ (x : PairState). MayPack x c.args.drains.now (g.V.Values.ranges c.args.values.now)) (sym c.self.view_is) c.requires.may)
 
 pub returns-clause-answer : goal.returns-clause-answer
-returns-clause-answer g c = answers-end c.args.self.now c.self.inside.conn c.self.inside.down.list (record { client = c.self.inside.client; up = c.self.inside.up.list; prepared = c.self.inside.down.has_room && c.self.inside.up.has_room }) c.self.view_is c.args.drains.now c.pack_end.result c.pack_end.ensures.answer
+returns-clause-answer g c =
+    let p : PairState = (record { conn = c.self.inside.conn; client = c.self.inside.client; down = c.self.inside.down.list; up = c.self.inside.up.list; prepared = c.self.inside.down.has_room && c.self.inside.up.has_room }) in
+    let told = c.pack_noting-made.ensures.told in
+    subst (λ (x : PairState). Answers x (λ t steps. answer t steps (Pack c.args.drains.now [])) c.packed.result) c.self.view_is
+    (subst (λ r. Answers p (λ t steps. answer t steps (Pack c.args.drains.now [])) r) (sym c.packed.ensures)
+    (pair-answers p c.args.drains.now c.pack_noting-made.new.noted.items c.pack_noting-made.result told.0 c.pack_noting-made.new.conn told.1 c.len-place.result c.len-place.ensures))
 
 pub returns-clause-packs : goal.returns-clause-packs
 returns-clause-packs g c =
-    subst (λ (rs : List Read). Packs c.args.self.now c.args.drains.now rs (record { conn = c.pack_end.new.conn; client = c.self.inside.client; down = c.pack_end.new.down.list; up = c.self.inside.up.list; prepared = c.pack_end.new.down.has_room && c.self.inside.up.has_room }))
-    (sym (c.pack_end.ensures.told.3 refl))
-    (packs-end c.args.self.now c.self.inside.conn c.self.inside.down.list (record { client = c.self.inside.client; up = c.self.inside.up.list; prepared = c.self.inside.down.has_room && c.self.inside.up.has_room }) c.self.view_is c.args.drains.now c.pack_end.ensures.told.0 c.pack_end.new.conn c.pack_end.new.down.list (c.pack_end.new.down.has_room && c.self.inside.up.has_room) c.pack_end.ensures.told.1)
+    let p : PairState = (record { conn = c.self.inside.conn; client = c.self.inside.client; down = c.self.inside.down.list; up = c.self.inside.up.list; prepared = c.self.inside.down.has_room && c.self.inside.up.has_room }) in
+    let told = c.pack_noting-made.ensures.told in
+    subst (λ (x : PairState). Packs x c.args.drains.now c.pack_noting-made.new.noted.items (record { conn = c.pack_noting-made.new.conn; client = c.self.inside.client; down = c.pack_noting-made.new.self.list; up = c.self.inside.up.list; prepared = c.pack_noting-made.new.self.has_room && c.self.inside.up.has_room })) c.self.view_is
+    (pair-packs p c.args.drains.now c.pack_noting-made.new.noted.items c.pack_noting-made.result told.0 c.pack_noting-made.new.conn told.1 (c.pack_noting-made.new.self.has_room && c.self.inside.up.has_room) c.pack_noting-made.new.self.list told.2)
 
-pub returns-clause-asks : goal.returns-clause-asks
-returns-clause-asks g c =
-    subst (λ (rs : List Read). Asks g.V.Values.ranges g.V.Values.stands g.V.Values.owes g.V.Values.same c.args.values.now c.pack_end.new.values rs) (sym (c.pack_end.ensures.told.3 refl)) c.pack_end.ensures.told.2
+pub returns-clause-keeps : goal.returns-clause-keeps
+returns-clause-keeps g c = record {
+  server = subst (λ (x : PairState). KeepsConn x.conn c.pack_noting-made.new.conn) c.self.view_is c.pack_noting-made.ensures.told.1.keeps;
+  client = ap (λ (x : PairState). x.client) c.self.view_is;
+}

@@ -3,7 +3,7 @@ use Rattle.ghost_scope.specs.Shown.{up_count, has_control}
 use Rattle.stream_manager.specs.Server.{ghost_log}
 use Rattle.pair_core.specs.History.{history}
 use Rattle.pair_core.specs.Stands.{PairState}
-use Rattle.pair_core.proofs.Scoped.{ups-told, control-told}
+use Rattle.conn_packing.proofs.Scoped.{ups-told, control-told}
 use Rattle.pair_core.proofs.pair.Pair.show.Goals as goal
 
 pub show-requires-clause-few : goal.show-requires-clause-few

@@ -1,0 +1,4 @@
+pub mod Packs
+pub mod Reads
+pub mod Asking
+pub mod Calls

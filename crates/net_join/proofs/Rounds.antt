@@ -1,0 +1,196 @@
+-- Turns, call by call, and a run that stops early: what was sent is a front of what the whole run asks for.
+use Rattle.std.proofs.Common.{◌≡◌, ◌∙◌, ℕ, zero, suc, ◌+◌, ◌-◌, ◌*◌, ◌≤◌, List, [], ◌∷◌, ◌++◌, length, take, Option, Some, None, Ok, false, true, ◌↔◌, sym, ap, subst, refl, arith, add-one, length-append, append_assoc}
+use Rattle.tn_outside.specs.declared.peer.Peer.{Peer}
+use Rattle.tn_outside.specs.Links.{Datagram, Ahead, found, Receives, Tells, answer_at, later}
+use Rattle.tn_outside.specs.Totals.{Adds, AddsFront}
+use Rattle.tn_outside.proofs.Totals.{adds_nothing, whole_front, front_longer}
+use Rattle.net_rules.specs.declared.limits.TheConstants.{MAX_RECEIVED_BYTES, TURN_MILLISECONDS}
+use Rattle.net_rules.specs.Turns.{Event, Heard, Turned, turned, IsDue, AreTurns, with_found, heard, events}
+use Rattle.net_rules.specs.Places.{IsPlace, IsDueAt}
+use Rattle.net_rules.specs.Runs.{Begun}
+use Rattle.net_rules.proofs.Places.{answer_later, place_came, came, not_due, place_quiet, past_stays}
+use Rattle.net_rules.proofs.Turning.{turns_go_on, events_more}
+use Rattle.net_join.specs.Joining.{sends, ending}
+use Rattle.net_join.specs.Playing.{JoinerState, Joins}
+use Rattle.net_join.specs.Stages.{nonce_of, IsAt, HeardMore, Went, Sent, SentFront, Joined, JoinedFront}
+use Rattle.net_join.proofs.Heard.{heard_sends, sends_before}
+
+-- ---- one call of `receive`
+
+module _ (o : Begun) (k : ℕ) (a a' : Option Ahead) (c : Option (List ℕ)) (x : Peer × ℕ) (buf : List ℕ) (place : IsPlace o.ahead o.clock a c k)
+    (r : Receives a a' (Ok (Some x)) buf) (l : length buf ≡ MAX_RECEIVED_BYTES) where
+  pub came_place : IsPlace o.ahead o.clock a' c (suc k)
+  came_place = place_came o.ahead o.clock a a' c k buf place x r
+
+  event_is : (bytes : List ℕ) (past : List Event) → bytes ≡ take x.1 buf → Heard (record { peer = x.0; bytes = bytes }) ∷ past ≡ with_found (found o.ahead k) past
+  event_is bytes past e =
+      ap (λ (b : List ℕ). Heard (record { peer = x.0; bytes = b }) ∷ past) e ∙ sym (came o.ahead o.clock a a' c k buf place x r l past)
+
+  pub came_joins : (j : JoinerState) (bytes : List ℕ) (past : List Event) → bytes ≡ take x.1 buf
+      → Joins j (Heard (record { peer = x.0; bytes = bytes }) ∷ past) → Joins j (with_found (found o.ahead k) past)
+  came_joins j bytes past e h = subst (λ (t : List Event). Joins j t) (event_is bytes past e) h
+
+  pub came_not_due : (t : ℕ) → (false ≡ true) ↔ IsDue o.ahead o.clock t k
+  came_not_due t = (λ e. absurd cc, λ due. absurd (not_due o.ahead o.clock a a' c k buf place x r t due))
+
+module _ (o : Begun) (k : ℕ) (a a' : Option Ahead) (c c' : Option (List ℕ)) (now : ℕ) (buf : List ℕ) (place : IsPlace o.ahead o.clock a c k)
+    (r : Receives a a' (Ok None) buf) (told : Tells c c' (Ok now)) where
+  pub quiet_place : IsPlace o.ahead o.clock a' c' (suc k)
+  quiet_place = place_quiet o.ahead o.clock a a' c k buf place c' now r told
+
+  pub quiet_joins : (j : JoinerState) (past : List Event) → Joins j past → Joins j (with_found (found o.ahead k) past)
+  quiet_joins j past h = subst (λ (t : List Event). Joins j t) (sym (past_stays o.ahead o.clock a a' c k buf place c' now r told past)) h
+
+-- ---- several calls
+
+pub heard_nothing_more : (j : JoinerState) → HeardMore j j
+heard_nothing_more j past h = ([], h, refl, refl)
+
+pub heard_one : (old new : JoinerState) (d : Datagram) → new.nonce ≡ old.nonce → ((past : List Event) → Joins old past → Joins new (Heard d ∷ past)) → HeardMore old new
+heard_one old new d same f past h = (Heard d ∷ [], f past h, refl, ap (λ (n : ℕ). sends n (Heard d ∷ past)) same ∙ heard_sends old.nonce d past)
+
+pub heard_then : (a b c : JoinerState) → HeardMore a b → HeardMore b c → HeardMore a c
+heard_then a b c f g past h =
+    let r = f past h in
+    let s = g (r.0 ++ past) r.1 in
+    let e : (s.0 ++ r.0) ++ past ≡ s.0 ++ (r.0 ++ past) = append_assoc s.0 r.0 past in (
+      s.0 ++ r.0,
+      subst (λ (t : List Event). Joins c t) (sym e) s.1,
+      ap turned e ∙ s.2 ∙ r.2,
+      ap (sends c.nonce) e ∙ s.3 ∙ r.3,
+    )
+
+pub heard_on : (o : Begun) (behind n : ℕ) (j : JoinerState) (past : List Event)
+    → Joins j (with_found (found o.ahead (behind + n)) (heard o.ahead behind n past)) → Joins j (heard o.ahead behind (n + 1) past)
+heard_on o behind n j past h = subst (λ (k : ℕ). Joins j (heard o.ahead behind k past)) (sym (add-one n)) h
+
+found_sends : (nonce : ℕ) (e : Option Datagram) (past : List Event) → sends nonce (with_found e past) ≡ sends nonce past
+found_sends nonce None past = refl
+found_sends nonce (Some d) past = heard_sends nonce (record { peer = d.peer; bytes = take MAX_RECEIVED_BYTES d.bytes }) past
+
+heard_all : (nonce : ℕ) (from : Ahead) (behind n : ℕ) (past : List Event) → sends nonce (heard from behind n past) ≡ sends nonce past
+heard_all nonce from behind zero past = refl
+heard_all nonce from behind (suc n) past =
+    found_sends nonce (found from (behind + n)) (heard from behind n past) ∙ heard_all nonce from behind n past
+
+-- ---- turns
+
+pub due_at : (times counts : List ℕ) (start due t : ℕ) → start ≡ answer_at times 0 → due ≡ TURN_MILLISECONDS * t → length counts ≡ t → IsDueAt times start due (length counts)
+due_at times counts start due t begun is len = record { begun = begun; wait = is ∙ ap (λ (n : ℕ). TURN_MILLISECONDS * n) (sym len) }
+
+pub place_next : (from : Ahead) (times : List ℕ) (a a' : Option Ahead) (c : Option (List ℕ)) (behind n : ℕ) → a' ≡ a → IsPlace from times a c (behind + n) → IsPlace from times a' c (n + behind)
+place_next from times a a' c behind n same p =
+    subst (λ (z : Option Ahead). IsPlace from times z c (n + behind)) (sym same)
+    (subst (λ (k : ℕ). IsPlace from times a c k) (let e : behind + n ≡ n + behind = omega arith in e) p)
+
+-- the end of a turn, behind what was heard in it
+module _ (mid new : JoinerState) (d d' : Option (List Datagram)) (same : new.nonce ≡ mid.nonce)
+    (joins : (past : List Event) → Joins mid past → Joins new (Turned ∷ past))
+    (sent : (first : Option (List Datagram)) (past : List Event) → Joins mid past → Adds first d (sends mid.nonce past) → Adds first d' (sends mid.nonce (Turned ∷ past))) where
+  ends : (first : Option (List Datagram)) (past : List Event) → Joins mid past → Adds first d (sends mid.nonce past) → IsAt first new d' (Turned ∷ past)
+  ends first past h at = record {
+    joins = joins past h;
+    outgoing = subst (λ (n : ℕ). Adds first d' (sends n (Turned ∷ past))) (sym same) (sent first past h at);
+  }
+
+  pub turn_at : (old : JoinerState) (from : Ahead) (behind n : ℕ) (first : Option (List Datagram)) (past : List Event) → mid.nonce ≡ old.nonce
+      → Joins mid (heard from behind n past) → IsAt first old d past → IsAt first new d' (Turned ∷ heard from behind n past)
+  turn_at old from behind n first past kept h at =
+      let e : sends old.nonce past ≡ sends mid.nonce (heard from behind n past) = ap (λ (k : ℕ). sends k past) (sym kept) ∙ sym (heard_all mid.nonce from behind n past) in
+      ends first (heard from behind n past) h (subst (λ (x : List Datagram). Adds first d x) e at.outgoing)
+
+  pub turn_went : (old : JoinerState) → HeardMore old mid → Went old d new d'
+  turn_went old more first past at =
+      let r = more past at.joins in
+      (Turned ∷ (r.0 ++ past), ends first (r.0 ++ past) r.1 (subst (λ (x : List Datagram). Adds first d x) (sym r.3) at.outgoing), ap suc r.2)
+
+nothing_sent : (first now : Option (List Datagram)) → now ≡ first → Adds first now []
+nothing_sent first now e = subst (λ (x : Option (List Datagram)). Adds first x []) (sym e) (adds_nothing first)
+
+pub starts_at : (first : Option (List Datagram)) (j : JoinerState) (d : Option (List Datagram)) → Joins j [] → d ≡ first → IsAt first j d []
+starts_at first j d h same = record { joins = h; outgoing = nothing_sent first d same }
+
+-- a run that stopped behind so many turns
+pub stopped : (o : Begun) (j : JoinerState) (turns nonce : ℕ) (d d' : Option (List Datagram)) (counts : List ℕ) → AreTurns o.ahead o.clock counts → length counts ≤ turns
+    → IsAt o.sent j d (events o.ahead counts) → j.nonce ≡ nonce → d' ≡ d → SentFront o turns nonce d'
+stopped o j turns nonce d d' counts are le at same still =
+    let r = turns_go_on o.ahead o.clock (turns - length counts) counts are in
+    let v = events_more o.ahead r.0 counts in
+    let s = sends_before nonce v.0 (events o.ahead counts) in
+    let here : Adds o.sent d (sends nonce (events o.ahead counts)) = subst (λ (n : ℕ). Adds o.sent d (sends n (events o.ahead counts))) same at.outgoing in
+    let now : Adds o.sent d' (sends nonce (events o.ahead counts)) = subst (λ (x : Option (List Datagram)). Adds o.sent x (sends nonce (events o.ahead counts))) (sym still) here in record {
+      counts = r.0 ++ counts;
+      turns_are = let e : length (r.0 ++ counts) ≡ turns = omega (arith, length-append r.0 counts, r.1, le) in e;
+      are = r.2;
+      sends = front_longer o.sent d' (sends nonce (events o.ahead counts)) s.0 (sends nonce (events o.ahead (r.0 ++ counts)))
+          (whole_front o.sent d' (sends nonce (events o.ahead counts)) now) (ap (sends nonce) v.1 ∙ s.1);
+    }
+
+-- ---- the start
+
+pub starts_place : (o : Begun) (a : Option Ahead) (c c' : Option (List ℕ)) (start : ℕ) → a ≡ Some o.ahead → c ≡ Some o.clock → Tells c c' (Ok start)
+    → (start ≡ answer_at o.clock 0) × IsPlace o.ahead o.clock a c' 0
+starts_place o a c c' start ahead_is clock_is told =
+    let t = subst (λ (x : Option (List ℕ)). Tells x c' (Ok start)) clock_is told in (
+      t.0,
+      record {
+        rest = o.ahead;
+        ahead_is = ahead_is;
+        behind = λ i. ap (found o.ahead) (let e : i ≡ 0 + i = omega arith in e);
+        answers = later o.clock;
+        clock_is = t.1;
+        asked = λ i. answer_later o.clock i ∙ ap (answer_at o.clock) (let e : suc i ≡ suc 0 + i = omega arith in e);
+      },
+    )
+
+-- nothing was added
+pub nothing_front : {A : Type 0} (first now : Option (List A)) (whole : List A) → now ≡ first → AddsFront first now whole
+nothing_front {A} first now whole e = (0, omega arith, subst (λ (x : Option (List A)). Adds first x []) (sym e) (adds_nothing first))
+
+-- nothing was sent or written
+pub not_begun : (o : Begun) (turns : ℕ) (w : Option (List ℕ)) (d : Option (List Datagram)) → w ≡ o.written → d ≡ o.sent → JoinedFront turns o w d
+not_begun o turns w d same still =
+    let r = turns_go_on o.ahead o.clock turns [] tt in record {
+      counts = r.0 ++ [];
+      turns_are = let e : length (r.0 ++ []) ≡ turns = omega (arith, length-append r.0 [], r.1) in e;
+      are = r.2;
+      sends = nothing_front o.sent d (sends (nonce_of (answer_at o.clock 0)) (events o.ahead (r.0 ++ []))) still;
+      text = nothing_front o.written w (ending (nonce_of (answer_at o.clock 0)) (events o.ahead (r.0 ++ []))) same;
+    }
+
+-- ---- the end
+
+pub front_joined : (o : Begun) (turns nonce : ℕ) (w : Option (List ℕ)) (d : Option (List Datagram)) → nonce ≡ nonce_of (answer_at o.clock 0) → w ≡ o.written
+    → SentFront o turns nonce d → JoinedFront turns o w d
+front_joined o turns nonce w d is same f = record {
+  counts = f.counts;
+  turns_are = f.turns_are;
+  are = f.are;
+  sends = subst (λ (n : ℕ). AddsFront o.sent d (sends n (events o.ahead f.counts))) is f.sends;
+  text = nothing_front o.written w (ending (nonce_of (answer_at o.clock 0)) (events o.ahead f.counts)) same;
+}
+
+module _ (o : Begun) (turns : ℕ) (j : JoinerState) (w w' : Option (List ℕ)) (d : Option (List Datagram)) (is : j.nonce ≡ nonce_of (answer_at o.clock 0)) (same : w ≡ o.written)
+    (s : Sent o turns j d) where
+  sent_all : Adds o.sent d (sends (nonce_of (answer_at o.clock 0)) (events o.ahead s.counts))
+  sent_all = subst (λ (n : ℕ). Adds o.sent d (sends n (events o.ahead s.counts))) is s.at.outgoing
+
+  pub all_joined : ((past : List Event) → Joins j past → Adds w w' (ending j.nonce past)) → Joined turns o w' d
+  all_joined wrote = record {
+    counts = s.counts;
+    turns_are = s.turns_are;
+    are = s.are;
+    sends = sent_all;
+    text = subst (λ (n : ℕ). Adds o.written w' (ending n (events o.ahead s.counts))) is
+        (subst (λ (x : Option (List ℕ)). Adds x w' (ending j.nonce (events o.ahead s.counts))) same (wrote (events o.ahead s.counts) s.at.joins));
+  }
+
+  pub part_joined : ((past : List Event) → Joins j past → AddsFront w w' (ending j.nonce past)) → JoinedFront turns o w' d
+  part_joined wrote = record {
+    counts = s.counts;
+    turns_are = s.turns_are;
+    are = s.are;
+    sends = whole_front o.sent d (sends (nonce_of (answer_at o.clock 0)) (events o.ahead s.counts)) sent_all;
+    text = subst (λ (n : ℕ). AddsFront o.written w' (ending n (events o.ahead s.counts))) is
+        (subst (λ (x : Option (List ℕ)). AddsFront x w' (ending j.nonce (events o.ahead s.counts))) same (wrote (events o.ahead s.counts) s.at.joins));
+  }

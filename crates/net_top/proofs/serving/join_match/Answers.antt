@@ -1,0 +1,11 @@
+use Rattle.net_top.proofs.Ends.{join_not_handed}
+use Rattle.net_top.proofs.serving.join_match.Goals as goal
+
+pub returns-in-Err-flush-clause-outcome : goal.returns-in-Err-flush-clause-outcome
+returns-in-Err-flush-clause-outcome g c =
+    let e = c.in-Ok.ensures in let f = c.in-Err-flush.ensures in
+    join_not_handed c.args.turns (g.L.Link.ahead c.args.link.now) (g.L.Link.ahead c.join.new.link) (g.C.Clock.ahead c.args.clock.now) (g.C.Clock.ahead c.join.new.clock)
+    (g.K.Sink.written c.args.sink.now) (g.K.Sink.written c.join.new.sink) (g.K.Sink.written c.flush.new.self) (g.L.Link.sent c.args.link.now) (g.L.Link.sent c.join.new.link)
+    (g.L.Link.faults c.args.link.now) (g.L.Link.faults c.join.new.link) (g.C.Clock.faults c.args.clock.now) (g.C.Clock.faults c.join.new.clock)
+    (g.K.Sink.faults c.args.sink.now) (g.K.Sink.faults c.join.new.sink) (g.K.Sink.faults c.flush.new.self)
+    e.done e.heard f.bytes e.link_later e.clock_later e.sink_later f.cause.later f.cause.failed
