@@ -1,3 +1,4 @@
+pub mod Below
 mod Lists
 pub mod Apart
 mod Marking

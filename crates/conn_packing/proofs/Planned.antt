@@ -6,10 +6,10 @@ use Rattle.tn_types.specs.declared.choices.Choice.{Choice}
 use Rattle.tn_types.specs.declared.choices.Read.{Read}
 use Rattle.quantised_fields.specs.declared.kind.Kind.{Kind}
 use Rattle.ghost_model.specs.Ghosts.{GhostEvent, Grant}
-use Rattle.ghost_masks.specs.Plan.{IsItem}
-use Rattle.ghost_masks.specs.Carried.{all_carried, AreValues}
-use Rattle.ghost_masks.specs.StandsFor.{StandsFor as MasksStandFor}
-use Rattle.ghost_masks.proofs.Items.{plan_items}
+use Rattle.stream_manager.specs.ghost_masks.Plan.{IsItem}
+use Rattle.stream_manager.specs.ghost_masks.Carried.{all_carried, AreValues}
+use Rattle.stream_manager.specs.ghost_masks.StandsFor.{StandsFor as MasksStandFor}
+use Rattle.stream_manager.proofs.Below.ghost_masks.Items.{plan_items}
 use Rattle.stream_manager.specs.Limits.{Terms}
 use Rattle.stream_manager.specs.ConnCalls.{Planning}
 use Rattle.stream_manager.specs.Stands.{ConnState, ConnStandsFor, IsPlanned, terms_of}

@@ -27,9 +27,9 @@ use Rattle.ghost_model.proofs.Bits.{no_bit}
 use Rattle.ghost_scope.specs.Table.{Table, IsOrdered}
 use Rattle.ghost_scope.specs.StandsFor.{StandsFor as PeriodsStandFor}
 use Rattle.ghost_scope.proofs.Told.{kind_told}
-use Rattle.ghost_masks.specs.Plan.{sizes, fields_of, kind_of, masked, carried_by, IsItem}
-use Rattle.ghost_masks.specs.Carried.{fields_carried, all_carried, AreValues}
-use Rattle.ghost_masks.proofs.Items.{few_fields, of_period}
+use Rattle.stream_manager.specs.ghost_masks.Plan.{sizes, fields_of, kind_of, masked, carried_by, IsItem}
+use Rattle.stream_manager.specs.ghost_masks.Carried.{fields_carried, all_carried, AreValues}
+use Rattle.stream_manager.proofs.Below.ghost_masks.Items.{few_fields, of_period}
 use Rattle.stream_manager.specs.Limits.{Terms}
 use Rattle.conn_packing.specs.Packs.{values_of}
 use Rattle.conn_packing.specs.Reads.{fields_in, asked_by, asked_by_all, field_of, HasRanges}

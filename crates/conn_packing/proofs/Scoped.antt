@@ -17,8 +17,8 @@ use Rattle.ghost_scope.specs.Table.{phase_of}
 use Rattle.ghost_scope.specs.Shown.{show_count, up_count, has_control, IsUp, kind_in}
 use Rattle.ghost_scope.proofs.Counts.{up_counted, control_counted, up_entries, control_entries}
 use Rattle.ghost_scope.proofs.Told.{kind_told}
-use Rattle.ghost_masks.specs.Plan.{kind_of, fields_of}
-use Rattle.ghost_masks.specs.StandsFor.{MasksState, StandsFor}
+use Rattle.stream_manager.specs.ghost_masks.Plan.{kind_of, fields_of}
+use Rattle.stream_manager.specs.ghost_masks.StandsFor.{MasksState, StandsFor}
 
 pub up-alive : (p : Phase) → is_up p ≡ true → is_gone p ≡ false
 up-alive p h = grind arith

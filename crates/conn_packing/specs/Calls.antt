@@ -5,7 +5,7 @@ use Rattle.tn_types.specs.declared.choices.Read.{Read}
 use Rattle.notify_window.specs.declared.SendState.{SendState}
 use Rattle.notify_window.specs.declared.SendState.TheVariants.{Held, Worn, Room}
 use Rattle.notify_window.specs.State.{send_state}
-use Rattle.ghost_masks.specs.StandsFor.{FitPlan}
+use Rattle.stream_manager.specs.ghost_masks.StandsFor.{FitPlan}
 use Rattle.stream_manager.specs.ConnCalls.{Answers, Becomes, Keeps}
 use Rattle.stream_manager.specs.Limits.{Terms}
 use Rattle.stream_manager.specs.Server.{ServerEvent, server_state, ghost_log, with_plan}

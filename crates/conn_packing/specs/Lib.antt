@@ -1,3 +1,4 @@
+pub mod Said
 pub mod Packs
 pub mod Reads
 pub mod Asking

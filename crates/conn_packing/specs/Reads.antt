@@ -15,8 +15,8 @@ use Rattle.notify_window.specs.declared.SendState.TheVariants.{Held, Worn, Room}
 use Rattle.ghost_model.specs.Words.{upto}
 use Rattle.ghost_model.specs.Ghosts.{GhostEvent, Grant}
 use Rattle.ghost_model.specs.Legal.{IsUp, AreFields}
-use Rattle.ghost_masks.specs.Plan.{sizes, kind_of, fields_of}
-use Rattle.ghost_masks.specs.Carried.{all_carried, AreValues}
+use Rattle.stream_manager.specs.ghost_masks.Plan.{sizes, kind_of, fields_of}
+use Rattle.stream_manager.specs.ghost_masks.Carried.{all_carried, AreValues}
 use Rattle.stream_manager.specs.Limits.{Terms}
 use Rattle.stream_manager.specs.Server.{ServerEvent, ghost_log, choices_at}
 use Rattle.conn_packing.specs.Packs.{values_of}

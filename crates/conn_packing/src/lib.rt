@@ -6,6 +6,7 @@ mod asking;
 mod made;
 mod packer;
 mod packing;
+mod said;
 mod writing;
 
 pub use asking::MAX_PACKET_VALUES;

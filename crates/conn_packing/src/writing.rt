@@ -1,7 +1,7 @@
 //! A datagram where its caller wants it: behind a list of bytes, or in front of a buffer.
 ghost use Rattle.std.specs.Prelude.{◌≡◌, ◌+◌, ◌<◌, ◌≤◌, ◌++◌, ◌↔◌, ℕ, List, IsSome, IsErr, IfOk, IfErr, OnOk, OnErr, length, take, drop, vec_len, vec_capacity};
 ghost use Rattle.notify_window.specs.State.{send_state};
-ghost use Rattle.ghost_masks.specs.StandsFor.{FitPlan};
+ghost use Rattle.stream_manager.specs.ghost_masks.StandsFor.{FitPlan};
 ghost use Rattle.stream_manager.specs.ConnCalls.{Answers, Sealed, Pinging};
 ghost use Rattle.stream_manager.specs.Server.{server_bytes, server_ping_bytes};
 ghost use Rattle.stream_manager.specs.Stands.{terms_of};

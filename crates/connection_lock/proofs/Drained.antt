@@ -12,14 +12,14 @@ use Rattle.dirty_lanes.specs.Views.{drains}
 use Rattle.dirty_lanes.specs.declared.view.PackStep.{PackStep}
 use Rattle.stream_manager.specs.Limits.{Terms}
 use Rattle.stream_manager.specs.Server.{ghost_log}
-use Rattle.pair_core.specs.History.{PairStep}
-use Rattle.conn_packing.specs.Reads.{MayBeDrained, MayDrain}
+use Rattle.kept_pair.specs.pair_core.History.{PairStep}
+use Rattle.kept_pair.specs.conn_packing.Reads.{MayBeDrained, MayDrain}
 use Rattle.lane_periods.specs.Periods.{PeriodList, has, field_count, ArePeriods}
 use Rattle.lane_periods.specs.Views.{Stands, owes_of, is_drained, entries, own_bits}
 use Rattle.lane_periods.proofs.Owed.{each-up, drains-owed, drains-stand, drains-entries}
-use Rattle.pair_steps.specs.Steps.{traits_in}
+use Rattle.pair_periods.specs.pair_steps.Steps.{traits_in}
 use Rattle.pair_periods.specs.Agreement.{server_log}
-use Rattle.pair_steps.proofs.Journals.{kind_told, up_from}
+use Rattle.pair_periods.proofs.Below.pair_steps.Journals.{kind_told, up_from}
 use Rattle.pair_periods.proofs.Agreeing.{listed-up}
 use Rattle.connection_lock.specs.Rule.{IsLocked}
 use Rattle.connection_lock.specs.Turns.{DrainsAt, Words, fields_drained}

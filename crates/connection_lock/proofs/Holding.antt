@@ -2,15 +2,15 @@
 use Rattle.std.proofs.Common.{◌≡◌, ℕ, true, List, [], ◌∷◌, ◌++◌, length, Some, sym, ap, ◌∙◌, subst, arith}
 use Rattle.std.specs.Prelude.{slice_index}
 use Rattle.dirty_lanes.specs.declared.view.PackView.{PackView}
-use Rattle.pair_core.specs.History.{PairStep}
-use Rattle.pair_core.specs.Stands.{StandsFor}
+use Rattle.kept_pair.specs.pair_core.History.{PairStep}
+use Rattle.kept_pair.specs.pair_core.Stands.{StandsFor}
 use Rattle.stream_manager.specs.Limits.{Terms}
 use Rattle.kept_pair.specs.Kept.{KeptState, Replays, terms_in, newest_first}
 use Rattle.dirty_lanes.specs.Views.{owes}
 use Rattle.dirty_lanes.specs.declared.view.PackStep.{PackStep}
 use Rattle.lane_periods.specs.Periods.{PeriodList, has}
 use Rattle.lane_periods.specs.Views.{Stands}
-use Rattle.pair_steps.proofs.Journals.{kind_told}
+use Rattle.pair_periods.proofs.Below.pair_steps.Journals.{kind_told}
 use Rattle.pair_periods.proofs.Agreeing.{passing_none}
 use Rattle.connection_lock.specs.Rule.{LockedState, LockHolds, IsLocked, AreLocked, IsQuiet, EachRead, OwedIsDue}
 use Rattle.kept_pair.proofs.Replaying.{newest-more}

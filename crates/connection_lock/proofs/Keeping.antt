@@ -19,25 +19,25 @@ use Rattle.dirty_lanes.specs.declared.view.PackStep.TheVariants as step
 use Rattle.dirty_lanes.specs.Views.{owes, a_drain}
 use Rattle.stream_manager.specs.Limits.{Terms}
 use Rattle.stream_manager.specs.Server.{ghost_log}
-use Rattle.pair_core.specs.History.{PairStep, Show, Hide, Near, Post, ClientPost, Sample, Pack, ClientPack, Down, Up, Raw, history}
-use Rattle.pair_core.specs.Conditions.{IsMet, AreMet}
-use Rattle.conn_packing.specs.Asking.{is_asked}
-use Rattle.pair_core.proofs.LegalLogs.{IsLegalLog}
-use Rattle.conn_packing.proofs.Lists.{all-map}
+use Rattle.kept_pair.specs.pair_core.History.{PairStep, Show, Hide, Near, Post, ClientPost, Sample, Pack, ClientPack, Down, Up, Raw, history}
+use Rattle.kept_pair.specs.pair_core.Conditions.{IsMet, AreMet}
+use Rattle.kept_pair.specs.conn_packing.Asking.{is_asked}
+use Rattle.kept_pair.proofs.Below.pair_core.LegalLogs.{IsLegalLog}
+use Rattle.kept_pair.proofs.Below.conn_packing.Lists.{all-map}
 use Rattle.lane_periods.specs.Periods.{PeriodList, has, has_object, spec_at, field_count, ArePeriods}
 use Rattle.lane_periods.specs.Periods as periods
 use Rattle.lane_periods.specs.Views.{IsTheRead, Stands, owes_of, is_drained}
 use Rattle.lane_periods.proofs.Numbers.{or-cases, and-both, has-more, has-fewer, has-its-object}
-use Rattle.pair_steps.specs.Steps.{shows_in, is_hidden_in, traits_in, IsNoPack}
+use Rattle.pair_periods.specs.pair_steps.Steps.{shows_in, is_hidden_in, traits_in, IsNoPack}
 use Rattle.pair_periods.specs.Agreement.{Agree, server_log, is_due_after, HasField}
-use Rattle.pair_steps.proofs.Journals.{shows_told, kind_told, up_from, up_to}
+use Rattle.pair_periods.proofs.Below.pair_steps.Journals.{shows_told, kind_told, up_from, up_to}
 use Rattle.pair_periods.proofs.Agreeing.{up-listed, listed-up, agree-show, agree-hide, agree-quiet}
-use Rattle.pair_steps.proofs.Due.{step_due}
+use Rattle.pair_periods.proofs.Below.pair_steps.Due.{step_due}
 use Rattle.pair_periods.proofs.Due.{pack_due}
 use Rattle.dirty_lanes.specs.declared.view.PackView.{PackView}
 use Rattle.stream_manager.specs.Stands.{ConnState, ClientState}
 use Rattle.stream_manager.specs.Stands as stands
-use Rattle.pair_core.specs.Calls.{KeepsAtServer}
+use Rattle.kept_pair.specs.pair_core.Calls.{KeepsAtServer}
 use Rattle.kept_pair.specs.Kept.{KeptState, terms_in, newest_first}
 use Rattle.kept_pair.proofs.Replaying.{newest-more}
 use Rattle.connection_lock.specs.declared.message.Message.{Message}

@@ -19,13 +19,13 @@ use Rattle.stream_manager.specs.End.{came_of}
 use Rattle.stream_manager.specs.Server as server
 use Rattle.stream_manager.specs.Server.{ServerEvent, server_end, accepted_at, took_at_server, packet_answer, packet_check}
 use Rattle.stream_manager.specs.Client.{client_datagrams}
-use Rattle.pair_core.specs.History.{PairStep, history, server_gets}
-use Rattle.pair_core.specs.Conditions.{IsMet}
-use Rattle.pair_core.specs.Answers.{accepted_in}
-use Rattle.pair_core.specs.Calls.{step_of}
+use Rattle.kept_pair.specs.pair_core.History.{PairStep, history, server_gets}
+use Rattle.kept_pair.specs.pair_core.Conditions.{IsMet}
+use Rattle.kept_pair.specs.pair_core.Answers.{accepted_in}
+use Rattle.kept_pair.specs.pair_core.Calls.{step_of}
 use Rattle.kept_pair.specs.Kept.{KeptState, IsReady}
-use Rattle.pair_steps.specs.Steps.{IsNoPack}
-use Rattle.pair_steps.proofs.Journals.{IsQuiet}
+use Rattle.pair_periods.specs.pair_steps.Steps.{IsNoPack}
+use Rattle.pair_periods.proofs.Below.pair_steps.Journals.{IsQuiet}
 use Rattle.connection_lock.specs.declared.message.NetLine.{NetLine}
 use Rattle.connection_lock.specs.declared.message.NetLine.TheVariants as line
 use Rattle.connection_lock.specs.Rule.{IsQuiet as IsQuietPair}

@@ -4,8 +4,8 @@ use Rattle.tn_types.specs.declared.limits.TheConstants.{MAX_SHOWN_PERIODS, MAX_S
 use Rattle.ghost_scope.specs.Shown.{show_count, up_count, has_control}
 use Rattle.stream_manager.specs.Stands.{ConnState, ConnStandsFor, terms_of}
 use Rattle.stream_manager.specs.Server.{ServerEvent, ghost_log}
-use Rattle.pair_core.specs.Conditions.{MayBeShown}
-use Rattle.conn_packing.proofs.Scoped.{shows-told, ups-told, control-told}
+use Rattle.kept_pair.specs.pair_core.Conditions.{MayBeShown}
+use Rattle.kept_pair.proofs.Below.conn_packing.Scoped.{shows-told, ups-told, control-told}
 
 module _ (conn : ConnState) (log : List ServerEvent) (s : ConnStandsFor conn log) (kind block level : ℕ) (control : Bool) where
   pub may-be-shown : kind < length conn.masks.kinds → block < 64 → level ≤ 3 → (MAX_SHOWN_PERIODS ≤ up_count conn.masks.periods → ⊥) → show_count conn.masks.periods < MAX_SHOWS

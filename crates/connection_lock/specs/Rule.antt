@@ -12,11 +12,11 @@ use Rattle.dirty_lanes.specs.declared.view.PackStep.{PackStep}
 use Rattle.dirty_lanes.specs.Views.{owes, drains}
 use Rattle.stream_manager.specs.Limits.{Terms}
 use Rattle.stream_manager.specs.Server.{ghost_log}
-use Rattle.pair_core.specs.History.{PairStep, Pack}
+use Rattle.kept_pair.specs.pair_core.History.{PairStep, Pack}
 use Rattle.kept_pair.specs.Kept.{KeptState, Replays, terms_in, newest_first}
 use Rattle.lane_periods.specs.Periods.{PeriodList, has}
 use Rattle.lane_periods.specs.Views.{Stands}
-use Rattle.pair_steps.specs.Steps.{shows_in}
+use Rattle.pair_periods.specs.pair_steps.Steps.{shows_in}
 use Rattle.pair_periods.specs.Agreement.{Agree, server_log, is_due_after, HasField}
 use Rattle.connection_lock.specs.declared.message.Message.{Message}
 use Rattle.connection_lock.specs.Taking.{Progress}

@@ -4,10 +4,10 @@
 use Rattle.std.specs.Prelude.{◌≡◌, ℕ, ◌<◌, ◌⊎◌, false, List, [], ◌∷◌, ◌++◌}
 use Rattle.dirty_lanes.specs.declared.view.DrainedBits.{DrainedBits}
 use Rattle.stream_manager.specs.Limits.{Terms}
-use Rattle.pair_core.specs.History.{PairStep, Show, Hide, Near, Post}
-use Rattle.pair_core.specs.Conditions.{IsMet}
+use Rattle.kept_pair.specs.pair_core.History.{PairStep, Show, Hide, Near, Post}
+use Rattle.kept_pair.specs.pair_core.Conditions.{IsMet}
 use Rattle.lane_periods.specs.Periods.{has_object}
-use Rattle.pair_steps.specs.Steps.{up_in}
+use Rattle.pair_periods.specs.pair_steps.Steps.{up_in}
 use Rattle.connection_lock.specs.declared.message.Message.{Message}
 use Rattle.connection_lock.specs.declared.message.Message.TheVariants as message
 

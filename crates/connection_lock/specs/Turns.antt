@@ -8,11 +8,11 @@ use Rattle.notify_window.specs.declared.SendState.TheVariants.{Held, Worn, Room}
 use Rattle.ghost_masks.specs.Plan.{fields_of}
 use Rattle.stream_manager.specs.Limits.{Terms}
 use Rattle.stream_manager.specs.Server.{server_state}
-use Rattle.pair_core.specs.declared.step.Answer.{Answer}
-use Rattle.pair_core.specs.declared.step.PairStep.{PairStep as GivenStep}
-use Rattle.pair_core.specs.declared.step.PairStep.TheVariants as given
-use Rattle.pair_core.specs.History.{PairStep, ClientPost, Sample, ClientPack, Down, Up, Pack}
-use Rattle.pair_core.specs.Answers.{answer}
+use Rattle.kept_pair.specs.pair_core.declared.step.Answer.{Answer}
+use Rattle.kept_pair.specs.pair_core.declared.step.PairStep.{PairStep as GivenStep}
+use Rattle.kept_pair.specs.pair_core.declared.step.PairStep.TheVariants as given
+use Rattle.kept_pair.specs.pair_core.History.{PairStep, ClientPost, Sample, ClientPack, Down, Up, Pack}
+use Rattle.kept_pair.specs.pair_core.Answers.{answer}
 use Rattle.kept_pair.specs.declared.fault.KeepFault.{KeepFault}
 use Rattle.kept_pair.specs.declared.fault.KeepFault.TheVariants as keeps
 use Rattle.tn_types.specs.declared.limits.TheConstants.{MAX_KEPT_STEPS, MAX_TAKEN_MESSAGES}
@@ -22,9 +22,9 @@ use Rattle.lane_periods.specs.Periods.{PeriodList}
 use Rattle.lane_periods.specs.Views.{Stands, Drains, owes_of, entries}
 use Rattle.dirty_lanes.specs.declared.view.PackStep.{PackStep}
 use Rattle.dirty_lanes.specs.Views.{drains}
-use Rattle.conn_packing.specs.Asking.{is_asked}
+use Rattle.kept_pair.specs.conn_packing.Asking.{is_asked}
 use Rattle.std.specs.List.{AllByRecursion}
-use Rattle.pair_steps.specs.Steps.{up_in, traits_in}
+use Rattle.pair_periods.specs.pair_steps.Steps.{up_in, traits_in}
 use Rattle.pair_periods.specs.Agreement.{server_log}
 use Rattle.connection_lock.specs.declared.message.Message.{Message}
 use Rattle.connection_lock.specs.declared.message.NetLine.{NetLine}

@@ -10,6 +10,7 @@ mod packing;
 mod shared;
 mod taking;
 
+pub use kept_pair;
 pub use lane_periods::Objects;
 pub use locked::{Ended, Locked};
 pub use message::{Message, NetLine};

@@ -8,7 +8,7 @@ ghost use Rattle.connection_lock.specs.Turns.{line_given, StepsLine, MadeLine};
 use crate::events::drop_events;
 use crate::message::NetLine;
 use kept_pair::KeptPair;
-use pair_core::{Answer, PairStep};
+use kept_pair::pair_core::{Answer, PairStep};
 use rtrb::Producer;
 use tn_types::Move;
 

@@ -2,8 +2,8 @@
 ghost use Rattle.std.specs.Prelude.{◌≡◌, ◌<◌, ◌≤◌, ◌++◌, ◌∷◌, [], ℕ, List, true, OnOk, length, slice_index, vec_capacity};
 ghost use Rattle.tn_types.specs.declared.choices.Read.{Read as OneRead};
 ghost use Rattle.stream_manager.specs.Server.{server_state};
-ghost use Rattle.pair_core.specs.History.{Pack};
-ghost use Rattle.pair_core.specs.Calls.{KeepsAtServer};
+ghost use Rattle.kept_pair.specs.pair_core.History.{Pack};
+ghost use Rattle.kept_pair.specs.pair_core.Calls.{KeepsAtServer};
 ghost use Rattle.kept_pair.specs.Kept.{terms_in, newest_first, answer_after, MayPack};
 ghost use Rattle.lane_periods.specs.Periods.{has};
 ghost use Rattle.lane_periods.specs.Views.{ranges};
@@ -12,10 +12,10 @@ ghost use Rattle.connection_lock.specs.Rule.{progress_of, AreLocked};
 ghost use Rattle.connection_lock.specs.Turns.{Packs, DrainsAt, ReadsBy, FaultAt};
 
 use dirty_lanes::{LaneName, Lanes, PackSeat};
+use kept_pair::pair_core::Answer;
 use kept_pair::{KeepFault, KeptPair};
 use lane_periods::{Periods, SeatValues, drain_all};
 use notify_window::SendState;
-use pair_core::Answer;
 use std::alloc::Global;
 use tn_types::Drain;
 

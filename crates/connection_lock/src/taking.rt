@@ -1,7 +1,7 @@
 //! Messages from the simulation.
 ghost use Rattle.std.specs.Prelude.{◌≡◌, ◌<◌, ◌≤◌, ◌++◌, List, [], true, false, IsTrue, ◌↔◌, IfOk, OnOk, OnErr, length};
 ghost use Rattle.rtrb.specs.Ring.{received, known_items};
-ghost use Rattle.pair_core.specs.History.{Show, Hide, Near};
+ghost use Rattle.kept_pair.specs.pair_core.History.{Show, Hide, Near};
 ghost use Rattle.kept_pair.specs.Kept.{MayStep, terms_in};
 ghost use Rattle.connection_lock.specs.declared.message.Message.{Message as OneMessage};
 ghost use Rattle.connection_lock.specs.Taking.{TakesAll};
@@ -11,9 +11,9 @@ ghost use Rattle.connection_lock.specs.Turns.{FaultAt, TakesLocked};
 
 use crate::message::Message;
 use dirty_lanes::{LaneName, Lanes, PackSeat};
+use kept_pair::pair_core::PairStep;
 use kept_pair::{KeepFault, KeptPair};
 use lane_periods::Periods;
-use pair_core::PairStep;
 use rtrb::Consumer;
 use std::alloc::Global;
 use tn_types::{Class, MAX_BLOCKS, MAX_DISTANCE_LEVEL, MAX_SHOWS, MAX_TAKEN_MESSAGES, Payload};

@@ -5,7 +5,7 @@ use Rattle.std.proofs.lemmas.Bool.{cases_Bool}
 use Rattle.ghost_model.specs.Scope.{given, traits}
 use Rattle.ghost_model.specs.Ghosts.{scope_log, carries, unjudged, is_due}
 use Rattle.ghost_model.specs.Legal.{IsLegal}
-use Rattle.ghost_masks.specs.Plan.{sizes, fields_of}
+use Rattle.stream_manager.specs.ghost_masks.Plan.{sizes, fields_of}
 use Rattle.ghost_client.specs.declared.copy.GhostCopy.{GhostCopy}
 use Rattle.ghost_client.specs.Copies.{copy_of}
 use Rattle.ghost_pair.specs.Copies.{Copy, copies_of}

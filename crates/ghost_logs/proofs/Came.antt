@@ -11,7 +11,7 @@ use Rattle.wire_format.specs.declared.server.ServerPacket.TheVariants as down
 use Rattle.ghost_model.specs.Scope.{traits}
 use Rattle.ghost_model.specs.Ghosts.{scope_log}
 use Rattle.ghost_model.specs.Legal.{IsLegal}
-use Rattle.ghost_masks.specs.Plan.{sizes, fields_of}
+use Rattle.stream_manager.specs.ghost_masks.Plan.{sizes, fields_of}
 use Rattle.ghost_pair.specs.Copies.{Item, Copy, taken, after_done, copies_of}
 use Rattle.ghost_pair.proofs.Walk.{done_take, done_next}
 use Rattle.ghost_pair.proofs.Client.{FindsEach}

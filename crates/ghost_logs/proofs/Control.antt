@@ -17,7 +17,7 @@ use Rattle.ghost_model.specs.Legal.{IsLegal}
 use Rattle.ghost_model.proofs.Shape.{is_shape}
 use Rattle.ghost_model.proofs.Kept.{ops_of}
 use Rattle.ghost_model.proofs.Legal.{sound, held_given}
-use Rattle.ghost_masks.specs.Plan.{sizes}
+use Rattle.stream_manager.specs.ghost_masks.Plan.{sizes}
 use Rattle.ghost_pair.specs.Copies.{Copy, taken, after_done, copies_of}
 use Rattle.ghost_pair.proofs.There.{was_there, packet_there, updates_there}
 use Rattle.ghost_pair.proofs.Joined.{is_there, joined}

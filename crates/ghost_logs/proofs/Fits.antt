@@ -13,7 +13,7 @@ use Rattle.wire_format.specs.Ghosts.{slot_named}
 use Rattle.ghost_model.specs.Scope.{Traits, traits}
 use Rattle.ghost_model.specs.Ghosts.{scope_log}
 use Rattle.ghost_model.specs.Legal.{IsLegal}
-use Rattle.ghost_masks.specs.Plan.{sizes, fields_of}
+use Rattle.stream_manager.specs.ghost_masks.Plan.{sizes, fields_of}
 use Rattle.ghost_client.specs.declared.copy.GhostCopy.{GhostCopy}
 use Rattle.ghost_client.specs.Copies.{copy_of}
 use Rattle.ghost_pair.specs.Copies.{Item, Copy, choices, IsOf, Meets, copies_of}

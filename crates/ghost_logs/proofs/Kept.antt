@@ -21,8 +21,8 @@ use Rattle.ghost_model.proofs.Steps.{other_test}
 use Rattle.ghost_model.proofs.Written.{wrote_shows, wrote_traits, settled_shows, settled_traits}
 use Rattle.ghost_model.proofs.Granted.{given_none}
 use Rattle.ghost_model.proofs.Legal.{held_given}
-use Rattle.ghost_masks.specs.Plan.{sizes, fields_of}
-use Rattle.ghost_masks.specs.Carried.{ghosts_for}
+use Rattle.stream_manager.specs.ghost_masks.Plan.{sizes, fields_of}
+use Rattle.stream_manager.specs.ghost_masks.Carried.{ghosts_for}
 use Rattle.ghost_pair.specs.Copies.{Item}
 use Rattle.stream_manager.specs.Limits.{Terms}
 use Rattle.stream_manager.specs.Settling.{judgements, verdict_of}

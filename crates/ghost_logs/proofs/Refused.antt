@@ -14,7 +14,7 @@ use Rattle.wire_format.specs.declared.ghosts.GhostItem.{GhostItem}
 use Rattle.wire_format.specs.declared.ghosts.GhostItem.TheVariants.{Kill, Create, Update}
 use Rattle.wire_format.specs.declared.server.ServerBody.{ServerBody}
 use Rattle.wire_format.specs.Ghosts.{slot_named}
-use Rattle.datablocks.specs.Holding.{held_of}
+use Rattle.stream_manager.specs.datablocks.Holding.{held_of}
 use Rattle.ghost_model.specs.Scope.{Traits, traits}
 use Rattle.ghost_model.specs.Ghosts.{scope_log}
 use Rattle.ghost_model.specs.Legal.{IsLegal}
@@ -22,7 +22,7 @@ use Rattle.ghost_model.specs.Legal as model
 use Rattle.ghost_model.proofs.Known.{known}
 use Rattle.ghost_model.proofs.Sorted.{once_rest}
 use Rattle.ghost_model.proofs.Steps.{other_test}
-use Rattle.ghost_masks.specs.Plan.{sizes, fields_of}
+use Rattle.stream_manager.specs.ghost_masks.Plan.{sizes, fields_of}
 use Rattle.ghost_client.specs.declared.copy.GhostCopy.{GhostCopy}
 use Rattle.ghost_client.specs.declared.fault.GhostFault.TheVariants.{BlockMissing, KindDiffers, Twice}
 use Rattle.ghost_client.specs.Fields.{names}

@@ -13,9 +13,9 @@ use Rattle.ghost_model.specs.Scope.{traits}
 use Rattle.ghost_model.specs.Ghosts.{GhostEvent, scope_log}
 use Rattle.ghost_model.specs.Legal.{IsItsMask}
 use Rattle.ghost_model.proofs.Bits.{no_bit}
-use Rattle.ghost_masks.specs.Plan.{sizes, fields_of, kind_of, masked, carried_by}
-use Rattle.ghost_masks.specs.Carried.{fields_carried, all_carried, levels_for, ghost_for, ghost_by, ghosts_for, AreValues}
-use Rattle.ghost_masks.proofs.Carried.{length-AreValues, values_split}
+use Rattle.stream_manager.specs.ghost_masks.Plan.{sizes, fields_of, kind_of, masked, carried_by}
+use Rattle.stream_manager.specs.ghost_masks.Carried.{fields_carried, all_carried, levels_for, ghost_for, ghost_by, ghosts_for, AreValues}
+use Rattle.stream_manager.proofs.Below.ghost_masks.Carried.{length-AreValues, values_split}
 use Rattle.ghost_client.specs.Fields.{place_in, carried_level}
 use Rattle.ghost_logs.specs.Sent.{items_of}
 use Rattle.ghost_logs.proofs.Alike.{Spells, AreSpelled}

@@ -2,8 +2,8 @@
 -- is held; so where the client holds what the server counts as received, it holds each block that a copy names.
 use Rattle.std.specs.Prelude.{◌≡◌, ℕ, ◌<◌, true, List, is_some, Ok}
 use Rattle.wire_format.specs.declared.server.ServerBody.{ServerBody}
-use Rattle.datablocks.specs.Holding.{held_of}
-use Rattle.datablocks.specs.Sending.{carriers}
+use Rattle.stream_manager.specs.datablocks.Holding.{held_of}
+use Rattle.stream_manager.specs.datablocks.Sending.{carriers}
 use Rattle.notify_window.specs.Fates.{any_received}
 use Rattle.stream_manager.specs.End.{fates}
 use Rattle.stream_manager.specs.Server.{ServerEvent, server_end, block_log}

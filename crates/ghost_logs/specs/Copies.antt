@@ -8,7 +8,7 @@ use Rattle.wire_format.specs.declared.ghosts.GhostItem.TheVariants.{Kill, Create
 use Rattle.wire_format.specs.declared.server.ServerBody.{ServerBody}
 use Rattle.wire_format.specs.Ghosts.{slot_named}
 use Rattle.ghost_model.specs.Ghosts.{slot}
-use Rattle.ghost_masks.specs.Plan.{kind_of, block_of, fields_of}
+use Rattle.stream_manager.specs.ghost_masks.Plan.{kind_of, block_of, fields_of}
 use Rattle.ghost_client.specs.declared.copy.GhostCopy.{GhostCopy}
 use Rattle.ghost_client.specs.Copies.{copy_of}
 use Rattle.ghost_pair.specs.Levels.{processed_level}

@@ -6,7 +6,7 @@ use Rattle.tn_types.specs.BitWords.{bit_of}
 use Rattle.notify_window.specs.Log.{fate_of_bit}
 use Rattle.wire_format.specs.declared.server.ServerBody.{ServerBody}
 use Rattle.wire_format.specs.declared.server.ServerPacket.TheVariants as down
-use Rattle.ghost_masks.specs.Carried.{all_carried, AreValues}
+use Rattle.stream_manager.specs.ghost_masks.Carried.{all_carried, AreValues}
 use Rattle.stream_manager.specs.Limits.{Terms}
 use Rattle.stream_manager.specs.End.{fates, judged_at}
 use Rattle.stream_manager.specs.Server as server

@@ -1,3 +1,4 @@
+pub use Rattle.ghost_client.specs as ghost_client
 pub mod Sent
 pub mod Ends
 pub mod Copies

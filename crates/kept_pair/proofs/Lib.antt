@@ -1,3 +1,4 @@
+pub mod Below
 mod Cutting
 pub mod Counts
 pub mod Replaying

@@ -6,7 +6,7 @@ use Rattle.std.proofs.lemmas.Bool.{ltb-true, ltb-false}
 use Rattle.std.proofs.lemmas.List.{reverse-append, take-append-le, get_or_append_left}
 use Rattle.std.proofs.Math.Seq.{get_or-append_seam, take-append_seam}
 use Rattle.tn_types.specs.declared.moves.Move.{Move}
-use Rattle.stream_manager.specs.Stands.{terms_of}
+use Rattle.pair_core.specs.stream_manager.Stands.{terms_of}
 use Rattle.pair_core.specs.History.{PairStep}
 use Rattle.pair_core.specs.Conditions.{IsMet, AreMet}
 use Rattle.pair_core.specs.Answers.{accepted_in}

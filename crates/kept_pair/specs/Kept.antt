@@ -5,14 +5,14 @@ use Rattle.std.specs.List.{AllByRecursion}
 use Rattle.tn_types.specs.declared.limits.TheConstants.{MAX_PACKET_MOVES, MAX_KEPT_STEPS}
 use Rattle.tn_types.specs.declared.choices.Drain.{Drain}
 use Rattle.tn_types.specs.declared.moves.Move.{Move}
-use Rattle.stream_manager.specs.Limits.{Terms}
-use Rattle.stream_manager.specs.Stands.{terms_of}
-use Rattle.stream_manager.specs.Server.{server_state, ghost_log}
+use Rattle.pair_core.specs.stream_manager.Limits.{Terms}
+use Rattle.pair_core.specs.stream_manager.Stands.{terms_of}
+use Rattle.pair_core.specs.stream_manager.Server.{server_state, ghost_log}
 use Rattle.pair_core.specs.declared.step.PairStep.{PairStep as GivenStep}
 use Rattle.pair_core.specs.declared.step.PairStep.TheVariants as given
 use Rattle.pair_core.specs.declared.step.Answer.{Answer}
 use Rattle.pair_core.specs.History.{PairStep, history}
-use Rattle.conn_packing.specs.Reads.{MayDrain, HasRanges}
+use Rattle.pair_core.specs.conn_packing.Reads.{MayDrain, HasRanges}
 use Rattle.pair_core.specs.Conditions.{IsMet, AreMet}
 use Rattle.pair_core.specs.Answers.{answer, accepted_in}
 use Rattle.pair_core.specs.Laws.{StepFits}

@@ -4,8 +4,8 @@ ghost use Rattle.pair_core.specs.Calls.{step_of};
 ghost use Rattle.pair_core.specs.Laws.{StepFits};
 ghost use Rattle.kept_pair.specs.Bringing.{brings, brought};
 
+use pair_core::stream_manager::Conn;
 use pair_core::{Answer, PairStep};
-use stream_manager::Conn;
 use tn_types::Move;
 
 /// Its payload is one of an event, as every payload is.

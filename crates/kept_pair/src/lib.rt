@@ -11,4 +11,5 @@ mod step_list;
 
 pub use fault::KeepFault;
 pub use pair::KeptPair;
+pub use pair_core;
 pub use step_list::StepList;

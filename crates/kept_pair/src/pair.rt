@@ -5,7 +5,7 @@ ghost use Rattle.tn_types.specs.declared.choices.Read.{Read};
 use crate::fault::KeepFault;
 use crate::given::{add_moves, brought, learn_payload};
 use crate::step_list::StepList;
-use conn_packing::MAX_PACKET_VALUES;
+use pair_core::conn_packing::MAX_PACKET_VALUES;
 use pair_core::{Answer, Pair, PairStep};
 use std::alloc::Global;
 use std::marker::Model;
@@ -47,7 +47,7 @@ impl Drop for KeptPair {
 impl Model for KeptPair {
     ghost use Rattle.std.specs.Prelude.{◌+◌, ◌≤◌, nat_le, nat_lt, ◌&&◌, vec_len, vec_capacity};
     ghost use Rattle.tn_types.specs.declared.limits.TheConstants.{MAX_PACKET_MOVES};
-    ghost use Rattle.conn_packing.specs.declared.asking.TheConstants.{MAX_PACKET_VALUES};
+    ghost use Rattle.pair_core.specs.conn_packing.declared.asking.TheConstants.{MAX_PACKET_VALUES};
     ghost use Rattle.kept_pair.specs.Kept.{KeptState, AreKept};
 
     ghost Value = { KeptState };
@@ -64,9 +64,9 @@ impl Model for KeptPair {
 }
 
 impl KeptPair {
-    ghost use Rattle.stream_manager.specs.EndCalls.{popped};
+    ghost use Rattle.pair_core.specs.stream_manager.EndCalls.{popped};
     ghost use Rattle.pair_core.specs.History.{Pack};
-    ghost use Rattle.conn_packing.specs.Asking.{Asks};
+    ghost use Rattle.pair_core.specs.conn_packing.Asking.{Asks};
     ghost use Rattle.pair_core.specs.Calls.{step_of, Hands, Accepts, Keeps, KeepsAtServer, Unchanged};
     ghost use Rattle.kept_pair.specs.Kept.{KeptState, IsFresh, Replays, MayStep, IsReady, MayPack, HasCause, Prepares, terms_in, answer_after, accepted_by};
 

@@ -1,8 +1,8 @@
 -- When a race is legal for a script: what its threads kept is what some order of their steps makes of the script.
 use Rattle.std.specs.Prelude.{◌≡◌, ℕ, ◌≤◌, length, slice_get, Some}
 use Rattle.match_script.specs.declared.types.Script.{Script}
-use Rattle.kept_pair.specs.Kept.{terms_in}
-use Rattle.own_lists.specs.Past.{client_terms}
+use Rattle.race_record.specs.kept_pair.Kept.{terms_in}
+use Rattle.race_course.specs.own_lists.Past.{client_terms}
 use Rattle.race_history.specs.History.{IsHistoryOf}
 use Rattle.race_history.specs.Moves.{MovesFit}
 use Rattle.race_course.specs.Messages.{ticks_in}

@@ -5,4 +5,5 @@ mod clients;
 mod telling;
 mod text;
 
+pub use race_record;
 pub use telling::tell;

@@ -7,7 +7,7 @@ use Rattle.match_script.specs.declared.types.BodyLine.{BodyLine}
 use Rattle.match_script.specs.declared.types.BodyLine.TheVariants.{World}
 use Rattle.match_script.specs.declared.types.Script.{Script}
 use Rattle.match_report.specs.declared.told.Told.{Told}
-use Rattle.match_laws.specs.Report.{told_after}
+use Rattle.match_engine.specs.match_laws.Report.{told_after}
 use Rattle.match_engine.specs.Match.{MatchState, last_told}
 use Rattle.match_count.specs.declared.counts.Counts.{Counts}
 use Rattle.match_count.specs.Counting.{tellings_so_far, tellings, counts_of, with_line}

@@ -17,7 +17,7 @@ use Rattle.match_report.specs.declared.told.Way.{Way}
 use Rattle.match_report.specs.declared.told.Way.TheVariants.{Down, Up, Raw}
 use Rattle.match_report.specs.declared.told.EventTold.{EventTold}
 use Rattle.match_report.specs.Text.{report_line}
-use Rattle.match_laws.specs.Report.{told_after, report}
+use Rattle.match_engine.specs.match_laws.Report.{told_after, report}
 use Rattle.match_count.specs.declared.counts.Counts.{Counts}
 
 -- ---- what a script tells

@@ -8,4 +8,6 @@ mod summary;
 
 pub use counting::count;
 pub use counts::Counts;
+pub use match_engine;
+pub use match_engine::match_laws;
 pub use summary::put_counts;

@@ -19,7 +19,7 @@ use Rattle.own_lists.specs.Kept.{Kept, kept, follows, put}
 use Rattle.own_lists.specs.Past.{Past, client_terms, kept_by, after}
 use Rattle.own_lists.specs.Agreement.{AreLines}
 use Rattle.own_lists.proofs.Counting.{counted_item, counted_items, one_counted}
-use Rattle.client_seat.specs.Stands.{SeatState, StandsFor as SeatStandsFor}
+use Rattle.match_laws.specs.client_seat.Stands.{SeatState, StandsFor as SeatStandsFor}
 use Rattle.match_engine.specs.Stands.{GameState, ClientHolds, StandsFor, IsDirect}
 use Rattle.match_engine.specs.Serving.{Serves, OthersStay}
 

@@ -1,3 +1,4 @@
+pub mod Below
 pub mod Marks
 pub mod Fed
 pub mod Scanning

@@ -11,7 +11,7 @@ use Rattle.dirty_lanes.specs.Words.{Words, mask_at}
 use Rattle.own_lists.specs.Own.{OwnWrite, OwnShow}
 use Rattle.own_lists.specs.Kept.{Kept, wrote, wrote_all, all_begin, begins}
 use Rattle.own_lists.specs.Past.{write_of, own_writes}
-use Rattle.pair_steps.specs.Steps.{shows_in}
+use Rattle.own_lists.specs.pair_steps.Steps.{shows_in}
 use Rattle.world_scope.specs.declared.viewer.Seen.{Seen}
 use Rattle.client_scope.specs.Marks.{goes_on, with_level, begun}
 use Rattle.own_lists.proofs.ScanFacts.{IsNone, AreDifferent, numbers, all_on}

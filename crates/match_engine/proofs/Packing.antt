@@ -22,18 +22,18 @@ use Rattle.ghost_masks.specs.Plan.{fields_in, fields_of, kind_of as kind_shown}
 use Rattle.ghost_model.specs.Legal.{IsUp}
 use Rattle.stream_manager.specs.Limits.{Terms}
 use Rattle.stream_manager.specs.Server.{server_state, ghost_log}
-use Rattle.conn_packing.specs.Packs.{absorbing}
-use Rattle.pair_core.specs.History.{PairStep, history, Pack}
-use Rattle.pair_core.specs.Stands.{StandsFor as PairStandsFor}
-use Rattle.conn_packing.proofs.Scoped.{up-from, up-to}
-use Rattle.conn_packing.specs.Reads.{MayDrain, IsReadFor, HasRanges}
+use Rattle.match_laws.specs.conn_packing.Packs.{absorbing}
+use Rattle.match_laws.specs.pair_core.History.{PairStep, history, Pack}
+use Rattle.match_laws.specs.pair_core.Stands.{StandsFor as PairStandsFor}
+use Rattle.match_laws.proofs.Below.conn_packing.Scoped.{up-from, up-to}
+use Rattle.match_laws.specs.conn_packing.Reads.{MayDrain, IsReadFor, HasRanges}
 use Rattle.client_scope.specs.declared.period.ShownPeriod.{ShownPeriod}
 use Rattle.client_scope.specs.Scans.{shown, periods}
 use Rattle.client_scope.specs.StandsFor.{Table}
 use Rattle.dirty_lanes.specs.Words.{Words}
 use Rattle.own_lists.specs.Own.{OwnItem, Line}
 use Rattle.own_lists.specs.Course.{with_step}
-use Rattle.pair_steps.specs.Steps.{shows_in, is_hidden_in, up_in, traits_in}
+use Rattle.own_lists.specs.pair_steps.Steps.{shows_in, is_hidden_in, up_in, traits_in}
 use Rattle.own_lists.specs.Counted.{counted_in}
 use Rattle.own_lists.specs.Kept.{Kept, undrained, drained, has_bits, drains_of, read_of, reads_for, reads_of, packs, kept}
 use Rattle.own_lists.specs.Past.{client_terms, kept_by, after}
@@ -41,14 +41,14 @@ use Rattle.own_lists.specs.Conditions.{AreOwn}
 use Rattle.own_lists.specs.Agreement.{Agrees, IsPeriodOf}
 use Rattle.own_lists.proofs.Agreeing.{own_lists_agree}
 use Rattle.own_lists.proofs.Meeting.{are_met, all_up, reads_forced}
-use Rattle.pair_steps.proofs.Journals.{up_from, up_to, kind_told}
+use Rattle.own_lists.proofs.Below.pair_steps.Journals.{up_from, up_to, kind_told}
 use Rattle.own_lists.proofs.ScanFacts.{AreShown, AreDifferent, IsNone, objects, numbers, shown_are_shown}
 use Rattle.own_lists.proofs.ScanChanges.{has, has_itself}
 use Rattle.own_lists.proofs.WorldFacts.{scans_are_sights}
-use Rattle.client_seat.specs.Stands.{SeatState, Packs, StandsFor as SeatStandsFor}
-use Rattle.client_seat.specs.Told.{packed_told, pack_told}
+use Rattle.match_laws.specs.client_seat.Stands.{SeatState, Packs, StandsFor as SeatStandsFor}
+use Rattle.match_laws.specs.client_seat.Told.{packed_told, pack_told}
 use Rattle.match_report.specs.declared.told.Told.{Told}
-use Rattle.pair_core.specs.Calls.{MayPack}
+use Rattle.match_laws.specs.pair_core.Calls.{MayPack}
 use Rattle.world_sim.specs.Rows.{values_of}
 use Rattle.own_lists.proofs.Counting.{few_down}
 use Rattle.match_engine.specs.Stands.{ClientHolds, IsMarked}

@@ -19,7 +19,7 @@ use Rattle.client_scope.specs.StandsFor.{Table, StandsFor as ScopeStandsFor}
 use Rattle.dirty_lanes.specs.Words.{Words, mask_at}
 use Rattle.own_lists.specs.declared.showing.Showing.{Showing}
 use Rattle.own_lists.specs.Own.{OwnItem, OwnShow}
-use Rattle.pair_steps.specs.Steps.{shows_in}
+use Rattle.own_lists.specs.pair_steps.Steps.{shows_in}
 use Rattle.own_lists.specs.Course.{Course, onto, with_steps, scan_steps, hide_step, near_step}
 use Rattle.own_lists.specs.Kept.{Kept, kept, with_course, all_begin, begins, after_scan}
 use Rattle.own_lists.specs.Past.{client_terms, kept_by, after, showing_of, own_show, scan_item}
@@ -31,7 +31,7 @@ use Rattle.own_lists.proofs.Meeting.{scan_journal}
 use Rattle.own_lists.proofs.Standing.{onto_on, shows_hides, shows_nears}
 use Rattle.own_lists.proofs.ScanFacts.{IsSight, IsNone, objects, numbers, sights, sights_rise, few_rising, below_rising, shows_are_new, shown_next, shown_are_shown}
 use Rattle.own_lists.proofs.WorldFacts.{world_after, visible_is_sight, match_periods_few, scans_are_sights}
-use Rattle.client_seat.specs.Stands.{SeatState, MayMake, Becomes, StandsFor as SeatStandsFor}
+use Rattle.match_laws.specs.client_seat.Stands.{SeatState, MayMake, Becomes, StandsFor as SeatStandsFor}
 use Rattle.match_engine.specs.Stands.{ClientHolds, IsMarked}
 use Rattle.match_engine.specs.Serving.{Serves, OthersStay, is_of}
 use Rattle.match_engine.proofs.Fed.{put_there, more_lines}
@@ -175,7 +175,7 @@ module _ (seat : SeatState) (scope : Table) (w : Worlds) (lanes : Words) (c : �
         let steps = scan_journal (hides next) (nears next) (map (own_show (after head past).world c) (shows next)) k
         ∙ ap (λ (ss : List Showing). onto (scan_steps (hides next) (nears next) ss) k.course.steps) (mapped_twice (after head past).world c (shows next)) in
         let taken = begin_taken (map (own_show (after head past).world c) (shows next)) (with_course (with_steps (scan_steps (hides next) (nears next) []) k.course) k) in
-        ap (λ (x : Kept). x.course) is ∙ ap (λ (x : List Rattle.pair_core.specs.History.PairStep). record { steps = x; taken = (after_scan (hides next) (nears next) (map (own_show (after head past).world c) (shows next)) k).course.taken }) steps
+        ap (λ (x : Kept). x.course) is ∙ ap (λ (x : List Rattle.match_laws.specs.pair_core.History.PairStep). record { steps = x; taken = (after_scan (hides next) (nears next) (map (own_show (after head past).world c) (shows next)) k).course.taken }) steps
         ∙ ap (λ (x : ℕ). record { steps = onto (scan_steps (hides next) (nears next) (map (showing_of (after head past).world c) (shows next))) k.course.steps; taken = x }) taken
 
     same_count : shows_in (onto (scan_steps (hides next) (nears next) []) k.course.steps) ≡ shows_in k.course.steps

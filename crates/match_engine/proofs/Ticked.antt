@@ -10,7 +10,7 @@ use Rattle.match_script.specs.declared.types.BodyLine.{BodyLine}
 use Rattle.match_script.specs.declared.types.BodyLine.TheVariants as script
 use Rattle.match_script.specs.declared.types.Head.{Head}
 use Rattle.stream_manager.specs.Limits.{Terms}
-use Rattle.pair_core.specs.Answers.{accepted_in}
+use Rattle.match_laws.specs.pair_core.Answers.{accepted_in}
 use Rattle.ghost_masks.specs.Plan.{fields_of}
 use Rattle.world_rules.specs.declared.object.Object.{Object}
 use Rattle.world_rules.specs.declared.object.State.{State}
@@ -31,7 +31,7 @@ use Rattle.own_lists.proofs.Agreeing.{own_lists_agree}
 use Rattle.own_lists.proofs.KeptValues.{wrote_course}
 use Rattle.own_lists.proofs.ScanFacts.{numbers, different_rising, shown_are_shown}
 use Rattle.own_lists.proofs.WorldFacts.{IsFieldWrite, world_after, scans_are_sights, tick_writes_fit}
-use Rattle.client_seat.specs.Stands.{SeatState, StandsFor as SeatStandsFor, without_first}
+use Rattle.match_laws.specs.client_seat.Stands.{SeatState, StandsFor as SeatStandsFor, without_first}
 use Rattle.match_engine.specs.Stands.{GameState, StandsFor, IsMarked, AreFew}
 use Rattle.match_engine.specs.Serving.{raised_by}
 use Rattle.own_lists.specs.Counted.{counted_in}

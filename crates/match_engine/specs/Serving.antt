@@ -13,7 +13,7 @@ use Rattle.client_scope.specs.StandsFor.{Table}
 use Rattle.dirty_lanes.specs.Words.{Words, mask_at}
 use Rattle.own_lists.specs.Past.{client_terms, kept_by, after}
 use Rattle.own_lists.specs.Agreement.{AreLines}
-use Rattle.client_seat.specs.Stands.{SeatState}
+use Rattle.match_laws.specs.client_seat.Stands.{SeatState}
 use Rattle.match_engine.specs.Stands.{ClientHolds}
 
 -- what a match keeps of a client, and the world, stand for these lines

@@ -17,7 +17,7 @@ use Rattle.own_lists.specs.Counted.{counted_in}
 use Rattle.own_lists.specs.Kept.{Kept}
 use Rattle.own_lists.specs.Past.{client_terms, kept_by, after}
 use Rattle.own_lists.specs.Agreement.{AreLines}
-use Rattle.client_seat.specs.Stands.{SeatState, StandsFor as SeatStandsFor}
+use Rattle.match_laws.specs.client_seat.Stands.{SeatState, StandsFor as SeatStandsFor}
 
 pub record GameState : Type 0 where
   pub head : Head

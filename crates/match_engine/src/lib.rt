@@ -12,5 +12,7 @@ mod values;
 
 pub use game::client_named;
 pub use lines::line_on;
+pub use match_laws;
+pub use match_laws::client_seat;
 pub use played::Match;
 pub use running::{RunFault, run, tell};

@@ -5,11 +5,11 @@ ghost use Rattle.stream_manager.specs.Limits.{Terms};
 ghost use Rattle.own_lists.specs.Own.{client_named};
 ghost use Rattle.own_lists.specs.Kept.{Kept, after_line};
 ghost use Rattle.own_lists.specs.Past.{Past, client_terms, kept_by};
-ghost use Rattle.client_seat.specs.Stands.{Stands, StandsFor};
+ghost use Rattle.match_laws.specs.client_seat.Stands.{Stands, StandsFor};
 ghost use Rattle.match_laws.specs.Report.{told};
 ghost use Rattle.match_engine.specs.Stands.{IsDirect};
 
-use client_seat::Seat;
+use match_laws::client_seat::Seat;
 use match_report::Told;
 use match_script::BodyLine;
 use std::alloc::Global;

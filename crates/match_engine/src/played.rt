@@ -3,13 +3,13 @@ ghost use Rattle.std.specs.Prelude.{◌≡◌, ◌<◌, ◌≤◌, ◌+◌, ◌�
 ghost use Rattle.std.specs.Option.{option_copied};
 ghost use Rattle.match_script.specs.Ranges.{HeadFits, HasRanges, LineFits};
 ghost use Rattle.client_scope.specs.StandsFor.{Table};
-ghost use Rattle.client_seat.specs.Stands.{SeatState};
+ghost use Rattle.match_laws.specs.client_seat.Stands.{SeatState};
 
 use crate::game::Game;
 use client_scope::Scope;
+use match_laws::pair_core::Pair;
 use match_report::Told;
 use match_script::{BodyLine, Script};
-use pair_core::Pair;
 use std::alloc::Global;
 use std::marker::Model;
 use tn_types::{MAX_COUNTED_LINES, NoMemory};

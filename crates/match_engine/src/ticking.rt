@@ -1,10 +1,10 @@
 //! The world of a match: its ticks, and what is told of it.
 ghost use Rattle.std.specs.Prelude.{◌≡◌, ◌<◌, ◌≤◌, ◌-◌, ◌^◌, ℕ, IfOk, OnOk, length, map, slice_get};
-ghost use Rattle.client_seat.specs.Stands.{without_first};
+ghost use Rattle.match_laws.specs.client_seat.Stands.{without_first};
 ghost use Rattle.match_engine.specs.Stands.{AreFew};
 ghost use Rattle.match_laws.specs.World.{living};
 
-use client_seat::Seat;
+use match_laws::client_seat::Seat;
 use match_report::{Living, LivingObject, ValueList};
 use std::alloc::{AllocError, Global};
 use tn_types::{Move, NoMemory};

@@ -1,3 +1,4 @@
+pub mod Below
 pub mod Grown
 pub mod Isolated
 pub mod InOrder

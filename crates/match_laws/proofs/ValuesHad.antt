@@ -15,7 +15,7 @@ use Rattle.match_script.specs.declared.types.Head.{Head}
 use Rattle.match_script.specs.Ranges.{LineFits}
 use Rattle.pair_core.specs.History.{PairStep, Show, Near}
 use Rattle.pair_copies.specs.Reads.{HasRead, WasRead}
-use Rattle.pair_steps.specs.Steps.{shows_in, traits_in}
+use Rattle.own_lists.specs.pair_steps.Steps.{shows_in, traits_in}
 use Rattle.own_lists.specs.Own.{OwnItem, Line, Scan, Tick}
 use Rattle.own_lists.specs.Course.{onto, scan_steps}
 use Rattle.own_lists.specs.Kept.{Kept, reads_of, after_line, follows, kept, journal}

@@ -40,18 +40,18 @@ use Rattle.world_sim.specs.Rows.{values_of}
 use Rattle.world_sim.specs.Worlds.{Worlds, kind_at, values_at}
 use Rattle.world_scope.specs.declared.viewer.Seen.{Seen}
 use Rattle.own_lists.specs.declared.showing.Showing.{Showing}
-use Rattle.pair_steps.specs.Steps.{traits_in}
+use Rattle.own_lists.specs.pair_steps.Steps.{traits_in}
 use Rattle.own_lists.specs.Own.{OwnItem, Line, Scan, Tick}
 use Rattle.own_lists.specs.Course.{onto, near_step, show_step, scan_steps}
 use Rattle.own_lists.specs.Kept.{Kept, undrained, drained, drains_of, read_of, reads_for, reads_of, after_line, follows}
 use Rattle.own_lists.specs.Agreement.{IsPeriodOf, Agrees}
-use Rattle.pair_steps.proofs.Journals.{up_from, kind_told}
+use Rattle.own_lists.proofs.Below.pair_steps.Journals.{up_from, kind_told}
 use Rattle.own_lists.proofs.Meeting.{scan_journal}
 use Rattle.own_lists.proofs.KeptValues.{own_fields, wrote_course}
 use Rattle.own_lists.proofs.ScanFacts.{numbers}
 use Rattle.own_lists.proofs.ScanChanges.{has, held_at}
 use Rattle.own_lists.proofs.Standing.{IsShownIn}
-use Rattle.pair_steps.specs.Steps.{IsNoPack}
+use Rattle.own_lists.specs.pair_steps.Steps.{IsNoPack}
 use Rattle.match_laws.proofs.ValuesNewest.{newest_of}
 use Rattle.match_laws.proofs.ValuesTold.{up_has, pack_items}
 

@@ -34,11 +34,11 @@ use Rattle.match_report.specs.declared.copies.FieldTold.{FieldTold}
 use Rattle.world_rules.specs.Kinds.{match_kinds}
 use Rattle.client_scope.specs.declared.period.ShownPeriod.{ShownPeriod}
 use Rattle.client_scope.specs.Scans.{shown}
-use Rattle.pair_steps.specs.Steps.{up_in, traits_in}
+use Rattle.own_lists.specs.pair_steps.Steps.{up_in, traits_in}
 use Rattle.own_lists.specs.Kept.{Kept, undrained}
 use Rattle.own_lists.specs.Past.{client_terms, kept_by, after}
 use Rattle.own_lists.specs.Agreement.{AreLines, OwnListsHold}
-use Rattle.pair_steps.proofs.Journals.{up_to, kind_told}
+use Rattle.own_lists.proofs.Below.pair_steps.Journals.{up_to, kind_told}
 use Rattle.own_lists.proofs.Meeting.{are_met}
 use Rattle.own_lists.proofs.KeptValues.{own_fields}
 use Rattle.own_lists.proofs.Standing.{IsShownIn, up_are_shown, mapped_all}

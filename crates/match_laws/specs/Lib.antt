@@ -1,3 +1,6 @@
+pub use Rattle.pair_core.specs as pair_core
+pub use Rattle.conn_packing.specs as conn_packing
+pub use Rattle.client_seat.specs as client_seat
 pub mod World
 pub mod Report
 pub mod Laws

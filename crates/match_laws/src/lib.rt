@@ -5,8 +5,10 @@ mod laws;
 mod values;
 mod words;
 
+pub use client_seat;
 pub use laws::{
     events_in_order, isolation, little_is_refused, loose_events_in_order, moves_in_order,
 };
+pub use pair_core;
 pub use values::{changes_recover, copies_show_values, settled_is_newest};
 pub use words::{applied_in_order, printed_in_order};

@@ -1,8 +1,8 @@
 -- What `alone` writes, by isolation.
 use Rattle.std.proofs.Common.{◌≡◌, ℕ, true, List, reverse, nat_lt, refl, sym, ap, arith}
 use Rattle.std.specs.List.{flat_map}
-use Rattle.match_laws.specs.Laws.{Isolation}
-use Rattle.match_laws.specs.Report.{report}
+use Rattle.match_count.specs.match_laws.Laws.{Isolation}
+use Rattle.match_count.specs.match_laws.Report.{report}
 use Rattle.two_worlds.specs.Text.{alone_text}
 use Rattle.match_top.specs.Outcome.{AloneIsOfRun}
 

@@ -8,8 +8,8 @@ use Rattle.tn_outside.specs.Totals.{Adds, AddsFront}
 use Rattle.match_script.specs.Script.{script_of}
 use Rattle.match_script.specs.Ranges.{HasRanges}
 use Rattle.match_script.specs.declared.types.Script.{Script as OneScript}
-use Rattle.match_laws.specs.Laws.{packs_in}
-use Rattle.match_laws.specs.Report.{report, told_lines, text_behind}
+use Rattle.match_count.specs.match_laws.Laws.{packs_in}
+use Rattle.match_count.specs.match_laws.Report.{report, told_lines, text_behind}
 use Rattle.two_worlds.specs.Text.{alone_text}
 use Rattle.script_maker.specs.Made.{made}
 use Rattle.match_count.specs.Counting.{counts_of, tellings}

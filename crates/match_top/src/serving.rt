@@ -3,21 +3,21 @@ ghost use Rattle.std.specs.Prelude.{◌≡◌, ◌⊎◌, ◌≤◌, ◌+◌, Li
 ghost use Rattle.tn_outside.specs.Causes.{Rose};
 ghost use Rattle.tn_outside.specs.Totals.{Adds, AddsFront};
 ghost use Rattle.match_script.specs.Ranges.{HasRanges};
-ghost use Rattle.match_laws.specs.Laws.{Isolation, EventsInOrder, MovesInOrder, LooseInOrder, LittleIsRefused};
-ghost use Rattle.match_laws.specs.Values.{CopiesShowValues, SettledIsNewest, ChangesRecover};
-ghost use Rattle.match_laws.specs.Applied.{AppliedAreAccepted, AppliedInOrder};
-ghost use Rattle.match_laws.specs.Words.{PrintedInOrder};
+ghost use Rattle.match_count.specs.match_laws.Laws.{Isolation, EventsInOrder, MovesInOrder, LooseInOrder, LittleIsRefused};
+ghost use Rattle.match_count.specs.match_laws.Values.{CopiesShowValues, SettledIsNewest, ChangesRecover};
+ghost use Rattle.match_count.specs.match_laws.Applied.{AppliedAreAccepted, AppliedInOrder};
+ghost use Rattle.match_count.specs.match_laws.Words.{PrintedInOrder};
 ghost use Rattle.match_top.specs.Command.{command_of, CommandFits, Says};
 ghost use Rattle.script_input.specs.Reading.{seen, GaveAtMost, HasFailed};
 ghost use Rattle.match_top.specs.Outcome.{text_of, AloneIsOfRun, Outcome, IsWanted, CanBeDone, HasScript, NoScript, LeavesSource};
 
 use crate::command::{Command, command_of};
-use match_count::{count, put_counts};
-use match_engine::{RunFault, run};
-use match_laws::{
+use match_count::match_engine::{RunFault, run};
+use match_count::match_laws::{
     applied_in_order, changes_recover, copies_show_values, events_in_order, isolation,
     little_is_refused, loose_events_in_order, moves_in_order, printed_in_order, settled_is_newest,
 };
+use match_count::{count, put_counts};
 use match_script::Script;
 use script_input::{Status, read_script};
 use script_maker::make;

@@ -11,7 +11,7 @@ use Rattle.match_script.specs.Ranges.{HeadFits}
 use Rattle.tn_types.specs.declared.limits.TheConstants.{MAX_CLIENTS}
 use Rattle.std.proofs.lemmas.List.{length-take}
 use Rattle.match_report.specs.declared.told.Told.{Told}
-use Rattle.match_laws.specs.Report.{told_after}
+use Rattle.match_engine.specs.match_laws.Report.{told_after}
 use Rattle.match_engine.specs.Match.{last_told}
 use Rattle.net_rules.specs.declared.hello.Hello.{Hello}
 use Rattle.net_rules.specs.Turns.{Event, Turned}

@@ -12,7 +12,7 @@ use Rattle.match_script.specs.Print.{line_words, text_of}
 use Rattle.match_report.specs.declared.told.EventTold.{EventTold}
 use Rattle.match_report.specs.declared.told.Told.{Told}
 use Rattle.match_report.specs.declared.told.Told.TheVariants.{Came}
-use Rattle.match_laws.specs.Report.{told_after}
+use Rattle.match_engine.specs.match_laws.Report.{told_after}
 use Rattle.net_rules.specs.Turns.{Event, Heard, Turned}
 use Rattle.net_rules.specs.declared.hello.Hello.{Hello}
 use Rattle.net_rules.specs.Hellos.{is_arrival, joined, client_of}

@@ -11,4 +11,5 @@ mod serving;
 mod telling;
 
 pub use laws::{is_read_again, packs_are_sent, raws_are_arrivals, ticks_are_turns};
+pub use match_engine::match_laws;
 pub use serving::serve;

@@ -1,6 +1,6 @@
 //! The commands over a link.
 ghost use Rattle.std.specs.Prelude.{◌≡◌, ◌⊎◌, [], map, string_bytes, Ok};
-ghost use Rattle.match_laws.specs.Laws.{Isolation};
+ghost use Rattle.net_serve.specs.match_laws.Laws.{Isolation};
 ghost use Rattle.net_rules.specs.Turns.{TurnsAreOne};
 ghost use Rattle.net_serve.specs.Laws.{PacksAreSent, RawsAreArrivals, TicksAreTurns, IsReadAgain};
 ghost use Rattle.net_top.specs.declared.command.NetCommand.TheVariants.{Serve, Join};
@@ -8,9 +8,9 @@ ghost use Rattle.net_top.specs.Command.{command_of, CommandFits, Says};
 ghost use Rattle.net_top.specs.Outcome.{told, met, NetOutcome, IsWanted, CanBeDone, status_of};
 
 use crate::command::{NetCommand, command_of};
-use match_laws::isolation;
 use net_join::join;
 use net_rules::{NetFault, turns_are_one};
+use net_serve::match_laws::isolation;
 use net_serve::{is_read_again, packs_are_sent, raws_are_arrivals, serve, ticks_are_turns};
 use script_input::Status;
 use std::alloc::Global;

@@ -27,7 +27,7 @@ use Rattle.own_lists.specs.Own as own
 use Rattle.own_lists.specs.Past.{Past, client_terms, kept_by, after, showing_of, own_show, own_writes, taken_from}
 use Rattle.own_lists.specs.Past as past
 use Rattle.own_lists.specs.declared.showing.Showing.{Showing}
-use Rattle.client_seat.specs.Stands.{SeatState}
+use Rattle.match_engine.specs.client_seat.Stands.{SeatState}
 use Rattle.match_engine.specs.Match.{MatchState, StandsFor as MatchStandsFor}
 use Rattle.match_engine.specs.Stands.{GameState, StandsFor, ClientHolds}
 use Rattle.match_engine.proofs.Fed.{put_there}

@@ -7,4 +7,6 @@ mod making;
 mod source;
 
 pub use items::{Hides, Nears, OwnItem, OwnShow, OwnWrite, OwnWrites, Shows};
+pub use match_engine;
+pub use match_engine::client_seat;
 pub use source::OwnSource;

@@ -4,15 +4,15 @@ use Rattle.std.proofs.lemmas.Bool.{eqb-true}
 use Rattle.std.proofs.lemmas.List.Elements.{All-from_recursion}
 use Rattle.tn_types.specs.declared.limits.TheConstants.{MAX_SHOWS, MAX_COUNTED_LINES}
 use Rattle.ghost_model.specs.Words.{upto}
-use Rattle.stream_manager.specs.Limits.{Terms}
+use Rattle.pair_steps.specs.stream_manager.Limits.{Terms}
 use Rattle.match_script.specs.declared.types.BodyLine.{BodyLine}
 use Rattle.match_script.specs.declared.types.BodyLine.TheVariants as script
 use Rattle.match_script.specs.declared.types.Head.{Head}
 use Rattle.match_script.specs.Ranges.{HeadFits}
 use Rattle.world_sim.specs.Worlds.{Worlds, IsWorld, first_world}
-use Rattle.world_scope.specs.declared.viewer.Seen.{Seen}
-use Rattle.world_scope.specs.Scope.{visible_list}
-use Rattle.world_scope.proofs.SeenList.{all_there}
+use Rattle.client_scope.specs.world_scope.declared.viewer.Seen.{Seen}
+use Rattle.client_scope.specs.world_scope.Scope.{visible_list}
+use Rattle.client_scope.proofs.Below.world_scope.SeenList.{all_there}
 use Rattle.client_scope.specs.declared.period.ShownPeriod.{ShownPeriod}
 use Rattle.client_scope.specs.Scans.{periods, shown}
 use Rattle.own_lists.specs.Own.{OwnItem, Line, StandsAlone}

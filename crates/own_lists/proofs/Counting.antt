@@ -11,18 +11,18 @@ use Rattle.wire_format.specs.declared.server.ServerPacket.TheVariants as down
 use Rattle.match_script.specs.declared.types.BodyLine.{BodyLine}
 use Rattle.match_script.specs.declared.types.BodyLine.TheVariants as script
 use Rattle.client_scope.specs.declared.period.Near.{Near as NearPeriod}
-use Rattle.stream_manager.specs.declared.config.Config.{Config}
-use Rattle.stream_manager.specs.Limits.{Terms}
-use Rattle.stream_manager.specs.End.{with_event as after}
-use Rattle.stream_manager.specs.Wire.{bytes_down}
-use Rattle.stream_manager.specs.Server as server_log
-use Rattle.stream_manager.specs.Server.{ServerEvent, server_datagrams, server_state, posted_at_server, next_body, server_ping_bytes}
-use Rattle.stream_manager.specs.Client as client_log
-use Rattle.stream_manager.specs.Client.{ClientEvent, client_datagrams, client_state, posted_at_client, client_bytes, client_ping_bytes, sampled_answer}
-use Rattle.conn_packing.specs.Packs.{absorbing, values_of}
-use Rattle.pair_core.specs.History.{PairStep, Show, Hide, Near, Post, ClientPost, Sample, Pack, ClientPack, Down, Up, Raw, history, server_posts, client_posts, client_samples}
-use Rattle.pair_core.proofs.Brought.{gets_sends_up, gets_sends_down}
-use Rattle.conn_packing.proofs.Absorbed.{absorbed-sends}
+use Rattle.pair_steps.specs.stream_manager.declared.config.Config.{Config}
+use Rattle.pair_steps.specs.stream_manager.Limits.{Terms}
+use Rattle.pair_steps.specs.stream_manager.End.{with_event as after}
+use Rattle.pair_steps.specs.stream_manager.Wire.{bytes_down}
+use Rattle.pair_steps.specs.stream_manager.Server as server_log
+use Rattle.pair_steps.specs.stream_manager.Server.{ServerEvent, server_datagrams, server_state, posted_at_server, next_body, server_ping_bytes}
+use Rattle.pair_steps.specs.stream_manager.Client as client_log
+use Rattle.pair_steps.specs.stream_manager.Client.{ClientEvent, client_datagrams, client_state, posted_at_client, client_bytes, client_ping_bytes, sampled_answer}
+use Rattle.pair_steps.specs.conn_packing.Packs.{absorbing, values_of}
+use Rattle.pair_steps.specs.pair_core.History.{PairStep, Show, Hide, Near, Post, ClientPost, Sample, Pack, ClientPack, Down, Up, Raw, history, server_posts, client_posts, client_samples}
+use Rattle.pair_steps.proofs.Below.pair_core.Brought.{gets_sends_up, gets_sends_down}
+use Rattle.pair_steps.proofs.Below.conn_packing.Absorbed.{absorbed-sends}
 use Rattle.own_lists.specs.Own.{OwnShow, OwnItem, Line, Scan, Tick}
 use Rattle.own_lists.specs.Counted.{counted, counted_in}
 use Rattle.own_lists.specs.Course.{onto, hide_step, near_step, show_step, scan_steps}

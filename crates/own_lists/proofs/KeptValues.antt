@@ -26,16 +26,16 @@ use Rattle.match_script.specs.declared.types.BodyLine.{BodyLine}
 use Rattle.match_script.specs.declared.types.BodyLine.TheVariants as script
 use Rattle.client_scope.specs.declared.period.Near.{Near as NearPeriod}
 use Rattle.ghost_model.specs.Scope.{Traits}
-use Rattle.ghost_masks.specs.Plan.{fields_of}
-use Rattle.ghost_masks.specs.Carried.{AreValues}
-use Rattle.stream_manager.specs.declared.fault.ArriveFault.{ArriveFault}
-use Rattle.stream_manager.specs.Limits.{Terms}
-use Rattle.stream_manager.specs.Server as server
-use Rattle.stream_manager.specs.Server.{ServerEvent, server_state, server_answer, took_at_server, posted_at_server, accepted_at}
-use Rattle.stream_manager.specs.Client.{client_datagrams}
-use Rattle.conn_packing.specs.Packs.{absorbing, values_of}
-use Rattle.pair_core.specs.History.{PairStep, Show, Hide, Near, Post, ClientPost, Sample, Pack, ClientPack, Down, Up, Raw, history, server_posts, server_gets}
-use Rattle.pair_core.specs.Answers.{accepted_in}
+use Rattle.pair_steps.specs.ghost_masks.Plan.{fields_of}
+use Rattle.pair_steps.specs.ghost_masks.Carried.{AreValues}
+use Rattle.pair_steps.specs.stream_manager.declared.fault.ArriveFault.{ArriveFault}
+use Rattle.pair_steps.specs.stream_manager.Limits.{Terms}
+use Rattle.pair_steps.specs.stream_manager.Server as server
+use Rattle.pair_steps.specs.stream_manager.Server.{ServerEvent, server_state, server_answer, took_at_server, posted_at_server, accepted_at}
+use Rattle.pair_steps.specs.stream_manager.Client.{client_datagrams}
+use Rattle.pair_steps.specs.conn_packing.Packs.{absorbing, values_of}
+use Rattle.pair_steps.specs.pair_core.History.{PairStep, Show, Hide, Near, Post, ClientPost, Sample, Pack, ClientPack, Down, Up, Raw, history, server_posts, server_gets}
+use Rattle.pair_steps.specs.pair_core.Answers.{accepted_in}
 use Rattle.pair_steps.specs.Steps.{shows_in, is_hidden_in, traits_in}
 use Rattle.own_lists.specs.Own.{OwnShow, OwnWrite, OwnItem, Line, Scan, Tick, StandsAlone}
 use Rattle.own_lists.specs.Course.{Course, with_steps, room_in, near_step, scan_steps}

@@ -1,3 +1,4 @@
+pub mod Below
 pub mod LegalSteps
 pub mod KeptValues
 pub mod Meeting

@@ -9,7 +9,7 @@ use Rattle.std.proofs.lemmas.List.{length-map}
 use Rattle.std.proofs.lemmas.List.Elements.{recursion_from_All}
 use Rattle.std.proofs.lemmas.Map.Steps.{length-le_from_distinct_below}
 use Rattle.tn_types.specs.declared.limits.TheConstants.{MAX_OBJECTS, MAX_DISTANCE_LEVEL}
-use Rattle.world_scope.specs.declared.viewer.Seen.{Seen}
+use Rattle.client_scope.specs.world_scope.declared.viewer.Seen.{Seen}
 use Rattle.client_scope.specs.declared.period.ShownPeriod.{ShownPeriod}
 use Rattle.client_scope.specs.declared.period.Near.{Near}
 use Rattle.client_scope.specs.Scans.{level_in, last, is_new, new_ones, periods, comes_again, at_level, lasting, shown}

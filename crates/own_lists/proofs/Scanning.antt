@@ -10,12 +10,12 @@ use Rattle.tn_types.specs.declared.limits.TheConstants.{MAX_OBJECTS, MAX_SHOWS, 
 use Rattle.ghost_model.specs.Words.{upto}
 use Rattle.ghost_model.specs.Scope.{Traits, up_periods, shows as shows_of}
 use Rattle.ghost_model.specs.Ghosts.{scope_log}
-use Rattle.ghost_masks.specs.Plan.{fields_of}
-use Rattle.ghost_masks.specs.Carried.{AreValues}
-use Rattle.stream_manager.specs.Limits.{Terms}
-use Rattle.stream_manager.specs.Server.{ghost_log}
-use Rattle.pair_core.specs.History.{PairStep, Show, history}
-use Rattle.pair_core.specs.Conditions.{IsMet}
+use Rattle.pair_steps.specs.ghost_masks.Plan.{fields_of}
+use Rattle.pair_steps.specs.ghost_masks.Carried.{AreValues}
+use Rattle.pair_steps.specs.stream_manager.Limits.{Terms}
+use Rattle.pair_steps.specs.stream_manager.Server.{ghost_log}
+use Rattle.pair_steps.specs.pair_core.History.{PairStep, Show, history}
+use Rattle.pair_steps.specs.pair_core.Conditions.{IsMet}
 use Rattle.match_script.specs.declared.types.Head.{Head}
 use Rattle.world_rules.specs.declared.object.Object.{Object}
 use Rattle.world_rules.specs.Kinds.{kind_of, match_kinds}
@@ -24,7 +24,7 @@ use Rattle.world_rules.specs.Flags.{is_player}
 use Rattle.world_rules.specs.Identity.{IsPeopled}
 use Rattle.world_sim.specs.Rows.{values_of}
 use Rattle.world_sim.specs.Worlds.{Worlds, IsWorld, kind_at, block_at, values_at}
-use Rattle.world_scope.specs.declared.viewer.Seen.{Seen}
+use Rattle.client_scope.specs.world_scope.declared.viewer.Seen.{Seen}
 use Rattle.client_scope.specs.declared.period.ShownPeriod.{ShownPeriod}
 use Rattle.client_scope.specs.declared.period.Near.{Near as NearPeriod}
 use Rattle.client_scope.specs.Scans.{level_in, last, is_new, periods, shown}

@@ -6,8 +6,8 @@ use Rattle.std.proofs.lemmas.List.Elements.{filter_agree}
 use Rattle.tn_types.specs.declared.limits.TheConstants.{MAX_DISTANCE_LEVEL}
 use Rattle.ghost_model.specs.Words.{upto}
 use Rattle.ghost_model.specs.Scope.{Traits}
-use Rattle.stream_manager.specs.Limits.{Terms}
-use Rattle.pair_core.specs.History.{PairStep, Hide, Near}
+use Rattle.pair_steps.specs.stream_manager.Limits.{Terms}
+use Rattle.pair_steps.specs.pair_core.History.{PairStep, Hide, Near}
 use Rattle.world_sim.specs.Worlds.{Worlds}
 use Rattle.client_scope.specs.declared.period.ShownPeriod.{ShownPeriod}
 use Rattle.client_scope.specs.declared.period.Near.{Near as NearPeriod}

@@ -5,8 +5,8 @@ use Rattle.std.specs.List.{AllByRecursion, filter_map, cons_option}
 use Rattle.std.proofs.lemmas.Bool.{ne_eqb, eqb-true, eq-eqb}
 use Rattle.tn_types.specs.declared.moves.Move.{Move}
 use Rattle.ghost_model.specs.Scope.{Traits}
-use Rattle.ghost_masks.specs.Plan.{fields_of}
-use Rattle.pair_core.specs.History.{PairStep}
+use Rattle.pair_steps.specs.ghost_masks.Plan.{fields_of}
+use Rattle.pair_steps.specs.pair_core.History.{PairStep}
 use Rattle.match_script.specs.declared.types.Head.{Head}
 use Rattle.world_rules.specs.declared.object.Object.{Object}
 use Rattle.world_rules.specs.Kinds.{kind_of, match_kinds}

@@ -9,8 +9,8 @@ use Rattle.std.proofs.Math.Seq.{set-append_seam}
 use Rattle.tn_types.specs.declared.limits.TheConstants.{MAX_OBJECTS}
 use Rattle.tn_types.specs.declared.moves.Move.{Move}
 use Rattle.quantised_fields.specs.declared.field.FieldSpec.{FieldSpec}
-use Rattle.ghost_masks.specs.Plan.{fields_of}
-use Rattle.ghost_masks.specs.Carried.{AreValues}
+use Rattle.pair_steps.specs.ghost_masks.Plan.{fields_of}
+use Rattle.pair_steps.specs.ghost_masks.Carried.{AreValues}
 use Rattle.match_script.specs.declared.types.BodyLine.{BodyLine}
 use Rattle.match_script.specs.declared.types.BodyLine.TheVariants as script
 use Rattle.match_script.specs.declared.types.Head.{Head}
@@ -36,9 +36,9 @@ use Rattle.world_sim.specs.Facts.{AreInRange}
 use Rattle.world_sim.proofs.Histories.{HaveSameFields, of_fields_fresh, same_fields_next}
 use Rattle.world_sim.proofs.InRange.{fit}
 use Rattle.world_sim.proofs.WorldLaws.{world_next}
-use Rattle.world_scope.specs.declared.viewer.Seen.{Seen}
-use Rattle.world_scope.specs.Scope.{visible_list}
-use Rattle.world_scope.proofs.SeenList.{levels_few, all_there, objects_rise}
+use Rattle.client_scope.specs.world_scope.declared.viewer.Seen.{Seen}
+use Rattle.client_scope.specs.world_scope.Scope.{visible_list}
+use Rattle.client_scope.proofs.Below.world_scope.SeenList.{levels_few, all_there, objects_rise}
 use Rattle.client_scope.specs.Scans.{periods}
 use Rattle.own_lists.specs.Counted.{counted, counted_in}
 use Rattle.own_lists.specs.Past.{Past, happens, after, moves_of}

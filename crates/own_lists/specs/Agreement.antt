@@ -11,7 +11,7 @@ use Rattle.world_rules.specs.Flags.{is_player}
 use Rattle.world_rules.specs.Kinds.{kind_of}
 use Rattle.world_sim.specs.Rows.{values_of}
 use Rattle.world_sim.specs.Worlds.{Worlds}
-use Rattle.world_scope.specs.declared.viewer.Seen.{Seen}
+use Rattle.client_scope.specs.world_scope.declared.viewer.Seen.{Seen}
 use Rattle.client_scope.specs.declared.period.ShownPeriod.{ShownPeriod}
 use Rattle.client_scope.specs.Scans.{periods, shown}
 use Rattle.own_lists.specs.Counted.{counted_in}

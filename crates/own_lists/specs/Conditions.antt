@@ -3,11 +3,11 @@
 use Rattle.std.specs.Prelude.{◌≡◌, ℕ, ◌<◌, ◌≤◌, ◌≤ℤ◌, false, List, [], ◌∷◌, map, length, slice_get, Some}
 use Rattle.std.specs.List.{AllByRecursion}
 use Rattle.quantised_fields.specs.declared.field.FieldSpec.{FieldSpec}
-use Rattle.ghost_masks.specs.Plan.{fields_of}
-use Rattle.ghost_masks.specs.Carried.{AreValues}
-use Rattle.stream_manager.specs.Limits.{Terms}
-use Rattle.pair_core.specs.History.{PairStep}
-use Rattle.pair_core.specs.Conditions.{IsMet}
+use Rattle.pair_steps.specs.ghost_masks.Plan.{fields_of}
+use Rattle.pair_steps.specs.ghost_masks.Carried.{AreValues}
+use Rattle.pair_steps.specs.stream_manager.Limits.{Terms}
+use Rattle.pair_steps.specs.pair_core.History.{PairStep}
+use Rattle.pair_steps.specs.pair_core.Conditions.{IsMet}
 use Rattle.client_scope.specs.declared.period.Near.{Near}
 use Rattle.pair_steps.specs.Steps.{shows_in, is_hidden_in, traits_in}
 use Rattle.own_lists.specs.Own.{OwnShow, OwnWrite, OwnItem, Line, Scan, Tick, StandsAlone}

@@ -3,9 +3,9 @@ use Rattle.std.specs.Prelude.{ℕ, ◌+◌, ◌-◌, List, [], ◌∷◌, ◌++�
 use Rattle.tn_types.specs.declared.limits.TheConstants.{MAX_WAITING_MOVES}
 use Rattle.tn_types.specs.declared.moves.Move.{Move}
 use Rattle.client_scope.specs.declared.period.Near.{Near as NearPeriod}
-use Rattle.stream_manager.specs.Limits.{Terms}
-use Rattle.pair_core.specs.History.{PairStep, Show, Hide, Near}
-use Rattle.pair_core.specs.Answers.{accepted_in}
+use Rattle.pair_steps.specs.stream_manager.Limits.{Terms}
+use Rattle.pair_steps.specs.pair_core.History.{PairStep, Show, Hide, Near}
+use Rattle.pair_steps.specs.pair_core.Answers.{accepted_in}
 use Rattle.own_lists.specs.declared.showing.Showing.{Showing}
 
 pub record Course : Type 0 where

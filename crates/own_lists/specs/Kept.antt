@@ -8,11 +8,11 @@ use Rattle.match_script.specs.declared.types.BodyLine.TheVariants as script
 use Rattle.client_scope.specs.declared.period.Near.{Near as NearPeriod}
 use Rattle.notify_window.specs.declared.SendState.{SendState}
 use Rattle.notify_window.specs.declared.SendState.TheVariants.{Held, Worn, Room}
-use Rattle.stream_manager.specs.Limits.{Terms}
-use Rattle.stream_manager.specs.Server.{ServerEvent, server_state, choices_at}
-use Rattle.conn_packing.specs.Packs.{absorbing}
-use Rattle.pair_core.specs.History.{PairStep, Post, ClientPost, Sample, Pack, ClientPack, Down, Up, Raw, history}
-use Rattle.conn_packing.specs.Reads.{asked_by_all}
+use Rattle.pair_steps.specs.stream_manager.Limits.{Terms}
+use Rattle.pair_steps.specs.stream_manager.Server.{ServerEvent, server_state, choices_at}
+use Rattle.pair_steps.specs.conn_packing.Packs.{absorbing}
+use Rattle.pair_steps.specs.pair_core.History.{PairStep, Post, ClientPost, Sample, Pack, ClientPack, Down, Up, Raw, history}
+use Rattle.pair_steps.specs.conn_packing.Reads.{asked_by_all}
 use Rattle.pair_steps.specs.Steps.{shows_in, up_in}
 use Rattle.own_lists.specs.Own.{OwnShow, OwnWrite, OwnItem, Line, Scan, Tick}
 use Rattle.own_lists.specs.Course.{Course, beginning, room_in, with_step, with_steps, ticked, show_step, scan_steps}

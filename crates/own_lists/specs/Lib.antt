@@ -1,3 +1,5 @@
+pub use Rattle.pair_steps.specs as pair_steps
+pub use Rattle.pair_steps.specs.pair_core as pair_core
 pub mod Own
 pub mod Course
 pub mod Kept

@@ -7,13 +7,13 @@ use Rattle.tn_types.specs.declared.moves.Move.{Move as PlayerMove}
 use Rattle.match_script.specs.declared.types.BodyLine.{BodyLine}
 use Rattle.match_script.specs.declared.types.BodyLine.TheVariants as script
 use Rattle.match_script.specs.declared.types.Head.{Head}
-use Rattle.stream_manager.specs.Limits.{Terms}
+use Rattle.pair_steps.specs.stream_manager.Limits.{Terms}
 use Rattle.world_rules.specs.Flags.{is_player}
 use Rattle.world_rules.specs.Kinds.{match_kinds}
 use Rattle.world_sim.specs.declared.rows.Write.{Write}
 use Rattle.world_sim.specs.Worlds.{Worlds, first_world, next, kind_at, block_at, values_at}
-use Rattle.world_scope.specs.declared.viewer.Seen.{Seen}
-use Rattle.world_scope.specs.Scope.{visible_list}
+use Rattle.client_scope.specs.world_scope.declared.viewer.Seen.{Seen}
+use Rattle.client_scope.specs.world_scope.Scope.{visible_list}
 use Rattle.client_scope.specs.declared.period.ShownPeriod.{ShownPeriod}
 use Rattle.client_scope.specs.Scans.{shown}
 use Rattle.client_scope.specs.Changes.{hides, nears, shows}

@@ -5,4 +5,5 @@ mod laws;
 mod showing;
 
 pub use laws::own_lists_hold;
+pub use pair_steps::pair_core;
 pub use showing::Showing;

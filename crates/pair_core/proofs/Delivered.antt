@@ -5,9 +5,9 @@ use Rattle.std.specs.List.{AllByRecursion}
 use Rattle.stream_manager.specs.Limits.{Terms, AreTerms}
 use Rattle.stream_manager.specs.Server.{ServerEvent, server_end, seen_client_body, accepted_at}
 use Rattle.stream_manager.specs.Client.{ClientEvent, client_end, sampled_at}
-use Rattle.event_logs.specs.Joined as events
-use Rattle.event_logs.proofs.Came.{finds-numbers}
-use Rattle.ghost_logs.specs.Ends.{AreJoined}
+use Rattle.wire_logs.specs.event_logs.Joined as events
+use Rattle.wire_logs.proofs.Below.event_logs.Came.{finds-numbers}
+use Rattle.wire_logs.specs.ghost_logs.Ends.{AreJoined}
 use Rattle.wire_logs.proofs.Held.{held-of_table}
 use Rattle.wire_logs.proofs.Readable.{readable}
 use Rattle.pair_core.specs.History.{PairStep, Show, Hide, Near, Post, ClientPost, Sample, Pack, ClientPack, Down, Up, Raw, at_server, at_client, history}

@@ -8,7 +8,7 @@ use Rattle.tn_types.specs.declared.choices.Read.{Read}
 use Rattle.notify_window.specs.declared.SendState.{SendState}
 use Rattle.notify_window.specs.declared.SendState.TheVariants.{Room}
 use Rattle.ghost_model.specs.Ghosts.{Grant}
-use Rattle.ghost_masks.specs.Carried.{all_carried, AreValues}
+use Rattle.stream_manager.specs.ghost_masks.Carried.{all_carried, AreValues}
 use Rattle.stream_manager.specs.Limits.{Terms}
 use Rattle.stream_manager.specs.Server as server
 use Rattle.stream_manager.specs.Server.{ServerEvent, server_end, server_state, server_datagrams, ghost_log, choices_at}

@@ -18,7 +18,7 @@ use Rattle.wire_format.specs.declared.client.ClientPacket.TheVariants as up
 use Rattle.wire_format.specs.declared.widths.TheConstants.{SERVER_FIXED_BITS}
 use Rattle.tn_types.specs.declared.limits.TheConstants.{MAX_PACKET_BLOCKS}
 use Rattle.wire_format.specs.Blocks.{block_size}
-use Rattle.datablocks.specs.Sending.{due_of}
+use Rattle.stream_manager.specs.datablocks.Sending.{due_of}
 use Rattle.tn_types.specs.Fitting.{fitting}
 use Rattle.move_manager.specs.Sending.{acked_of}
 use Rattle.stream_manager.specs.declared.fault.ArriveFault.{ArriveFault}

@@ -24,8 +24,8 @@ use Rattle.stream_manager.specs.Server as server_log
 use Rattle.stream_manager.specs.Server.{ServerEvent, server_datagrams, server_state, posted_at_server, with_plan, next_body, server_ping, took_at_server, server_answer}
 use Rattle.stream_manager.specs.Client as client_log
 use Rattle.stream_manager.specs.Client.{ClientEvent, client_datagrams, client_state, posted_at_client, sampled_answer, took_at_client}
-use Rattle.ghost_logs.specs.Sent.{WasPacked}
-use Rattle.ghost_logs.specs.Ends.{IsMade, CameFrom, AreJoined}
+use Rattle.wire_logs.specs.ghost_logs.Sent.{WasPacked}
+use Rattle.wire_logs.specs.ghost_logs.Ends.{IsMade, CameFrom, AreJoined}
 use Rattle.conn_packing.specs.Packs.{absorbing, values_of}
 use Rattle.pair_core.specs.History.{PairStep, Show, Hide, Near, Post, ClientPost, Sample, Pack, ClientPack, Down, Up, Raw, history, server_posts, client_posts, client_samples}
 use Rattle.pair_core.proofs.Good.{AreGood, FitRoom, reads-fit}

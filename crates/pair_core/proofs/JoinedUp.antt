@@ -24,7 +24,7 @@ use Rattle.stream_manager.specs.Server as server_log
 use Rattle.stream_manager.specs.Server.{ServerEvent, server_end, seen_client_body, seen_up, server_state, posted_at_server, took_at_server}
 use Rattle.stream_manager.specs.Client as client_log
 use Rattle.stream_manager.specs.Client.{ClientEvent, client_end, client_state, client_body, client_ping, posted_at_client, sampled_answer, took_at_client}
-use Rattle.event_logs.specs.Joined.{SendsDue, WasSent, IsOfOther, CameFrom, AreJoined}
+use Rattle.wire_logs.specs.event_logs.Joined.{SendsDue, WasSent, IsOfOther, CameFrom, AreJoined}
 use Rattle.wire_logs.proofs.Ends.{next-due}
 use Rattle.conn_packing.specs.Packs.{absorbing, values_of}
 use Rattle.pair_core.specs.History.{PairStep, Show, Hide, Near, Post, ClientPost, Sample, Pack, ClientPack, Down, Up, Raw, history, server_posts, client_posts, client_samples}

@@ -1,3 +1,4 @@
+pub mod Below
 pub mod Brought
 pub mod Fits
 pub mod Posted

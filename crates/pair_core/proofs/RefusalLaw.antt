@@ -12,7 +12,7 @@ use Rattle.wire_format.specs.declared.server.ServerPacket.{ServerPacket}
 use Rattle.wire_format.specs.declared.server.ServerPacket.TheVariants as down
 use Rattle.wire_format.specs.declared.client.ClientPacket.{ClientPacket}
 use Rattle.wire_format.specs.declared.client.ClientPacket.TheVariants as up
-use Rattle.datablocks.specs.Holding.{held_of, bytes_differ}
+use Rattle.stream_manager.specs.datablocks.Holding.{held_of, bytes_differ}
 use Rattle.event_manager.specs.Receiving.{run_of, take_answer}
 use Rattle.stream_manager.specs.declared.fault.HeadFault.{HeadFault}
 use Rattle.stream_manager.specs.declared.fault.HeadFault.TheVariants.{WrongClient, Old, AckAhead}
@@ -32,8 +32,8 @@ use Rattle.stream_manager.specs.Server as server_log
 use Rattle.stream_manager.specs.Server.{ServerEvent, server_end, server_datagrams, seen_up, server_state, posted_at_server, accepted_at, taken_of, server_answer}
 use Rattle.stream_manager.specs.Client as client_log
 use Rattle.stream_manager.specs.Client.{ClientEvent, client_end, client_datagrams, client_state, posted_at_client, sampled_answer, seen_down, blocks_check, blocks_came, sampled_at, client_answer}
-use Rattle.ghost_logs.specs.Blocks.{RefusesNoGhosts}
-use Rattle.ghost_logs.proofs.Refused.{refuses-no-ghosts}
+use Rattle.wire_logs.specs.ghost_logs.Blocks.{RefusesNoGhosts}
+use Rattle.wire_logs.proofs.Below.ghost_logs.Refused.{refuses-no-ghosts}
 use Rattle.pair_core.specs.History.{PairStep, Show, Hide, Near, Post, ClientPost, Sample, Pack, ClientPack, Down, Up, Raw, history}
 use Rattle.pair_core.specs.Conditions.{IsHonestStep}
 use Rattle.pair_core.specs.Answers.{answer, made, post_answer, sample_answer, came_down, brought_down, came_up, brought_up}

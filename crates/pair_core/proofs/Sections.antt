@@ -7,7 +7,7 @@ use Rattle.wire_format.specs.Blocks.{block_size, IsBlock}
 use Rattle.wire_format.specs.Moves.{AnyMove}
 use Rattle.wire_format.specs.Reading.{AreListed}
 use Rattle.tn_types.specs.Least.{those_below}
-use Rattle.datablocks.specs.Sending.{due_of, is_due}
+use Rattle.stream_manager.specs.datablocks.Sending.{due_of, is_due}
 use Rattle.stream_manager.specs.End.{fates}
 use Rattle.stream_manager.specs.Limits.{Terms, IsBlockBytes, AreTerms}
 use Rattle.stream_manager.specs.Server.{ServerEvent, server_end, block_log, block_item, blocks_at}

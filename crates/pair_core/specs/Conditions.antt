@@ -8,7 +8,7 @@ use Rattle.tn_types.specs.declared.limits.TheConstants.{MAX_SHOWN_PERIODS, MAX_S
 use Rattle.ghost_model.specs.Scope.{shows, up_periods, had_control}
 use Rattle.ghost_model.specs.Ghosts.{GhostEvent, scope_log}
 use Rattle.ghost_model.specs.Legal.{IsShowable, IsUp}
-use Rattle.ghost_masks.specs.Plan.{sizes}
+use Rattle.stream_manager.specs.ghost_masks.Plan.{sizes}
 use Rattle.stream_manager.specs.Limits.{Terms}
 use Rattle.stream_manager.specs.Server.{ServerEvent, ghost_log, server_state}
 use Rattle.conn_packing.specs.Packs.{absorbing}

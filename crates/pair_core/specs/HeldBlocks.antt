@@ -2,8 +2,8 @@
 -- Those that a Received packet carried are held; of others nothing says that they are.
 use Rattle.std.specs.Prelude.{ℕ, ◌≡◌, Bool, true, List, slice_get, is_some, Some}
 use Rattle.wire_format.specs.declared.blocks.BlockItem.{BlockItem}
-use Rattle.datablocks.specs.Holding.{held_of}
-use Rattle.datablocks.specs.Sending.{carriers}
+use Rattle.stream_manager.specs.datablocks.Holding.{held_of}
+use Rattle.stream_manager.specs.datablocks.Sending.{carriers}
 use Rattle.notify_window.specs.Fates.{any_received}
 use Rattle.stream_manager.specs.Limits.{Terms}
 use Rattle.stream_manager.specs.End.{fates}

@@ -1,3 +1,7 @@
+pub use Rattle.stream_manager.specs as stream_manager
+pub use Rattle.stream_manager.specs.ghost_masks as ghost_masks
+pub use Rattle.event_manager.specs as event_manager
+pub use Rattle.conn_packing.specs as conn_packing
 pub mod History
 pub mod Exchange
 pub mod Conditions

@@ -13,9 +13,9 @@ use Rattle.ghost_model.proofs.Free.{passing_more, passing_yes}
 use Rattle.ghost_masks.specs.Plan.{kind_of, fields_in}
 use Rattle.stream_manager.specs.Limits.{Terms}
 use Rattle.stream_manager.specs.Server.{ghost_log}
-use Rattle.pair_core.specs.History.{PairStep, Show, Hide, Near, history}
-use Rattle.conn_packing.specs.Reads.{HasRanges}
-use Rattle.pair_core.specs.Conditions.{AreMet}
+use Rattle.pair_steps.specs.pair_core.History.{PairStep, Show, Hide, Near, history}
+use Rattle.pair_steps.specs.conn_packing.Reads.{HasRanges}
+use Rattle.pair_steps.specs.pair_core.Conditions.{AreMet}
 use Rattle.lane_periods.specs.Periods.{PeriodList, has, spec_at}
 use Rattle.lane_periods.specs.Views.{ranges}
 use Rattle.pair_steps.specs.Steps.{shows_in, is_hidden_in, up_in, traits_in}

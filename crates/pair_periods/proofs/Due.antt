@@ -36,14 +36,14 @@ use Rattle.stream_manager.specs.End.{fates, judged_at}
 use Rattle.stream_manager.specs.Server as server
 use Rattle.stream_manager.specs.Server.{ServerEvent, server_end, server_state, server_answer, took_at_server, posted_at_server, ghost_log, choices_at, packed_onto}
 use Rattle.stream_manager.specs.Client.{client_datagrams}
-use Rattle.conn_packing.specs.Packs.{absorbing, values_of}
-use Rattle.pair_core.specs.History.{PairStep, Show, Hide, Near, Post, ClientPost, Sample, Pack, ClientPack, Down, Up, Raw, History, history, happens, server_posts, server_gets}
-use Rattle.conn_packing.specs.Reads.{IsReadFor, field_of, fields_in, asked_by, asked_by_all}
-use Rattle.pair_core.specs.Conditions.{IsMet}
-use Rattle.conn_packing.specs.Asking.{is_asked}
-use Rattle.conn_packing.proofs.Absorbed.{absorbed-state, all-drained}
-use Rattle.pair_core.proofs.LegalLogs.{IsLegalLog, absorbs-legal, packed-legal}
-use Rattle.conn_packing.proofs.Scoped.{absorbed-kind}
+use Rattle.pair_steps.specs.conn_packing.Packs.{absorbing, values_of}
+use Rattle.pair_steps.specs.pair_core.History.{PairStep, Show, Hide, Near, Post, ClientPost, Sample, Pack, ClientPack, Down, Up, Raw, History, history, happens, server_posts, server_gets}
+use Rattle.pair_steps.specs.conn_packing.Reads.{IsReadFor, field_of, fields_in, asked_by, asked_by_all}
+use Rattle.pair_steps.specs.pair_core.Conditions.{IsMet}
+use Rattle.pair_steps.specs.conn_packing.Asking.{is_asked}
+use Rattle.pair_steps.proofs.Below.conn_packing.Absorbed.{absorbed-state, all-drained}
+use Rattle.pair_steps.proofs.Below.pair_core.LegalLogs.{IsLegalLog, absorbs-legal, packed-legal}
+use Rattle.pair_steps.proofs.Below.conn_packing.Scoped.{absorbed-kind}
 use Rattle.lane_periods.specs.Views.{is_drained}
 use Rattle.lane_periods.proofs.Numbers.{or-cases}
 use Rattle.pair_steps.proofs.Carriers.{is-it, asked_has}

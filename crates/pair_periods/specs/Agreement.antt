@@ -4,7 +4,7 @@ use Rattle.ghost_model.specs.Ghosts.{is_due}
 use Rattle.ghost_masks.specs.Plan.{kind_of, fields_of}
 use Rattle.stream_manager.specs.Limits.{Terms}
 use Rattle.stream_manager.specs.Server.{ServerEvent, ghost_log}
-use Rattle.pair_core.specs.History.{PairStep, history}
+use Rattle.pair_steps.specs.pair_core.History.{PairStep, history}
 use Rattle.lane_periods.specs.Periods.{PeriodList}
 use Rattle.pair_steps.specs.Steps.{shows_in, up_in, traits_in}
 

@@ -1,1 +1,2 @@
+pub use Rattle.pair_steps.specs as pair_steps
 pub mod Agreement

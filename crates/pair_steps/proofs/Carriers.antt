@@ -13,8 +13,8 @@ use Rattle.quantised_fields.specs.declared.kind.Kind.{Kind}
 use Rattle.ghost_model.specs.Words.{upto}
 use Rattle.ghost_model.specs.Ghosts.{GhostEvent, item_carries, op_carries, carries}
 use Rattle.ghost_model.specs.Legal.{IsItsMask}
-use Rattle.ghost_masks.specs.Plan.{sizes, kind_of, fields_of}
-use Rattle.conn_packing.specs.Reads.{fields_in, asked_by, asked_by_all}
+use Rattle.pair_core.specs.ghost_masks.Plan.{sizes, kind_of, fields_of}
+use Rattle.pair_core.specs.conn_packing.Reads.{fields_in, asked_by, asked_by_all}
 
 -- ---- the fields of a mask, rising
 

@@ -11,15 +11,15 @@ use Rattle.notify_window.specs.Log.{Fate}
 use Rattle.wire_format.specs.declared.client.ClientPacket.{ClientPacket}
 use Rattle.ghost_model.specs.Scope.{shows}
 use Rattle.ghost_model.specs.Ghosts.{GhostEvent, Judged, scope_log, is_cause, is_due}
-use Rattle.stream_manager.specs.declared.config.Config.{Config}
-use Rattle.stream_manager.specs.declared.fault.ArriveFault.{ArriveFault}
-use Rattle.stream_manager.specs.Limits.{Terms}
-use Rattle.stream_manager.specs.Settling.{verdict_of, judgements}
-use Rattle.stream_manager.specs.End.{fates, judged_at}
-use Rattle.stream_manager.specs.Server as server
-use Rattle.stream_manager.specs.Server.{ServerEvent, server_end, server_answer, took_at_server, posted_at_server, ghost_log}
-use Rattle.stream_manager.specs.Client.{client_datagrams}
-use Rattle.conn_packing.specs.Packs.{absorbing}
+use Rattle.pair_core.specs.stream_manager.declared.config.Config.{Config}
+use Rattle.pair_core.specs.stream_manager.declared.fault.ArriveFault.{ArriveFault}
+use Rattle.pair_core.specs.stream_manager.Limits.{Terms}
+use Rattle.pair_core.specs.stream_manager.Settling.{verdict_of, judgements}
+use Rattle.pair_core.specs.stream_manager.End.{fates, judged_at}
+use Rattle.pair_core.specs.stream_manager.Server as server
+use Rattle.pair_core.specs.stream_manager.Server.{ServerEvent, server_end, server_answer, took_at_server, posted_at_server, ghost_log}
+use Rattle.pair_core.specs.stream_manager.Client.{client_datagrams}
+use Rattle.pair_core.specs.conn_packing.Packs.{absorbing}
 use Rattle.pair_core.specs.History.{PairStep, Show, Hide, Near, Post, ClientPost, Sample, Pack, ClientPack, Down, Up, Raw, History, happens, server_posts, server_gets}
 use Rattle.pair_steps.specs.Steps.{IsNoPack}
 

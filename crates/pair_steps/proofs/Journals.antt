@@ -21,17 +21,17 @@ use Rattle.ghost_model.specs.Scope.{ScopeEvent, Grant, Wrote, Settled, Traits, s
 use Rattle.ghost_model.specs.Scope as scope
 use Rattle.ghost_model.specs.Ghosts.{GhostEvent, scope_log, wrote, settled_by, oldest, unjudged, phase}
 use Rattle.ghost_model.specs.Legal.{IsUp}
-use Rattle.ghost_masks.specs.Plan.{kind_of}
-use Rattle.stream_manager.specs.declared.fault.ArriveFault.{ArriveFault}
-use Rattle.stream_manager.specs.Limits.{Terms}
-use Rattle.stream_manager.specs.Settling.{verdict_of, judgements}
-use Rattle.stream_manager.specs.End.{fates, judged_at}
-use Rattle.stream_manager.specs.Server as server
-use Rattle.stream_manager.specs.Server.{ServerEvent, server_end, server_state, server_answer, took_at_server, posted_at_server, ghost_log, choices_at}
-use Rattle.stream_manager.specs.Client.{client_datagrams}
-use Rattle.conn_packing.specs.Packs.{absorbing, values_of}
+use Rattle.pair_core.specs.ghost_masks.Plan.{kind_of}
+use Rattle.pair_core.specs.stream_manager.declared.fault.ArriveFault.{ArriveFault}
+use Rattle.pair_core.specs.stream_manager.Limits.{Terms}
+use Rattle.pair_core.specs.stream_manager.Settling.{verdict_of, judgements}
+use Rattle.pair_core.specs.stream_manager.End.{fates, judged_at}
+use Rattle.pair_core.specs.stream_manager.Server as server
+use Rattle.pair_core.specs.stream_manager.Server.{ServerEvent, server_end, server_state, server_answer, took_at_server, posted_at_server, ghost_log, choices_at}
+use Rattle.pair_core.specs.stream_manager.Client.{client_datagrams}
+use Rattle.pair_core.specs.conn_packing.Packs.{absorbing, values_of}
 use Rattle.pair_core.specs.History.{PairStep, Show, Hide, Near, Post, ClientPost, Sample, Pack, ClientPack, Down, Up, Raw, History, history, happens, server_posts, server_gets}
-use Rattle.conn_packing.proofs.Absorbed.{absorbed-scope}
+use Rattle.pair_core.proofs.Below.conn_packing.Absorbed.{absorbed-scope}
 use Rattle.pair_steps.specs.Steps.{shows_in, is_hidden_in, up_in, traits_in}
 
 -- a step that shows, hides and brings nearer nothing

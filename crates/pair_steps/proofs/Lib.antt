@@ -1,3 +1,4 @@
+pub mod Below
 pub mod Journals
 pub mod Due
 pub mod Carriers

@@ -2,8 +2,8 @@
 use Rattle.std.specs.Prelude.{ℕ, ◌==◌, Bool, false, Option, Some, None, if◌then◌else◌}
 use Rattle.match_script.specs.declared.types.BodyLine.{BodyLine}
 use Rattle.match_script.specs.declared.types.BodyLine.TheVariants as script
-use Rattle.connection_lock.specs.declared.message.NetLine.{NetLine}
-use Rattle.connection_lock.specs.declared.message.NetLine.TheVariants as net
+use Rattle.race_sim.specs.connection_lock.declared.message.NetLine.{NetLine}
+use Rattle.race_sim.specs.connection_lock.declared.message.NetLine.TheVariants as net
 
 abbrev pub is_pack_of : ℕ → BodyLine → Bool
 is_pack_of client (script.Pack named) = named == client

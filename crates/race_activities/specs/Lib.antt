@@ -1,1 +1,2 @@
+pub use Rattle.race_sim.specs as race_sim
 pub mod Asking

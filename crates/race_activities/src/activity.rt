@@ -2,10 +2,10 @@
 ghost use Rattle.match_script.specs.Ranges.{HasRanges};
 
 use crate::asked::{is_pack_of, net_line};
-use connection_lock::SharedPair;
 use dirty_lanes::{LaneName, Lanes};
-use kept_pair::KeepFault;
 use match_script::{BodyLine, Script};
+use race_sim::connection_lock::SharedPair;
+use race_sim::kept_pair::KeepFault;
 use race_sim::{Actor, Gate, Place};
 use std::alloc::Global;
 use std::sync::Wait;

@@ -2,8 +2,8 @@
 ghost use Rattle.std.specs.Prelude.{◌≡◌};
 ghost use Rattle.race_activities.specs.Asking.{is_pack_of, net_line};
 
-use connection_lock::NetLine;
 use match_script::BodyLine;
+use race_sim::connection_lock::NetLine;
 
 /// Whether the line is a pack for the client.
 pub fn is_pack_of(client: u8, line: &BodyLine) -> bool

@@ -6,3 +6,5 @@ mod asked;
 
 pub use activity::Served;
 pub use asked::{is_pack_of, net_line};
+pub use race_sim;
+pub use race_sim::connection_lock;

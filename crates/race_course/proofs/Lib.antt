@@ -1,3 +1,4 @@
+pub mod Below
 pub mod Adding
 pub mod Rising
 pub mod Following

@@ -5,7 +5,7 @@ use Rattle.world_sim.specs.Worlds.{Worlds}
 use Rattle.world_scope.specs.declared.viewer.Seen.{Seen}
 use Rattle.client_scope.specs.declared.period.Near.{Near as NearPeriod}
 use Rattle.client_scope.specs.Changes.{hides, nears, shows}
-use Rattle.pair_core.specs.History.{PairStep}
+use Rattle.own_lists.specs.pair_core.History.{PairStep}
 use Rattle.own_lists.specs.Course.{scan_steps, hide_step, near_step, show_step}
 use Rattle.own_lists.specs.Past.{showing_of}
 use Rattle.connection_lock.specs.Taking.{step_for}

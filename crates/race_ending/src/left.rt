@@ -1,14 +1,14 @@
 //! The messages that are left when all activities have ended.
 ghost use Rattle.std.specs.Prelude.{◌≡◌};
-ghost use Rattle.pair_core.specs.Calls.{step_of as given_step};
-ghost use Rattle.connection_lock.specs.Taking.{step_for};
+ghost use Rattle.race_record.specs.pair_core.Calls.{step_of as given_step};
+ghost use Rattle.race_sim.specs.connection_lock.Taking.{step_for};
 
 use crate::may::may_take;
-use connection_lock::{Ended, Message};
 use dirty_lanes::{LaneName, Lanes};
-use kept_pair::KeepFault;
-use pair_core::PairStep;
+use race_record::kept_pair::KeepFault;
+use race_record::pair_core::PairStep;
 use race_sim::Waiting;
+use race_sim::connection_lock::{Ended, Message};
 use std::alloc::Global;
 use tn_types::MAX_TAKEN_MESSAGES;
 

@@ -6,3 +6,5 @@ mod left;
 mod may;
 
 pub use ending::end;
+pub use race_record;
+pub use race_record::kept_pair;

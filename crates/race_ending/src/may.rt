@@ -1,11 +1,11 @@
 //! Whether the step of a message may be made.
 ghost use Rattle.std.specs.Prelude.{◌≡◌, IsTrue, ◌↔◌, true};
-ghost use Rattle.pair_core.specs.History.{Show, Hide, Near};
-ghost use Rattle.kept_pair.specs.Kept.{MayStep};
-ghost use Rattle.connection_lock.specs.Taking.{step_for};
+ghost use Rattle.race_record.specs.pair_core.History.{Show, Hide, Near};
+ghost use Rattle.race_record.specs.kept_pair.Kept.{MayStep};
+ghost use Rattle.race_sim.specs.connection_lock.Taking.{step_for};
 
-use connection_lock::Message;
-use kept_pair::KeptPair;
+use race_record::kept_pair::KeptPair;
+use race_sim::connection_lock::Message;
 use tn_types::{MAX_BLOCKS, MAX_DISTANCE_LEVEL, MAX_SHOWS};
 
 /// Whether a period may begin so.

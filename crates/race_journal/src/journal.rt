@@ -1,15 +1,15 @@
 //! The journal of one client.
 ghost use Rattle.std.specs.Prelude.{◌≡◌, ◌++◌, ◌<◌, OnOk, Some, codes, length, slice_get};
 ghost use Rattle.std.specs.Fmt.{decimal};
-ghost use Rattle.pair_core.specs.Calls.{step_of};
-ghost use Rattle.pair_core.specs.History.{PairStep as Step};
+ghost use Rattle.kept_pair.specs.pair_core.Calls.{step_of};
+ghost use Rattle.kept_pair.specs.pair_core.History.{PairStep as Step};
 ghost use Rattle.race_text.specs.Text.{of_each};
 ghost use Rattle.race_journal.specs.Text.{is_show, shown_before, step_line, full_line, journal_text};
 
 use crate::steps::put_step;
+use kept_pair::pair_core::PairStep;
 use kept_pair::{KeptPair, StepList};
 use lane_periods::Objects;
-use pair_core::PairStep;
 use race_text::Draft;
 use std::alloc::Global;
 use tn_types::{MAX_KEPT_STEPS, NoMemory};

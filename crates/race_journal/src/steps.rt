@@ -6,8 +6,8 @@ ghost use Rattle.kept_pair.specs.StepLists.{kept_of};
 ghost use Rattle.race_journal.specs.Text.{object_of, show_words, move_words, step_words};
 
 use crate::packs::put_pack;
+use kept_pair::pair_core::PairStep;
 use lane_periods::Objects;
-use pair_core::PairStep;
 use race_text::Draft;
 use std::alloc::Global;
 use tn_types::{Class, Drain, Move, NoMemory, Payload, Read};

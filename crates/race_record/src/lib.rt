@@ -3,4 +3,6 @@
 
 mod race;
 
+pub use kept_pair;
+pub use kept_pair::pair_core;
 pub use race::{Race, RaceClient, RaceClients};

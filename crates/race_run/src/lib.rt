@@ -3,5 +3,5 @@
 
 mod run;
 
-pub use race_sim::{Actor, FreeGate, Gate, Place};
+pub use race_activities::race_sim::{Actor, FreeGate, Gate, Place};
 pub use run::{race, race_in_turn};

@@ -9,8 +9,8 @@ use Rattle.stream_manager.specs.Server.{ghost_log}
 use Rattle.pair_core.specs.History.{PairStep, history}
 use Rattle.pair_core.specs.Stands.{PairState, StandsFor}
 use Rattle.conn_packing.proofs.Scoped.{up-from, up-to}
-use Rattle.pair_steps.specs.Steps.{shows_in, is_hidden_in}
-use Rattle.pair_steps.proofs.Journals as steps_tell
+use Rattle.pair_periods.specs.pair_steps.Steps.{shows_in, is_hidden_in}
+use Rattle.pair_periods.proofs.Below.pair_steps.Journals as steps_tell
 
 -- what is made of each number below a count that passes, with one number more
 pub made_yes : {X : Type 0} (f : ℕ → X) (p : ℕ → Bool) (n : ℕ) → p n ≡ true

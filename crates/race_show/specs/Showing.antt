@@ -7,7 +7,7 @@ use Rattle.dirty_lanes.specs.Words.{Words, mask_at}
 use Rattle.ghost_model.specs.Words.{upto}
 use Rattle.stream_manager.specs.Limits.{Terms}
 use Rattle.pair_core.specs.History.{PairStep, Show, Hide}
-use Rattle.pair_steps.specs.Steps.{up_in}
+use Rattle.pair_periods.specs.pair_steps.Steps.{up_in}
 use Rattle.kept_pair.specs.Kept.{KeptState, terms_in, newest_first}
 use Rattle.match_report.specs.declared.told.Told.{Told}
 use Rattle.match_report.specs.Text.{report_line}

@@ -4,12 +4,12 @@ ghost use Rattle.std.specs.List.{All};
 ghost use Rattle.rtrb.specs.Ring.{received, sent};
 ghost use Rattle.match_script.specs.Ranges.{HeadFits};
 
-use connection_lock::{Message, SharedPair};
 use dirty_lanes::{LaneName, PackSeat, PackSeats};
-use kept_pair::KeptPair;
 use match_script::Head;
-use pair_core::Pair;
 use race_sim::Port;
+use race_sim::connection_lock::{Message, SharedPair};
+use race_sim::kept_pair::KeptPair;
+use race_sim::pair_core::Pair;
 use rtrb::{Consumer, Producer, RingBuffer};
 use std::alloc::Global;
 use stream_manager::Config;

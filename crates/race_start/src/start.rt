@@ -5,10 +5,10 @@ ghost use Rattle.world_sim.specs.Worlds.{first_world};
 ghost use Rattle.race_sim.specs.Simulating.{Follows, AreFew};
 
 use crate::connecting::{Connections, connect};
-use connection_lock::SharedPair;
 use dirty_lanes::{FreshLanes, LaneName, Lanes};
 use match_script::Script;
 use race_sim::Simulation;
+use race_sim::connection_lock::SharedPair;
 use std::alloc::Global;
 use tn_types::{MAX_OBJECTS, NoMemory};
 

@@ -1,9 +1,9 @@
 //! A large match in threads.
 
 use crate::gates::WatchGate;
-use match_threads::run_threads;
 use script_maker::make;
 use std::test::Fail;
+use threads_top::match_threads::run_threads;
 use tn_outside::MemSink;
 
 /// So often the match is run.

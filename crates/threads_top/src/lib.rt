@@ -3,4 +3,6 @@
 
 mod threads;
 
+pub use match_threads;
+pub use match_threads::race_run;
 pub use threads::top_threads;

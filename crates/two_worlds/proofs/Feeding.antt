@@ -26,12 +26,12 @@ use Rattle.pair_steps.proofs.Journals.{up_from, shows_told}
 use Rattle.own_lists.proofs.KeptValues.{wrote_course}
 use Rattle.own_lists.proofs.Meeting.{scan_journal, values_kept, taken_kept}
 use Rattle.own_lists.proofs.Standing.{shows_hides, shows_nears}
-use Rattle.client_seat.specs.Stands.{SeatState, StandsFor as SeatStandsFor, without_first}
-use Rattle.client_seat.proofs.Making.{meet_rest}
+use Rattle.own_items.specs.client_seat.Stands.{SeatState, StandsFor as SeatStandsFor, without_first}
+use Rattle.own_items.proofs.Below.client_seat.Making.{meet_rest}
 use Rattle.own_items.specs.declared.items.OwnShow.{OwnShow as GivenShow}
 use Rattle.own_items.specs.Items.{show_of}
 use Rattle.two_worlds.specs.Periods.{Table, Holds, MayWrite}
-use Rattle.match_engine.specs.Stands.{IsDirect}
+use Rattle.own_items.specs.match_engine.Stands.{IsDirect}
 use Rattle.two_worlds.specs.Stands.{Serves, is_counted, counted_in}
 use Rattle.two_worlds.proofs.Holding.{holds_same}
 use Rattle.two_worlds.proofs.Sending.{accepted_few}

@@ -15,7 +15,7 @@ use Rattle.own_lists.specs.Conditions.{AreOwn}
 use Rattle.own_lists.specs.Agreement.{AreLines}
 use Rattle.own_lists.proofs.Agreeing.{own_lists_agree}
 use Rattle.own_lists.proofs.Counting.{counted_item, counted_items, counted_few as lines_few}
-use Rattle.match_engine.proofs.Fed.{own_few}
+use Rattle.own_items.proofs.Below.match_engine.Fed.{own_few}
 use Rattle.two_worlds.specs.declared.alone.Alone.{Alone}
 use Rattle.two_worlds.specs.Laws.{text_of}
 use Rattle.two_worlds.specs.Stands.{StandsFor, MayFeed, Feeds, Tells, is_counted, item_text}

@@ -27,8 +27,8 @@ use Rattle.own_lists.specs.Kept.{Kept, kept, drained, left, drains_of, read_of, 
 use Rattle.own_lists.proofs.ScanChanges.{has}
 use Rattle.pair_steps.proofs.Journals.{up_from, kind_told}
 use Rattle.own_lists.proofs.Meeting.{are_met, reads_forced, values_kept}
-use Rattle.client_seat.specs.Stands.{SeatState, Packs, StandsFor as SeatStandsFor}
-use Rattle.client_seat.specs.Told.{packed_told, pack_told}
+use Rattle.own_items.specs.client_seat.Stands.{SeatState, Packs, StandsFor as SeatStandsFor}
+use Rattle.own_items.specs.client_seat.Told.{packed_told, pack_told}
 use Rattle.two_worlds.specs.declared.periods.OwnPeriod.{OwnPeriod}
 use Rattle.two_worlds.specs.Periods.{numbers, Rise, period_in, drain_of, left_by, Table, IsHeld, Holds}
 use Rattle.two_worlds.specs.Values.{range_of, range_in, ranges, IsOwnRead}

@@ -8,9 +8,9 @@ use Rattle.stream_manager.specs.Limits.{Terms}
 use Rattle.own_lists.specs.Own.{OwnItem}
 use Rattle.own_lists.specs.Kept.{kept}
 use Rattle.own_lists.specs.Past.{client_terms, after}
-use Rattle.client_seat.specs.Told.{pack_told}
-use Rattle.match_laws.specs.Laws.{is_own_pack, pack_lines}
-use Rattle.match_laws.proofs.Isolated.{isolated}
+use Rattle.own_items.specs.client_seat.Told.{pack_told}
+use Rattle.own_items.specs.match_laws.Laws.{is_own_pack, pack_lines}
+use Rattle.own_items.proofs.Below.match_laws.Isolated.{isolated}
 use Rattle.two_worlds.specs.Stands.{item_text}
 use Rattle.two_worlds.specs.Laws.{text_of, whole_line, WritesThePacks, SameListsSameLines}
 

@@ -7,7 +7,7 @@ use Rattle.tn_outside.specs.Totals.{Adds, AddsFront}
 use Rattle.tn_outside.proofs.Totals.{adds_nothing}
 use Rattle.match_script.specs.declared.types.Script.{Script}
 use Rattle.own_lists.specs.Past.{client_terms}
-use Rattle.match_laws.specs.Laws.{pack_lines}
+use Rattle.own_items.specs.match_laws.Laws.{pack_lines}
 use Rattle.two_worlds.specs.Laws.{text_of, whole_line}
 use Rattle.own_items.specs.Source.{SourceState, Stands, made, whole_own}
 use Rattle.two_worlds.specs.Fed.{terms_in, text_made, whole_text}

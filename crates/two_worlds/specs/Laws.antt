@@ -6,8 +6,8 @@ use Rattle.match_script.specs.declared.types.Head.{Head}
 use Rattle.stream_manager.specs.Limits.{Terms}
 use Rattle.own_lists.specs.Own.{OwnItem}
 use Rattle.own_lists.specs.Past.{client_terms, after}
-use Rattle.match_laws.specs.Report.{told_lines}
-use Rattle.match_laws.specs.Laws.{packs_in}
+use Rattle.own_items.specs.match_laws.Report.{told_lines}
+use Rattle.own_items.specs.match_laws.Laws.{packs_in}
 use Rattle.two_worlds.specs.Stands.{item_text}
 
 -- the text that all these items add, the oldest first

@@ -8,9 +8,9 @@ use Rattle.stream_manager.specs.Limits.{Terms, IsConfig}
 use Rattle.own_lists.specs.Own.{OwnItem, Line, Scan}
 use Rattle.own_lists.specs.Kept.{kept}
 use Rattle.own_lists.specs.Conditions.{AreOwn, MayFollow}
-use Rattle.client_seat.specs.Stands.{SeatState, StandsFor as SeatStandsFor}
-use Rattle.client_seat.specs.Told.{pack_told}
-use Rattle.match_laws.specs.Laws.{is_own_pack}
+use Rattle.own_items.specs.client_seat.Stands.{SeatState, StandsFor as SeatStandsFor}
+use Rattle.own_items.specs.client_seat.Told.{pack_told}
+use Rattle.own_items.specs.match_laws.Laws.{is_own_pack}
 use Rattle.two_worlds.specs.declared.alone.AloneHeader.{AloneHeader}
 use Rattle.two_worlds.specs.declared.alone.Alone.{Alone}
 use Rattle.two_worlds.specs.Periods.{Table, Holds}

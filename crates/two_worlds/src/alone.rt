@@ -10,10 +10,10 @@ use crate::direct::line_on;
 use crate::periods::{OwnPeriod, drain_all, hide_all, show_all, write_each};
 use crate::values::AloneValues;
 use client_scope::Near;
-use client_seat::Seat;
-use match_engine::{RunFault, tell};
 use match_report::Told;
 use match_script::{Blocks, BodyLine};
+use own_items::client_seat::Seat;
+use own_items::match_engine::{RunFault, tell};
 use own_items::{OwnItem, OwnShow, OwnWrite};
 use own_lists::Showing;
 use std::alloc::{AllocError, Global};
@@ -88,9 +88,9 @@ impl Alone {
     ghost use Rattle.stream_manager.specs.Limits.{Terms};
     ghost use Rattle.match_script.specs.declared.types.BodyLine.TheVariants as script;
     ghost use Rattle.own_lists.specs.Kept.{kept};
-    ghost use Rattle.client_seat.specs.Told.{pack_told};
+    ghost use Rattle.own_items.specs.client_seat.Told.{pack_told};
     ghost use Rattle.two_worlds.specs.Stands.{terms_of, HeaderFits, is_counted, ServesBy, StandsFor, MayFeed, MayServe, Feeds, Goes, Tells};
-    ghost use Rattle.match_engine.specs.Stands.{IsDirect};
+    ghost use Rattle.own_items.specs.match_engine.Stands.{IsDirect};
 
     /// A server that was fed nothing.
     pub fn new(alloc: Global, header: &AloneHeader) -> Result<Alone, NoMemory>

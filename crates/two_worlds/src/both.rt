@@ -10,8 +10,8 @@ ghost use Rattle.two_worlds.specs.Text.{alone_text};
 
 use crate::alone::{Alone, AloneHeader};
 use crate::laws::{same_lists_same_lines, writes_the_packs};
-use match_engine::RunFault;
 use match_script::Script;
+use own_items::match_engine::RunFault;
 use own_items::{OwnItem, OwnSource, OwnWrites};
 use std::alloc::Global;
 use tn_outside::Sink;

@@ -2,11 +2,11 @@
 ghost use Rattle.std.specs.Prelude.{◌<◌, OnOk, length};
 ghost use Rattle.stream_manager.specs.Limits.{Terms};
 ghost use Rattle.own_lists.specs.Kept.{Kept, after_line};
-ghost use Rattle.client_seat.specs.Stands.{Stands, StandsFor};
-ghost use Rattle.match_engine.specs.Stands.{IsDirect};
+ghost use Rattle.own_items.specs.client_seat.Stands.{Stands, StandsFor};
+ghost use Rattle.own_items.specs.match_engine.Stands.{IsDirect};
 
-use client_seat::Seat;
 use match_script::BodyLine;
+use own_items::client_seat::Seat;
 use std::alloc::Global;
 use tn_types::{MAX_DATAGRAMS, NoMemory};
 
@@ -18,6 +18,6 @@ pub(crate) fn line_on(alloc: Global, seat: &mut Seat, line: &BodyLine) -> Result
     ensures { OnOk result ((t : Terms) (k : Kept) → StandsFor seat.old t k.course
         → StandsFor seat.new t (after_line t line.now k).course) }
 {
-    let _told = match_engine::line_on(alloc, seat, line)?;
+    let _told = own_items::match_engine::line_on(alloc, seat, line)?;
     Ok(())
 }

@@ -10,7 +10,7 @@ use Rattle.wire_format.specs.declared.events.EventItem.{EventItem}
 use Rattle.wire_format.specs.Reading.{AreListed}
 use Rattle.wire_format.specs.Events.{spell_event, spell_events, low_event, low_number, IsEvent}
 use Rattle.wire_format.proofs.LowNumbers.{low-event, low-fits}
-use Rattle.event_manager.specs.Low.{whole_number, whole_items, IsFound}
+use Rattle.event_logs.specs.event_manager.Low.{whole_number, whole_items, IsFound}
 use Rattle.wire_logs.proofs.Found.{found}
 
 -- the events as they stand in a datagram

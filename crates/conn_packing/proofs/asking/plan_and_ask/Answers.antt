@@ -5,8 +5,8 @@ use Rattle.tn_types.specs.BitWords.{has_bit}
 use Rattle.tn_types.specs.declared.choices.Choice.{Choice}
 use Rattle.tn_types.specs.declared.choices.Read.{Read}
 use Rattle.ghost_model.specs.Ghosts.{Grant}
-use Rattle.ghost_masks.specs.Carried.{all_carried, AreValues}
-use Rattle.ghost_masks.proofs.Items.{plan_short}
+use Rattle.stream_manager.specs.ghost_masks.Carried.{all_carried, AreValues}
+use Rattle.stream_manager.proofs.Below.ghost_masks.Items.{plan_short}
 use Rattle.stream_manager.specs.Server.{ghost_log, choices_at, received_at, ghost_room}
 use Rattle.stream_manager.specs.Stands.{terms_of}
 use Rattle.conn_packing.specs.Packs.{values_of}

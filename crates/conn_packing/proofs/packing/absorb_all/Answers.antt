@@ -3,7 +3,7 @@ use Rattle.std.proofs.lemmas.List.{take_more}
 use Rattle.tn_types.specs.declared.choices.Drain.{Drain}
 use Rattle.quantised_fields.specs.declared.kind.Kind.{Kind}
 use Rattle.ghost_scope.specs.Shown.{IsUp}
-use Rattle.ghost_masks.specs.Plan.{fields_of}
+use Rattle.stream_manager.specs.ghost_masks.Plan.{fields_of}
 use Rattle.stream_manager.specs.Limits.{Terms}
 use Rattle.stream_manager.specs.Server.{ServerEvent, ghost_log}
 use Rattle.stream_manager.specs.Stands.{ConnStandsFor, terms_of}

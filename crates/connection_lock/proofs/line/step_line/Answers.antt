@@ -1,8 +1,8 @@
 use Rattle.std.proofs.Common.{◌≡◌, ◌∙◌, ◌∷◌, ◌++◌, [], sym, ap, subst}
-use Rattle.pair_core.specs.History.{PairStep}
-use Rattle.pair_core.specs.Answers.{accepted_in}
-use Rattle.pair_core.specs.Calls.{step_of}
-use Rattle.pair_core.specs.declared.step.PairStep.{PairStep as GivenStep}
+use Rattle.kept_pair.specs.pair_core.History.{PairStep}
+use Rattle.kept_pair.specs.pair_core.Answers.{accepted_in}
+use Rattle.kept_pair.specs.pair_core.Calls.{step_of}
+use Rattle.kept_pair.specs.pair_core.declared.step.PairStep.{PairStep as GivenStep}
 use Rattle.kept_pair.specs.Kept.{MayStep, IsReady, terms_in, newest_first, answer_after}
 use Rattle.kept_pair.proofs.Replaying.{newest-more}
 use Rattle.connection_lock.specs.Turns.{line_step}

@@ -3,9 +3,9 @@ use Rattle.std.specs.Prelude.{slice_index}
 use Rattle.tn_types.specs.declared.choices.Drain.{Drain}
 use Rattle.stream_manager.specs.Limits.{Terms}
 use Rattle.stream_manager.specs.Server.{server_state}
-use Rattle.pair_core.specs.History.{PairStep, Pack}
-use Rattle.pair_core.specs.Conditions.{AreMet}
-use Rattle.pair_core.specs.Answers.{answer}
+use Rattle.kept_pair.specs.pair_core.History.{PairStep, Pack}
+use Rattle.kept_pair.specs.pair_core.Conditions.{AreMet}
+use Rattle.kept_pair.specs.pair_core.Answers.{answer}
 use Rattle.kept_pair.specs.Kept.{terms_in, newest_first}
 use Rattle.pair_periods.specs.Agreement.{server_log}
 use Rattle.pair_periods.proofs.Agreeing.{agree-ranges}

@@ -2,7 +2,7 @@ use Rattle.std.proofs.Common.{◌≡◌, ◌∙◌, ◌<◌, ◌≤◌, Bool, tr
 use Rattle.tn_types.specs.declared.limits.TheConstants.{MAX_SHOWN_PERIODS, MAX_SHOWS}
 use Rattle.ghost_scope.specs.Shown.{show_count, up_count, has_control}
 use Rattle.stream_manager.specs.Stands.{ConnState}
-use Rattle.pair_core.specs.History.{history}
+use Rattle.kept_pair.specs.pair_core.History.{history}
 use Rattle.kept_pair.specs.Kept.{terms_in, newest_first}
 use Rattle.connection_lock.proofs.Showing.{may-be-shown, shown-few, shown-alone}
 use Rattle.connection_lock.proofs.taking.may_show.Goals as goal

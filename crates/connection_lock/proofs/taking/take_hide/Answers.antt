@@ -1,5 +1,5 @@
 use Rattle.std.proofs.Common.{inl, refl}
-use Rattle.pair_core.specs.History.{Hide}
+use Rattle.kept_pair.specs.pair_core.History.{Hide}
 use Rattle.kept_pair.specs.Kept.{terms_in, newest_first}
 use Rattle.connection_lock.specs.declared.message.Message.TheVariants as message
 use Rattle.connection_lock.proofs.Keeping.{passed-over, locked-hide, past-more, still-locked}

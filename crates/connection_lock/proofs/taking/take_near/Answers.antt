@@ -1,5 +1,5 @@
 use Rattle.std.proofs.Common.{inl, refl}
-use Rattle.pair_core.specs.History.{Near}
+use Rattle.kept_pair.specs.pair_core.History.{Near}
 use Rattle.kept_pair.specs.Kept.{terms_in, newest_first}
 use Rattle.pair_periods.proofs.Agreeing.{agree-near}
 use Rattle.connection_lock.specs.declared.message.Message.TheVariants as message

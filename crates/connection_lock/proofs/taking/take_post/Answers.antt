@@ -1,5 +1,5 @@
 use Rattle.std.proofs.Common.{inl, refl}
-use Rattle.pair_core.specs.History.{Post}
+use Rattle.kept_pair.specs.pair_core.History.{Post}
 use Rattle.kept_pair.specs.Kept.{terms_in, newest_first}
 use Rattle.pair_periods.proofs.Agreeing.{agree-quiet}
 use Rattle.connection_lock.proofs.Keeping.{locked-same, past-more, still-locked}

@@ -1,7 +1,7 @@
 use Rattle.std.proofs.Common.{◌≡◌, ◌∷◌, ◌<◌, false, inl, ap, sym, subst, arith, ℕ, List}
 use Rattle.dirty_lanes.specs.Views.{drains}
 use Rattle.dirty_lanes.specs.declared.view.PackView.{PackView}
-use Rattle.pair_core.specs.History.{Show}
+use Rattle.kept_pair.specs.pair_core.History.{Show}
 use Rattle.kept_pair.specs.Kept.{terms_in, newest_first}
 use Rattle.lane_periods.specs.Periods.{has_object}
 use Rattle.connection_lock.specs.Rule.{IsLocked}

@@ -1,7 +1,7 @@
 use Rattle.std.proofs.Common.{◌≡◌, ◌<◌, ℕ, length, slice_index_or}
 use Rattle.own_lists.specs.Course.{beginning}
 use Rattle.own_lists.specs.Past.{client_terms}
-use Rattle.client_seat.specs.Stands.{SeatState, StandsFor}
+use Rattle.match_laws.specs.client_seat.Stands.{SeatState, StandsFor}
 use Rattle.match_engine.proofs.game.seats_of.Given as goal
 
 abbrev pub invariant-seats : goal.invariant-seats

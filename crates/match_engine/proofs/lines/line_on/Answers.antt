@@ -5,8 +5,8 @@ use Rattle.match_script.specs.declared.types.BodyLine.TheVariants as script
 use Rattle.match_script.specs.declared.types.Head.{Head}
 use Rattle.own_lists.specs.Own.{client_named}
 use Rattle.own_lists.specs.Past.{Past, client_terms, kept_by}
-use Rattle.client_seat.specs.Stands.{StandsFor}
-use Rattle.client_seat.specs.Told.{raw_told}
+use Rattle.match_laws.specs.client_seat.Stands.{StandsFor}
+use Rattle.match_laws.specs.client_seat.Told.{raw_told}
 use Rattle.match_laws.specs.Report.{told}
 use Rattle.match_engine.proofs.lines.line_on.Goals as goal
 

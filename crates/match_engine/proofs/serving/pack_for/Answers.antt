@@ -7,7 +7,7 @@ use Rattle.world_sim.specs.Worlds.{Worlds}
 use Rattle.client_scope.specs.declared.period.ShownPeriod.{ShownPeriod}
 use Rattle.own_lists.specs.Kept.{drains_of}
 use Rattle.own_lists.specs.Past.{client_terms, kept_by, after}
-use Rattle.pair_core.specs.Calls.{MayPack}
+use Rattle.match_laws.specs.pair_core.Calls.{MayPack}
 use Rattle.match_engine.specs.Values.{Rise, ranges, IsNewest}
 use Rattle.match_engine.proofs.Fed.{map_if_ok}
 use Rattle.match_engine.proofs.Packing.{shown_rises, may_pack, few_sent, reads_are, packed_tells, packed_serves}

@@ -2,7 +2,7 @@ use Rattle.std.proofs.Common.{◌≡◌, ◌∙◌, ◌++◌, ◌∷◌, [], ◌
 use Rattle.std.specs.Prelude.{slice_get}
 use Rattle.std.proofs.lemmas.List.{map_more, take_all, drop_all}
 use Rattle.std.proofs.lemmas.List.Elements.{All-get_or}
-use Rattle.client_seat.specs.Stands.{SeatState, without_first}
+use Rattle.match_laws.specs.client_seat.Stands.{SeatState, without_first}
 use Rattle.match_engine.proofs.Taking.{next_is, mapped_more}
 use Rattle.match_engine.proofs.ticking.take_moves.Goals as goal
 

@@ -1,6 +1,6 @@
 use Rattle.std.proofs.Common.{◌≡◌, ◌++◌, map, take, drop}
 use Rattle.std.specs.Prelude.{slice_get}
-use Rattle.client_seat.specs.Stands.{without_first}
+use Rattle.match_laws.specs.client_seat.Stands.{without_first}
 use Rattle.match_engine.proofs.ticking.take_moves.Given as goal
 
 abbrev pub invariant-loop-i : goal.invariant-loop-i

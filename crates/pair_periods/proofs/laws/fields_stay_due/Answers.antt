@@ -1,4 +1,4 @@
-use Rattle.pair_core.specs.History.{history}
+use Rattle.pair_steps.specs.pair_core.History.{history}
 use Rattle.pair_steps.proofs.Due.{step_due}
 use Rattle.pair_periods.proofs.Due.{pack_due}
 use Rattle.pair_periods.proofs.laws.fields_stay_due.Goals as goal

@@ -2,9 +2,9 @@ use Rattle.std.proofs.Common.{◌≡◌, ◌∙◌, ◌<◌, ◌≤◌, Bool, tr
 use Rattle.tn_types.specs.declared.limits.TheConstants.{MAX_SHOWN_PERIODS, MAX_SHOWS}
 use Rattle.ghost_scope.specs.Shown.{show_count, up_count, has_control}
 use Rattle.stream_manager.specs.Stands.{ConnState}
-use Rattle.pair_core.specs.History.{history}
-use Rattle.kept_pair.specs.Kept.{terms_in, newest_first}
-use Rattle.connection_lock.proofs.Showing.{may-be-shown, shown-few, shown-alone}
+use Rattle.race_record.specs.pair_core.History.{history}
+use Rattle.race_record.specs.kept_pair.Kept.{terms_in, newest_first}
+use Rattle.race_sim.proofs.Below.connection_lock.Showing.{may-be-shown, shown-few, shown-alone}
 use Rattle.race_ending.proofs.may.may_show.Goals as goal
 
 yes : (b : Bool) → not b ≡ true → b ≡ false

@@ -1,7 +1,7 @@
 use Rattle.std.proofs.Common.{◌≡◌, ◌+◌, ◌<◌, ◌++◌, ◌∙◌, length, ap, sym, arith, get_or}
 use Rattle.std.proofs.lemmas.List.Sums.{count_by_more_yes, count_by_more_no}
 use Rattle.std.proofs.lemmas.Option.{slice_get-get_or}
-use Rattle.pair_core.specs.History.{PairStep, ClientPack}
+use Rattle.kept_pair.specs.pair_core.History.{PairStep, ClientPack}
 use Rattle.race_text.proofs.Each.{each_more}
 use Rattle.race_journal.specs.Text.{is_show, step_line}
 use Rattle.race_journal.proofs.journal.put_steps.Goals as goal

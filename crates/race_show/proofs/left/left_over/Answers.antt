@@ -8,8 +8,8 @@ use Rattle.stream_manager.specs.Limits.{Terms}
 use Rattle.stream_manager.specs.Stands.{ConnState, ConnStandsFor}
 use Rattle.pair_core.specs.History.{PairStep, history}
 use Rattle.pair_core.specs.Stands.{StandsFor}
-use Rattle.pair_steps.specs.Steps.{shows_in, is_hidden_in}
-use Rattle.pair_steps.proofs.Journals.{shows_told}
+use Rattle.pair_periods.specs.pair_steps.Steps.{shows_in, is_hidden_in}
+use Rattle.pair_periods.proofs.Below.pair_steps.Journals.{shows_told}
 use Rattle.race_show.specs.Showing.{left_of}
 use Rattle.race_show.proofs.Listed.{made_yes, made_no, made_none, all_push, up-passes, down-fails}
 use Rattle.race_show.proofs.left.left_over.Goals as goal

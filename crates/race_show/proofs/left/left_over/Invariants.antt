@@ -5,7 +5,7 @@ use Rattle.ghost_scope.specs.Shown.{IsUp}
 use Rattle.stream_manager.specs.Limits.{Terms}
 use Rattle.pair_core.specs.History.{PairStep}
 use Rattle.pair_core.specs.Stands.{StandsFor}
-use Rattle.pair_steps.specs.Steps.{is_hidden_in}
+use Rattle.pair_periods.specs.pair_steps.Steps.{is_hidden_in}
 use Rattle.race_show.specs.Showing.{left_of}
 use Rattle.race_show.proofs.left.left_over.Given as goal
 

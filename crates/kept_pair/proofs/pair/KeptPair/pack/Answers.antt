@@ -1,6 +1,6 @@
 use Rattle.std.proofs.Common.{◌≡◌, ◌∙◌, ◌≤◌, ◌++◌, ◌∷◌, [], ℕ, List, length, sym, ap, subst, arith}
 use Rattle.tn_types.specs.declared.choices.Read.{Read}
-use Rattle.stream_manager.specs.Stands.{terms_of}
+use Rattle.pair_core.specs.stream_manager.Stands.{terms_of}
 use Rattle.pair_core.specs.History.{PairStep, Pack}
 use Rattle.kept_pair.specs.Kept.{KeptState, MayPack, AreKept, newest_first}
 use Rattle.kept_pair.proofs.Counts.{none-by-pack}

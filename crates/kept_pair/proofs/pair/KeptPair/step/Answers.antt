@@ -2,7 +2,7 @@ use Rattle.std.proofs.Common.{◌≡◌, ◌∙◌, ◌≤◌, ◌+◌, ◌++◌
 use Rattle.std.specs.Prelude.{nat_lt, nat_le, vec_len, vec_capacity}
 use Rattle.std.proofs.lemmas.Bool.{leb-true}
 use Rattle.tn_types.specs.declared.moves.Move.{Move}
-use Rattle.stream_manager.specs.Stands.{terms_of}
+use Rattle.pair_core.specs.stream_manager.Stands.{terms_of}
 use Rattle.pair_core.specs.History.{PairStep}
 use Rattle.pair_core.specs.Answers.{accepted_in}
 use Rattle.pair_core.specs.Calls.{step_of}

@@ -11,7 +11,7 @@ use Rattle.own_lists.specs.Counted.{counted}
 use Rattle.own_lists.specs.Kept.{Kept, after_line}
 use Rattle.own_lists.specs.Past.{Past, client_terms, kept_by, after}
 use Rattle.own_lists.proofs.Counting.{few_up}
-use Rattle.client_seat.specs.Stands.{SeatState, StandsFor as SeatStandsFor}
+use Rattle.match_laws.specs.client_seat.Stands.{SeatState, StandsFor as SeatStandsFor}
 use Rattle.match_laws.specs.Report.{told, told_after}
 use Rattle.match_engine.specs.Stands.{GameState, StandsFor, IsDirect}
 use Rattle.match_engine.proofs.Fed.{names_client, fed, after_direct, put_set, put_none, own_few, map_if_ok, map_on_ok}

@@ -6,7 +6,7 @@ use Rattle.match_script.specs.declared.types.Head.{Head}
 use Rattle.client_scope.specs.StandsFor.{Table}
 use Rattle.own_lists.specs.Counted.{counted_in}
 use Rattle.dirty_lanes.specs.Words.{Words}
-use Rattle.client_seat.specs.Stands.{SeatState}
+use Rattle.match_laws.specs.client_seat.Stands.{SeatState}
 use Rattle.match_engine.specs.Serving.{Serves, OthersStay}
 use Rattle.match_engine.specs.Stands.{GameState, StandsFor}
 use Rattle.match_engine.proofs.Fed.{fed, serves, put_set, put_none, both_ok}

@@ -6,7 +6,7 @@ use Rattle.match_report.specs.declared.told.Told.{Told}
 use Rattle.client_scope.specs.StandsFor.{Table}
 use Rattle.own_lists.specs.Counted.{counted_in}
 use Rattle.dirty_lanes.specs.Words.{Words}
-use Rattle.client_seat.specs.Stands.{SeatState}
+use Rattle.match_laws.specs.client_seat.Stands.{SeatState}
 use Rattle.match_laws.specs.Report.{told_after}
 use Rattle.match_engine.specs.Stands.{GameState, StandsFor}
 use Rattle.match_engine.specs.Serving.{Serves, OthersStay}

@@ -7,7 +7,7 @@ use Rattle.client_scope.specs.StandsFor.{Table}
 use Rattle.own_lists.specs.Own.{OwnItem}
 use Rattle.own_lists.specs.Kept.{kept}
 use Rattle.own_lists.specs.Past.{client_terms, after}
-use Rattle.client_seat.specs.Stands.{SeatState}
+use Rattle.match_laws.specs.client_seat.Stands.{SeatState}
 use Rattle.match_laws.specs.Report.{told_after}
 use Rattle.match_engine.specs.Stands.{GameState, ClientHolds, StandsFor}
 use Rattle.match_engine.proofs.Fed.{fed, serves, put_none, own_line, map_if_ok}

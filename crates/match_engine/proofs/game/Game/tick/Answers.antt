@@ -9,7 +9,7 @@ use Rattle.world_sim.specs.Worlds.{Worlds, next}
 use Rattle.world_sim.specs.Facts.{IsWriteOf}
 use Rattle.dirty_lanes.specs.Words.{Words, mask_at, SizesStay}
 use Rattle.match_report.specs.declared.told.Told.TheVariants as told_as
-use Rattle.client_seat.specs.Stands.{SeatState, without_first}
+use Rattle.match_laws.specs.client_seat.Stands.{SeatState, without_first}
 use Rattle.match_laws.specs.Report.{told_after, tick_told}
 use Rattle.match_engine.specs.Serving.{raised_by}
 use Rattle.match_engine.specs.Stands.{GameState, StandsFor}

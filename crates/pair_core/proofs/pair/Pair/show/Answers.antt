@@ -1,5 +1,5 @@
 use Rattle.std.proofs.Common.{◌≡◌, ◌∙◌, ◌<◌, false, sym, subst, arith}
-use Rattle.ghost_scope.specs.Shown.{up_count, has_control}
+use Rattle.stream_manager.specs.ghost_scope.Shown.{up_count, has_control}
 use Rattle.stream_manager.specs.Server.{ghost_log}
 use Rattle.pair_core.specs.History.{history}
 use Rattle.pair_core.specs.Stands.{PairState}

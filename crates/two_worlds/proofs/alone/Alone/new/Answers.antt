@@ -1,6 +1,6 @@
 use Rattle.std.proofs.Common.{ℕ, [], List, sym, subst, refl}
 use Rattle.quantised_fields.specs.declared.kind.Kind.{Kind}
-use Rattle.client_seat.specs.Stands.{StandsFor as SeatStandsFor}
+use Rattle.own_items.specs.client_seat.Stands.{StandsFor as SeatStandsFor}
 use Rattle.own_lists.specs.Course.{beginning}
 use Rattle.own_lists.specs.Kept.{kept}
 use Rattle.two_worlds.specs.declared.periods.OwnPeriod.{OwnPeriod}

@@ -1,6 +1,6 @@
 use Rattle.std.proofs.Common.{◌≡◌, ◌∙◌, [], List, map, sym, subst, arith}
 use Rattle.std.proofs.lemmas.List.{length-map}
-use Rattle.client_seat.specs.Stands.{StandsFor as SeatStandsFor}
+use Rattle.own_items.specs.client_seat.Stands.{StandsFor as SeatStandsFor}
 use Rattle.own_lists.specs.declared.showing.Showing.{Showing}
 use Rattle.own_lists.specs.Own.{OwnShow as Told}
 use Rattle.own_lists.specs.Conditions.{MeetEach}

@@ -1,5 +1,5 @@
 use Rattle.std.proofs.Common.{◌∙◌, ◌∷◌, List, length, map, sym, ap, subst}
-use Rattle.client_seat.specs.Stands.{SeatState, StandsFor as SeatStandsFor}
+use Rattle.own_items.specs.client_seat.Stands.{SeatState, StandsFor as SeatStandsFor}
 use Rattle.own_lists.specs.Course.{ticked}
 use Rattle.own_lists.specs.Own.{Tick}
 use Rattle.own_lists.specs.Kept.{kept}

@@ -1,0 +1,3 @@
+-- Lemmas of crates below, for those above.
+pub use Rattle.match_laws.proofs.Below.client_seat as client_seat
+pub use Rattle.match_laws.proofs as match_laws
