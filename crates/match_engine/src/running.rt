@@ -6,6 +6,7 @@ ghost use Rattle.match_script.specs.Ranges.{HasRanges};
 ghost use Rattle.match_report.specs.Text.{report_line};
 ghost use Rattle.match_laws.specs.Report.{report};
 ghost use Rattle.match_laws.specs.Laws.{Isolation, EventsInOrder, MovesInOrder, LooseInOrder, LittleIsRefused};
+ghost use Rattle.match_laws.specs.Others.{NonInterference};
 ghost use Rattle.match_laws.specs.Values.{CopiesShowValues, SettledIsNewest, ChangesRecover};
 ghost use Rattle.match_laws.specs.Applied.{AppliedAreAccepted, AppliedInOrder};
 ghost use Rattle.match_laws.specs.Words.{PrintedInOrder};
@@ -15,7 +16,8 @@ ghost use Rattle.match_engine.specs.Telling.{Tells};
 use crate::played::Match;
 use match_laws::{
     applied_in_order, changes_recover, copies_show_values, events_in_order, isolation,
-    little_is_refused, loose_events_in_order, moves_in_order, printed_in_order, settled_is_newest,
+    little_is_refused, loose_events_in_order, moves_in_order, non_interference, printed_in_order,
+    settled_is_newest,
 };
 use match_report::{Told, put_line};
 use match_script::Script;
@@ -111,6 +113,8 @@ pub fn run<K: Sink>(alloc: Global, script: &Script, sink: &mut K) -> Result<(), 
     ensures later { K.faults sink.old ≤ K.faults sink.new }
     // The datagrams for each client are those of a server that is fed with its own list alone.
     ensures isolation { Isolation }
+    // No line that names another client changes anything for a client, and the lines of its own list name it.
+    ensures non_interference { NonInterference }
     // What an honest client's copies show at every line, its object had; a settled field shows the newest value; and each field of
     // what is shown and not hidden is due, or written and not drained, or on its way, or right.
     ensures copies_show_values { CopiesShowValues }
@@ -131,6 +135,7 @@ pub fn run<K: Sink>(alloc: Global, script: &Script, sink: &mut K) -> Result<(), 
     ensures printed_in_order { PrintedInOrder }
 {
     isolation();
+    non_interference();
     copies_show_values();
     settled_is_newest();
     changes_recover();

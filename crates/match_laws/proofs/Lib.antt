@@ -1,6 +1,7 @@
 pub mod Below
 pub mod Grown
 pub mod Isolated
+pub mod Others
 pub mod InOrder
 pub mod Refused
 pub mod ValuesNewest

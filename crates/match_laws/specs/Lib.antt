@@ -4,6 +4,7 @@ pub use Rattle.client_seat.specs as client_seat
 pub mod World
 pub mod Report
 pub mod Laws
+pub mod Others
 pub mod Values
 pub mod Applied
 pub mod Words

@@ -1,11 +1,18 @@
 //! What the report of a script and the journals of its clients promise.
 
 ghost use Rattle.match_laws.specs.Laws.{Isolation, EventsInOrder, MovesInOrder, LooseInOrder, LittleIsRefused};
+ghost use Rattle.match_laws.specs.Others.{NonInterference};
 
 /// The `pack c` lines of a report are those of a server that is fed with client c's own list alone: a function of that list,
 /// and of `client`, `life`, `size`, the blocks and the kinds (docs/proofs.md, "Isolation").
 pub fn isolation()
     ensures { Isolation }
+{}
+
+/// A line that names another client, whatever it is, leaves a client's own list, what its scans saw and the world as they were, and each
+/// line in an own list names its client (docs/proofs.md, "Isolation").
+pub fn non_interference()
+    ensures { NonInterference }
 {}
 
 /// In each honest client's journal, at every line, the guaranteed events that an end delivered are the first that the other

@@ -8,6 +8,7 @@ mod words;
 pub use client_seat;
 pub use laws::{
     events_in_order, isolation, little_is_refused, loose_events_in_order, moves_in_order,
+    non_interference,
 };
 pub use pair_core;
 pub use values::{changes_recover, copies_show_values, settled_is_newest};

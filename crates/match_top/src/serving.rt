@@ -4,6 +4,7 @@ ghost use Rattle.tn_outside.specs.Causes.{Rose};
 ghost use Rattle.tn_outside.specs.Totals.{Adds, AddsFront};
 ghost use Rattle.match_script.specs.Ranges.{HasRanges};
 ghost use Rattle.match_count.specs.match_laws.Laws.{Isolation, EventsInOrder, MovesInOrder, LooseInOrder, LittleIsRefused};
+ghost use Rattle.match_count.specs.match_laws.Others.{NonInterference};
 ghost use Rattle.match_count.specs.match_laws.Values.{CopiesShowValues, SettledIsNewest, ChangesRecover};
 ghost use Rattle.match_count.specs.match_laws.Applied.{AppliedAreAccepted, AppliedInOrder};
 ghost use Rattle.match_count.specs.match_laws.Words.{PrintedInOrder};
@@ -15,7 +16,8 @@ use crate::command::{Command, command_of};
 use match_count::match_engine::{RunFault, run};
 use match_count::match_laws::{
     applied_in_order, changes_recover, copies_show_values, events_in_order, isolation,
-    little_is_refused, loose_events_in_order, moves_in_order, printed_in_order, settled_is_newest,
+    little_is_refused, loose_events_in_order, moves_in_order, non_interference, printed_in_order,
+    settled_is_newest,
 };
 use match_count::{count, put_counts};
 use match_script::Script;
@@ -164,10 +166,12 @@ pub fn top<S: Source, K: Sink>(
     ensures copies_show_values { CopiesShowValues }
     ensures settled_is_newest { SettledIsNewest }
     ensures changes_recover { ChangesRecover }
-    // Each client's datagrams in the report are a function of its own list, and `alone` writes them; in the journal of an
-    // honest client, at every line, what is delivered is a front of what was posted, of unguaranteed events some in their order,
-    // the accepted moves are a front of the sampled ones, and no end refuses a datagram but an old one.
+    // Each client's datagrams in the report are a function of its own list, to which no line of another client adds anything, and
+    // `alone` writes them; in the journal of an honest client, at every line, what is delivered is a front of what was posted, of
+    // unguaranteed events some in their order, the accepted moves are a front of the sampled ones, and no end refuses a datagram but
+    // an old one.
     ensures isolation { Isolation }
+    ensures non_interference { NonInterference }
     ensures alone { AloneIsOfRun }
     ensures events_in_order { EventsInOrder }
     ensures moves_in_order { MovesInOrder }
@@ -180,6 +184,7 @@ pub fn top<S: Source, K: Sink>(
     ensures printed_in_order { PrintedInOrder }
 {
     isolation();
+    non_interference();
     copies_show_values();
     settled_is_newest();
     changes_recover();

@@ -7,6 +7,7 @@ returns g c = record {
   cause = c.write_report.ensures.cause;
   later = c.write_report.ensures.later;
   isolation = c.isolation.ensures;
+  non_interference = c.non_interference.ensures;
   copies_show_values = c.copies_show_values.ensures;
   settled_is_newest = c.settled_is_newest.ensures;
   changes_recover = c.changes_recover.ensures;
