@@ -1,6 +1,6 @@
 -- A line that names another client changes nothing of a client, by the cases of what happens at a line.
-use Rattle.std.proofs.Common.{◌≡◌, ◌≢◌, ℕ, ◌==◌, ⊥, Bool, true, false, cond, List, [], ◌∷◌, Option, Some, None, tt}
-use Rattle.std.proofs.Common.{refl, sym, ◌∙◌, subst, absurd}
+use Rattle.std.proofs.Common.{◌≡◌, ◌≢◌, ℕ, ◌==◌, Bool, true, false, cond, List, [], ◌∷◌, Option, Some, None}
+use Rattle.std.proofs.Common.{refl, sym, ◌∙◌, subst}
 use Rattle.std.proofs.lemmas.Bool.{eqb-true}
 use Rattle.std.specs.List.{AllByRecursion}
 use Rattle.match_script.specs.declared.types.BodyLine.{BodyLine}
@@ -11,7 +11,6 @@ use Rattle.own_lists.specs.Own.{OwnItem, Line, Scan, Tick, client_named}
 use Rattle.own_lists.specs.Kept.{put}
 use Rattle.own_lists.specs.Past.{Past, happens, after, scan_item}
 use Rattle.match_laws.specs.Others.{IsLeft, NamesClient, NonInterference}
-use Rattle.match_laws.proofs.Grown.{put_own}
 
 -- another value at another place
 elsewhere : {A : Type 0} (f : ℕ → A) (x : A) (c e d : ℕ) → ◌≡◌ {A = Option ℕ} (Some e) (Some d) → c ≢ d → put f e x c ≡ f c

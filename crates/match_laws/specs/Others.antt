@@ -1,7 +1,7 @@
 -- What the lines of other clients are to a client: nothing. Whatever a line that names another client is, and whatever came before it,
 -- it leaves a client's own list, what the client's scans saw and the world as they were; and each line that stands in a client's own list
 -- names this client. So all that comes from others to a client comes through ticks and the client's own scans.
-use Rattle.std.specs.Prelude.{◌≡◌, ◌≢◌, ℕ, List, ◌∷◌, Unit, Some}
+use Rattle.std.specs.Prelude.{◌≡◌, ◌≢◌, ℕ, List, ◌∷◌, Some}
 use Rattle.std.specs.List.{AllByRecursion}
 use Rattle.match_script.specs.declared.types.BodyLine.{BodyLine}
 use Rattle.match_script.specs.declared.types.Head.{Head}
