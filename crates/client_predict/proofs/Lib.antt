@@ -1,0 +1,2 @@
+pub mod OffsetParts
+pub mod PredictLogs

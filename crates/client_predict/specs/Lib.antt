@@ -1,0 +1,4 @@
+pub mod Standing
+pub mod Offsets
+pub mod Predicting
+pub mod Laws
