@@ -1,0 +1,5 @@
+mod Kept
+mod Erasing
+mod Grammar
+mod Counted
+mod Whole
