@@ -1,0 +1,5 @@
+pub mod Below
+pub mod Refusing
+pub mod Alike
+pub mod Seen
+pub mod Views
