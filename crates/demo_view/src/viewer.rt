@@ -214,7 +214,8 @@ impl Viewer {
     fn take_whole(&mut self, bytes: &[u8]) -> Result<(), ViewFault>
         requires few { length bytes.now ≤ MAX_READ_BYTES }
         requires none_waits { self.old.events.ready ≡ [] }
-        ensures answer { Answers self.old (λ packets. without_packet (whole_view (terms_of self.old) bytes.now packets)) (as_client result) }
+        ensures answer { Answers self.old
+            (λ packets. without_packet (whole_view (terms_of self.old) bytes.now packets)) (as_client result) }
         ensures stands { Becomes self.old
             (λ packets. taken_by packets (whole_view (terms_of self.old) bytes.now packets)) self.new }
         ensures handed { Hands self.old (λ packets. taken_by packets (whole_view (terms_of self.old) bytes.now packets)) self.new }

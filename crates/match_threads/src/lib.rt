@@ -5,7 +5,6 @@ mod run;
 
 pub use legal_race::race_record::{Race, RaceClient, RaceClients};
 pub use legal_race::tell;
-pub use match_engine;
-pub use race_run;
+pub use match_engine::RunFault;
 pub use race_run::{Actor, FreeGate, Gate, Place};
 pub use run::run_threads;

@@ -1,9 +1,9 @@
 //! Gates that hold activities.
 
+use race_run::{Actor, Gate, Place};
 use std::sync::atomic::{AtomicBool, AtomicU64, Ordering};
 use std::thread::sleep;
 use std::time::{Clock, Duration};
-use threads_top::race_run::{Actor, Gate, Place};
 
 // A turn of a wait in microseconds, and how many there are before it is given up.
 const TURN_MICROS: u64 = 100;

@@ -3,7 +3,7 @@
 use crate::gates::WatchGate;
 use script_maker::make;
 use std::test::Fail;
-use threads_top::match_threads::run_threads;
+use threads_top::run_threads;
 use tn_outside::MemSink;
 
 /// So often the match is run.

@@ -6,13 +6,13 @@ use crate::gates::LineGate;
 use match_script::{Script, parse};
 use race_history::TickMoves;
 use race_record::Race;
+use race_run::{race, race_in_turn};
 use std::alloc::Global;
 use std::process::Abort;
 use std::sync::Wait;
 use std::test::Fail;
 use std::thread::Threads;
-use threads_top::match_threads::{FreeGate, Gate, run_threads, tell};
-use threads_top::race_run::{race, race_in_turn};
+use threads_top::{FreeGate, Gate, run_threads, tell};
 use tn_outside::MemSink;
 
 /// More bytes than a text here has.

@@ -3,6 +3,5 @@
 
 mod threads;
 
-pub use match_threads;
-pub use match_threads::race_run;
+pub use match_threads::{FreeGate, Gate, run_threads, tell};
 pub use threads::top_threads;

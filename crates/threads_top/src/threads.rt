@@ -3,8 +3,7 @@ ghost use Rattle.std.specs.Prelude.{◌≡◌, ◌⊎◌, List, [], ℕ, map, st
 ghost use Rattle.script_input.specs.Reading.{seen, HasFailed};
 ghost use Rattle.threads_top.specs.Outcome.{threads_of, ThreadsOutcome, IsWanted, CanBeDone};
 
-use match_threads::match_engine::RunFault;
-use match_threads::{FreeGate, run_threads};
+use match_threads::{FreeGate, RunFault, run_threads};
 use script_input::{Status, read_threads_script};
 use std::alloc::Global;
 use std::sync::Wait;
