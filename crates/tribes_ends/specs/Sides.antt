@@ -1,0 +1,177 @@
+-- What a call of a link does to the end that it has, and what it tells of it: at the server's end alone, at the client's alone, or
+-- at either. Each case is the call of stream_manager or conn_packing, in their words.
+use Rattle.std.specs.Prelude.{◌≡◌, ℕ, ℤ, Bool, List, [], ◌+◌, ◌∷◌, length, Option, Some, Result, Ok, slice_get}
+use Rattle.tn_types.specs.declared.choices.Class.{Class}
+use Rattle.tn_types.specs.declared.moves.Move.{Move}
+use Rattle.notify_window.specs.declared.SendState.TheVariants.{Held, Worn, Room}
+use Rattle.notify_window.specs.Log.{sent_of}
+use Rattle.stream_manager.specs.event_manager.Receiving.{run_of}
+use Rattle.stream_manager.specs.Server as server
+use Rattle.stream_manager.specs.Client as client
+use Rattle.stream_manager.specs.End.{window_log, judged_at, came_of}
+use Rattle.stream_manager.specs.EndCalls.{popped}
+use Rattle.stream_manager.specs.ConnCalls as server_calls
+use Rattle.stream_manager.specs.ClientCalls as client_calls
+use Rattle.stream_manager.specs.declared.config.Config.{Config}
+use Rattle.stream_manager.specs.Stands.{ConnState, ClientState, ConnStandsFor, ClientStandsFor, terms_of}
+use Rattle.ghost_model.specs.Ghosts.{scope_log, slot, is_settled}
+use Rattle.ghost_model.specs.Scope.{shows}
+use Rattle.tribes_ends.specs.declared.counts.Counts.{Counts}
+use Rattle.tribes_ends.specs.declared.link.Side.{Side}
+use Rattle.tribes_ends.specs.declared.link.Side.TheVariants.{Server, Client}
+
+-- ---- a new end at which nothing happened, made with this configuration
+
+abbrev pub BeginsAtServer : Config → Side → Type 0
+BeginsAtServer config (Server c) = ConnStandsFor c [] × (c.common.config ≡ config)
+BeginsAtServer config (Client c) = ⊥
+
+abbrev pub BeginsAtClient : Config → Side → Type 0
+BeginsAtClient config (Server c) = ⊥
+BeginsAtClient config (Client c) = ClientStandsFor c [] × (c.common.config ≡ config)
+
+-- ---- objects, at the server
+
+abbrev pub DoesAtServer : Side → server.ServerEvent → Side → Type 0
+DoesAtServer (Server old) event (Server new) = server_calls.Does old event new
+DoesAtServer (Server old) event (Client new) = ⊥
+DoesAtServer (Client old) event new = ⊥
+
+-- the next period has this number
+abbrev pub IsNextPeriod : Side → ℕ → Type 0
+IsNextPeriod (Server c) n = server_calls.Answers c (λ log. shows (scope_log (server.ghost_log log))) n
+IsNextPeriod (Client c) n = ⊥
+
+abbrev pub IsSettled : Side → ℕ → ℕ → Bool → Type 0
+IsSettled (Server c) n field found = server_calls.Answers c (λ log. is_settled (server.ghost_log log) n field) found
+IsSettled (Client c) n field found = ⊥
+
+abbrev pub HasSlot : Side → ℕ → Option ℕ → Type 0
+HasSlot (Server c) n found = server_calls.Answers c (λ log. slot (server.ghost_log log) n) found
+HasSlot (Client c) n found = ⊥
+
+-- ---- events, at either end
+
+abbrev pub Posts : Side → Class → List ℕ → Side → Type 0
+Posts (Server old) class bytes (Server new) = server_calls.Does old (server.Posted class bytes) new
+Posts (Server old) class bytes (Client new) = ⊥
+Posts (Client old) class bytes (Client new) = client_calls.Does old (client.Posted class bytes) new
+Posts (Client old) class bytes (Server new) = ⊥
+
+-- the next guaranteed event has this number
+abbrev pub IsNextEvent : Side → ℕ → Type 0
+IsNextEvent (Server c) number = server_calls.Answers c (server.posted_at_server c.common.config) (Ok number)
+IsNextEvent (Client c) number = client_calls.Answers c (client.posted_at_client c.common.config) (Ok number)
+
+-- the oldest event that waits, of this class and these bytes, is handed out: nothing else is changed, and nothing happened
+pub record PopsAtServer (old : ConnState) (class : Class) (bytes : List ℕ) (new : ConnState) : Type 0 where
+  pub first : slice_get old.common.receiver.ready 0 ≡ Some (class, bytes)
+  pub rest : new ≡ record old { common = popped old.common }
+  pub stands : server_calls.Becomes old (λ log. log) new
+
+pub record PopsAtClient (old : ClientState) (class : Class) (bytes : List ℕ) (new : ClientState) : Type 0 where
+  pub first : slice_get old.common.receiver.ready 0 ≡ Some (class, bytes)
+  pub rest : new ≡ record old { common = popped old.common }
+  pub stands : client_calls.Becomes old (λ log. log) new
+
+abbrev pub Pops : Side → Class → List ℕ → Side → Type 0
+Pops (Server old) class bytes (Server new) = PopsAtServer old class bytes new
+Pops (Server old) class bytes (Client new) = ⊥
+Pops (Client old) class bytes (Client new) = PopsAtClient old class bytes new
+Pops (Client old) class bytes (Server new) = ⊥
+
+-- ---- moves, sampled at the client
+
+pub record SamplesAtClient (old : ClientState) (dx dy : ℤ) (fire act : Bool) (number : ℕ) (new : ClientState) : Type 0 where
+  pub m : Move
+  pub steps : (m.dx ≡ dx) × (m.dy ≡ dy)
+  pub uses : (m.fire ≡ fire) × (m.act ≡ act)
+  pub stands : client_calls.Does old (client.Sampled m) new
+  pub answer : client_calls.Answers old (client.sampled_answer old.common.config) (Ok number)
+
+abbrev pub Samples : Side → ℤ → ℤ → Bool → Bool → ℕ → Side → Type 0
+Samples (Client old) dx dy fire act number (Client new) = SamplesAtClient old dx dy fire act number new
+Samples (Client old) dx dy fire act number (Server new) = ⊥
+Samples (Server old) dx dy fire act number new = ⊥
+
+-- ---- datagrams
+
+-- a datagram is taken, at the server where so many moves have a place: what it brings waits to be handed out, and so many moves
+pub record TakesUp (old : ConnState) (bytes : List ℕ) (room moves : ℕ) (new : ConnState) : Type 0 where
+  pub stands : server_calls.Becomes old (server.arriving old.common.config room bytes) new
+  pub handed : server_calls.Hands old (server.arriving old.common.config room bytes) new
+  pub accepted : server_calls.Accepts old (server.arriving old.common.config room bytes) new
+  pub answer : server_calls.Answers old (server.arrive_answer old.common.config room bytes) (Ok (record { moves = moves }))
+
+pub record TakesDown (old : ClientState) (bytes : List ℕ) (new : ClientState) : Type 0 where
+  pub stands : client_calls.Becomes old (client.arriving old.common.config old.copies.kinds bytes) new
+  pub handed : client_calls.Hands old (client.arriving old.common.config old.copies.kinds bytes) new
+  pub taken : client_calls.Answers old (client.arrive_answer old.common.config old.copies.kinds bytes) (Ok tt)
+
+abbrev pub Takes : Side → List ℕ → ℕ → ℕ → Side → Type 0
+Takes (Server old) bytes room moves (Server new) = TakesUp old bytes room moves new
+Takes (Server old) bytes room moves (Client new) = ⊥
+Takes (Client old) bytes room moves (Client new) = TakesDown old bytes new
+Takes (Client old) bytes room moves (Server new) = ⊥
+
+-- a data packet is planned at the server
+abbrev pub Plans : Side → Side → Type 0
+Plans (Server old) (Server new) = server_calls.Planning old new
+Plans (Server old) (Client new) = ⊥
+Plans (Client old) new = ⊥
+
+-- the data packet of these bytes is sent, at the server the one that was planned, with these values
+pub record SendsDown (old : ConnState) (values : List ℤ) (bytes : List ℕ) (new : ConnState) : Type 0 where
+  pub sealed : server_calls.Sealed old values new
+  pub datagram : server_calls.Answers old (server.server_bytes (terms_of old) values) bytes
+
+pub record SendsUp (old : ClientState) (bytes : List ℕ) (new : ClientState) : Type 0 where
+  pub packed : client_calls.ClientPacked old new
+  pub state : client_calls.Answers old (client.client_state old.common.config) Room
+  pub datagram : client_calls.Answers old (client.client_bytes old.common.config) bytes
+
+abbrev pub Sends : Side → List ℤ → List ℕ → Side → Type 0
+Sends (Server old) values bytes (Server new) = SendsDown old values bytes new
+Sends (Server old) values bytes (Client new) = ⊥
+Sends (Client old) values bytes (Client new) = SendsUp old bytes new
+Sends (Client old) values bytes (Server new) = ⊥
+
+-- a ping of these bytes is sent
+pub record PingsDown (old : ConnState) (bytes : List ℕ) (new : ConnState) : Type 0 where
+  pub pinged : server_calls.Pinging old new
+  pub datagram : server_calls.Answers old (server.server_ping_bytes (terms_of old)) bytes
+
+pub record PingsUp (old : ClientState) (bytes : List ℕ) (new : ClientState) : Type 0 where
+  pub packed : client_calls.ClientPacked old new
+  pub state : client_calls.Answers old (client.client_state old.common.config) Held
+  pub datagram : client_calls.Answers old (client.client_ping_bytes old.common.config) bytes
+
+abbrev pub Pings : Side → List ℕ → Side → Type 0
+Pings (Server old) bytes (Server new) = PingsDown old bytes new
+Pings (Server old) bytes (Client new) = ⊥
+Pings (Client old) bytes (Client new) = PingsUp old bytes new
+Pings (Client old) bytes (Server new) = ⊥
+
+-- ---- what an end tells
+
+abbrev pub HasControl : Side → Option ℕ → Type 0
+HasControl (Server c) found = ⊥
+HasControl (Client c) found = client_calls.Answers c client.control_at found
+
+pub record CountsAtServer (c : ConnState) (n : Counts) : Type 0 where
+  pub sent : server_calls.Answers c (λ log. sent_of (window_log (server.server_end log))) n.sent
+  pub unjudged : server_calls.Answers c (λ log. judged_at (server.server_end log) + 1) n.unjudged
+  pub delivered : server_calls.Answers c (λ log. run_of (came_of (server.server_end log))) n.delivered
+  pub waiting : n.waiting ≡ length c.common.receiver.ready
+  pub moves : server_calls.Answers c (λ log. length (server.accepted_at c.common.config log)) n.moves
+
+pub record CountsAtClient (c : ClientState) (n : Counts) : Type 0 where
+  pub sent : client_calls.Answers c (λ log. sent_of (window_log (client.client_end log))) n.sent
+  pub unjudged : client_calls.Answers c (λ log. judged_at (client.client_end log) + 1) n.unjudged
+  pub delivered : client_calls.Answers c (λ log. run_of (came_of (client.client_end log))) n.delivered
+  pub waiting : n.waiting ≡ length c.common.receiver.ready
+  pub moves : client_calls.Answers c (λ log. length (client.sampled_at log)) n.moves
+
+abbrev pub AreCounts : Side → Counts → Type 0
+AreCounts (Server c) counts = CountsAtServer c counts
+AreCounts (Client c) counts = CountsAtClient c counts

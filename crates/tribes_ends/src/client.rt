@@ -1,0 +1,237 @@
+//! The client's end, with each call's conditions tested.
+ghost use Rattle.std.specs.Prelude.{◌≡◌, ℕ, ◌≤◌, ◌<◌, IfOk, IfSome, IsNone, OnOk, OnErr, Ok, [], true, false, not, nat_eq, length, take};
+ghost use Rattle.tn_types.specs.Steps.{is_step};
+ghost use Rattle.tn_types.specs.declared.choices.Class.TheVariants.{Guaranteed, Loose};
+ghost use Rattle.stream_manager.specs.Client.{Posted, posted_at_client};
+ghost use Rattle.stream_manager.specs.ClientCalls.{Does, Answers};
+ghost use Rattle.tribes_ends.specs.Sides.{PopsAtClient, SamplesAtClient, TakesDown, SendsUp, PingsUp, CountsAtClient};
+
+use crate::counts::Counts;
+use crate::handing::{Popped, hand_event, hand_over};
+use crate::link::Packed;
+use crate::refusal::Refusal;
+use crate::rows::{Change, Copied, Judged, StepMade, list_changes, list_verdicts};
+use stream_manager::{Client, ClientOut};
+use tn_types::{
+    MAX_BLOCK_BYTES, MAX_EVENT_BYTES, MAX_FIELDS, MAX_PACKET_GHOSTS, MAX_READ_BYTES, MAX_STEP,
+    MAX_UNJUDGED_PACKETS, MIN_STEP, Move, Payload,
+};
+
+/// Posts an event, and gives its number where it is guaranteed, else 0.
+pub(crate) fn post(client: &mut Client, bytes: &[u8], guaranteed: bool) -> Result<u32, Refusal>
+    ensures guaranteed { guaranteed ≡ true → OnOk result (Does client.old (Posted Guaranteed bytes.now) client.new) }
+    ensures number { guaranteed ≡ true → IfOk result (λ n. Answers client.old (posted_at_client client.old.common.config) (Ok n)) }
+    ensures loose { guaranteed ≡ false → OnOk result (Does client.old (Posted Loose bytes.now) client.new) }
+    ensures unchanged { OnErr result (client.new ≡ client.old) }
+{
+    let Some(payload) = Payload::from_slice(bytes) else {
+        return Err(Refusal::TooLong {
+            most: MAX_EVENT_BYTES as u32,
+        });
+    };
+    if guaranteed {
+        match client.post(payload) {
+            Ok(number) => Ok(number),
+            Err(fault) => Err(Refusal::from(fault)),
+        }
+    } else {
+        let _ = client.post_loose(payload);
+        Ok(0)
+    }
+}
+
+/// The step of this number, if it is in its range.
+fn step_of(number: i32) -> Option<i8>
+    ensures value { IfSome result (λ step. step ≡ number) }
+    ensures range { IfSome result (λ step. is_step step ≡ true) }
+{
+    if number < i32::from(MIN_STEP) || number > i32::from(MAX_STEP) {
+        return None;
+    }
+    Some(number as i8)
+}
+
+/// Takes up this move, and gives its number.
+fn take_up(client: &mut Client, m: Move) -> Result<u32, Refusal>
+    ensures told { IfOk result (λ n. SamplesAtClient client.old m.dx m.dy m.fire m.act n client.new) }
+    ensures unchanged { OnErr result (client.new ≡ client.old) }
+{
+    match client.sample(m) {
+        Ok(number) => Ok(number),
+        Err(fault) => Err(Refusal::from(fault)),
+    }
+}
+
+/// Takes up a move of these numbers, and gives its number.
+pub(crate) fn sample(client: &mut Client, step: &StepMade) -> Result<u32, Refusal>
+    ensures told { let s = step.now in
+        IfOk result (λ n. SamplesAtClient client.old s.dx s.dy (not (nat_eq s.fire 0)) (not (nat_eq s.act 0)) n client.new) }
+    ensures unchanged { OnErr result (client.new ≡ client.old) }
+{
+    let Some(dx) = step_of(step.dx) else {
+        return Err(Refusal::BadStep);
+    };
+    let Some(dy) = step_of(step.dy) else {
+        return Err(Refusal::BadStep);
+    };
+    let m = Move {
+        dx,
+        dy,
+        fire: step.fire != 0,
+        act: step.act != 0,
+    };
+    take_up(client, m)
+}
+
+/// Makes the next datagram.
+pub(crate) fn pack(client: &mut Client, place: &mut [u8]) -> Result<Packed, Refusal>
+    ensures data { (count : ℕ) → result ≡ Ok (Packed.Data count) → SendsUp client.old (take count place.new) client.new }
+    ensures ping { (count : ℕ) → result ≡ Ok (Packed.Ping count) → PingsUp client.old (take count place.new) client.new }
+    ensures unchanged { OnErr result (client.new ≡ client.old) }
+{
+    let size = client.config().size;
+    if place.len() < size as usize {
+        return Err(Refusal::NoRoom { needed: size });
+    }
+    match client.pack() {
+        ClientOut::Body(bytes) => Ok(Packed::Data {
+            count: hand_over(bytes, place),
+        }),
+        ClientOut::Ping(bytes) => Ok(Packed::Ping {
+            count: hand_over(bytes, place),
+        }),
+        ClientOut::Worn { life: _ } => Ok(Packed::Nothing),
+    }
+}
+
+/// Takes a datagram.
+pub(crate) fn arrive(client: &mut Client, bytes: &[u8]) -> Result<u32, Refusal>
+    ensures taken { OnOk result (TakesDown client.old bytes.now client.new) }
+    ensures unchanged { OnErr result (client.new ≡ client.old) }
+{
+    if bytes.len() > MAX_READ_BYTES {
+        return Err(Refusal::TooLong {
+            most: MAX_READ_BYTES as u32,
+        });
+    }
+    let count = client.waiting();
+    if count > 0 {
+        return Err(Refusal::EventsWait { count });
+    }
+    match client.arrive(bytes) {
+        Ok(()) => Ok(0),
+        Err(fault) => Err(Refusal::AtClient(fault)),
+    }
+}
+
+/// Hands out the oldest event that waits.
+pub(crate) fn pop(client: &mut Client, place: &mut [u8]) -> Result<Option<Popped>, Refusal>
+    ensures popped { IfOk result (λ found. IfSome found (λ p. PopsAtClient client.old p.class (take p.count place.new) client.new)) }
+    ensures none { IfOk result (λ found. IsNone found → client.old.common.receiver.ready ≡ []) }
+    ensures unchanged { OnErr result (client.new ≡ client.old) }
+{
+    if place.len() < MAX_EVENT_BYTES {
+        return Err(Refusal::NoRoom {
+            needed: MAX_EVENT_BYTES as u32,
+        });
+    }
+    match client.pop_event() {
+        Some((class, payload)) => Ok(Some(hand_event(class, &payload, place))),
+        None => Ok(None),
+    }
+}
+
+/// Hands over the bytes of a block that came; gives how many these are.
+pub(crate) fn block(client: &Client, number: u32, place: &mut [u8]) -> Result<usize, Refusal> {
+    if place.len() < MAX_BLOCK_BYTES {
+        return Err(Refusal::NoRoom {
+            needed: MAX_BLOCK_BYTES as u32,
+        });
+    }
+    if number > 255 {
+        return Err(Refusal::NoBlock { block: number });
+    }
+    match client.block(number as u8) {
+        Some(bytes) => Ok(hand_over(bytes.as_slice(), place)),
+        None => Err(Refusal::NoBlock { block: number }),
+    }
+}
+
+/// What the end counted.
+pub(crate) fn counts(client: &Client) -> Counts
+    ensures { CountsAtClient client.now result }
+{
+    Counts {
+        sent: client.sent(),
+        unjudged: client.unjudged(),
+        delivered: client.delivered(),
+        waiting: client.waiting(),
+        moves: client.sampled(),
+    }
+}
+
+/// Lists what became of the packets that the last datagram judged; gives how many these are.
+pub(crate) fn verdicts(client: &Client, place: &mut [Judged]) -> Result<u32, Refusal> {
+    if place.len() < MAX_UNJUDGED_PACKETS as usize {
+        return Err(Refusal::NoRoom {
+            needed: MAX_UNJUDGED_PACKETS,
+        });
+    }
+    let verdicts = client.verdicts();
+    list_verdicts(verdicts, place);
+    Ok(verdicts.count())
+}
+
+/// Lists what the last datagram did to slots; gives how many items these are.
+pub(crate) fn changes(client: &Client, place: &mut [Change]) -> Result<u32, Refusal> {
+    if place.len() < MAX_PACKET_GHOSTS {
+        return Err(Refusal::NoRoom {
+            needed: MAX_PACKET_GHOSTS as u32,
+        });
+    }
+    let items = client.changes();
+    list_changes(items, place);
+    Ok(items.len().min(MAX_PACKET_GHOSTS) as u32)
+}
+
+/// The least slot from this one on that holds a copy.
+pub(crate) fn next_copy(client: &Client, from: u32) -> Option<u8> {
+    if from > 255 {
+        return None;
+    }
+    let behind = if from == 0 {
+        None
+    } else {
+        Some((from - 1) as u8)
+    };
+    client.copies().next_full(behind)
+}
+
+/// The copy in a slot, with the values of its fields.
+pub(crate) fn copy(client: &Client, slot: u32, values: &mut [i64]) -> Result<Copied, Refusal> {
+    if slot > 255 {
+        return Err(Refusal::NoCopy { slot });
+    }
+    let copies = client.copies();
+    let Some(found) = copies.get(slot as u8) else {
+        return Err(Refusal::NoCopy { slot });
+    };
+    let fields = found.levels.len();
+    if values.len() < fields {
+        return Err(Refusal::NoRoom {
+            needed: MAX_FIELDS as u32,
+        });
+    }
+    let mut field = 0u8;
+    'places: for place in values.iter_mut() {
+        if let Some(value) = copies.value(slot as u8, field) {
+            *place = value;
+        }
+        field = field.saturating_add(1);
+    }
+    Ok(Copied {
+        kind: u32::from(found.kind),
+        block: u32::from(found.block),
+        fields: fields.min(MAX_FIELDS) as u32,
+    })
+}

@@ -1,0 +1,23 @@
+//! Both ends of a connection for callers that can promise nothing: each number, length, list and order of calls is tested, and
+//! what may not be done answers its refusal and changes nothing.
+#![tactic(auto)]
+
+mod asking;
+mod client;
+mod counts;
+mod handing;
+mod link;
+mod refusal;
+mod rows;
+mod server;
+mod tables;
+mod why;
+
+pub use asking::Ask;
+pub use counts::Counts;
+pub use handing::Popped;
+pub use link::{Link, Packed, Side};
+pub use refusal::Refusal;
+pub use rows::{Change, Copied, Judged, StepMade};
+pub use tables::{ConfigRow, FieldRow, KindRow};
+pub use why::Why;

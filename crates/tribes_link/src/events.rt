@@ -1,0 +1,122 @@
+//! Events both ways, and moves from the client to the server.
+ghost use Rattle.std.specs.Prelude.{◌≡◌, pos, not, nat_eq, take};
+ghost use Rattle.tn_types.specs.declared.choices.Class.TheVariants.{Guaranteed, Loose};
+ghost use Rattle.tribes_ends.specs.Sides.{Posts, IsNextEvent, Pops, Samples};
+ghost use Rattle.tribes_link.specs.Behind.{Behind, Tells};
+
+use crate::answering::{NO_END, finish_with, refused};
+use crate::end::End;
+use std::alloc::Global;
+use tn_types::Class;
+use tribes_ends::{Popped, StepMade};
+
+/// Posts an event, and gives its number where it is guaranteed.
+#[unsafe(no_mangle)]
+pub extern "C" fn tribes_post(
+    alloc: Global,
+    end: &mut End,
+    bytes: &[u8],
+    guaranteed: u32,
+    number: &mut u32,
+) -> i32
+    ensures loose { guaranteed ≡ 0 → result ≡ pos 0
+        → Behind (λ old new. Posts old Loose bytes.now new) end.old.held.value end.new.held.value }
+    ensures guaranteed { (guaranteed ≡ 0 → ⊥) → result ≡ pos 0
+        → Behind (λ old new. Posts old Guaranteed bytes.now new) end.old.held.value end.new.held.value }
+    ensures number { (guaranteed ≡ 0 → ⊥) → result ≡ pos 0 → Tells (λ old. IsNextEvent old number.new) end.old.held.value }
+    ensures unchanged { (result ≡ pos 0 → ⊥) → end.new.held.value ≡ end.old.held.value }
+{
+    match end.take(alloc) {
+        Some(taken) => {
+            let mut link = taken;
+            let done = link.post(bytes, guaranteed != 0);
+            finish_with(end, link, done, number)
+        }
+        None => NO_END,
+    }
+}
+
+/// Hands out the oldest event that came in: answers 2 for a guaranteed one and 1 for another with the count of its bytes, or 0.
+#[unsafe(no_mangle)]
+pub extern "C" fn tribes_event(
+    alloc: Global,
+    end: &mut End,
+    bytes: &mut [u8],
+    count: &mut usize,
+) -> i32
+    ensures guaranteed { result ≡ pos 2
+        → Behind (λ old new. Pops old Guaranteed (take count.new bytes.new) new) end.old.held.value end.new.held.value }
+    ensures loose { result ≡ pos 1
+        → Behind (λ old new. Pops old Loose (take count.new bytes.new) new) end.old.held.value end.new.held.value }
+    ensures unchanged { (result ≡ pos 0 → ⊥) → (result ≡ pos 1 → ⊥) → (result ≡ pos 2 → ⊥)
+        → end.new.held.value ≡ end.old.held.value }
+{
+    match end.take(alloc) {
+        Some(taken) => {
+            let mut link = taken;
+            let code = match link.pop(bytes) {
+                Ok(
+                    Some(
+                        Popped {
+                            class,
+                            count: popped,
+                        },
+                    ),
+                ) => {
+                    *count = popped;
+                    match class {
+                        Class::Guaranteed => 2,
+                        Class::Loose => 1,
+                    }
+                }
+                Ok(None) => 0,
+                Err(refusal) => refused(&mut *link, refusal),
+            };
+            end.put(link);
+            code
+        }
+        None => NO_END,
+    }
+}
+
+/// Takes up a move of the player, and gives its number.
+#[unsafe(no_mangle)]
+pub extern "C" fn tribes_sample(
+    alloc: Global,
+    end: &mut End,
+    step: &StepMade,
+    number: &mut u32,
+) -> i32
+    ensures told { let s = step.now in result ≡ pos 0
+        → Behind (λ old new. Samples old s.dx s.dy (not (nat_eq s.fire 0)) (not (nat_eq s.act 0)) number.new new)
+        end.old.held.value end.new.held.value }
+    ensures unchanged { (result ≡ pos 0 → ⊥) → end.new.held.value ≡ end.old.held.value }
+{
+    match end.take(alloc) {
+        Some(taken) => {
+            let mut link = taken;
+            let done = link.sample(step);
+            finish_with(end, link, done, number)
+        }
+        None => NO_END,
+    }
+}
+
+/// Lists the moves that the last datagram brought, and gives how many these are.
+#[unsafe(no_mangle)]
+pub extern "C" fn tribes_moves(
+    alloc: Global,
+    end: &mut End,
+    steps: &mut [StepMade],
+    count: &mut u32,
+) -> i32
+    ensures unchanged { end.new.held.value ≡ end.old.held.value }
+{
+    match end.take(alloc) {
+        Some(link) => {
+            let done = link.moves(steps);
+            finish_with(end, link, done, count)
+        }
+        None => NO_END,
+    }
+}

@@ -1,0 +1,313 @@
+/* TRIBES: one end of a connection, as a library (libtribes_link.a).
+ *
+ * The library has no sockets, no threads, no clock and no callbacks. It makes datagrams and takes datagrams; the game sends
+ * them by whatever it has. A server has one end for each client; a client has one end.
+ *
+ *     server, each turn and client                           client, each frame
+ *     tribes_arrive(..) for each datagram that came          tribes_arrive(..) for each datagram that came
+ *       tribes_event(..) until it answers 0                    tribes_event(..) until it answers 0
+ *       tribes_moves(..) for the moves that it brought         tribes_next_copy, tribes_copy(..) to draw
+ *     tribes_show, _hide, _near, _changed, _post             tribes_sample, tribes_post
+ *     tribes_plan -> what it asks for                        tribes_pack -> send it
+ *     tribes_pack with those values -> send it
+ *
+ * Answers. Each call answers 0 or above where it did what it says, and below 0 where it did nothing. What a call that did
+ * nothing leaves is exactly what was there. tribes_why tells the last such answer of an end with the numbers that it names.
+ *
+ * Tested at the border, for any numbers: whether an end is behind the handle, each number's range, each length, each buffer's
+ * room, each order of calls. A handle that was filled with zeros has no end, and so has one that was freed.
+ *
+ * Not tested, since no program can: that a pointer points to what its type says and to as many items as the count beside it
+ * says, and that no two arguments overlap. No pointer may be null, not even one of no items.
+ *
+ * Threads: any number of ends may be used in any number of threads; one end in one call at a time. An end stays on the thread
+ * that made it, or is handed on under a lock or by a thread's start or join.
+ *
+ * Memory: from malloc and free, in tribes_server and tribes_client alone, freed by tribes_free.
+ *
+ * Versions: a header fits a library where tribes_version() answers TRIBES_VERSION. docs/library.md says what changes it. The version of
+ * the datagrams is another thing: it stands in tribes_config, and both ends of a connection have the same. */
+#ifndef TRIBES_H
+#define TRIBES_H
+
+#define TRIBES_VERSION 1
+
+#include <stddef.h>
+#include <stdint.h>
+
+#ifdef __cplusplus
+extern "C" {
+#endif
+
+enum {
+    TRIBES_MAX_DATAGRAM = 1200, /* no datagram is longer */
+    TRIBES_MAX_EVENT = 24,      /* bytes of an event */
+    TRIBES_MAX_BLOCK = 40,      /* bytes of a block */
+    TRIBES_MAX_BLOCKS = 64,
+    TRIBES_MAX_KINDS = 16,
+    TRIBES_MAX_FIELDS = 16,     /* of a kind */
+    TRIBES_MAX_SHOWN = 1024,    /* periods shown at a time */
+    TRIBES_MAX_SLOTS = 256,     /* copies at a client */
+    TRIBES_MAX_MOVES = 32,      /* moves of one datagram */
+    TRIBES_MAX_ASKS = 2048,     /* values that a plan can ask for */
+    TRIBES_MAX_JUDGED = 32,     /* data packets that one datagram judges */
+    TRIBES_MAX_CHANGES = 128    /* slots that one datagram changes */
+};
+
+enum {
+    /* the handle and memory */
+    TRIBES_NO_END = -1,
+    TRIBES_HAS_END = -2,
+    TRIBES_NO_MEMORY = -3,
+    TRIBES_WRONG_END = -4,       /* the call is for the other end */
+    /* what an end is made with */
+    TRIBES_BAD_CLIENT = -5,      /* client */
+    TRIBES_BAD_LIFE = -16,       /* life */
+    TRIBES_BAD_SIZE = -17,       /* size */
+    TRIBES_BAD_VERSION = -18,    /* version */
+    TRIBES_BAD_FIELD_COUNTS = -6,
+    TRIBES_BAD_BLOCKS = -7,
+    TRIBES_TOO_MANY_KINDS = -20,
+    TRIBES_NO_KINDS = -21,
+    TRIBES_TOO_MANY_FIELDS = -22, /* kind */
+    TRIBES_NO_FIELDS = -23,       /* kind */
+    TRIBES_BAD_RANGE = -24,       /* kind, field */
+    TRIBES_TOO_WIDE = -25,        /* kind */
+    /* the arguments of a call */
+    TRIBES_TOO_LONG = -8,        /* most bytes */
+    TRIBES_NO_ROOM = -9,         /* how much is needed */
+    TRIBES_NOT_PLANNED = -10,
+    TRIBES_BAD_VALUES = -11,
+    TRIBES_EVENTS_WAIT = -12,    /* count: pop them first */
+    TRIBES_BAD_STEP = -13,
+    TRIBES_NO_COPY = -14,        /* slot */
+    TRIBES_NULL = -15,           /* a null pointer: for wrappers that look for one; the library doesn't */
+    TRIBES_NO_KIND = -30,        /* kind */
+    TRIBES_NO_BLOCK = -31,       /* block */
+    TRIBES_NO_LEVEL = -32,       /* level */
+    TRIBES_TOO_MANY_SHOWN = -33,
+    TRIBES_SHOWS_WORN = -34,
+    TRIBES_HAS_CONTROL = -35,
+    TRIBES_NOT_SHOWN = -36,      /* period */
+    TRIBES_NO_FIELD = -37,       /* period */
+    /* a datagram that was refused: place of the first bit that is wrong */
+    TRIBES_BITS_SHORT = -40,
+    TRIBES_BITS_PADDING = -41,
+    TRIBES_BITS_KIND = -42,
+    TRIBES_BITS_OP = -43,
+    TRIBES_BITS_COUNT = -44,
+    TRIBES_BITS_LENGTH = -45,
+    TRIBES_BITS_UNKNOWN_KIND = -46,
+    TRIBES_BITS_EMPTY_MASK = -47,
+    TRIBES_BITS_ZERO_SEQ = -48,
+    TRIBES_BITS_UNKNOWN_SLOT = -49,
+    TRIBES_WRONG_CLIENT = -50,   /* client */
+    TRIBES_OLD = -51,            /* number, horizon: a repeated or late datagram */
+    TRIBES_ACK_AHEAD = -52,      /* horizon, last sent */
+    TRIBES_MOVE_GAP = -53,       /* first, accepted */
+    TRIBES_MOVE_AHEAD = -54,     /* count, sampled */
+    TRIBES_BLOCK_DIFFERS = -55,  /* block */
+    TRIBES_EVENT_AHEAD = -56,    /* number, delivered */
+    TRIBES_GHOST_TWICE = -60,    /* slot */
+    TRIBES_GHOST_UNKNOWN = -61,  /* slot */
+    TRIBES_GHOST_TAKEN = -62,    /* slot */
+    TRIBES_GHOST_KIND = -63,     /* slot, kind held */
+    TRIBES_GHOST_BLOCK = -64,    /* slot, block */
+    /* counters and queues */
+    TRIBES_EVENTS_WORN = -70,    /* life */
+    TRIBES_EVENTS_FULL = -71,    /* first, last unacknowledged */
+    TRIBES_MOVES_WORN = -72,     /* life */
+    TRIBES_MOVES_FULL = -73      /* first, last unacknowledged */
+};
+
+/* A handle. Fill it with zeros before the first call, and never copy it while an end is behind it. */
+typedef struct tribes_end {
+    uint32_t state;
+    void *at;
+} tribes_end;
+
+typedef struct tribes_config {
+    uint32_t client;  /* 0 to 15 */
+    uint32_t life;    /* what ends each counter: 1 to 16,777,215 */
+    uint32_t size;    /* bytes of a datagram: 128 to 1,200 */
+    uint32_t version; /* of the datagrams: 1 or 2, which writes updates and events shorter */
+} tribes_config;
+
+/* A field holds lo to hi and travels in bits (1 to 24): both ends are made with the same table. */
+typedef struct tribes_field {
+    int64_t lo, hi;
+    uint32_t bits;
+} tribes_field;
+
+/* A kind of object: how many of the fields are its own, and how much it weighs in a packet's order. */
+typedef struct tribes_kind {
+    uint32_t fields;
+    uint8_t weight;
+} tribes_kind;
+
+typedef struct tribes_reason {
+    int32_t code;
+    uint32_t first, second;
+} tribes_reason;
+
+typedef struct tribes_object {
+    uint32_t kind, block;
+    uint32_t level;   /* of distance, 0 (near) to 3 */
+    uint32_t control; /* not 0: it is the client's own */
+} tribes_object;
+
+typedef struct tribes_ask {
+    uint32_t n, field;
+} tribes_ask;
+
+typedef struct tribes_step {
+    int32_t dx, dy; /* -8 to 7 */
+    uint32_t fire, act;
+} tribes_step;
+
+typedef struct tribes_count {
+    uint32_t sent;      /* the number of the last data packet that was sent */
+    uint32_t unjudged;  /* the least number that has no verdict */
+    uint32_t delivered; /* guaranteed events that came in */
+    uint32_t waiting;   /* events that wait to be popped */
+    uint32_t moves;     /* accepted at the server, sampled at the client */
+} tribes_count;
+
+typedef struct tribes_copied {
+    uint32_t kind, block, fields;
+} tribes_copied;
+
+/* what became of a data packet that this end sent */
+typedef struct tribes_judged {
+    uint32_t number;
+    uint32_t received; /* 1: the other end processed it; 0: it never will */
+} tribes_judged;
+
+/* what a datagram did to a slot */
+typedef struct tribes_change {
+    uint32_t slot;
+    uint32_t what;   /* 0: the copy is gone; 1: it is new; 2: fields of it have new values */
+    uint32_t fields; /* bit f: field f */
+} tribes_change;
+
+/* The functions of the library. A slice crosses as its pointer and then its count. */
+int32_t tribes_server(tribes_end *end, const tribes_config *config, const tribes_kind *kinds, size_t kind_count,
+                      const tribes_field *fields, size_t field_count, const uint8_t *block_bytes, size_t byte_count,
+                      const uint32_t *block_lengths, size_t block_count, tribes_reason *reason);
+int32_t tribes_client(tribes_end *end, const tribes_config *config, const tribes_kind *kinds, size_t kind_count,
+                      const tribes_field *fields, size_t field_count, tribes_reason *reason);
+int32_t tribes_free(tribes_end *end);
+int32_t tribes_why(tribes_end *end, tribes_reason *reason);
+uint32_t tribes_version(void);
+
+/* at the server: objects in scope */
+int32_t tribes_show(tribes_end *end, const tribes_object *object, uint32_t *n);
+int32_t tribes_hide(tribes_end *end, uint32_t n);
+int32_t tribes_near(tribes_end *end, uint32_t n, uint32_t level);
+int32_t tribes_changed(tribes_end *end, uint32_t n, uint32_t bits);   /* bit f: field f has a new value */
+int32_t tribes_settled(tribes_end *end, uint32_t n, uint32_t field);  /* 1: the client has the newest value */
+int32_t tribes_slot(tribes_end *end, uint32_t n, uint32_t *slot);     /* 1: it holds a slot; 0: none */
+
+/* datagrams. tribes_plan answers 1 with the count of values that the next datagram asks for, or 0: it asks for nothing; there has
+ * to be room for TRIBES_MAX_ASKS. Any other call at this end that changes something, but tribes_event, drops the plan.
+ * tribes_pack answers 2: a data packet, 1: a ping, 0: nothing (the connection is worn). A client needs no plan. */
+int32_t tribes_plan(tribes_end *end, tribes_ask *asks, size_t room, size_t *count);
+int32_t tribes_pack(tribes_end *end, const int64_t *values, size_t value_count, uint8_t *bytes, size_t room, size_t *count);
+int32_t tribes_arrive(tribes_end *end, const uint8_t *bytes, size_t count, uint32_t move_room, uint32_t *moves);
+
+/* events, both ways. tribes_event answers 2: a guaranteed one, 1: another, 0: none waits */
+int32_t tribes_post(tribes_end *end, const uint8_t *bytes, size_t count, uint32_t guaranteed, uint32_t *number);
+int32_t tribes_event(tribes_end *end, uint8_t *bytes, size_t room, size_t *count);
+
+/* moves: sampled at the client, taken at the server from the datagram that arrived last */
+int32_t tribes_sample(tribes_end *end, const tribes_step *step, uint32_t *number);
+int32_t tribes_moves(tribes_end *end, tribes_step *steps, size_t room, uint32_t *count);
+
+/* blocks: at the server those that it was made with, at the client those that came. Answers 0 with the count of bytes */
+int32_t tribes_block(tribes_end *end, uint32_t number, uint8_t *bytes, size_t room, size_t *count);
+
+/* what the end counted. A data packet that was sent as number n has its verdict once unjudged is above n: note the time at which
+ * each was sent, and the round trip is known */
+int32_t tribes_counts(tribes_end *end, tribes_count *counts);
+
+/* the data packets that the datagram which arrived last judged, by rising number: room for TRIBES_MAX_JUDGED */
+int32_t tribes_verdicts(tribes_end *end, tribes_judged *judged, size_t room, uint32_t *count);
+
+/* at the client: copies by slot, with the values of their fields, and the slot of the client's own object. tribes_next_copy answers 1
+ * with the least slot from `from` on that holds a copy, else 0. tribes_changes lists what the datagram that arrived last did to slots:
+ * room for TRIBES_MAX_CHANGES */
+int32_t tribes_copy(tribes_end *end, uint32_t slot, tribes_copied *copied, int64_t *values, size_t room);
+int32_t tribes_next_copy(tribes_end *end, uint32_t from, uint32_t *slot);
+int32_t tribes_changes(tribes_end *end, tribes_change *changes, size_t room, uint32_t *count);
+int32_t tribes_control(tribes_end *end, uint32_t *slot);
+
+/* The answer in words. */
+static inline const char *tribes_text(int32_t code) {
+    switch (code) {
+    case TRIBES_NO_END: return "no end is behind the handle";
+    case TRIBES_HAS_END: return "an end is behind the handle already";
+    case TRIBES_NO_MEMORY: return "memory was not to be had";
+    case TRIBES_WRONG_END: return "the call is for the other end";
+    case TRIBES_BAD_CLIENT: return "the client's number is above 15";
+    case TRIBES_BAD_LIFE: return "the life is 0 or above 16,777,215";
+    case TRIBES_BAD_SIZE: return "the size is below 128 or above 1,200";
+    case TRIBES_BAD_VERSION: return "the version is neither 1 nor 2";
+    case TRIBES_BAD_FIELD_COUNTS: return "the kinds have not as many fields as there are";
+    case TRIBES_BAD_BLOCKS: return "the blocks are too many, too long, or not as long as said";
+    case TRIBES_TOO_MANY_KINDS: return "more than 16 kinds";
+    case TRIBES_NO_KINDS: return "no kind";
+    case TRIBES_TOO_MANY_FIELDS: return "a kind has more than 16 fields";
+    case TRIBES_NO_FIELDS: return "a kind has no field";
+    case TRIBES_BAD_RANGE: return "a field's range or bits are none";
+    case TRIBES_TOO_WIDE: return "a kind has more than 192 bits";
+    case TRIBES_TOO_LONG: return "too many bytes";
+    case TRIBES_NO_ROOM: return "the buffer is too small";
+    case TRIBES_NOT_PLANNED: return "nothing is planned, or something changed since";
+    case TRIBES_BAD_VALUES: return "not the values that were asked for, or one is out of its range";
+    case TRIBES_EVENTS_WAIT: return "events wait to be popped first";
+    case TRIBES_BAD_STEP: return "a step is none of -8 to 7";
+    case TRIBES_NO_COPY: return "the slot is empty";
+    case TRIBES_NULL: return "a null pointer";
+    case TRIBES_NO_KIND: return "no kind of this number";
+    case TRIBES_NO_BLOCK: return "no block of this number";
+    case TRIBES_NO_LEVEL: return "the level is above 3";
+    case TRIBES_TOO_MANY_SHOWN: return "1,024 objects are shown";
+    case TRIBES_SHOWS_WORN: return "no further period has a number";
+    case TRIBES_HAS_CONTROL: return "another object has control";
+    case TRIBES_NOT_SHOWN: return "no such period is shown";
+    case TRIBES_NO_FIELD: return "no such field";
+    case TRIBES_BITS_SHORT: return "the datagram ends too soon";
+    case TRIBES_BITS_PADDING: return "the datagram ends too late";
+    case TRIBES_BITS_KIND: return "the datagram is neither data nor ping";
+    case TRIBES_BITS_OP: return "a ghost is none of kill, create and update";
+    case TRIBES_BITS_COUNT: return "a count is too great";
+    case TRIBES_BITS_LENGTH: return "a length is too great";
+    case TRIBES_BITS_UNKNOWN_KIND: return "a ghost of no kind";
+    case TRIBES_BITS_EMPTY_MASK: return "an update of no field";
+    case TRIBES_BITS_ZERO_SEQ: return "a datagram of number 0";
+    case TRIBES_BITS_UNKNOWN_SLOT: return "an update of a slot that held nothing";
+    case TRIBES_WRONG_CLIENT: return "another client's datagram";
+    case TRIBES_OLD: return "a repeated or late datagram";
+    case TRIBES_ACK_AHEAD: return "it acknowledges what was never sent";
+    case TRIBES_MOVE_GAP: return "moves are missing";
+    case TRIBES_MOVE_AHEAD: return "more moves than were sampled";
+    case TRIBES_BLOCK_DIFFERS: return "a block with other bytes";
+    case TRIBES_EVENT_AHEAD: return "an event too far ahead";
+    case TRIBES_GHOST_TWICE: return "a slot is named twice";
+    case TRIBES_GHOST_UNKNOWN: return "a ghost without a copy";
+    case TRIBES_GHOST_TAKEN: return "a create on a copy";
+    case TRIBES_GHOST_KIND: return "an update of another kind";
+    case TRIBES_GHOST_BLOCK: return "a create without its block";
+    case TRIBES_EVENTS_WORN: return "no further event has a number";
+    case TRIBES_EVENTS_FULL: return "256 events are unacknowledged";
+    case TRIBES_MOVES_WORN: return "no further move has a number";
+    case TRIBES_MOVES_FULL: return "32 moves are unacknowledged";
+    default: return code < 0 ? "unknown" : "done";
+    }
+}
+
+#ifdef __cplusplus
+}
+#endif
+
+#endif

@@ -1,0 +1,467 @@
+//! Safe Rust over `libtribes_link.a`: a server's end and a client's end of a connection, as two types, so that a call for the other end
+//! is a compile error. `tribes.h`, beside this file, says what each call does and when it refuses.
+//!
+//! What the library tests is not tested again here. What it can't test, that a pointer points to as many items as said, is what the
+//! types of Rust promise. An end is freed when it is let go.
+#![allow(dead_code)]
+
+use core::ffi::c_void;
+use core::fmt;
+
+/// The version of the interface; `library_version` tells the library's.
+pub const VERSION: u32 = 1;
+/// No datagram is longer.
+pub const MAX_DATAGRAM: usize = 1_200;
+/// Bytes of an event at the most.
+pub const MAX_EVENT: usize = 24;
+/// Bytes of a block at the most.
+pub const MAX_BLOCK: usize = 40;
+const MAX_FIELDS: usize = 16;
+const MAX_MOVES: usize = 32;
+const MAX_ASKS: usize = 2_048;
+const MAX_JUDGED: usize = 32;
+const MAX_CHANGES: usize = 128;
+
+/// The client's number, 0 to 15; the life of each counter; the bytes of a datagram at the most; the version of the datagrams, 1 or 2.
+#[repr(C)]
+#[derive(Clone, Copy, Debug)]
+pub struct Config {
+    pub client: u32,
+    pub life: u32,
+    pub size: u32,
+    pub version: u32,
+}
+
+/// A field holds `lo` to `hi` and travels in `bits`.
+#[repr(C)]
+#[derive(Clone, Copy, Debug)]
+pub struct Field {
+    pub lo: i64,
+    pub hi: i64,
+    pub bits: u32,
+}
+
+/// A kind: how many of the fields are its own, and how much its objects weigh in a packet's order.
+#[repr(C)]
+#[derive(Clone, Copy, Debug)]
+pub struct Kind {
+    pub fields: u32,
+    pub weight: u8,
+}
+
+/// An object that comes into scope, at a level of distance of 0 to 3.
+#[repr(C)]
+#[derive(Clone, Copy, Debug, Default)]
+pub struct Object {
+    pub kind: u32,
+    pub block: u32,
+    pub level: u32,
+    /// Not 0: it is the client's own.
+    pub control: u32,
+}
+
+/// A move: steps of -8 to 7, and whether the player fires and uses.
+#[repr(C)]
+#[derive(Clone, Copy, Debug, Default, PartialEq, Eq)]
+pub struct Step {
+    pub dx: i32,
+    pub dy: i32,
+    pub fire: u32,
+    pub act: u32,
+}
+
+/// What an end counted.
+#[repr(C)]
+#[derive(Clone, Copy, Debug, Default)]
+pub struct Counts {
+    pub sent: u32,
+    pub unjudged: u32,
+    pub delivered: u32,
+    pub waiting: u32,
+    pub moves: u32,
+}
+
+/// What became of a data packet that was sent: `received` is 1 where the other end processed it, else 0.
+#[repr(C)]
+#[derive(Clone, Copy, Debug, Default)]
+pub struct Judged {
+    pub number: u32,
+    pub received: u32,
+}
+
+/// What a datagram did to a slot: 0 its copy is gone, 1 it is new, 2 the fields of these bits have new values.
+#[repr(C)]
+#[derive(Clone, Copy, Debug, Default)]
+pub struct Change {
+    pub slot: u32,
+    pub what: u32,
+    pub fields: u32,
+}
+
+/// A copy: the object's kind and block, and the values of its fields.
+#[derive(Clone, Debug, Default)]
+pub struct Copy {
+    pub kind: u32,
+    pub block: u32,
+    pub values: Vec<i64>,
+}
+
+/// A refusal: its code, and up to two numbers that it names. Whatever was refused changed nothing.
+#[repr(C)]
+#[derive(Clone, Copy, Debug, Default, PartialEq, Eq)]
+pub struct Error {
+    pub code: i32,
+    pub first: u32,
+    pub second: u32,
+}
+
+impl fmt::Display for Error {
+    fn fmt(&self, f: &mut fmt::Formatter<'_>) -> fmt::Result {
+        write!(f, "{} ({} {} {})", words(self.code), self.code, self.first, self.second)
+    }
+}
+
+impl std::error::Error for Error {}
+
+/// What each code says.
+pub fn words(code: i32) -> &'static str {
+    match code {
+        -1 => "no end is behind the handle",
+        -2 => "an end is behind the handle already",
+        -3 => "memory was not to be had",
+        -4 => "the call is for the other end",
+        -5 => "the client's number is above 15",
+        -16 => "the life is 0 or above 16,777,215",
+        -17 => "the size is below 128 or above 1,200",
+        -18 => "the version is neither 1 nor 2",
+        -6 => "the kinds have not as many fields as there are",
+        -7 => "the blocks are too many, too long, or not as long as said",
+        -20 => "more than 16 kinds",
+        -21 => "no kind",
+        -22 => "a kind has more than 16 fields",
+        -23 => "a kind has no field",
+        -24 => "a field's range or bits are none",
+        -25 => "a kind has more than 192 bits",
+        -8 => "too many bytes",
+        -9 => "the buffer is too small",
+        -10 => "nothing is planned, or something changed since",
+        -11 => "not the values that were asked for, or one is out of its range",
+        -12 => "events wait to be popped first",
+        -13 => "a step is none of -8 to 7",
+        -14 => "the slot is empty",
+        -15 => "a null pointer",
+        -30 => "no kind of this number",
+        -31 => "no block of this number",
+        -32 => "the level is above 3",
+        -33 => "1,024 objects are shown",
+        -34 => "no further period has a number",
+        -35 => "another object has control",
+        -36 => "no such period is shown",
+        -37 => "no such field",
+        -40 => "the datagram ends too soon",
+        -41 => "the datagram ends too late",
+        -42 => "the datagram is neither data nor ping",
+        -43 => "a ghost is none of kill, create and update",
+        -44 => "a count is too great",
+        -45 => "a length is too great",
+        -46 => "a ghost of no kind",
+        -47 => "an update of no field",
+        -48 => "a datagram of number 0",
+        -49 => "an update of a slot that held nothing",
+        -50 => "another client's datagram",
+        -51 => "a repeated or late datagram",
+        -52 => "it acknowledges what was never sent",
+        -53 => "moves are missing",
+        -54 => "more moves than were sampled",
+        -55 => "a block with other bytes",
+        -56 => "an event too far ahead",
+        -60 => "a slot is named twice",
+        -61 => "a ghost without a copy",
+        -62 => "a create on a copy",
+        -63 => "an update of another kind",
+        -64 => "a create without its block",
+        -70 => "no further event has a number",
+        -71 => "256 events are unacknowledged",
+        -72 => "no further move has a number",
+        -73 => "32 moves are unacknowledged",
+        0.. => "done",
+        _ => "unknown",
+    }
+}
+
+#[repr(C)]
+struct Handle {
+    state: u32,
+    at: *mut c_void,
+}
+
+#[repr(C)]
+#[derive(Clone, Copy, Default)]
+struct Ask {
+    n: u32,
+    field: u32,
+}
+
+#[repr(C)]
+#[derive(Clone, Copy, Default)]
+struct Copied {
+    kind: u32,
+    block: u32,
+    fields: u32,
+}
+
+#[rustfmt::skip]
+unsafe extern "C" {
+    fn tribes_server(
+        end: *mut Handle, config: *const Config, kinds: *const Kind, kind_count: usize, fields: *const Field, field_count: usize,
+        bytes: *const u8, byte_count: usize, lengths: *const u32, block_count: usize, error: *mut Error,
+    ) -> i32;
+    fn tribes_client(
+        end: *mut Handle, config: *const Config, kinds: *const Kind, kind_count: usize, fields: *const Field, field_count: usize,
+        error: *mut Error,
+    ) -> i32;
+    fn tribes_free(end: *mut Handle) -> i32;
+    fn tribes_why(end: *mut Handle, error: *mut Error) -> i32;
+    fn tribes_version() -> u32;
+    fn tribes_show(end: *mut Handle, object: *const Object, n: *mut u32) -> i32;
+    fn tribes_hide(end: *mut Handle, n: u32) -> i32;
+    fn tribes_near(end: *mut Handle, n: u32, level: u32) -> i32;
+    fn tribes_changed(end: *mut Handle, n: u32, bits: u32) -> i32;
+    fn tribes_settled(end: *mut Handle, n: u32, field: u32) -> i32;
+    fn tribes_slot(end: *mut Handle, n: u32, slot: *mut u32) -> i32;
+    fn tribes_plan(end: *mut Handle, asks: *mut Ask, room: usize, count: *mut usize) -> i32;
+    fn tribes_pack(end: *mut Handle, values: *const i64, value_count: usize, bytes: *mut u8, room: usize, count: *mut usize) -> i32;
+    fn tribes_arrive(end: *mut Handle, bytes: *const u8, count: usize, room: u32, moves: *mut u32) -> i32;
+    fn tribes_post(end: *mut Handle, bytes: *const u8, count: usize, guaranteed: u32, number: *mut u32) -> i32;
+    fn tribes_event(end: *mut Handle, bytes: *mut u8, room: usize, count: *mut usize) -> i32;
+    fn tribes_sample(end: *mut Handle, step: *const Step, number: *mut u32) -> i32;
+    fn tribes_moves(end: *mut Handle, steps: *mut Step, room: usize, count: *mut u32) -> i32;
+    fn tribes_block(end: *mut Handle, number: u32, bytes: *mut u8, room: usize, count: *mut usize) -> i32;
+    fn tribes_counts(end: *mut Handle, counts: *mut Counts) -> i32;
+    fn tribes_verdicts(end: *mut Handle, judged: *mut Judged, room: usize, count: *mut u32) -> i32;
+    fn tribes_copy(end: *mut Handle, slot: u32, copied: *mut Copied, values: *mut i64, room: usize) -> i32;
+    fn tribes_next_copy(end: *mut Handle, from: u32, slot: *mut u32) -> i32;
+    fn tribes_changes(end: *mut Handle, changes: *mut Change, room: usize, count: *mut u32) -> i32;
+    fn tribes_control(end: *mut Handle, slot: *mut u32) -> i32;
+}
+
+/// The version of the interface that the library has: it fits where this is `VERSION`.
+pub fn library_version() -> u32 {
+    // SAFETY: it takes nothing.
+    unsafe { tribes_version() }
+}
+
+// SAFETY, of each call below: the handle and what answers are borrowed for the call, a pointer and its count are those of one slice,
+// and the handle is never copied.
+impl Handle {
+    const NONE: Handle = Handle { state: 0, at: core::ptr::null_mut() };
+
+    fn told(&mut self, code: i32) -> Result<i32, Error> {
+        if code >= 0 {
+            return Ok(code);
+        }
+        let mut error = Error::default();
+        let _ = unsafe { tribes_why(self, &mut error) };
+        Err(error)
+    }
+
+    fn pack<'a>(&mut self, values: &[i64], place: &'a mut [u8]) -> Result<Option<&'a [u8]>, Error> {
+        let mut count = 0;
+        let code = unsafe { tribes_pack(self, values.as_ptr(), values.len(), place.as_mut_ptr(), place.len(), &mut count) };
+        Ok((self.told(code)? > 0).then(|| &place[..count]))
+    }
+
+    fn arrive(&mut self, bytes: &[u8], room: u32) -> Result<u32, Error> {
+        let mut moves = 0;
+        let code = unsafe { tribes_arrive(self, bytes.as_ptr(), bytes.len(), room, &mut moves) };
+        self.told(code).map(|_| moves)
+    }
+}
+
+impl Drop for Handle {
+    fn drop(&mut self) {
+        let _ = unsafe { tribes_free(self) };
+    }
+}
+
+/// What both ends have.
+macro_rules! both {
+    ($end:ident) => {
+        // SAFETY: the library proves its ends sendable, and `&mut` gives one to one call at a time.
+        unsafe impl Send for $end {}
+
+        impl $end {
+            /// Posts an event, and gives its number where it is guaranteed.
+            pub fn post(&mut self, bytes: &[u8], guaranteed: bool) -> Result<u32, Error> {
+                let mut number = 0;
+                let code = unsafe { tribes_post(&mut self.0, bytes.as_ptr(), bytes.len(), guaranteed as u32, &mut number) };
+                self.0.told(code).map(|_| number)
+            }
+
+            /// The oldest event that waits, and whether it is a guaranteed one. `place` has room for `MAX_EVENT` bytes.
+            pub fn event<'a>(&mut self, place: &'a mut [u8]) -> Result<Option<(&'a [u8], bool)>, Error> {
+                let mut count = 0;
+                let code = unsafe { tribes_event(&mut self.0, place.as_mut_ptr(), place.len(), &mut count) };
+                let code = self.0.told(code)?;
+                Ok((code > 0).then(|| (&place[..count], code == 2)))
+            }
+
+            /// The bytes of a block: at the server of its own, at the client of one that came.
+            pub fn block(&mut self, number: u32) -> Result<Vec<u8>, Error> {
+                let (mut place, mut count) = ([0; MAX_BLOCK], 0);
+                let code = unsafe { tribes_block(&mut self.0, number, place.as_mut_ptr(), place.len(), &mut count) };
+                self.0.told(code).map(|_| place[..count].to_vec())
+            }
+
+            pub fn counts(&mut self) -> Counts {
+                let mut counts = Counts::default();
+                let _ = unsafe { tribes_counts(&mut self.0, &mut counts) };
+                counts
+            }
+
+            /// What became of the data packets that the last datagram judged.
+            pub fn verdicts(&mut self) -> Vec<Judged> {
+                let (mut judged, mut count) = ([Judged::default(); MAX_JUDGED], 0);
+                let _ = unsafe { tribes_verdicts(&mut self.0, judged.as_mut_ptr(), judged.len(), &mut count) };
+                judged[..count as usize].to_vec()
+            }
+        }
+    };
+}
+
+both!(Server);
+both!(Client);
+
+/// The server's end of the connection to one client.
+pub struct Server(Handle);
+
+impl Server {
+    pub fn new(config: &Config, kinds: &[Kind], fields: &[Field], blocks: &[&[u8]]) -> Result<Server, Error> {
+        let (bytes, lengths) = (blocks.concat(), blocks.iter().map(|block| block.len() as u32).collect::<Vec<_>>());
+        let (mut end, mut error) = (Handle::NONE, Error::default());
+        let code = unsafe {
+            tribes_server(
+                &mut end, config, kinds.as_ptr(), kinds.len(), fields.as_ptr(), fields.len(),
+                bytes.as_ptr(), bytes.len(), lengths.as_ptr(), lengths.len(), &mut error,
+            )
+        };
+        if code < 0 { Err(error) } else { Ok(Server(end)) }
+    }
+
+    /// Shows an object, and gives the number of its period.
+    pub fn show(&mut self, object: &Object) -> Result<u32, Error> {
+        let mut n = 0;
+        let code = unsafe { tribes_show(&mut self.0, object, &mut n) };
+        self.0.told(code).map(|_| n)
+    }
+
+    pub fn hide(&mut self, n: u32) -> Result<(), Error> {
+        let code = unsafe { tribes_hide(&mut self.0, n) };
+        self.0.told(code).map(|_| ())
+    }
+
+    pub fn near(&mut self, n: u32, level: u32) -> Result<(), Error> {
+        let code = unsafe { tribes_near(&mut self.0, n, level) };
+        self.0.told(code).map(|_| ())
+    }
+
+    /// Notes that fields have new values: bit f for field f.
+    pub fn changed(&mut self, n: u32, bits: u32) -> Result<(), Error> {
+        let code = unsafe { tribes_changed(&mut self.0, n, bits) };
+        self.0.told(code).map(|_| ())
+    }
+
+    /// Whether the client has the newest value of a field that was noted as changed.
+    pub fn settled(&mut self, n: u32, field: u32) -> Result<bool, Error> {
+        let code = unsafe { tribes_settled(&mut self.0, n, field) };
+        Ok(self.0.told(code)? == 1)
+    }
+
+    pub fn slot(&mut self, n: u32) -> Result<Option<u32>, Error> {
+        let mut slot = 0;
+        let code = unsafe { tribes_slot(&mut self.0, n, &mut slot) };
+        Ok((self.0.told(code)? == 1).then_some(slot))
+    }
+
+    /// The next datagram, with the values that it asks for: of a field of a period. None where the connection is worn.
+    pub fn pack<'a>(&mut self, place: &'a mut [u8], mut value: impl FnMut(u32, u32) -> i64) -> Result<Option<&'a [u8]>, Error> {
+        let (mut asks, mut count) = ([Ask::default(); MAX_ASKS], 0);
+        let code = unsafe { tribes_plan(&mut self.0, asks.as_mut_ptr(), asks.len(), &mut count) };
+        self.0.told(code)?;
+        let values: Vec<i64> = asks[..count].iter().map(|ask| value(ask.n, ask.field)).collect();
+        self.0.pack(&values, place)
+    }
+
+    /// Takes a datagram, where so many further moves have a place; gives how many it brought.
+    pub fn arrive(&mut self, bytes: &[u8], room: u32) -> Result<u32, Error> {
+        self.0.arrive(bytes, room)
+    }
+
+    /// The moves that the last datagram brought.
+    pub fn moves(&mut self) -> Vec<Step> {
+        let (mut steps, mut count) = ([Step::default(); MAX_MOVES], 0);
+        let _ = unsafe { tribes_moves(&mut self.0, steps.as_mut_ptr(), steps.len(), &mut count) };
+        steps[..count as usize].to_vec()
+    }
+}
+
+/// A client's end of its connection.
+pub struct Client(Handle);
+
+impl Client {
+    pub fn new(config: &Config, kinds: &[Kind], fields: &[Field]) -> Result<Client, Error> {
+        let (mut end, mut error) = (Handle::NONE, Error::default());
+        let code = unsafe {
+            tribes_client(&mut end, config, kinds.as_ptr(), kinds.len(), fields.as_ptr(), fields.len(), &mut error)
+        };
+        if code < 0 { Err(error) } else { Ok(Client(end)) }
+    }
+
+    /// The next datagram; None where the connection is worn.
+    pub fn pack<'a>(&mut self, place: &'a mut [u8]) -> Result<Option<&'a [u8]>, Error> {
+        self.0.pack(&[], place)
+    }
+
+    pub fn arrive(&mut self, bytes: &[u8]) -> Result<(), Error> {
+        self.0.arrive(bytes, 0).map(|_| ())
+    }
+
+    /// Takes up a move, and gives its number.
+    pub fn sample(&mut self, step: &Step) -> Result<u32, Error> {
+        let mut number = 0;
+        let code = unsafe { tribes_sample(&mut self.0, step, &mut number) };
+        self.0.told(code).map(|_| number)
+    }
+
+    /// The slot of the client's own object.
+    pub fn control(&mut self) -> Option<u32> {
+        let mut slot = 0;
+        let code = unsafe { tribes_control(&mut self.0, &mut slot) };
+        (code == 1).then_some(slot)
+    }
+
+    /// The copy in a slot.
+    pub fn copy(&mut self, slot: u32) -> Option<Copy> {
+        let (mut copied, mut values) = (Copied::default(), [0i64; MAX_FIELDS]);
+        let code = unsafe { tribes_copy(&mut self.0, slot, &mut copied, values.as_mut_ptr(), values.len()) };
+        (code == 0).then(|| Copy {
+            kind: copied.kind,
+            block: copied.block,
+            values: values[..copied.fields as usize].to_vec(),
+        })
+    }
+
+    /// The least slot from this one on that holds a copy.
+    pub fn next_copy(&mut self, from: u32) -> Option<u32> {
+        let mut slot = 0;
+        let code = unsafe { tribes_next_copy(&mut self.0, from, &mut slot) };
+        (code == 1).then_some(slot)
+    }
+
+    /// What the last datagram did to slots.
+    pub fn changes(&mut self) -> Vec<Change> {
+        let (mut changes, mut count) = ([Change::default(); MAX_CHANGES], 0);
+        let _ = unsafe { tribes_changes(&mut self.0, changes.as_mut_ptr(), changes.len(), &mut count) };
+        changes[..count as usize].to_vec()
+    }
+}
