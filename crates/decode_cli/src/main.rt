@@ -1,0 +1,97 @@
+//! The program `decode`: the table of a datagram, or of each datagram of a report (docs/packets.md).
+#![tactic(auto)]
+
+mod report;
+mod slots;
+mod table;
+mod words;
+
+ghost use Rattle.std.specs.Prelude.{◌≤◌, length};
+
+use report::report_tables;
+use std::alloc::Global;
+use std::io::{self, Read, Write};
+use std::process::ExitCode;
+use std::{env, str};
+use table::{down_table, up_table};
+use tn_types::MAX_READ_BYTES;
+use words::{Command, Options, Refusal, Way, read_command};
+
+/// The exit status of words or a report that can't be read.
+const REFUSED: u8 = 2;
+
+/// The words of the command line, without the program's name.
+fn arguments(rt: &HostRuntime) -> Result<Vec<String>, Refusal> {
+    let mut words = Vec::new(rt.alloc());
+    let Ok(mut all) = env::args(rt) else {
+        return Err(Refusal::NoMemory);
+    };
+    all.next();
+    for word in all {
+        if words.push(word).is_err() {
+            return Err(Refusal::NoMemory);
+        }
+    }
+    Ok(words)
+}
+
+/// The table of one datagram.
+fn datagram_table(
+    alloc: Global,
+    way: Way,
+    bytes: &[u8],
+    options: Options,
+) -> Result<Vec<u8>, Refusal>
+    requires { length bytes.now ≤ MAX_READ_BYTES }
+{
+    let Options { version, mut slots } = options;
+    let made = match way {
+        Way::Down => down_table(alloc, version, bytes, &mut slots),
+        Way::Up => up_table(alloc, version, bytes),
+    };
+    match made {
+        Ok(text) => Ok(text),
+        Err(_) => Err(Refusal::NoMemory),
+    }
+}
+
+/// The text that the words ask for.
+fn text_of(rt: &HostRuntime) -> Result<Vec<u8>, Refusal> {
+    let words = arguments(rt)?;
+    match read_command(rt.alloc(), words.as_slice())? {
+        Command::Datagram {
+            way,
+            bytes,
+            options,
+        } => {
+            if bytes.len() > MAX_READ_BYTES {
+                return Err(Refusal::LongHex);
+            }
+            datagram_table(rt.alloc(), way, bytes.as_slice(), options)
+        }
+        Command::Report { options } => {
+            let mut bytes = Vec::new(rt.alloc());
+            if rt.reader().read_to_end(&mut bytes).is_err() {
+                return Err(Refusal::Unread);
+            }
+            match str::from_utf8(bytes.as_slice()) {
+                Ok(report) => report_tables(rt.alloc(), options.version, report),
+                Err(_) => Err(Refusal::NoReport),
+            }
+        }
+    }
+}
+
+fn main(rt: HostRuntime) -> ExitCode {
+    match text_of(&rt) {
+        Ok(text) => match io::writer(&rt).write_all(text.as_slice()) {
+            Ok(()) => ExitCode::from(0),
+            Err(_) => ExitCode::from(1),
+        },
+        Err(refusal) => {
+            // Where standard error is closed, the exit status alone tells.
+            let _ = eprintln!(rt; "decode: {refusal}");
+            ExitCode::from(REFUSED)
+        }
+    }
+}
