@@ -180,7 +180,8 @@ pub fn client_parts(alloc: Global, bytes: &[u8], version: u8) -> Result<Telling,
     // They are the datagram's bits from bit 0 on.
     ensures bits { IfOk result (λ t. AreFirstOf (bits_of bytes.now) t.parts) }
     // Put together they are the packet that the decoder reads.
-    ensures packet { (p : ClientPacket) → read_client version bytes.now ≡ Ok p → IfOk result (λ t. spelled t.parts ≡ spell_client version p) }
+    ensures packet { (p : ClientPacket) → read_client version bytes.now ≡ Ok p
+        → IfOk result (λ t. spelled t.parts ≡ spell_client version p) }
     // The fault is the decoder's, and none where it reads a packet.
     ensures fault { IfOk result (λ t. t.fault ≡ result_err (read_client version bytes.now)) }
     // A faulty part begins behind those before it.
