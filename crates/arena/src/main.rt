@@ -34,7 +34,7 @@ fn drive(guest: &mut Guest, turn: u32) -> Result<(), &'static str> {
 }
 
 /// The words of an event.
-fn words(payload: &Payload) -> &str {
+fn text_of(payload: &Payload) -> &str {
     match str::from_utf8(payload.as_slice()) {
         Ok(words) => words,
         Err(_) => "no words",
@@ -63,7 +63,7 @@ fn note(rt: &HostRuntime, host: &mut Host) -> io::Result<()> {
         println!(rt; "  the server learns that its packet {number} was lost")?;
     }
     if let Some((_class, payload)) = host.pop() {
-        println!(rt; "  the server hears: {}", words(&payload))?;
+        println!(rt; "  the server hears: {}", text_of(&payload))?;
     }
     if let Err(why) = host.play() {
         println!(rt; "  {why}")?;
@@ -101,7 +101,7 @@ fn draw(rt: &HostRuntime, seen: Seen) -> io::Result<()> {
 /// What the client shows after a turn: an event that came, and all copies.
 fn show(rt: &HostRuntime, guest: &mut Guest) -> io::Result<()> {
     if let Some((_class, payload)) = guest.pop() {
-        println!(rt; "  the client hears: {}", words(&payload))?;
+        println!(rt; "  the client hears: {}", text_of(&payload))?;
     }
     for slot in 0..=255u8 {
         if let Some(seen) = guest.seen(slot) {
