@@ -3,9 +3,27 @@
 import pathlib
 import subprocess
 import sys
+import time
 
 TOP = pathlib.Path(__file__).resolve().parent.parent
 SECONDS = 120
+
+
+def say(text):
+    """A line for who waits."""
+    print(text, file=sys.stderr, flush=True)
+
+
+class Progress:
+    """Says how far a check is, at most once in some seconds."""
+
+    def __init__(self, seconds=5):
+        self.seconds, self.said = seconds, time.monotonic()
+
+    def at(self, text):
+        if time.monotonic() - self.said >= self.seconds:
+            self.said = time.monotonic()
+            say(text)
 
 
 def below(crate):
@@ -33,7 +51,7 @@ def build(crate, *flags):
     kept = folder / f"{crate}.by-rattle" if flags == ("--backend", "rattle") else program
     if is_fresh(kept, crate):
         return kept.read_bytes()
-    print(f"proving and building {crate}: up to half an hour where nothing of it is kept", file=sys.stderr, flush=True)
+    say(f"proving and building {crate}: half an hour to two hours where nothing of it is kept")
     if crate == "match_cli":
         subprocess.run([TOP / "tribes", "run"], stdin=subprocess.DEVNULL, stdout=subprocess.DEVNULL)
     # So that none is there that was built otherwise, or before.
