@@ -1,6 +1,7 @@
-/* A script played through the library: compare < SCRIPT reads a script (docs/formats.md, "Scripts") of one client, and prints what its
-   report says of posts, packs, arrivals, moves and copies. The world is not the library's: where the script has `scan`, and behind `tick`,
-   this program is told of shows, changes and values by lines that begin with '@', as the lists *.own have them:
+/* A script played through the library: compare [CLIENT] < LIST reads the own list of a client, by default of client 0, and prints what the
+   report says of its posts, packs, arrivals, moves and copies. The list is what crates/own_list_cli writes: the script (docs/formats.md,
+   "Scripts") without the lines of other clients. The world is not the library's: in place of `scan`, and behind `tick`, shows, changes and
+   values are told by lines that begin with '@':
      @show KIND BLOCK LEVEL CONTROL    @hide N    @near N LEVEL    @set N FIELD VALUE    @changed N FIELD (told by the next pack) */
 #include "tribes.h"
 #include <stdio.h>
@@ -221,8 +222,9 @@ static void play(const char *line) {
     else if (sscanf(line, "show %u", &a) == 1) show();
 }
 
-int main(void) {
+int main(int argc, char **argv) {
     static char line[8192];
+    config.client = argc > 1 ? (uint8_t)atoi(argv[1]) : 0;
     while (fgets(line, sizeof line, stdin)) {
         line[strcspn(line, "\n")] = 0;
         if (tribes_counts(&client, &(tribes_count){0}) < 0) prepare(line);

@@ -3,6 +3,7 @@ ghost use Rattle.std.specs.Prelude.{◌≡◌, ◌<◌, ◌≤◌, ◌∷◌, �
 
 use crate::server::Server;
 use crate::telling::delivered;
+use crate::watch::Watch;
 use match_engine::RunFault;
 use match_script::{BodyLine, LineDatagram, LinePayload};
 use std::alloc::Global;
@@ -162,14 +163,22 @@ impl Server<'_> {
         }
     }
 
+    // Who looks on is told of the arrival that the last line was.
+    fn show_arrival<W: Watch>(&self, client: u8, watch: &mut W) {
+        if let Some(told) = self.told() {
+            watch.arrived(client, told);
+        }
+    }
+
     // A client's arrival is done, and what it delivers is posted on.
-    pub(crate) fn arrive<K: Sink>(
+    pub(crate) fn arrive<K: Sink, W: Watch>(
         &mut self,
         alloc: Global,
         client: u8,
         bytes: &[u8],
         count: u8,
         sink: &mut K,
+        watch: &mut W,
     ) -> Result<(), RunFault>
         requires stands { (past : List OneLine) × Plays self.old past }
         requires client { client < self.old.script.head.clients }
@@ -186,6 +195,7 @@ impl Server<'_> {
         ensures later { K.faults sink.old ≤ K.faults sink.new }
     {
         self.raw(alloc, client, bytes, sink)?;
+        self.show_arrival(client, watch);
         let Ok(payloads) = self.delivered(alloc) else {
             return Err(RunFault::NoMemory);
         };

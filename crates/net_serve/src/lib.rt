@@ -9,7 +9,9 @@ mod listening;
 mod server;
 mod serving;
 mod telling;
+mod watch;
 
 pub use laws::{is_read_again, packs_are_sent, raws_are_arrivals, ticks_are_turns};
 pub use match_engine::match_laws;
 pub use serving::serve;
+pub use watch::{Nobody, Watch};

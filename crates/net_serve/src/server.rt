@@ -3,6 +3,7 @@ ghost use Rattle.std.specs.Prelude.{◌≡◌, ◌<◌, ◌≤◌, ◌∷◌, Li
 ghost use Rattle.std.specs.Option.{option_copied};
 
 use crate::fault::fault_of;
+use crate::watch::Watch;
 use match_engine::{Match, RunFault};
 use match_report::Told;
 use match_script::{BodyLine, Script, put_line};
@@ -242,13 +243,14 @@ impl<'a> Server<'a> {
     }
 
     /// Does what a datagram of a peer asks for.
-    pub(crate) fn hear<L: Link, K: Sink>(
+    pub(crate) fn hear<L: Link, K: Sink, W: Watch>(
         &mut self,
         alloc: Global,
         peer: Peer,
         bytes: &[u8],
         link: &mut L,
         sink: &mut K,
+        watch: &mut W,
     ) -> Result<(), NetFault>
         requires stands { (past : List Event) × Serves self.old past }
         ensures serves { OnOk result ((past : List Event) → Serves self.old past
@@ -276,7 +278,7 @@ impl<'a> Server<'a> {
         };
         are_bytes(bytes);
         let count = self.joined();
-        match self.arrive(alloc, client, bytes, count, sink) {
+        match self.arrive(alloc, client, bytes, count, sink, watch) {
             Ok(()) => Ok(()),
             Err(fault) => Err(fault_of(fault)),
         }

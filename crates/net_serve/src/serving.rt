@@ -17,6 +17,7 @@ ghost use Rattle.net_serve.specs.Stages.{Serves, IsAt, IsFront, Went, Served, Se
 use crate::laws::{is_read_again, packs_are_sent, raws_are_arrivals, ticks_are_turns};
 use crate::listening::listen;
 use crate::server::Server;
+use crate::watch::Watch;
 use match_script::{Body, Head, Script, print_head};
 use net_rules::{MAX_RECEIVED_BYTES, NetFault, TURN_MILLISECONDS, turns_are_one};
 use script_maker::make;
@@ -55,7 +56,7 @@ fn write_header<K: Sink>(alloc: Global, head: &Head, sink: &mut K) -> Result<(),
 }
 
 /// One turn: its listening, and then a tick and a datagram for each client.
-fn turn<L: Link, C: Clock, K: Sink>(
+fn turn<L: Link, C: Clock, K: Sink, W: Watch>(
     alloc: Global,
     server: &mut Server,
     buf: &mut [u8],
@@ -64,6 +65,7 @@ fn turn<L: Link, C: Clock, K: Sink>(
     link: &mut L,
     clock: &mut C,
     sink: &mut K,
+    watch: &mut W,
 ) -> Result<(), NetFault>
     requires stands { (past : List Event) × Serves server.old past }
     requires buffer { length buf.old ≡ MAX_RECEIVED_BYTES }
@@ -89,12 +91,12 @@ fn turn<L: Link, C: Clock, K: Sink>(
     ensures sink_later { K.faults sink.old ≤ K.faults sink.new }
 {
     let due = TURN_MILLISECONDS * u64::from(t);
-    listen(alloc, server, buf, start, due, link, clock, sink)?;
+    listen(alloc, server, buf, start, due, link, clock, sink, watch)?;
     server.turn(alloc, link, sink)
 }
 
 /// All turns.
-fn serve_turns<L: Link, C: Clock, K: Sink>(
+fn serve_turns<L: Link, C: Clock, K: Sink, W: Watch>(
     alloc: Global,
     server: &mut Server,
     start: u64,
@@ -102,6 +104,7 @@ fn serve_turns<L: Link, C: Clock, K: Sink>(
     link: &mut L,
     clock: &mut C,
     sink: &mut K,
+    watch: &mut W,
 ) -> Result<(), NetFault>
     requires stands { (past : List Event) × Serves server.old past }
     ensures done { OnOk result ((o : Begun) → start ≡ answer_at o.clock 0 → IsPlace o.ahead o.clock (L.ahead link.old) (C.ahead clock.old) 0
@@ -122,13 +125,13 @@ fn serve_turns<L: Link, C: Clock, K: Sink>(
 {
     let mut buf = [0u8; MAX_RECEIVED_BYTES];
     'turns: for t in 0..turns {
-        turn(alloc, server, &mut buf, start, t, link, clock, sink)?;
+        turn(alloc, server, &mut buf, start, t, link, clock, sink, watch)?;
     }
     Ok(())
 }
 
 /// Serves the match of a number.
-fn serve_match<L: Link, C: Clock, K: Sink>(
+fn serve_match<L: Link, C: Clock, K: Sink, W: Watch>(
     alloc: Global,
     seed: u32,
     clients: u8,
@@ -136,6 +139,7 @@ fn serve_match<L: Link, C: Clock, K: Sink>(
     link: &mut L,
     clock: &mut C,
     sink: &mut K,
+    watch: &mut W,
 ) -> Result<(), NetFault>
     requires clients_least { 1 ≤ clients }
     requires clients { clients ≤ MAX_CLIENTS }
@@ -161,12 +165,12 @@ fn serve_match<L: Link, C: Clock, K: Sink>(
         return Err(NetFault::ClockFault);
     };
     write_header(alloc, &script.head, sink)?;
-    serve_turns(alloc, &mut server, start, turns, link, clock, sink)
+    serve_turns(alloc, &mut server, start, turns, link, clock, sink, watch)
 }
 
 /// Serves the match of a number to so many clients in so many turns: what comes over the link is done, the script of it is
-/// written line by line, and each client that joined gets its datagrams.
-pub fn serve<L: Link, C: Clock, K: Sink>(
+/// written line by line, and each client that joined gets its datagrams. Who looks on is told of each arrival.
+pub fn serve<L: Link, C: Clock, K: Sink, W: Watch>(
     alloc: Global,
     seed: u32,
     clients: u8,
@@ -174,6 +178,7 @@ pub fn serve<L: Link, C: Clock, K: Sink>(
     link: &mut L,
     clock: &mut C,
     sink: &mut K,
+    watch: &mut W,
 ) -> Result<(), NetFault>
     requires clients_least { 1 ≤ clients }
     requires clients { clients ≤ MAX_CLIENTS }
@@ -210,5 +215,5 @@ pub fn serve<L: Link, C: Clock, K: Sink>(
     raws_are_arrivals();
     ticks_are_turns();
     is_read_again();
-    serve_match(alloc, seed, clients, turns, link, clock, sink)
+    serve_match(alloc, seed, clients, turns, link, clock, sink, watch)
 }

@@ -11,7 +11,7 @@ use crate::command::{NetCommand, command_of};
 use net_join::join;
 use net_rules::{NetFault, turns_are_one};
 use net_serve::match_laws::isolation;
-use net_serve::{is_read_again, packs_are_sent, raws_are_arrivals, serve, ticks_are_turns};
+use net_serve::{Nobody, is_read_again, packs_are_sent, raws_are_arrivals, serve, ticks_are_turns};
 use script_input::Status;
 use std::alloc::Global;
 use tn_outside::{Clock, Link, Sink};
@@ -46,7 +46,7 @@ fn serve_match<L: Link, C: Clock, K: Sink>(
         (L.sent link.old) (L.sent link.new)) result }
     ensures handed { result ≡ Status.Done → K.gathered sink.new ≡ [] }
 {
-    match serve(alloc, seed, clients, turns, link, clock, sink) {
+    match serve(alloc, seed, clients, turns, link, clock, sink, &mut Nobody) {
         Ok(()) => match sink.flush() {
             Ok(()) => Status::Done,
             Err(_) => Status::WriteFault,

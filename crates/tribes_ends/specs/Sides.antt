@@ -74,6 +74,13 @@ pub record PopsAtClient (old : ClientState) (class : Class) (bytes : List ℕ) (
   pub rest : new ≡ record old { common = popped old.common }
   pub stands : client_calls.Becomes old (λ log. log) new
 
+-- no event waits, and the end is as it was
+abbrev pub HasNoEvent : Side → Side → Type 0
+HasNoEvent (Server old) (Server new) = (old.common.receiver.ready ≡ []) × (new ≡ old)
+HasNoEvent (Server old) (Client new) = ⊥
+HasNoEvent (Client old) (Client new) = (old.common.receiver.ready ≡ []) × (new ≡ old)
+HasNoEvent (Client old) (Server new) = ⊥
+
 abbrev pub Pops : Side → Class → List ℕ → Side → Type 0
 Pops (Server old) class bytes (Server new) = PopsAtServer old class bytes new
 Pops (Server old) class bytes (Client new) = ⊥
@@ -151,6 +158,22 @@ Pings (Server old) bytes (Server new) = PingsDown old bytes new
 Pings (Server old) bytes (Client new) = ⊥
 Pings (Client old) bytes (Client new) = PingsUp old bytes new
 Pings (Client old) bytes (Server new) = ⊥
+
+-- nothing is sent, since as many data packets were as a connection has in its life: nothing happened at the end
+pub record WornDown (old new : ConnState) : Type 0 where
+  pub state : server_calls.Answers old (server.server_state old.common.config) Worn
+  pub same : new ≡ old
+
+pub record WornUp (old new : ClientState) : Type 0 where
+  pub state : client_calls.Answers old (client.client_state old.common.config) Worn
+  pub stands : client_calls.Becomes old (λ log. log) new
+  pub keeps : client_calls.Keeps old new
+
+abbrev pub SendsNothing : Side → Side → Type 0
+SendsNothing (Server old) (Server new) = WornDown old new
+SendsNothing (Server old) (Client new) = ⊥
+SendsNothing (Client old) (Client new) = WornUp old new
+SendsNothing (Client old) (Server new) = ⊥
 
 -- ---- what an end tells
 

@@ -4,7 +4,7 @@ ghost use Rattle.tn_types.specs.Steps.{is_step};
 ghost use Rattle.tn_types.specs.declared.choices.Class.TheVariants.{Guaranteed, Loose};
 ghost use Rattle.stream_manager.specs.Client.{Posted, posted_at_client};
 ghost use Rattle.stream_manager.specs.ClientCalls.{Does, Answers};
-ghost use Rattle.tribes_ends.specs.Sides.{PopsAtClient, SamplesAtClient, TakesDown, SendsUp, PingsUp, CountsAtClient};
+ghost use Rattle.tribes_ends.specs.Sides.{PopsAtClient, SamplesAtClient, TakesDown, SendsUp, PingsUp, WornUp, CountsAtClient};
 
 use crate::counts::Counts;
 use crate::handing::{Popped, hand_event, hand_over};
@@ -87,6 +87,7 @@ pub(crate) fn sample(client: &mut Client, step: &StepMade) -> Result<u32, Refusa
 pub(crate) fn pack(client: &mut Client, place: &mut [u8]) -> Result<Packed, Refusal>
     ensures data { (count : ℕ) → result ≡ Ok (Packed.Data count) → SendsUp client.old (take count place.new) client.new }
     ensures ping { (count : ℕ) → result ≡ Ok (Packed.Ping count) → PingsUp client.old (take count place.new) client.new }
+    ensures nothing { result ≡ Ok Packed.Nothing → WornUp client.old client.new }
     ensures unchanged { OnErr result (client.new ≡ client.old) }
 {
     let size = client.config().size;
@@ -127,7 +128,7 @@ pub(crate) fn arrive(client: &mut Client, bytes: &[u8]) -> Result<u32, Refusal>
 /// Hands out the oldest event that waits.
 pub(crate) fn pop(client: &mut Client, place: &mut [u8]) -> Result<Option<Popped>, Refusal>
     ensures popped { IfOk result (λ found. IfSome found (λ p. PopsAtClient client.old p.class (take p.count place.new) client.new)) }
-    ensures none { IfOk result (λ found. IsNone found → client.old.common.receiver.ready ≡ []) }
+    ensures none { IfOk result (λ found. IsNone found → (client.old.common.receiver.ready ≡ []) × (client.new ≡ client.old)) }
     ensures unchanged { OnErr result (client.new ≡ client.old) }
 {
     if place.len() < MAX_EVENT_BYTES {

@@ -76,7 +76,7 @@ const NONE: Why = Why {
 impl Link {
     ghost use Rattle.stream_manager.specs.Server.{Scoped, Show, Hide, Near, Absorb};
     ghost use Rattle.tribes_ends.specs.Codes.{is_refusal};
-    ghost use Rattle.tribes_ends.specs.Sides.{BeginsAtServer, BeginsAtClient, DoesAtServer, IsNextPeriod, IsSettled, HasSlot, HasControl, Posts, IsNextEvent, Pops, Samples, Takes, Plans, Sends, Pings, AreCounts};
+    ghost use Rattle.tribes_ends.specs.Sides.{BeginsAtServer, BeginsAtClient, DoesAtServer, IsNextPeriod, IsSettled, HasSlot, HasControl, Posts, IsNextEvent, Pops, HasNoEvent, Samples, Takes, Plans, Sends, Pings, SendsNothing, AreCounts};
 
     /// The server's end of a new connection.
     pub fn server(
@@ -225,6 +225,7 @@ impl Link {
     pub fn pack(&mut self, values: &[i64], place: &mut [u8]) -> Result<Packed, Refusal>
         ensures data { (count : ℕ) → result ≡ Ok (Packed.Data count) → Sends self.old values.now (take count place.new) self.new }
         ensures ping { (count : ℕ) → result ≡ Ok (Packed.Ping count) → Pings self.old (take count place.new) self.new }
+        ensures nothing { result ≡ Ok Packed.Nothing → SendsNothing self.old self.new }
         ensures unchanged { OnErr result (self.new ≡ self.old) }
     {
         match &mut self.side {
@@ -260,6 +261,7 @@ impl Link {
     /// Hands out the oldest event that waits.
     pub fn pop(&mut self, place: &mut [u8]) -> Result<Option<Popped>, Refusal>
         ensures popped { IfOk result (λ found. IfSome found (λ p. Pops self.old p.class (take p.count place.new) self.new)) }
+        ensures none { IfOk result (λ found. IsNone found → HasNoEvent self.old self.new) }
         ensures unchanged { OnErr result (self.new ≡ self.old) }
     {
         match &mut self.side {

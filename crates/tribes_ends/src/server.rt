@@ -5,7 +5,7 @@ ghost use Rattle.ghost_model.specs.Ghosts.{scope_log, slot, is_settled};
 ghost use Rattle.ghost_model.specs.Scope.{shows};
 ghost use Rattle.stream_manager.specs.Server.{Scoped, Show, Hide, Near, Absorb, Posted, ghost_log, posted_at_server};
 ghost use Rattle.stream_manager.specs.ConnCalls.{Does, Answers, Planning};
-ghost use Rattle.tribes_ends.specs.Sides.{PopsAtServer, TakesUp, SendsDown, PingsDown, CountsAtServer};
+ghost use Rattle.tribes_ends.specs.Sides.{PopsAtServer, TakesUp, SendsDown, PingsDown, WornDown, CountsAtServer};
 
 use crate::asking::{Ask, plan};
 use crate::counts::Counts;
@@ -188,7 +188,7 @@ fn seal(conn: &mut Conn, values: &[i64], place: &mut [u8]) -> Result<usize, Refu
 pub(crate) fn pack(conn: &mut Conn, values: &[i64], place: &mut [u8]) -> Result<Packed, Refusal>
     ensures data { (count : ℕ) → result ≡ Ok (Packed.Data count) → SendsDown conn.old values.now (take count place.new) conn.new }
     ensures ping { (count : ℕ) → result ≡ Ok (Packed.Ping count) → PingsDown conn.old (take count place.new) conn.new }
-    ensures nothing { result ≡ Ok Packed.Nothing → conn.new ≡ conn.old }
+    ensures nothing { result ≡ Ok Packed.Nothing → WornDown conn.old conn.new }
     ensures unchanged { OnErr result (conn.new ≡ conn.old) }
 {
     match conn.pack_state() {
@@ -227,7 +227,7 @@ pub(crate) fn arrive(conn: &mut Conn, bytes: &[u8], room: u32) -> Result<u32, Re
 /// Hands out the oldest event that waits.
 pub(crate) fn pop(conn: &mut Conn, place: &mut [u8]) -> Result<Option<Popped>, Refusal>
     ensures popped { IfOk result (λ found. IfSome found (λ p. PopsAtServer conn.old p.class (take p.count place.new) conn.new)) }
-    ensures none { IfOk result (λ found. IsNone found → conn.old.common.receiver.ready ≡ []) }
+    ensures none { IfOk result (λ found. IsNone found → (conn.old.common.receiver.ready ≡ []) × (conn.new ≡ conn.old)) }
     ensures unchanged { OnErr result (conn.new ≡ conn.old) }
 {
     if place.len() < MAX_EVENT_BYTES {

@@ -1,6 +1,6 @@
 //! Datagrams: the next one planned and made, and one that came.
 ghost use Rattle.std.specs.Prelude.{◌≡◌, pos, take};
-ghost use Rattle.tribes_ends.specs.Sides.{Takes, Plans, Sends, Pings};
+ghost use Rattle.tribes_ends.specs.Sides.{Takes, Plans, Sends, Pings, SendsNothing};
 ghost use Rattle.tribes_link.specs.Behind.{Behind};
 
 use crate::answering::{NO_END, finish_with, refused};
@@ -53,6 +53,7 @@ pub extern "C" fn tribes_pack(
         → Behind (λ old new. Sends old values.now (take count.new bytes.new) new) end.old.held.value end.new.held.value }
     ensures ping { result ≡ pos 1
         → Behind (λ old new. Pings old (take count.new bytes.new) new) end.old.held.value end.new.held.value }
+    ensures nothing { result ≡ pos 0 → Behind SendsNothing end.old.held.value end.new.held.value }
     ensures unchanged { (result ≡ pos 0 → ⊥) → (result ≡ pos 1 → ⊥) → (result ≡ pos 2 → ⊥)
         → end.new.held.value ≡ end.old.held.value }
 {

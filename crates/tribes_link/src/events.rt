@@ -1,7 +1,7 @@
 //! Events both ways, and moves from the client to the server.
 ghost use Rattle.std.specs.Prelude.{◌≡◌, pos, not, nat_eq, take};
 ghost use Rattle.tn_types.specs.declared.choices.Class.TheVariants.{Guaranteed, Loose};
-ghost use Rattle.tribes_ends.specs.Sides.{Posts, IsNextEvent, Pops, Samples};
+ghost use Rattle.tribes_ends.specs.Sides.{Posts, IsNextEvent, Pops, HasNoEvent, Samples};
 ghost use Rattle.tribes_link.specs.Behind.{Behind, Tells};
 
 use crate::answering::{NO_END, finish_with, refused};
@@ -48,6 +48,7 @@ pub extern "C" fn tribes_event(
         → Behind (λ old new. Pops old Guaranteed (take count.new bytes.new) new) end.old.held.value end.new.held.value }
     ensures loose { result ≡ pos 1
         → Behind (λ old new. Pops old Loose (take count.new bytes.new) new) end.old.held.value end.new.held.value }
+    ensures none { result ≡ pos 0 → Behind HasNoEvent end.old.held.value end.new.held.value }
     ensures unchanged { (result ≡ pos 0 → ⊥) → (result ≡ pos 1 → ⊥) → (result ≡ pos 2 → ⊥)
         → end.new.held.value ≡ end.old.held.value }
 {
