@@ -1,0 +1,89 @@
+//! The program `host`: a match that is served at any address of IPv4 (docs/fleet.md).
+#![tactic(auto)]
+
+mod file;
+mod words;
+
+use file::FileSink;
+use host_link::net_serve::serve;
+use host_link::{Counters, HostClock, HostLink};
+use net_rules::NetFault;
+use std::env;
+use std::process::ExitCode;
+use words::{Hosting, Refusal, hosting_of};
+
+/// The words of the command line, without the program's name.
+fn arguments(rt: &HostRuntime) -> Result<Vec<String>, Refusal> {
+    let mut words = Vec::new(rt.alloc());
+    let Ok(mut all) = env::args(rt) else {
+        return Err(Refusal::NoMemory);
+    };
+    all.next();
+    for word in all {
+        if words.push(word).is_err() {
+            return Err(Refusal::NoMemory);
+        }
+    }
+    Ok(words)
+}
+
+/// A fault of the match, as the program tells it.
+fn refusal_of(fault: NetFault) -> Refusal {
+    match fault {
+        NetFault::NoMemory => Refusal::NoMemory,
+        NetFault::LinkFault => Refusal::Lost,
+        NetFault::ClockFault => Refusal::NoClock,
+        NetFault::WriteFault => Refusal::Unwritten,
+    }
+}
+
+/// Hosts the match, to its last turn.
+fn host(rt: &HostRuntime, hosting: &Hosting) -> Result<(), Refusal> {
+    let counters = Counters::new();
+    let Ok(mut link) = HostLink::bind(rt, rt.alloc(), hosting.address, &counters) else {
+        return Err(Refusal::NoAddress);
+    };
+    let Ok(mut clock) = HostClock::new(rt, &counters) else {
+        return Err(Refusal::NoClock);
+    };
+    let Ok(mut sink) = FileSink::new(rt, rt.alloc(), hosting.address.port()) else {
+        return Err(Refusal::Unwritten);
+    };
+    let done = serve(
+        rt.alloc(),
+        hosting.seed,
+        hosting.clients,
+        hosting.turns,
+        &mut link,
+        &mut clock,
+        &mut sink,
+        &mut &counters,
+    );
+    // Where standard error is closed, nobody reads it.
+    let _ = eprintln!(rt; "end {counters}");
+    match done {
+        Ok(()) => match sink.close() {
+            Ok(()) => Ok(()),
+            Err(_) => Err(Refusal::Unwritten),
+        },
+        Err(fault) => Err(refusal_of(fault)),
+    }
+}
+
+/// What the words ask for.
+fn hosted(rt: &HostRuntime) -> Result<(), Refusal> {
+    let words = arguments(rt)?;
+    let hosting = hosting_of(words.as_slice())?;
+    host(rt, &hosting)
+}
+
+fn main(rt: HostRuntime) -> ExitCode {
+    match hosted(&rt) {
+        Ok(()) => ExitCode::from(0),
+        Err(refusal) => {
+            // Where standard error is closed, the exit status alone tells.
+            let _ = eprintln!(rt; "host: {refusal}");
+            ExitCode::from(refusal.exit())
+        }
+    }
+}

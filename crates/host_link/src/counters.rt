@@ -1,0 +1,169 @@
+//! What is counted while a match is hosted.
+
+use match_report::Told;
+use net_serve::Watch;
+use std::cell::Cell;
+use std::fmt;
+use stream_manager::ArriveFault;
+use tn_types::MAX_CLIENTS;
+
+/// The places of counts of refused arrivals, by name.
+const REFUSALS: [&str; 6] = ["bits", "client", "old", "ackahead", "movegap", "eventahead"];
+
+/// What is counted while a match is hosted. Link, clock and who looks on count here, so each call takes it as shared.
+#[derive(Drop)]
+pub struct Counters {
+    clients: Cell<u64>,
+    came: Cell<u64>,
+    bytes_came: Cell<u64>,
+    sent: Cell<u64>,
+    bytes_sent: Cell<u64>,
+    held: Cell<u64>,
+    turned: Cell<u64>,
+    unsent: Cell<u64>,
+    late: Cell<u64>,
+    refused: Cell<[u64; REFUSALS.len()]>,
+    // a bit for each client
+    taken: Cell<u32>,
+}
+
+/// Adds to a count.
+fn add(count: &Cell<u64>, more: u64) {
+    count.set(count.get().saturating_add(more));
+}
+
+/// The place of a refusal's name.
+fn place_of(fault: ArriveFault) -> usize {
+    match fault {
+        ArriveFault::Bits(_) => 0,
+        ArriveFault::WrongClient { client: _ } => 1,
+        ArriveFault::Old { seq: _, horizon: _ } => 2,
+        ArriveFault::AckAhead {
+            horizon: _,
+            last: _,
+        } => 3,
+        ArriveFault::MoveGap {
+            first: _,
+            accepted: _,
+        } => 4,
+        ArriveFault::EventAhead {
+            number: _,
+            delivered: _,
+        } => 5,
+    }
+}
+
+impl Counters {
+    /// Nothing was counted.
+    pub fn new() -> Counters {
+        Counters {
+            clients: Cell::new(0),
+            came: Cell::new(0),
+            bytes_came: Cell::new(0),
+            sent: Cell::new(0),
+            bytes_sent: Cell::new(0),
+            held: Cell::new(0),
+            turned: Cell::new(0),
+            unsent: Cell::new(0),
+            late: Cell::new(0),
+            refused: Cell::new([0; REFUSALS.len()]),
+            taken: Cell::new(0),
+        }
+    }
+
+    /// A datagram of so many bytes came.
+    pub(crate) fn note_came(&self, bytes: u64) {
+        add(&self.came, 1);
+        add(&self.bytes_came, bytes);
+    }
+
+    /// A datagram of so many bytes went out.
+    pub(crate) fn note_sent(&self, bytes: u64) {
+        add(&self.sent, 1);
+        add(&self.bytes_sent, bytes);
+    }
+
+    /// A datagram was held back, since too little had come from where it was to go.
+    pub(crate) fn note_held(&self) {
+        add(&self.held, 1);
+    }
+
+    /// A datagram came from one for whom there was no place.
+    pub(crate) fn note_turned(&self) {
+        add(&self.turned, 1);
+    }
+
+    /// The system did not send a datagram.
+    pub(crate) fn note_unsent(&self) {
+        add(&self.unsent, 1);
+    }
+
+    /// A turn was late.
+    pub(crate) fn note_late(&self) {
+        add(&self.late, 1);
+    }
+
+    /// A client was given.
+    pub(crate) fn note_client(&self) {
+        add(&self.clients, 1);
+    }
+
+    /// Whether an arrival of a client was taken.
+    pub(crate) fn is_taken(&self, client: u8) -> bool {
+        client < MAX_CLIENTS && self.taken.get() >> client & 1 == 1
+    }
+
+    fn note_taken(&self, client: u8) {
+        if client < MAX_CLIENTS {
+            self.taken.set(self.taken.get() | 1 << client);
+        }
+    }
+
+    fn note_refused(&self, fault: ArriveFault) {
+        let mut counts = self.refused.get();
+        if let Some(count) = counts.get_mut(place_of(fault)) {
+            *count = count.saturating_add(1);
+        }
+        self.refused.set(counts);
+    }
+}
+
+impl Watch for &Counters {
+    fn arrived(&mut self, client: u8, told: &Told) {
+        match told {
+            Told::Came {
+                way: _,
+                client: _,
+                k: _,
+                moves: _,
+                events: _,
+            } => self.note_taken(client),
+            Told::ServerRefused {
+                way: _,
+                client: _,
+                k: _,
+                fault,
+            } => self.note_refused(*fault),
+            _ => {}
+        }
+    }
+}
+
+impl fmt::Display for Counters {
+    fn fmt<W: fmt::Write>(&self, f: &mut fmt::Formatter<W>) -> fmt::Result {
+        let (clients, late) = (self.clients.get(), self.late.get());
+        let (came, bytes_came) = (self.came.get(), self.bytes_came.get());
+        let (sent, bytes_sent) = (self.sent.get(), self.bytes_sent.get());
+        let (held, turned, unsent) = (self.held.get(), self.turned.get(), self.unsent.get());
+        write!(
+            f,
+            "clients {clients} late {late} in {came} {bytes_came} out {sent} {bytes_sent}"
+        )?;
+        write!(f, " held {held} turned {turned} unsent {unsent} refused")?;
+        let counts = self.refused.get();
+        for (name, count) in REFUSALS.iter().zip(counts.iter()) {
+            write!(f, " {name} {count}")?;
+        }
+        Ok(())
+    }
+}

@@ -1,0 +1,12 @@
+//! What a hosted server has of the outside: a socket at any address of IPv4, a clock that sees which turns are late, and a line of
+//! text each ten seconds that tells what was counted.
+#![tactic(auto)]
+
+mod clock;
+mod counters;
+mod link;
+
+pub use clock::HostClock;
+pub use counters::Counters;
+pub use link::HostLink;
+pub use net_serve;
