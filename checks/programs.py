@@ -27,14 +27,16 @@ class Progress:
 
 
 def below(crate):
-    """A crate and those of the repository that it stands on."""
+    """A crate and those of the repository that it depends on."""
     lines = [line.split("#")[0] for line in (TOP / "crates.txt").read_text().splitlines()]
     parts = [line.partition(":") for line in lines if ":" in line]
     stands = {head.split()[0]: deps.split() for head, _, deps in parts}
-    found = []
-    for name in [crate, *stands.get(crate, [])]:
-        found += [name] if name == crate else below(name) if name in stands else []
-    return list(dict.fromkeys(found))
+    found, ahead = {}, [crate]
+    for name in ahead:
+        if name not in found:
+            found[name] = True
+            ahead += [one for one in stands.get(name, []) if one in stands]
+    return list(found)
 
 
 def is_fresh(program, crate):

@@ -50,7 +50,7 @@ impl Guest {
         }
     }
 
-    /// Makes the next datagram in front of the place, and gives how many bytes it has.
+    /// Makes the next datagram at the beginning of the place, and gives how many bytes it has.
     pub fn tell(&mut self, place: &mut [u8]) -> Option<usize> {
         let bytes = match self.client.pack() {
             ClientOut::Body(bytes) => bytes,

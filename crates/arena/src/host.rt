@@ -199,7 +199,7 @@ impl Host {
         seal_into(&mut self.conn, values, place).ok()
     }
 
-    /// Makes the next datagram in front of the place, and gives how many bytes it has.
+    /// Makes the next datagram at the beginning of the place, and gives how many bytes it has.
     pub fn tell(&mut self, place: &mut [u8]) -> Option<usize> {
         match self.conn.pack_state() {
             SendState::Room => {
