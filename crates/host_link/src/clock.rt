@@ -42,7 +42,9 @@ impl<'a, R: SystemTimes + Eprint> HostClock<'a, R> {
     }
 
     // A turn begins at each answer behind its time.
-    fn note_turn(&mut self, passed: u64) {
+    fn note_turn(&mut self, passed: u64)
+        ensures { self.new.clock ≡ self.old.clock }
+    {
         if passed >= self.due {
             if passed - self.due > LATE_MILLISECONDS {
                 self.counters.note_late();
@@ -51,7 +53,9 @@ impl<'a, R: SystemTimes + Eprint> HostClock<'a, R> {
         }
     }
 
-    fn note_line(&mut self, passed: u64) {
+    fn note_line(&mut self, passed: u64)
+        ensures { self.new.clock ≡ self.old.clock }
+    {
         if passed >= self.line {
             let counters = self.counters;
             let seconds = passed / 1_000;
@@ -61,7 +65,9 @@ impl<'a, R: SystemTimes + Eprint> HostClock<'a, R> {
         }
     }
 
-    fn note(&mut self, now: u64) {
+    fn note(&mut self, now: u64)
+        ensures { self.new.clock ≡ self.old.clock }
+    {
         match self.start {
             Some(start) => {
                 let passed = now.saturating_sub(start);

@@ -1,5 +1,5 @@
 //! A socket at an address of IPv4, and who is behind the datagrams that come.
-ghost use Rattle.std.specs.Prelude.{◌≡◌, ◌≤◌, None, IfOk, IfSome, length};
+ghost use Rattle.std.specs.Prelude.{◌≡◌, ◌<◌, None, length};
 
 use crate::counters::Counters;
 use host_guests::{Address, Guests};
@@ -91,7 +91,8 @@ impl<'a> HostLink<'a> {
     // What a datagram to the guest at a place tells of it: the client that it has, and whether an arrival of it was taken.
     fn look(&mut self, i: usize, bytes: &[u8])
         requires { i < length self.old.guests.places }
-        ensures { length self.new.guests.places ≡ length self.old.guests.places }
+        ensures places { length self.new.guests.places ≡ length self.old.guests.places }
+        ensures faults { self.new.faults ≡ self.old.faults }
     {
         let guest = self.guests.guest(i);
         match guest.client {
@@ -112,6 +113,7 @@ impl<'a> HostLink<'a> {
     // Sends to the guest at a place, where so much may go to it.
     fn send_to(&mut self, i: usize, bytes: &[u8])
         requires { i < length self.old.guests.places }
+        ensures { self.new.faults ≡ self.old.faults }
     {
         self.look(i, bytes);
         if !self.guests.may_go(i, size_of(bytes.len())) {
@@ -129,7 +131,9 @@ impl<'a> HostLink<'a> {
     }
 
     // Notes a datagram of so many bytes, and tells from whom it is.
-    fn meet(&mut self, address: SocketAddr, count: usize) -> Option<Peer> {
+    fn meet(&mut self, address: SocketAddr, count: usize) -> Option<Peer>
+        ensures { self.new.faults ≡ self.old.faults }
+    {
         self.counters.note_came(count as u64);
         let SocketAddr::V4(address) = address else {
             return None;
