@@ -3,7 +3,7 @@
 #include <ncurses.h>
 #include <string.h>
 
-enum { PANEL = 28, SAID = 3, RED_TEAM = 1, BLUE_TEAM }; /* columns, events */
+enum { PANEL = 29, SAID = 3, RED_TEAM = 1, BLUE_TEAM }; /* columns, events */
 
 /* the map: the place in its middle, and how many centimetres a row is high and a column wide */
 typedef struct { int rows, columns; int64_t x, y, high, wide; } view;
@@ -131,7 +131,8 @@ static void draw_player(session *s, int at) {
         if (c.kind == CLOCK) {
             move(6, at);
             put_field(s, &c, TICK, "clock %lld");
-            put_field(s, &c, RED, "  red %lld");
+            move(7, at);
+            put_field(s, &c, RED, "red %lld");
             put_field(s, &c, BLUE, "  blue %lld");
         }
 }
