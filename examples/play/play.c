@@ -162,8 +162,9 @@ int main(int count, char **word) {
     int there = play(&s, &w, server);
     if (!w.is_bot) screen_close();
     if (w.is_bot) tell_copies(&s);
-    else if (there) printf("client %u: %u turns, %u moves, %u datagrams taken, %u refused\n", s.config.client, s.turns, s.own.sampled, s.taken, s.refused);
-    if (!there) fprintf(stderr, "play: %s at %s: nothing came for %d seconds\n", s.welcomed ? "the server was lost" : "no server answers", server, LOST_AFTER / 1000);
+    else if (there) printf("client %u: %u turns, %u moves, %u datagrams taken\n", s.config.client, s.turns, s.own.sampled, s.taken);
+    const char *what = s.welcomed ? "the server was lost" : "no server answers";
+    if (!there) fprintf(stderr, "play: %s at %s: nothing came for %d seconds\n", what, server, LOST_AFTER / 1000);
     session_end(&s);
     if (s.demo && fclose(s.demo)) return stop(w.demo);
     return there ? DONE : FAILED;
