@@ -76,6 +76,11 @@ def moves_of(script, client):
     return moves
 
 
+def accepted_in(data):
+    """How many moves a data packet of the server tells as accepted."""
+    return int.from_bytes(data[:16], "little") >> 86 & 0xFFFFFF
+
+
 class Served:
     """A script that was served, and what the program reports of it."""
 
