@@ -28,6 +28,9 @@ class Terminal:
     def type(self, text):
         self.tmux("send-keys", "-t", "0", "-l", text)
 
+    def resize(self, columns, rows):
+        self.tmux("resize-window", "-t", "0", "-x", columns, "-y", rows)
+
     def lines(self):
         return self.tmux("capture-pane", "-p", "-t", "0").split("\n")
 

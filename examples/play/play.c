@@ -162,7 +162,7 @@ int main(int count, char **word) {
     int there = play(&s, &w, server);
     if (!w.is_bot) screen_close();
     if (w.is_bot) tell_copies(&s);
-    else if (there) printf("client %u: %u turns, %u moves, %u datagrams taken\n", s.config.client, s.turns, s.own.sampled, s.taken);
+    else if (there && s.welcomed) printf("client %u: %u turns, %u moves, %u datagrams taken\n", s.config.client, s.turns, s.own.sampled, s.taken);
     const char *what = s.welcomed ? "the server was lost" : "no server answers";
     if (!there) fprintf(stderr, "play: %s at %s: nothing came for %d seconds\n", what, server, LOST_AFTER / 1000);
     session_end(&s);

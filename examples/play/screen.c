@@ -1,7 +1,7 @@
 /* The screen in ncurses: screen.h says what is on it. */
 #include "screen.h"
 #include <ncurses.h>
-#include <string.h>
+#include <unistd.h>
 
 enum { PANEL = 29, SAID = 3, RED_TEAM = 1, BLUE_TEAM }; /* columns, events */
 
@@ -9,7 +9,7 @@ enum { PANEL = 29, SAID = 3, RED_TEAM = 1, BLUE_TEAM }; /* columns, events */
 typedef struct { int rows, columns; int64_t x, y, high, wide; } view;
 
 int screen_open(void) {
-    if (!initscr()) return -1;
+    if (!isatty(STDIN_FILENO) || !isatty(STDOUT_FILENO) || !initscr()) return -1;
     if (LINES < LEAST_ROWS || COLS < LEAST_COLUMNS) {
         endwin();
         return -1;
