@@ -50,6 +50,7 @@ class Listener:
                 return
             if data[0] == 3:
                 self.number = data[5]
+                self.answer()
             elif self.number is not None:
                 seconds, nanoseconds = struct.unpack("qq", beside[0][2][:16])
                 self.note(data, seconds + nanoseconds / 1e9)
@@ -60,7 +61,12 @@ class Listener:
         kind, seq, _ = head_of(data)
         if kind == 0:
             self.came.add(seq)
-        self.horizon, self.seq = max(self.horizon, seq), self.seq + 1
+        self.horizon = max(self.horizon, seq)
+        self.answer()
+
+    def answer(self):
+        """Sends a packet. The first one is sent at the welcome, since a host says little to who sent none that it took."""
+        self.seq += 1
         self.send(packet(self.number, self.seq, self.horizon, self.came))
 
     def lateness(self):
