@@ -1,0 +1,103 @@
+"""Clients in Python of hosted matches, who only listen: the kernel's clock stamps when each datagram came."""
+
+import select
+import socket
+import struct
+import threading
+import time
+
+from networks import head_of
+
+TURN = 0.05
+# Linux's option for stamps in nanoseconds, and the room of one beside a datagram.
+STAMPS, STAMP_ROOM = 35, 64
+
+
+def packet(client, seq, horizon, came):
+    """A client's packet without moves and events: header, no first move, no count."""
+    mask = sum(1 << bit for bit in range(32) if horizon - bit in came)
+    return (client << 2 | seq << 6 | horizon << 30 | mask << 54).to_bytes(16, "little")
+
+
+class Listener:
+    """A client of the host at this address: what it was sent, and when."""
+
+    def __init__(self, address):
+        self.socket = socket.socket(socket.AF_INET, socket.SOCK_DGRAM)
+        self.socket.setsockopt(socket.SOL_SOCKET, STAMPS, 1)
+        self.socket.setsockopt(socket.SOL_SOCKET, socket.SO_RCVBUF, 1_048_576)
+        self.socket.connect(address)
+        self.socket.setblocking(False)
+        self.number, self.seq, self.horizon = None, 0, 0
+        self.came, self.got, self.times = set(), [], []
+
+    def send(self, data):
+        try:
+            self.socket.send(data)
+        except OSError:
+            pass
+
+    def say_hello(self):
+        if self.number is None:
+            self.send(b"\x02\x01\x00\x00\x00")
+
+    def take(self):
+        """Takes what waits, and answers each datagram with one that acknowledges it."""
+        while True:
+            try:
+                data, beside, _, _ = self.socket.recvmsg(2_048, STAMP_ROOM)
+            except OSError:
+                return
+            if data[0] == 3:
+                self.number = data[5]
+                self.answer()
+            elif self.number is not None:
+                seconds, nanoseconds = struct.unpack("qq", beside[0][2][:16])
+                self.note(data, seconds + nanoseconds / 1e9)
+
+    def note(self, data, stamp):
+        self.got.append(data)
+        self.times.append(stamp)
+        kind, seq, _ = head_of(data)
+        if kind == 0:
+            self.came.add(seq)
+        self.horizon = max(self.horizon, seq)
+        self.answer()
+
+    def answer(self):
+        """Sends a packet. The first one is sent at the welcome, since a host says little to who sent none that it took."""
+        self.seq += 1
+        self.send(packet(self.number, self.seq, self.horizon, self.came))
+
+    def lateness(self):
+        """How many seconds behind its time each turn's datagram came, by the turn that was earliest: one datagram comes in each turn."""
+        behind = [stamp - TURN * turn for turn, stamp in enumerate(self.times)]
+        return [it - min(behind) for it in behind]
+
+
+class Listening(threading.Thread):
+    """Listeners who say hello until they are welcomed, and take what comes, until they are stopped."""
+
+    def __init__(self, addresses):
+        super().__init__()
+        self.listeners, self.goes = [Listener(address) for address in addresses], True
+        self.start()
+
+    def run(self):
+        # `select` has room for a thousand and some descriptors, `poll` for any number.
+        poll, by_number, hello = select.poll(), {it.socket.fileno(): it for it in self.listeners}, 0.0
+        for number in by_number:
+            poll.register(number, select.POLLIN)
+        while self.goes:
+            if time.monotonic() > hello:
+                hello = time.monotonic() + 0.2
+                for it in self.listeners:
+                    it.say_hello()
+            for number, _ in poll.poll(100):
+                by_number[number].take()
+
+    def stop(self):
+        self.goes = False
+        self.join()
+        for it in self.listeners:
+            it.socket.close()

@@ -1,0 +1,205 @@
+"""The screen of examples/play as numbers, and what the program tells of the served match beside it."""
+
+import re
+import subprocess
+
+from networks import head_of, packets_of, taking
+
+EDGE, RADIUS, STEP = 65_535, 16_000, 25
+MAP_ROWS, MAP_COLUMNS = 18, 50
+# Of kinds whose fields travel in fewer bits than they have values: the greatest value and the greatest level.
+ROUGH = {"drone": ((EDGE, 4_095), (EDGE, 4_095), (100, 31))}
+
+
+def numbers(pattern, text):
+    found = re.search(pattern, text)
+    return tuple(int(it) for it in found.groups()) if found else None
+
+
+class Screen:
+    """What a captured screen of 80 x 24 shows."""
+
+    def __init__(self, lines, shades=None):
+        text = "\n".join(lines)
+        self.lines, self.shades = lines, shades
+        self.client = (numbers(r"client (\d+)", lines[0]) or (None,))[0]
+        self.place = numbers(r"you +(-?\d+) +(-?\d+)", text)
+        self.offset = numbers(r"offset +(-?\d+) +(-?\d+)", text)
+        told = numbers(r"told +(\d+) +(\d+)", text)
+        rest = numbers(r"hp (\d+)  ammo (\d+)  score (\d+)", text)
+        self.told = told + rest if told and rest else None
+        self.clock = numbers(r"clock (\d+)", text)
+        self.packet, self.copies = numbers(r"packet (\d+)  copies (\d+)", text) or (None, None)
+        self.sampled, self.accepted = numbers(r"moves (\d+)  accepted (\d+)", text) or (None, None)
+        self.taken, self.refused = numbers(r"taken (\d+)  refused (\d+)", text) or (None, None)
+        self.lost = numbers(r"lost +down (\d+)% up (\d+)%", text)
+        self.events = (numbers(r"events (\d+)", text) or (None,))[0]
+        self.map = [line.ljust(80)[:MAP_COLUMNS] for line in lines[1 : 1 + MAP_ROWS]]
+
+    def is_whole(self):
+        return None not in (self.client, self.place, self.offset, self.told, self.clock, self.packet, self.sampled, self.taken)
+
+    def dim(self, row, pattern):
+        """Whether what the pattern finds in that row is dim, all of it."""
+        line = "".join(character for character, _ in self.shades[row])
+        found = re.search(pattern, line)
+        return bool(found) and all(self.shades[row][at][1] for at in range(*found.span(1)) if line[at] != " ")
+
+
+def records(path):
+    """The datagrams of a demo, in order (docs/demos.md)."""
+    data = path.read_bytes()
+    if data[:4] != b"TND1" or data[-2:] != b"\0\0":
+        raise ValueError("it is no demo with an end")
+    found, at = [], 11
+    while at < len(data) - 2:
+        length = int.from_bytes(data[at : at + 2], "little")
+        found.append(data[at + 2 : at + 2 + length])
+        at += 2 + length
+    return found
+
+
+def moves_of(script, client):
+    """The moves of a client by number, as its datagrams in the script have them."""
+    moves = {}
+    for line in script.splitlines():
+        words = line.split(" ")
+        if words[:2] != ["raw", str(client)]:
+            continue
+        number = int.from_bytes(bytes.fromhex(words[2]), "little")
+        if number & 3:
+            continue
+        first, count = number >> 86 & 0xFFFFFF, number >> 110 & 63
+        for it in range(count):
+            bits = number >> 116 + 10 * it
+            moves[first + it] = ((bits & 15) - 8, (bits >> 4 & 15) - 8, bits >> 8 & 1)
+    return moves
+
+
+def accepted_in(data):
+    """How many moves a data packet of the server tells as accepted."""
+    return int.from_bytes(data[:16], "little") >> 86 & 0xFFFFFF
+
+
+class Served:
+    """A script that was served, and what the program reports of it."""
+
+    def __init__(self, program, script):
+        self.program, self.script = program, script
+        self.packs = packets_of(self.run(script))
+
+    def run(self, script):
+        done = subprocess.run([self.program, "run"], input=script.encode(), capture_output=True, timeout=120)
+        if done.returncode != 0:
+            raise ValueError(f"run of the served script ended with {done.returncode}: {done.stderr.decode().strip()}")
+        return done.stdout.decode()
+
+    def places(self, client, datagrams):
+        """The datagrams with their places on the way down; None where one is none of the server's, or comes before an earlier one."""
+        made, found, least = self.packs.get(client, []), [], 0
+        for data in datagrams:
+            if data not in made:
+                return None
+            place = made.index(data)
+            if head_of(data)[0] == 0 and place < least:
+                return None
+            least = max(least, place)
+            found.append((place, data))
+        return found
+
+    def front(self, client, packet):
+        """The script up to the line `pack` that made the client's packet of that number."""
+        lines, place = self.script.splitlines(), -1
+        numbers = [head_of(data)[1] if head_of(data)[0] == 0 else None for data in self.packs[client]]
+        wanted = numbers.index(packet)
+        for at, line in enumerate(lines):
+            place += line == f"pack {client}"
+            if place == wanted:
+                return lines[: at + 1]
+        raise ValueError(f"no line packs packet {packet} of client {client}")
+
+    def then(self, client, datagrams):
+        """What the client shows that took these datagrams, and the world, behind the last packet of them."""
+        places = self.places(client, datagrams)
+        if places is None:
+            return None
+        packet = max(head_of(data)[1] for data in datagrams if head_of(data)[0] == 0)
+        lines = [*self.front(client, packet), *taking(client, places), f"show {client}", "world"]
+        show, world = self.run("\n".join(lines) + "\n").splitlines()[-2:]
+        return Shown(show), [it.split(" ") for it in world.split(" | ")[1:]]
+
+
+class Shown:
+    """A line `show`: copies as (kind, values, whether each is settled), by slot."""
+
+    def __init__(self, line):
+        head, *copies = line.split(" | ")
+        control = head.split(" ")[11]
+        self.copies = {}
+        for it in copies:
+            slot, kind, block, *values = it.split(" ")
+            settled = [value[-1] == "s" for value in values]
+            self.copies[int(slot)] = (kind, int(block), [int(value.rstrip("s")) for value in values], settled)
+        self.own = int(control) if control != "-" else None
+
+
+def shown_value(kind, field, value):
+    """What a copy shows of a value (docs/formats.md, "Levels")."""
+    if kind not in ROUGH:
+        return value
+    most, levels = ROUGH[kind][field]
+    level = (2 * value * levels + most) // (2 * most)
+    return (2 * level * most + levels) // (2 * levels)
+
+
+def seen(script, client, world):
+    """What the client is to have of the world, as (kind, values): its scope (docs/world.md, "Scope")."""
+    spawns = [line.split(" ") for line in script.split("\ngo\n")[0].splitlines() if line.startswith(("player ", "spawn "))]
+    teams = [int(words[3]) for words in spawns]
+    own = [int(value) for value in world[client][2:4]]
+    found = []
+    for number, kind, *values in world:
+        values = [int(value) for value in values]
+        apart = max(abs(values[0] - own[0]), abs(values[1] - own[1])) if kind != "clock" else 0
+        hidden = kind == "mine" and values[2] == 1 and teams[int(number)] != teams[client]
+        if kind in ("flag", "clock") or (apart <= RADIUS and not hidden):
+            found.append((kind, [shown_value(kind, field, value) for field, value in enumerate(values)]))
+    return sorted(found)
+
+
+def drawn(shown, screen):
+    """The letters of the map as they are to be drawn: the copies round the place in the middle, one kind over another."""
+    high, wide = RADIUS // (MAP_ROWS // 2) + 1, RADIUS // (MAP_COLUMNS // 2) + 1
+    high, wide = (2 * wide, wide) if high < 2 * wide else (high, (high + 1) // 2)
+    middle = (screen.place[0] + screen.offset[0], screen.place[1] + screen.offset[1])
+    rows = {}
+
+    def put(kind, values, letter):
+        row = (values[1] - middle[1] + high * (MAP_ROWS // 2)) // high
+        column = (values[0] - middle[0] + wide * (MAP_COLUMNS // 2)) // wide
+        if kind == "flag":
+            row, column = min(max(row, 0), MAP_ROWS - 1), min(max(column, 0), MAP_COLUMNS - 1)
+        if 0 <= row < MAP_ROWS and 0 <= column < MAP_COLUMNS:
+            rows[row, column] = letter
+
+    for order in ("mine", "drone", "disc", "flag", "player"):
+        for slot in sorted(shown.copies):
+            kind, block, values, _ = shown.copies[slot]
+            if kind == order and slot != shown.own:
+                team = "RB"[block & 1]
+                letters = {"mine": "M" if values[-1] else "m", "drone": "d", "disc": "*", "flag": "F", "player": team}
+                put(kind, values, letters[kind])
+    put("player", shown.copies[shown.own][2], "o")
+    rows[MAP_ROWS // 2, MAP_COLUMNS // 2] = "@"
+    return rows
+
+
+def map_differs(shown, screen):
+    """The first place of the map that shows another letter than is to stand there. Ground is `.`, `:` or nothing."""
+    rows = drawn(shown, screen)
+    for row in range(MAP_ROWS):
+        for column in range(MAP_COLUMNS):
+            came, wanted = screen.map[row][column], rows.get((row, column))
+            if came != wanted if wanted else came not in " .:":
+                return f"row {row}, column {column} shows '{came}', wanted is '{wanted or 'ground'}'"
+    return None

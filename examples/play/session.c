@@ -1,0 +1,190 @@
+/* A client of a served match: session.h says what it does. */
+#include "session.h"
+#include <stdlib.h>
+#include <string.h>
+
+/* the kinds' fields in order: lo, hi, bits (docs/world.md, "Kinds") */
+static const tribes_field fields[] = {
+    {0, EDGE, 16}, {0, EDGE, 16}, {0, 100, 7}, {0, 20, 5}, {0, 255, 8}, /* player */
+    {0, EDGE, 16}, {0, EDGE, 16},                                       /* disc */
+    {0, EDGE, 16}, {0, EDGE, 16}, {0, 1, 1},                            /* mine */
+    {0, EDGE, 12}, {0, EDGE, 12}, {0, 100, 5},                          /* drone */
+    {0, EDGE, 16}, {0, EDGE, 16}, {0, 16, 5},                           /* flag */
+    {0, 16777215, 24}, {0, 255, 8}, {0, 255, 8},                        /* clock */
+};
+static const tribes_kind kinds[KINDS] = {{5, 8}, {2, 6}, {3, 3}, {3, 4}, {3, 5}, {3, 1}};
+
+/* a number in a datagram: the least bit first */
+static uint32_t number_at(const uint8_t *bytes, unsigned first, unsigned width) {
+    uint32_t number = 0;
+    for (unsigned i = 0; i < width; i++) number |= (uint32_t)(bytes[(first + i) / 8] >> (first + i) % 8 & 1) << i;
+    return number;
+}
+
+static void put_number(uint8_t *bytes, uint32_t number, unsigned count) {
+    for (unsigned i = 0; i < count; i++) bytes[i] = (uint8_t)(number >> 8 * i);
+}
+
+int session_start(session *s, const struct sockaddr_in *server, uint32_t nonce, int64_t now) {
+    memset(s, 0, sizeof *s);
+    s->heard = now;
+    s->hello[0] = 2;
+    put_number(s->hello + 1, nonce, 4);
+    return network_open(&s->net, server, nonce);
+}
+
+/* A welcome is 3, the hello's nonce, the client, LIFE, SIZE and the version. The first one counts, and makes the client's end. */
+static void take_welcome(session *s, const uint8_t *bytes, size_t count, int64_t now) {
+    if (count != WELCOME_BYTES || bytes[0] != 3 || memcmp(bytes + 1, s->hello + 1, 4)) return;
+    tribes_config config = {bytes[5], number_at(bytes, 48, 24), number_at(bytes, 72, 16), bytes[11]};
+    tribes_reason why;
+    if (tribes_client(&s->end, &config, kinds, KINDS, fields, sizeof fields / sizeof *fields, &why) < 0) return; /* out of its ranges */
+    s->config = config;
+    s->welcomed = 1;
+    s->heard = now;
+    uint8_t head[11] = "TND1";
+    head[4] = (uint8_t)config.client;
+    head[5] = (uint8_t)config.version;
+    put_number(head + 6, config.life, 3);
+    put_number(head + 9, config.size, 2);
+    if (s->demo) fwrite(head, 1, sizeof head, s->demo);
+}
+
+static void record(const session *s, const uint8_t *bytes, size_t count) {
+    uint8_t length[2];
+    put_number(length, (uint32_t)count, 2);
+    if (s->demo) fwrite(length, 1, 2, s->demo), fwrite(bytes, 1, count, s->demo);
+}
+
+static void note(history *h, int lost) {
+    h->lost = h->lost << 1 | (unsigned)lost;
+    if (h->count < 64) h->count++;
+}
+
+int session_percent(const history *h) {
+    uint64_t all = h->count == 64 ? ~UINT64_C(0) : (UINT64_C(1) << h->count) - 1;
+    return h->count ? 100 * __builtin_popcountll(h->lost & all) / h->count : 0;
+}
+
+/* which of the own packets came: for the round trip, the loss upwards, and what the server knows of this client */
+static void note_verdicts(session *s, int64_t now) {
+    tribes_judged judged[TRIBES_MAX_JUDGED];
+    uint32_t count;
+    if (tribes_verdicts(&s->end, judged, TRIBES_MAX_JUDGED, &count) < 0) return;
+    for (uint32_t i = 0; i < count; i++) {
+        note(&s->up, !judged[i].received);
+        if (!judged[i].received) continue;
+        s->known = judged[i].number;
+        int64_t took = now - s->sent_at[s->known % 64];
+        s->round_trip = s->round_trip ? (7 * s->round_trip + took) / 8 : took;
+    }
+}
+
+/* which fields have new values: the next packet of this client is the first that tells the server so */
+static void note_changes(session *s) {
+    tribes_change changes[TRIBES_MAX_CHANGES];
+    tribes_count counts;
+    uint32_t count;
+    if (tribes_changes(&s->end, changes, TRIBES_MAX_CHANGES, &count) < 0 || tribes_counts(&s->end, &counts) < 0) return;
+    for (uint32_t i = 0; i < count; i++)
+        for (uint32_t f = 0; f < MOST_FIELDS; f++)
+            if (changes[i].what == 1 || changes[i].fields >> f & 1) s->tells[changes[i].slot][f] = counts.sent + 1;
+}
+
+static void hand_out_events(session *s) {
+    uint8_t bytes[TRIBES_MAX_EVENT];
+    size_t count;
+    while (tribes_event(&s->end, bytes, sizeof bytes, &count) > 0) {
+        char *text = s->texts[s->events++ % KEPT_EVENTS];
+        for (size_t i = 0; i < count; i++) text[i] = bytes[i] >= ' ' && bytes[i] <= '~' ? (char)bytes[i] : '?';
+        text[count] = 0;
+    }
+}
+
+static void take(session *s, const uint8_t *bytes, size_t count, int64_t now) {
+    uint32_t moves;
+    if (count < 1 || count > TRIBES_MAX_DATAGRAM || (bytes[0] & 3) > 1) return; /* none of a connection */
+    if (tribes_arrive(&s->end, bytes, count, 0, &moves) < 0) {                  /* late, repeated or none of ours: nothing changed */
+        s->refused++;
+        return;
+    }
+    s->heard = now;
+    s->taken++;
+    record(s, bytes, count);
+    note_verdicts(s, now);
+    /* packets that were passed over are lost, for they are never taken any more; a ping has the number of the last one */
+    uint32_t number = number_at(bytes, 6, 24), ping = bytes[0] & 3, gap = number > s->packet ? number - s->packet - !ping : 0;
+    for (uint32_t i = 0; i < gap && i < 64; i++) note(&s->down, 1);
+    if (number > s->packet) s->packet = number;
+    if (ping) return;
+    note(&s->down, 0);
+    note_changes(s);
+    hand_out_events(s);
+    copy own;
+    standing base;
+    int has = session_own(s, &own) && own.kind == PLAYER;
+    if (has) base = (standing){own.values[X], own.values[Y], own.values[AMMO]};
+    predict_told(&s->own, has ? &base : NULL, number_at(bytes, 86, 24));
+}
+
+void session_listen(session *s, int64_t now) {
+    uint8_t bytes[ROOM];
+    ssize_t count;
+    network_go(&s->net, now);
+    while ((count = network_receive(&s->net, bytes, now)) >= 0) {
+        if (s->welcomed) take(s, bytes, (size_t)count, now);
+        else take_welcome(s, bytes, (size_t)count, now);
+    }
+}
+
+void session_turn(session *s, const tribes_step *move, int64_t now) {
+    uint8_t bytes[TRIBES_MAX_DATAGRAM];
+    int64_t none = 0;
+    uint32_t number;
+    size_t count;
+    if (!s->welcomed) {
+        network_send(&s->net, s->hello, HELLO_BYTES, now);
+    } else {
+        /* Who stands still needs no move, and the server works off those that wait there after a bad time. An offset fades by moves. */
+        int rests = !move->dx && !move->dy && !move->fire && !s->own.right && !s->own.down;
+        if (!rests && tribes_sample(&s->end, move, &number) >= 0) predict_sampled(&s->own, move);
+        int32_t made = tribes_pack(&s->end, &none, 0, bytes, sizeof bytes, &count);
+        if (made > 0) network_send(&s->net, bytes, count, now);
+        if (made == 2) s->sent_at[number_at(bytes, 6, 24) % 64] = now;
+    }
+    network_go(&s->net, now);
+    if (++s->turns % (1000 / TURN) == 0) {
+        s->sent_then = (unsigned)(s->net.sent - s->sent), s->received_then = (unsigned)(s->net.received - s->received);
+        s->sent = s->net.sent, s->received = s->net.received;
+    }
+}
+
+void session_say(session *s, const char *words) {
+    char text[TRIBES_MAX_EVENT + 1];
+    uint32_t number;
+    if (!s->welcomed) return;
+    snprintf(text, sizeof text, "%u: %s", s->config.client, words);
+    tribes_post(&s->end, (const uint8_t *)text, strlen(text), 1, &number);
+}
+
+int session_copy(session *s, uint32_t from, copy *c) {
+    tribes_copied copied;
+    if (!s->welcomed || tribes_next_copy(&s->end, from, &c->slot) != 1) return 0;
+    if (tribes_copy(&s->end, c->slot, &copied, c->values, TRIBES_MAX_FIELDS) < 0) return 0;
+    c->kind = copied.kind;
+    c->block = copied.block;
+    return 1;
+}
+
+int session_own(session *s, copy *c) {
+    uint32_t slot;
+    return s->welcomed && tribes_control(&s->end, &slot) == 1 && session_copy(s, slot, c) && c->slot == slot;
+}
+
+int session_settled(const session *s, uint32_t slot, uint32_t field) { return s->known >= s->tells[slot][field]; }
+
+void session_end(session *s) {
+    uint8_t end[2] = {0, 0};
+    if (s->demo && s->welcomed) fwrite(end, 1, 2, s->demo);
+    if (s->welcomed) tribes_free(&s->end);
+}
