@@ -1,5 +1,5 @@
 //! The script in files: a further one is begun where one has grown long.
-ghost use Rattle.std.specs.Prelude.{◌≡◌, None};
+ghost use Rattle.std.specs.Prelude.{◌≡◌, ◌<◌, ◌≤◌, None, IfOk, length};
 ghost use Rattle.std.specs.Io.Buffered.{writer_buffer};
 
 use std::alloc::Global;
@@ -10,6 +10,9 @@ use tn_outside::{Failed, Sink, StdSink};
 
 /// Bytes of a file, behind which the next line begins a further one.
 const FILE_BYTES: u64 = 16_777_216;
+
+/// What ends a line.
+const NEWLINE: u8 = 10;
 
 /// How many bytes are gathered before the system is called.
 const GATHERED_BYTES: usize = 65_536;
@@ -55,6 +58,11 @@ fn begun<R: Files>(
     }
 }
 
+/// Whether the first bytes of a piece, so many, are all of it and end a line.
+fn ends_line(piece: &[u8], count: usize) -> bool {
+    count == piece.len() && piece.last() == Some(&NEWLINE)
+}
+
 impl<'a, R: Files> FileSink<'a, R> {
     /// The first file of a port, in the folder in which the program runs; one that is there is written over.
     pub(crate) fn new(files: &'a R, alloc: Global, port: u16) -> Result<FileSink<'a, R>, Failed> {
@@ -72,7 +80,9 @@ impl<'a, R: Files> FileSink<'a, R> {
     }
 
     // Begins the next file.
-    fn turn_over(&mut self) -> Result<(), Failed> {
+    fn turn_over(&mut self) -> Result<(), Failed>
+        ensures { self.new.faults ≡ self.old.faults }
+    {
         self.out.flush()?;
         let full = self.full.saturating_add(1);
         self.out = begun(self.files, self.alloc, self.port, full)?;
@@ -82,7 +92,11 @@ impl<'a, R: Files> FileSink<'a, R> {
     }
 
     // Writes to the file whose turn it is.
-    fn put(&mut self, piece: &[u8]) -> Result<usize, Failed> {
+    fn put(&mut self, piece: &[u8]) -> Result<usize, Failed>
+        ensures bound { IfOk result (λ k. k ≤ length piece.now) }
+        ensures some { IfOk result (λ k. 0 < length piece.now → 0 < k) }
+        ensures faults { self.new.faults ≡ self.old.faults }
+    {
         if self.is_line && self.count >= FILE_BYTES {
             self.turn_over()?;
         }
@@ -107,7 +121,7 @@ impl<R: Files> Sink for FileSink<'_, R> {
         match self.put(piece) {
             Ok(count) => {
                 self.count = self.count.saturating_add(count as u64);
-                self.is_line = count == piece.len() && piece.last() == Some(&10);
+                self.is_line = ends_line(piece, count);
                 Ok(count)
             }
             Err(_) => {

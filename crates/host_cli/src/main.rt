@@ -4,6 +4,9 @@
 mod file;
 mod words;
 
+ghost use Rattle.std.specs.Prelude.{◌≤◌};
+ghost use Rattle.tn_types.specs.declared.limits.TheConstants.{MAX_CLIENTS};
+
 use file::FileSink;
 use host_link::net_serve::serve;
 use host_link::{Counters, HostClock, HostLink};
@@ -38,7 +41,10 @@ fn refusal_of(fault: NetFault) -> Refusal {
 }
 
 /// Hosts the match, to its last turn.
-fn host(rt: &HostRuntime, hosting: &Hosting) -> Result<(), Refusal> {
+fn host(rt: &HostRuntime, hosting: &Hosting) -> Result<(), Refusal>
+    requires clients_least { 1 ≤ hosting.now.clients }
+    requires clients { hosting.now.clients ≤ MAX_CLIENTS }
+{
     let counters = Counters::new();
     let Ok(mut link) = HostLink::bind(rt, rt.alloc(), hosting.address, &counters) else {
         return Err(Refusal::NoAddress);
