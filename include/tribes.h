@@ -308,6 +308,14 @@ static inline const char *tribes_text(int32_t code) {
 
 #ifdef __cplusplus
 }
+
+/* A handle for C++: it has no end at first, frees the one that it gets where it is let go, and can't be copied. Each call takes it. */
+struct tribes_owned : tribes_end {
+    tribes_owned() : tribes_end() {}
+    ~tribes_owned() { tribes_free(this); }
+    tribes_owned(const tribes_owned &) = delete;
+    tribes_owned &operator=(const tribes_owned &) = delete;
+};
 #endif
 
 #endif
