@@ -1,0 +1,2 @@
+pub use Rattle.predict_lines.specs as predict_lines
+pub mod Beside
