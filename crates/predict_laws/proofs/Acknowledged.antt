@@ -1,12 +1,12 @@
 -- What the server told last of accepted moves is what it had accepted at the pack of the newest packet that came.
-use Rattle.std.proofs.Common.{◌≡◌, ◌⊎◌, inl, inr, ℕ, ◌+◌, ◌<◌, ◌≤◌, Bool, true, false, cond, List, [], ◌∷◌, length, Option, Some, None, refl, sym, ap, ◌∙◌, subst, arith, length-append, nat_le, max, ◌++◌, take, drop, ◌-◌}
+use Rattle.std.proofs.Common.{◌≡◌, inl, inr, ℕ, ◌+◌, ◌<◌, ◌≤◌, Bool, true, false, cond, List, [], ◌∷◌, length, Option, Some, None, refl, sym, ap, ◌∙◌, subst, arith, length-append, nat_le, max, ◌++◌, take, drop, ◌-◌}
 use Rattle.tn_types.specs.declared.moves.Move.{Move}
 use Rattle.wire_format.specs.declared.server.ServerBody.{ServerBody}
 use Rattle.wire_format.specs.declared.server.ServerPacket.TheVariants as down
 use Rattle.wire_format.specs.declared.client.ClientPacket.{ClientPacket}
 use Rattle.wire_format.specs.declared.client.ClientPacket.TheVariants as up
 use Rattle.move_manager.specs.Sending.{Packet, acked_of}
-use Rattle.move_manager.specs.Accepting.{accept, accepted_of, new_count}
+use Rattle.move_manager.specs.Accepting.{accept, new_count}
 use Rattle.stream_manager.specs.declared.config.Config.{Config}
 use Rattle.stream_manager.specs.Limits.{Terms}
 use Rattle.stream_manager.specs.End.{window_log}

@@ -1,12 +1,11 @@
 -- Once ticks took all moves that a client sampled, the moves that it holds for pending are those that ticks took since the pack of the
 -- packet that came last; so what it predicts is what the server has.
-use Rattle.std.proofs.Common.{◌≡◌, ℕ, ◌+◌, ◌≤◌, ◌<◌, List, [], ◌∷◌, ◌++◌, length, drop, Option, Some, None, refl, sym, ap, ◌∙◌, subst, arith, append_assoc, length-append}
-use Rattle.std.specs.Prelude.{ℤ, option_map}
+use Rattle.std.proofs.Common.{◌≡◌, ℕ, ◌<◌, List, [], ◌∷◌, ◌++◌, length, drop, Some, refl, sym, ap, ◌∙◌, arith, append_assoc, length-append}
+use Rattle.std.specs.Prelude.{option_map}
 use Rattle.std.proofs.lemmas.List.{append-nil, length-drop}
 use Rattle.tn_types.specs.declared.choices.Drain.{Drain}
 use Rattle.tn_types.specs.declared.moves.Move.{Move as PlayerMove}
 use Rattle.tn_types.specs.Prefix.{IsPrefixOf}
-use Rattle.wire_format.specs.declared.server.ServerBody.{ServerBody}
 use Rattle.move_manager.specs.Sending.{acked_of}
 use Rattle.stream_manager.specs.declared.config.Config.{Config}
 use Rattle.stream_manager.specs.Limits.{Terms}

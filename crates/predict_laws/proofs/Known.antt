@@ -1,5 +1,5 @@
 -- After all steps of a connection a prediction that was told what happened at the client's end has that end's base and pending moves.
-use Rattle.std.proofs.Common.{◌≡◌, ℕ, ◌≤◌, Bool, true, false, List, [], ◌∷◌, ◌++◌, length, Option, Some, None, refl, sym, ap, ◌∙◌, subst, arith}
+use Rattle.std.proofs.Common.{◌≡◌, ℕ, ◌≤◌, Bool, true, false, List, [], ◌∷◌, ◌++◌, length, Option, Some, None, refl, sym, ap, ◌∙◌, arith}
 use Rattle.std.specs.Prelude.{Result, Ok, Err, is_ok, option_map, slice_get, if◌then◌else◌, ℤ}
 use Rattle.std.proofs.lemmas.List.{drop-append-le}
 use Rattle.tn_types.specs.declared.choices.Class.{Class}

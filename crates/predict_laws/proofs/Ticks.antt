@@ -1,5 +1,5 @@
 -- What a tick makes of a client's player: one step, where it stands; and no step changes nothing.
-use Rattle.std.proofs.Common.{◌≡◌, ℕ, zero, suc, ◌≤◌, ◌==◌, Bool, true, false, cond, List, [], ◌∷◌, ◌++◌, map, take, Option, Some, None, refl, sym, ap, ◌∙◌, subst, arith, nat_lt}
+use Rattle.std.proofs.Common.{◌≡◌, ℕ, zero, suc, ◌≤◌, Bool, true, false, cond, List, [], ◌∷◌, ◌++◌, map, take, Option, Some, None, refl, sym, ap, ◌∙◌, subst, arith}
 use Rattle.std.specs.Prelude.{ℤ, pos, ◌+ℤ◌, ◌*ℤ◌, min, find, option_map, option_and_then, IfSome}
 use Rattle.std.specs.List.{AllByRecursion, filter_map}
 use Rattle.std.proofs.lemmas.Int.{ints}
@@ -8,12 +8,12 @@ use Rattle.tn_types.specs.declared.moves.Move.{Move}
 use Rattle.world_rules.specs.declared.object.Object.{Object}
 use Rattle.world_rules.specs.declared.object.State.{State}
 use Rattle.world_rules.specs.declared.object.State.TheVariants.{Player, Disc, Mine, Drone, Flag, Clock}
-use Rattle.world_rules.specs.Identity.{Identity, identity_of, is_owner, owner_in}
+use Rattle.world_rules.specs.Identity.{Identity, is_owner, owner_in}
 use Rattle.world_rules.specs.Flags.{is_player, is_player_part}
 use Rattle.world_rules.specs.Near.{is_standing}
 use Rattle.world_rules.specs.Moves.{move_of, still}
 use Rattle.world_rules.specs.Players.{player_next, fired, fired_part, fired_by, is_firing}
-use Rattle.world_rules.specs.Next.{Moment, by_kind, object_next, objects_next, discs_made}
+use Rattle.world_rules.specs.Next.{Moment, by_kind, object_next, discs_made}
 use Rattle.world_rules.specs.declared.object.Place.{Place}
 use Rattle.world_rules.specs.Places.{clamp}
 use Rattle.world_rules.specs.Ranges.{PlaceFits, ObjectFits}

@@ -3,7 +3,7 @@
 -- what the server had then. It rests on the rule that a tick without a move changes none of the three.
 use Rattle.std.specs.Prelude.{ℕ, ℤ, ◌≡◌, true, List, [], ◌∷◌, ◌++◌, length, Option, Some}
 use Rattle.wire_format.specs.declared.server.ServerBody.{ServerBody}
-use Rattle.stream_manager.specs.Server.{ServerEvent, next_body}
+use Rattle.stream_manager.specs.Server.{next_body}
 use Rattle.match_script.specs.declared.types.BodyLine.{BodyLine}
 use Rattle.match_script.specs.declared.types.BodyLine.TheVariants.{Tick, Pack}
 use Rattle.match_script.specs.declared.types.Head.{Head}
@@ -13,7 +13,7 @@ use Rattle.pair_core.specs.Answers.{sampled_in}
 use Rattle.conn_packing.specs.Packs.{absorbing, values_of}
 use Rattle.match_laws.specs.Values.{steps_of, AtEachLine}
 use Rattle.own_lists.specs.Course.{waiting_in}
-use Rattle.own_lists.specs.Kept.{Kept, drains_of, reads_of}
+use Rattle.own_lists.specs.Kept.{drains_of, reads_of}
 use Rattle.own_lists.specs.Past.{client_terms, kept_by, after}
 use Rattle.client_predict.specs.Predicting.{value_of}
 use Rattle.predict_client.specs.Following.{base_at}

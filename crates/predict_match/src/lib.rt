@@ -4,5 +4,6 @@
 mod running;
 
 pub use match_engine::RunFault;
+pub use predict_laws::value_is_servers;
 pub use predict_lines;
 pub use running::run_predicted;

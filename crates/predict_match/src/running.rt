@@ -9,11 +9,13 @@ ghost use Rattle.match_engine.specs.Match.{StandsFor, Does};
 ghost use Rattle.client_predict.specs.Laws.{AcceptedChangesNothing, OffsetSettles};
 ghost use Rattle.predict_lines.specs.Changes.{IsChange};
 ghost use Rattle.predict_lines.specs.Lines.{end_of, prediction_line, is_show, predicted_at, predicted};
+ghost use Rattle.predict_laws.specs.Promise.{ValueIsServers};
 ghost use Rattle.predict_match.specs.Beside.{StandBeside};
 
 use client_predict::{Predict, accepted_changes_nothing, offset_settles};
 use match_engine::{Match, RunFault};
 use match_script::{BodyLine, Script};
+use predict_laws::value_is_servers;
 use predict_lines::{EndChange, change_of, follow, put_prediction};
 use std::alloc::Global;
 use tn_outside::{Sink, write_all};
@@ -159,9 +161,12 @@ pub fn run_predicted<K: Sink>(
     // Nothing jumps where the server did what was predicted, and what is left of a jump is gone after 22 samples.
     ensures accepted_changes_nothing { AcceptedChangesNothing }
     ensures offset_settles { OffsetSettles }
+    // Where an honest client has caught up, the server has what is predicted.
+    ensures value_is_servers { ValueIsServers }
 {
     accepted_changes_nothing();
     offset_settles();
+    value_is_servers();
     if client < script.head.clients {
         write_lines(alloc, script, client, sink)
     } else {

@@ -2,12 +2,13 @@
 ghost use Rattle.std.specs.Prelude.{◌≡◌, ◌⊎◌, List, [], ℕ, map, string_bytes, Some, Ok};
 ghost use Rattle.script_input.specs.Reading.{seen, HasFailed};
 ghost use Rattle.client_predict.specs.Laws.{AcceptedChangesNothing, OffsetSettles};
+ghost use Rattle.predict_match.specs.predict_laws.Promise.{ValueIsServers};
 ghost use Rattle.predict_top.specs.Command.{client_of, Says};
 ghost use Rattle.predict_top.specs.Outcome.{PredictOutcome, IsWanted, CanBeDone};
 
 use crate::command::client_of;
 use client_predict::{accepted_changes_nothing, offset_settles};
-use predict_match::{RunFault, run_predicted};
+use predict_match::{RunFault, run_predicted, value_is_servers};
 use script_input::{Status, read_script};
 use std::alloc::Global;
 use tn_outside::{Sink, Source};
@@ -62,9 +63,13 @@ pub fn top_predict<S: Source, K: Sink>(
     // A packet that tells what was predicted changes nothing, and what is left of a correction is gone after 22 samples.
     ensures accepted_changes_nothing { AcceptedChangesNothing }
     ensures offset_settles { OffsetSettles }
+    // The server has the x, y and ammo that an honest client predicts, where the last packet told what the server had, no accepted
+    // move waited at its pack, the player stood since, and all sampled moves are taken.
+    ensures value_is_servers { ValueIsServers }
 {
     accepted_changes_nothing();
     offset_settles();
+    value_is_servers();
     match client_of(words) {
         Ok(client) => serve(alloc, client, source, sink),
         Err(place) => Status::Usage(place),

@@ -1,7 +1,6 @@
-use Rattle.std.proofs.Common.{◌≡◌, ◌∙◌, ◌∷◌, Some, sym, ap, subst}
+use Rattle.std.proofs.Common.{◌≡◌, ◌∙◌, ◌∷◌, sym, ap, subst}
 use Rattle.std.specs.Option.{option_copied}
 use Rattle.match_script.specs.declared.types.Script.{Script}
-use Rattle.match_report.specs.declared.told.Told.{Told}
 use Rattle.match_engine.specs.Match.{last_told}
 use Rattle.match_engine.specs.match_laws.Report.{told_after}
 use Rattle.predict_lines.specs.declared.changes.EndChange.{EndChange}
