@@ -1,0 +1,5 @@
+pub mod Ticks
+pub mod Acknowledged
+pub mod Known
+pub mod Plays
+pub mod CaughtUp

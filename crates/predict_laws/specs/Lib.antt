@@ -1,0 +1,3 @@
+pub mod Players
+pub mod Newest
+pub mod Promise

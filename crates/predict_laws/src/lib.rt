@@ -1,0 +1,6 @@
+//! What a prediction promises of the server.
+#![tactic(auto)]
+
+mod laws;
+
+pub use laws::value_is_servers;

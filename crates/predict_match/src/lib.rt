@@ -1,0 +1,9 @@
+//! The run of a match beside a prediction of one client's player.
+#![tactic(auto)]
+
+mod running;
+
+pub use match_engine::RunFault;
+pub use predict_laws::value_is_servers;
+pub use predict_lines;
+pub use running::run_predicted;

@@ -1,0 +1,8 @@
+//! The call of the program that predicts a client's player, over a source and a sink.
+#![tactic(auto)]
+
+mod command;
+mod serving;
+
+pub use match_top;
+pub use serving::top_predict;
