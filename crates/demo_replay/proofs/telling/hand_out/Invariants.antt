@@ -1,0 +1,15 @@
+use Rattle.std.proofs.Common.{◌≡◌, ◌++◌, length, map}
+use Rattle.demo_view.specs.Stands.{terms_of}
+use Rattle.demo_view.specs.Calls.{Becomes}
+use Rattle.demo_replay.specs.Replaying.{event_told}
+use Rattle.demo_replay.proofs.telling.hand_out.Given as goal
+
+abbrev pub invariant-out : goal.invariant-out
+invariant-out l = record {
+  events : l.events.items ++ map event_told l.viewer.events.ready ≡ map event_told l.fn.viewer.events.ready;
+  stands : Becomes l.fn.viewer (λ packets. packets) l.viewer;
+  terms : terms_of l.viewer ≡ terms_of l.fn.viewer;
+}
+
+abbrev pub decreases-out : goal.decreases-out
+decreases-out l = length l.viewer.events.ready

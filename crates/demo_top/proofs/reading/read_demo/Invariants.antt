@@ -1,0 +1,14 @@
+use Rattle.std.proofs.Common.{◌≤◌, ◌-◌, ◌+◌, vec_len}
+use Rattle.tn_outside.specs.Totals.{GaveFront}
+use Rattle.demo_format.specs.declared.head.TheConstants.{MAX_DEMO_BYTES}
+use Rattle.demo_top.proofs.reading.read_demo.Given as goal
+
+abbrev pub invariant-reads : goal.invariant-reads
+invariant-reads g l = record {
+  gave : GaveFront (g.S.Source.held l.fn.source) (g.S.Source.held l.source) l.bytes.items;
+  few : vec_len l.bytes ≤ MAX_DEMO_BYTES + 1;
+  later : g.S.Source.faults l.fn.source ≤ g.S.Source.faults l.source;
+}
+
+abbrev pub decreases-reads : goal.decreases-reads
+decreases-reads g l = MAX_DEMO_BYTES + 1 - vec_len l.bytes
