@@ -1,8 +1,10 @@
 //! The program: what its words ask for, over standard input, standard output and standard error.
 #![tactic(auto)]
 
+use demo_top::top_demo;
 use match_top::top;
 use net_top::top_net;
+use predict_top::top_predict;
 use script_input::{Status, exit_of};
 use std::alloc::Global;
 use std::io::BufWriter;
@@ -60,6 +62,9 @@ fn serve<R: Threads + Wait + Net + SystemTimes + Sync, S: Source, K: Sink>(
             serve_over_link(rt, alloc, words, SERVER_PORT, sink)
         }
         Some(name) if name.as_str() == "join" => serve_over_link(rt, alloc, words, 0, sink),
+        Some(name) if name.as_str() == "predict" => top_predict(alloc, words, source, sink),
+        Some(name) if name.as_str() == "demo" => top_demo(alloc, words, source, sink),
+        Some(name) if name.as_str() == "replay" => top_demo(alloc, words, source, sink),
         _ => top(alloc, words, source, sink),
     }
 }
