@@ -3,6 +3,7 @@
 
 use match_top::top;
 use net_top::top_net;
+use predict_top::top_predict;
 use script_input::{Status, exit_of};
 use std::alloc::Global;
 use std::io::BufWriter;
@@ -46,7 +47,7 @@ fn serve_over_link<R: Net + SystemTimes, K: Sink>(
     top_net(alloc, words, &mut link, &mut clock, sink)
 }
 
-/// Serves the words: `threads` in threads, `serve` and `join` over a link, and all others on one thread.
+/// Serves the words: `threads` in threads, `serve` and `join` over a link, and all others on one thread, `predict` by a call of its own.
 fn serve<R: Threads + Wait + Net + SystemTimes + Sync, S: Source, K: Sink>(
     rt: &R,
     alloc: Global,
@@ -60,6 +61,7 @@ fn serve<R: Threads + Wait + Net + SystemTimes + Sync, S: Source, K: Sink>(
             serve_over_link(rt, alloc, words, SERVER_PORT, sink)
         }
         Some(name) if name.as_str() == "join" => serve_over_link(rt, alloc, words, 0, sink),
+        Some(name) if name.as_str() == "predict" => top_predict(alloc, words, source, sink),
         _ => top(alloc, words, source, sink),
     }
 }
