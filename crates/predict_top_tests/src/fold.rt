@@ -255,21 +255,12 @@ fn made_text(alloc: Global, seed: u32) -> Result<String, NoMemory> {
 #[test]
 fn predicted_as_by_a_fold(rt: HostRuntime) -> Result<(), Fail> {
     let text = made_text(rt.alloc(), 7).ok().ok_or("no memory")?;
-    let script = parse(rt.alloc(), text.as_bytes())
-        .ok()
-        .ok_or("no script")?;
+    let script = parse(rt.alloc(), text.as_bytes()).ok().ok_or("no script")?;
     for (client, word) in ["0", "1", "2", "3", "4", "5", "6", "7"].iter().enumerate() {
         let lines = expected(rt.alloc(), &script, client as u8)
             .ok()
             .ok_or("no memory")?;
-        let (status, bytes) = served(
-            &rt,
-            &["predict", *word],
-            text.as_bytes(),
-            65_536,
-            &[],
-            &[],
-        )?;
+        let (status, bytes) = served(&rt, &["predict", *word], text.as_bytes(), 65_536, &[], &[])?;
         assert_eq!(rt; status, Status::Done);
         assert_eq!(rt; bytes.as_slice(), lines.as_bytes());
         assert!(rt; lines.len() > 1000);
