@@ -69,9 +69,10 @@ class Listener:
         self.seq += 1
         self.send(packet(self.number, self.seq, self.horizon, self.came))
 
-    def lateness(self):
-        """How many seconds behind its time each turn's datagram came, by the turn that was earliest: one datagram comes in each turn."""
-        behind = [stamp - TURN * turn for turn, stamp in enumerate(self.times)]
+    def lateness(self, made):
+        """How many seconds behind its time each turn's data packet came, by the turn that was earliest: each turn made one of `made`."""
+        turns = {data: turn for turn, data in enumerate(made) if head_of(data)[0] == 0}
+        behind = [stamp - TURN * turns[data] for data, stamp in zip(self.got, self.times) if data in turns]
         return [it - min(behind) for it in behind]
 
 
