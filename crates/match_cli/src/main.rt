@@ -1,6 +1,7 @@
 //! The program: what its words ask for, over standard input, standard output and standard error.
 #![tactic(auto)]
 
+use demo_top::top_demo;
 use match_top::top;
 use net_top::top_net;
 use script_input::{Status, exit_of};
@@ -46,7 +47,7 @@ fn serve_over_link<R: Net + SystemTimes, K: Sink>(
     top_net(alloc, words, &mut link, &mut clock, sink)
 }
 
-/// Serves the words: `threads` in threads, `serve` and `join` over a link, and all others on one thread.
+/// Serves the words: `threads` in threads, `serve` and `join` over a link, `demo` and `replay` of demos, and all others on one thread.
 fn serve<R: Threads + Wait + Net + SystemTimes + Sync, S: Source, K: Sink>(
     rt: &R,
     alloc: Global,
@@ -60,6 +61,8 @@ fn serve<R: Threads + Wait + Net + SystemTimes + Sync, S: Source, K: Sink>(
             serve_over_link(rt, alloc, words, SERVER_PORT, sink)
         }
         Some(name) if name.as_str() == "join" => serve_over_link(rt, alloc, words, 0, sink),
+        Some(name) if name.as_str() == "demo" => top_demo(alloc, words, source, sink),
+        Some(name) if name.as_str() == "replay" => top_demo(alloc, words, source, sink),
         _ => top(alloc, words, source, sink),
     }
 }
