@@ -48,7 +48,7 @@ fn serve_over_link<R: Net + SystemTimes, K: Sink>(
     top_net(alloc, words, &mut link, &mut clock, sink)
 }
 
-/// Serves the words: `threads` in threads, `serve` and `join` over a link, and all others on one thread, `predict` by a call of its own.
+/// Serves the words: `threads` in threads, `serve` and `join` over a link, and all others on one thread, each by its own call.
 fn serve<R: Threads + Wait + Net + SystemTimes + Sync, S: Source, K: Sink>(
     rt: &R,
     alloc: Global,
