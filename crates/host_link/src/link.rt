@@ -14,6 +14,9 @@ use tn_outside::{Failed, Link, Peer};
 /// As many addresses have a place at a time.
 const MAX_GUESTS: usize = 1_024;
 
+/// Behind so many datagrams in a row a pause is told, so that a turn whose time has come begins though more of them wait.
+const MAX_IN_A_ROW: u32 = 4;
+
 /// How long a call waits for a datagram, in milliseconds.
 const WAIT_MILLISECONDS: u64 = 1;
 
@@ -32,8 +35,8 @@ pub struct HostLink<'a> {
     guests: Guests,
     counters: &'a Counters,
     faults: u64,
-    // whether a datagram was given, and no pause told behind it
-    given: bool,
+    // datagrams that came since the last pause
+    in_a_row: u32,
 }
 
 fn bound<R: Net>(net: &R, address: SocketAddrV4) -> io::Result<UdpSocket> {
@@ -85,7 +88,7 @@ impl<'a> HostLink<'a> {
                 guests,
                 counters,
                 faults: 0,
-                given: false,
+                in_a_row: 0,
             }),
             Err(_) => Err(Failed),
         }
@@ -172,27 +175,26 @@ impl Link for HostLink<'_> {
         Ok(())
     }
 
-    /// A datagram of one for whom there is no place is given with no byte. Behind each datagram it answers None once, so that a turn
-    /// whose time has come begins though more of them wait.
+    /// A datagram of one for whom there is no place is given with no byte. Behind 4 datagrams in a row it answers None once, though
+    /// more may wait.
     fn receive(&mut self, buf: &mut [u8]) -> Result<Option<(Peer, usize)>, Failed> {
         let faults = self.faults;
-        if self.given {
-            self.given = false;
+        if self.in_a_row >= MAX_IN_A_ROW {
+            self.in_a_row = 0;
             return Ok(None);
         }
+        self.in_a_row += 1;
         match self.socket.recv_from(buf) {
-            Ok((count, address)) => {
-                self.given = true;
-                match self.meet(address, count) {
-                    Some(peer) => Ok(Some((peer, count))),
-                    None => {
-                        self.counters.note_turned();
-                        Ok(Some((NOBODY, 0)))
-                    }
+            Ok((count, address)) => match self.meet(address, count) {
+                Some(peer) => Ok(Some((peer, count))),
+                None => {
+                    self.counters.note_turned();
+                    Ok(Some((NOBODY, 0)))
                 }
-            }
+            },
             Err(e) => {
                 if is_quiet(e.kind()) {
+                    self.in_a_row = 0;
                     return Ok(None);
                 }
                 self.faults = faults.saturating_add(1);
