@@ -15,7 +15,7 @@ use tn_outside::{Failed, Link, Peer};
 const MAX_GUESTS: usize = 1_024;
 
 /// Behind so many datagrams in a row a pause is told, so that a turn whose time has come begins though more of them wait.
-const MAX_IN_A_ROW: u32 = 32;
+const MAX_IN_A_ROW: u32 = 4;
 
 /// How long a call waits for a datagram, in milliseconds.
 const WAIT_MILLISECONDS: u64 = 1;
@@ -175,7 +175,7 @@ impl Link for HostLink<'_> {
         Ok(())
     }
 
-    /// A datagram of one for whom there is no place is given with no byte. Behind 32 datagrams in a row it answers None once, though
+    /// A datagram of one for whom there is no place is given with no byte. Behind 4 datagrams in a row it answers None once, though
     /// more may wait.
     fn receive(&mut self, buf: &mut [u8]) -> Result<Option<(Peer, usize)>, Failed> {
         let faults = self.faults;
