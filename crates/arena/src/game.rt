@@ -6,9 +6,10 @@ use quantised_fields::{FieldList, FieldSpec, Kind, KindFault, KindTable};
 use stream_manager::{Config, ConfigFault};
 use tn_types::{BlockBytes, MAX_LISTED_FIELDS};
 
-/// The kinds by number, and with the same numbers their blocks.
+/// The kind of tanks, and the block that tells of them.
 pub const TANK: u8 = 0;
 
+/// The kind of mines, and the block that tells of them.
 pub const MINE: u8 = 1;
 
 /// The greatest coordinate of a place.
