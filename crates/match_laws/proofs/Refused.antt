@@ -18,21 +18,21 @@ use Rattle.match_report.specs.declared.told.Way.TheVariants as way
 use Rattle.stream_manager.specs.Limits.{Terms, AreTerms}
 use Rattle.stream_manager.specs.Server.{server_state}
 use Rattle.stream_manager.specs.Client.{client_state}
-use Rattle.pair_core.specs.declared.step.Answer.{Answer}
-use Rattle.pair_core.specs.declared.step.Answer.TheVariants as says
-use Rattle.pair_core.specs.History.{PairStep, Down, Up, history}
-use Rattle.pair_core.specs.Conditions.{IsHonest}
-use Rattle.pair_core.specs.Answers.{answer}
-use Rattle.pair_core.specs.Refusals.{RefusesLittle}
-use Rattle.pair_core.proofs.Good.{AreGood}
-use Rattle.pair_core.proofs.RefusalLaw.{little}
-use Rattle.own_lists.specs.Own.{OwnItem, Line, Scan, Tick, client_named}
-use Rattle.own_lists.specs.Course.{Course, onto, room_in, scan_steps}
-use Rattle.own_lists.specs.Kept.{Kept, put, after_line, follows, kept, journal, drains_of, reads_of}
-use Rattle.own_lists.specs.Past.{Past, client_terms, kept_by, after}
-use Rattle.own_lists.specs.Agreement.{OwnListsHold}
-use Rattle.own_lists.proofs.KeptValues.{wrote_course}
-use Rattle.own_lists.proofs.Meeting.{scan_journal}
+use Rattle.client_seat.specs.pair_core.declared.step.Answer.{Answer}
+use Rattle.client_seat.specs.pair_core.declared.step.Answer.TheVariants as says
+use Rattle.client_seat.specs.pair_core.History.{PairStep, Down, Up, history}
+use Rattle.client_seat.specs.pair_core.Conditions.{IsHonest}
+use Rattle.client_seat.specs.pair_core.Answers.{answer}
+use Rattle.client_seat.specs.pair_core.Refusals.{RefusesLittle}
+use Rattle.client_seat.proofs.Below.pair_core.Good.{AreGood}
+use Rattle.client_seat.proofs.Below.pair_core.RefusalLaw.{little}
+use Rattle.client_seat.specs.own_lists.Own.{OwnItem, Line, Scan, Tick, client_named}
+use Rattle.client_seat.specs.own_lists.Course.{Course, onto, room_in, scan_steps}
+use Rattle.client_seat.specs.own_lists.Kept.{Kept, put, after_line, follows, kept, journal, drains_of, reads_of}
+use Rattle.client_seat.specs.own_lists.Past.{Past, client_terms, kept_by, after}
+use Rattle.client_seat.specs.own_lists.Agreement.{OwnListsHold}
+use Rattle.client_seat.proofs.Below.own_lists.KeptValues.{wrote_course}
+use Rattle.client_seat.proofs.Below.own_lists.Meeting.{scan_journal}
 use Rattle.client_seat.specs.Told.{post_told, client_post_told, made_told, packed_told, client_made_told, client_pack_told}
 use Rattle.client_seat.specs.Told.{handed_down, handed_up, brought_told, brought_up_told}
 use Rattle.match_laws.specs.Report.{told}
