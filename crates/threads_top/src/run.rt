@@ -2,7 +2,7 @@
 ghost use Rattle.std.specs.Prelude.{◌≡◌, ◌≤◌, Err, IfOk, OnOk};
 ghost use Rattle.tn_outside.specs.Causes.{Rose};
 ghost use Rattle.match_script.specs.Ranges.{HasRanges};
-ghost use Rattle.match_threads.specs.Telling.{IsRaceText, Tells, TellsFront};
+ghost use Rattle.threads_top.specs.Telling.{IsRaceText, Tells, TellsFront};
 
 use legal_race::tell;
 use match_engine::RunFault;
