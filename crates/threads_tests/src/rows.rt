@@ -71,6 +71,15 @@ fn texts_of_threads(rt: HostRuntime) -> Result<(), Fail> {
         ),
         (
             EMPTY,
+            "raw 0 -\nraw 0 ffff\nraw 0 4400000000000000000040010040f01f00\n",
+            "j 0 raw 32 -
+j 0 raw 32 ffff
+j 0 raw 32 4400000000000000000040010040f01f00
+show 0 events 0 sampled 0 accepted 0 taken 0 control - ghosts 0
+",
+        ),
+        (
+            EMPTY,
             "cpost 0 g 61\ncpack 0\nup 0 0\n",
             "j 0 cpost g 61
 j 0 cpack
