@@ -1,6 +1,6 @@
 //! The run of a script, line by line.
 ghost use Rattle.std.specs.Prelude.{◌≡◌, ◌<◌, ◌≤◌, ◌+◌, OnOk, OnErr, Ok, Err, true, false, length};
-ghost use Rattle.tn_outside.specs.Causes.{Rose};
+ghost use Rattle.tn_outside.specs.Causes.{HandsOn};
 ghost use Rattle.tn_outside.specs.Totals.{Adds, AddsFront};
 ghost use Rattle.match_script.specs.Ranges.{HasRanges};
 ghost use Rattle.match_report.specs.Text.{report_line};
@@ -42,8 +42,7 @@ pub fn tell<K: Sink>(
 ) -> Result<(), RunFault>
     ensures written { OnOk result (Adds (K.written sink.old) (K.written sink.new) (report_line told.now)) }
     ensures front { OnErr result (AddsFront (K.written sink.old) (K.written sink.new) (report_line told.now)) }
-    ensures cause { result ≡ Err RunFault.WriteFault → Rose (K.faults sink.old) (K.faults sink.new) }
-    ensures later { K.faults sink.old ≤ K.faults sink.new }
+    ensures cause { HandsOn (K.faults sink.old) (K.faults sink.new) (result ≡ Err RunFault.WriteFault) }
 {
     text.clear();
     let Ok(()) = put_line(alloc, told, text) else {
@@ -73,8 +72,7 @@ fn step<K: Sink>(
     ensures written { result ≡ Ok true → Tells Adds game.old (K.written sink.old) (K.written sink.new) }
     ensures there { OnErr result (game.old.place < length game.old.script.body) }
     ensures front { OnErr result (Tells AddsFront game.old (K.written sink.old) (K.written sink.new)) }
-    ensures cause { result ≡ Err RunFault.WriteFault → Rose (K.faults sink.old) (K.faults sink.new) }
-    ensures later { K.faults sink.old ≤ K.faults sink.new }
+    ensures cause { HandsOn (K.faults sink.old) (K.faults sink.new) (result ≡ Err RunFault.WriteFault) }
 {
     match game.next(alloc) {
         Ok(true) => {}
@@ -93,8 +91,7 @@ fn write_report<K: Sink>(alloc: Global, script: &Script, sink: &mut K) -> Result
     requires { HasRanges script.now }
     ensures report { OnOk result (Adds (K.written sink.old) (K.written sink.new) (report script.now)) }
     ensures front { OnErr result (AddsFront (K.written sink.old) (K.written sink.new) (report script.now)) }
-    ensures cause { result ≡ Err RunFault.WriteFault → Rose (K.faults sink.old) (K.faults sink.new) }
-    ensures later { K.faults sink.old ≤ K.faults sink.new }
+    ensures cause { HandsOn (K.faults sink.old) (K.faults sink.new) (result ≡ Err RunFault.WriteFault) }
 {
     let Ok(mut game) = Match::new(alloc, script) else {
         return Err(RunFault::NoMemory);
@@ -109,8 +106,7 @@ pub fn run<K: Sink>(alloc: Global, script: &Script, sink: &mut K) -> Result<(), 
     requires { HasRanges script.now }
     ensures report { OnOk result (Adds (K.written sink.old) (K.written sink.new) (report script.now)) }
     ensures front { OnErr result (AddsFront (K.written sink.old) (K.written sink.new) (report script.now)) }
-    ensures cause { result ≡ Err RunFault.WriteFault → Rose (K.faults sink.old) (K.faults sink.new) }
-    ensures later { K.faults sink.old ≤ K.faults sink.new }
+    ensures cause { HandsOn (K.faults sink.old) (K.faults sink.new) (result ≡ Err RunFault.WriteFault) }
     // The datagrams for each client are those of a server that is fed with its own list alone.
     ensures isolation { Isolation }
     // No line that names another client changes anything for a client, and the lines of its own list name it.

@@ -5,7 +5,6 @@ returns g c = record {
   report = c.write_report.ensures.report;
   front = c.write_report.ensures.front;
   cause = c.write_report.ensures.cause;
-  later = c.write_report.ensures.later;
   isolation = c.isolation.ensures;
   non_interference = c.non_interference.ensures;
   copies_show_values = c.copies_show_values.ensures;

@@ -1,7 +1,7 @@
 use Rattle.std.proofs.Common.{◌≡◌, ℕ, List, false, inl, inr, arith, sym, subst}
 use Rattle.match_script.specs.Words.{is_number}
-use Rattle.match_top.proofs.Numbers.{is_plain, none_said, said, said_small, said_great, unread}
-use Rattle.match_top.proofs.command.number.Goals as goal
+use Rattle.command_words.proofs.Numbers.{is_plain, none_said, said, said_small, said_great, unread}
+use Rattle.command_words.proofs.reading.number.Goals as goal
 
 pub returns-then-not-begins_plainly : goal.returns-then-not-begins_plainly
 returns-then-not-begins_plainly c =
