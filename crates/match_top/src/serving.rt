@@ -1,6 +1,6 @@
 //! The commands: each has a script, which is read or made, and what the command makes of it is written.
-ghost use Rattle.std.specs.Prelude.{◌≡◌, ◌⊎◌, ◌≤◌, ◌+◌, List, [], ℕ, map, string_bytes, Some, Ok, OnOk, OnErr, IfOk, IfErr};
-ghost use Rattle.tn_outside.specs.Causes.{Rose};
+ghost use Rattle.std.specs.Prelude.{◌≡◌, ◌⊎◌, ◌+◌, List, [], ℕ, map, string_bytes, Some, Ok, Err, OnOk, OnErr, IfOk, IfErr};
+ghost use Rattle.tn_outside.specs.Causes.{HandsOn};
 ghost use Rattle.tn_outside.specs.Totals.{Adds, AddsFront};
 ghost use Rattle.match_script.specs.Ranges.{HasRanges};
 ghost use Rattle.match_count.specs.match_laws.Laws.{Isolation, EventsInOrder, MovesInOrder, LooseInOrder, LittleIsRefused};
@@ -38,7 +38,7 @@ fn script_for<S: Source>(alloc: Global, command: Command, source: &mut S) -> Res
     ensures ranges { IfOk result HasRanges }
     ensures left { LeavesSource (Ok command) (seen (S.held source.old) (S.held source.new) (S.faults source.old) (S.faults source.new)) }
     ensures taken { GaveAtMost (MAX_SCRIPT_BYTES + 1) (S.held source.old) (S.held source.new) }
-    ensures later { S.faults source.old ≤ S.faults source.new }
+    ensures cause { HandsOn (S.faults source.old) (S.faults source.new) (result ≡ Err Status.ReadFault) }
 {
     match command {
         Command::Run => read_script(alloc, source),
@@ -68,8 +68,7 @@ fn write_counts<K: Sink>(
         (Adds (K.written sink.old) (K.written sink.new) (text_of (Command.Big seed clients steps) script.now)) }
     ensures front { OnErr result
         (AddsFront (K.written sink.old) (K.written sink.new) (text_of (Command.Big seed clients steps) script.now)) }
-    ensures cause { result ≡ Err RunFault.WriteFault → Rose (K.faults sink.old) (K.faults sink.new) }
-    ensures later { K.faults sink.old ≤ K.faults sink.new }
+    ensures cause { HandsOn (K.faults sink.old) (K.faults sink.new) (result ≡ Err RunFault.WriteFault) }
 {
     let Ok(counts) = count(alloc, script) else {
         return Err(RunFault::NoMemory);
@@ -94,8 +93,7 @@ fn write_text<K: Sink>(
     requires { HasRanges script.now }
     ensures text { OnOk result (Adds (K.written sink.old) (K.written sink.new) (text_of command script.now)) }
     ensures front { OnErr result (AddsFront (K.written sink.old) (K.written sink.new) (text_of command script.now)) }
-    ensures cause { result ≡ Err RunFault.WriteFault → Rose (K.faults sink.old) (K.faults sink.new) }
-    ensures later { K.faults sink.old ≤ K.faults sink.new }
+    ensures cause { HandsOn (K.faults sink.old) (K.faults sink.new) (result ≡ Err RunFault.WriteFault) }
 {
     match command {
         Command::Run => run(alloc, script, sink),
