@@ -26,7 +26,7 @@ use Rattle.pair_core.specs.Answers.{answer}
 use Rattle.pair_core.specs.Refusals.{RefusesLittle}
 use Rattle.pair_core.proofs.Good.{AreGood}
 use Rattle.pair_core.proofs.RefusalLaw.{little}
-use Rattle.own_lists.specs.Own.{OwnItem, Line, Scan, Tick, client_named}
+use Rattle.own_lists.specs.Own.{OwnItem, Line, Scan, Tick}
 use Rattle.own_lists.specs.Course.{Course, onto, room_in, scan_steps}
 use Rattle.own_lists.specs.Kept.{Kept, put, after_line, follows, kept, journal, drains_of, reads_of}
 use Rattle.own_lists.specs.Past.{Past, client_terms, kept_by, after}
@@ -36,7 +36,7 @@ use Rattle.own_lists.proofs.Meeting.{scan_journal}
 use Rattle.client_seat.specs.Told.{post_told, client_post_told, made_told, packed_told, client_made_told, client_pack_told}
 use Rattle.client_seat.specs.Told.{handed_down, handed_up, brought_told, brought_up_told}
 use Rattle.match_laws.specs.Report.{told}
-use Rattle.match_laws.specs.Laws.{first, TellsLittle, LittleIsRefused}
+use Rattle.match_laws.specs.Laws.{first, TellsLittle, IsHonestWith, LittleIsRefused}
 use Rattle.match_laws.proofs.Grown.{grows}
 use Rattle.match_laws.proofs.InOrder.{terms_fit, are_good}
 
@@ -125,7 +125,7 @@ module _ (own : OwnListsHold) (s : Script) (n : ℕ) (h : HasRanges s) where
   steps c = (kept_by s.head before c).course.steps
 
   line-little : (line : BodyLine) → LineFits s.head.clients line
-      → ((c : ℕ) → client_named line ≡ Some c → IsHonest (journal (client_terms s.head c) ((after s.head (line ∷ first n s)).own c)))
+      → IsHonestWith s n line
       → TellsLittle (told s.head before (after s.head (line ∷ first n s)) line)
   line-little script.Tick fits honest = tt
   line-little (script.Scan c) fits honest = tt

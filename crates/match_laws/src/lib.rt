@@ -2,6 +2,7 @@
 #![tactic(auto)]
 
 mod laws;
+mod promises;
 mod values;
 mod words;
 
@@ -11,5 +12,6 @@ pub use laws::{
     non_interference,
 };
 pub use pair_core;
+pub use promises::laws_of_matches;
 pub use values::{changes_recover, copies_show_values, settled_is_newest};
 pub use words::{applied_in_order, printed_in_order};
