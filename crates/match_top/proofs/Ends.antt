@@ -50,7 +50,7 @@ module _ (c : Command) (source sink : Seen) (left : LeavesSource (Ok c) source) 
 
   pub done : (script : OneScript) → HasScript c source script → IsSpared source → Adds sink.old sink.new (text_of c script) → IsSpared sink → Outcome (Ok c) source sink Done
   done script has spared adds kept = record {
-    answer = (spared, kept, script, has, adds);
+    answer = (spared, kept, (script, has, adds));
     left = left;
     taken = taken;
     written = inr (script, has, whole_front sink.old sink.new (text_of c script) adds);
@@ -60,7 +60,7 @@ module _ (c : Command) (source sink : Seen) (left : LeavesSource (Ok c) source) 
 
   pub write_fault : (script : OneScript) → HasScript c source script → IsSpared source → AddsFront sink.old sink.new (text_of c script) → sink.faults ≤ sink.faults_after → HasFailed sink → Outcome (Ok c) source sink WriteFault
   write_fault script has spared front le failed = record {
-    answer = (spared, failed, script, has, front);
+    answer = (spared, failed, (script, has, front));
     left = left;
     taken = taken;
     written = inr (script, has, front);
