@@ -1,6 +1,6 @@
 //! Writing the demo of a client, line by line of its match.
 ghost use Rattle.std.specs.Prelude.{◌≡◌, ◌<◌, ◌≤◌, ◌+◌, ◌∷◌, List, OnOk, OnErr, Ok, Err, true, false, length, reverse};
-ghost use Rattle.tn_outside.specs.Causes.{Rose};
+ghost use Rattle.tn_outside.specs.Causes.{HasCause, HandsOn};
 ghost use Rattle.tn_outside.specs.Totals.{Adds, AddsFront};
 ghost use Rattle.match_script.specs.Ranges.{HasRanges};
 ghost use Rattle.match_script.specs.declared.types.BodyLine.{BodyLine as OneLine};
@@ -37,8 +37,7 @@ fn place_taken(told: &Told, client: u8) -> Option<u32>
 fn hand_on<K: Sink>(piece: &[u8], sink: &mut K) -> Result<(), RunFault>
     ensures written { OnOk result (Adds (K.written sink.old) (K.written sink.new) piece.now) }
     ensures front { OnErr result (AddsFront (K.written sink.old) (K.written sink.new) piece.now) }
-    ensures cause { OnErr result (Rose (K.faults sink.old) (K.faults sink.new)) }
-    ensures later { K.faults sink.old ≤ K.faults sink.new }
+    ensures cause { HasCause (K.faults sink.old) (K.faults sink.new) result }
 {
     match write_all(sink, piece) {
         Ok(()) => Ok(()),
@@ -58,8 +57,7 @@ fn note<K: Sink>(
     ensures written { OnOk result (Notes Adds game.now client (K.written sink.old) (K.written sink.new)) }
     ensures short { OnOk result (NotesRecords game.now client) }
     ensures front { OnErr result (Notes AddsFront game.now client (K.written sink.old) (K.written sink.new)) }
-    ensures cause { result ≡ Err RunFault.WriteFault → Rose (K.faults sink.old) (K.faults sink.new) }
-    ensures later { K.faults sink.old ≤ K.faults sink.new }
+    ensures cause { HandsOn (K.faults sink.old) (K.faults sink.new) (result ≡ Err RunFault.WriteFault) }
 {
     let Some(told) = game.told() else {
         unreachable!()
@@ -98,8 +96,7 @@ fn step<K: Sink>(
     ensures short { result ≡ Ok true → IsRecorded game.old client }
     ensures there { OnErr result (game.old.place < length game.old.script.body) }
     ensures front { OnErr result (Records AddsFront game.old client (K.written sink.old) (K.written sink.new)) }
-    ensures cause { result ≡ Err RunFault.WriteFault → Rose (K.faults sink.old) (K.faults sink.new) }
-    ensures later { K.faults sink.old ≤ K.faults sink.new }
+    ensures cause { HandsOn (K.faults sink.old) (K.faults sink.new) (result ≡ Err RunFault.WriteFault) }
 {
     match game.next(alloc) {
         Ok(true) => {}
@@ -121,8 +118,7 @@ fn write_head<K: Sink>(
     requires client { client < script.now.head.clients }
     ensures written { OnOk result (Adds (K.written sink.old) (K.written sink.new) (spell_head (demo_head script.now.head client))) }
     ensures front { OnErr result (AddsFront (K.written sink.old) (K.written sink.new) (spell_head (demo_head script.now.head client))) }
-    ensures cause { result ≡ Err RunFault.WriteFault → Rose (K.faults sink.old) (K.faults sink.new) }
-    ensures later { K.faults sink.old ≤ K.faults sink.new }
+    ensures cause { HandsOn (K.faults sink.old) (K.faults sink.new) (result ≡ Err RunFault.WriteFault) }
 {
     let head = DemoHead {
         client,
@@ -141,8 +137,7 @@ fn write_head<K: Sink>(
 fn write_ending<K: Sink>(piece: &mut Vec<u8>, sink: &mut K) -> Result<(), RunFault>
     ensures written { OnOk result (Adds (K.written sink.old) (K.written sink.new) ending) }
     ensures front { OnErr result (AddsFront (K.written sink.old) (K.written sink.new) ending) }
-    ensures cause { result ≡ Err RunFault.WriteFault → Rose (K.faults sink.old) (K.faults sink.new) }
-    ensures later { K.faults sink.old ≤ K.faults sink.new }
+    ensures cause { HandsOn (K.faults sink.old) (K.faults sink.new) (result ≡ Err RunFault.WriteFault) }
 {
     piece.clear();
     let Ok(()) = put_ending(piece) else {
@@ -164,8 +159,7 @@ fn write_records<K: Sink>(
     ensures written { OnOk result (Adds (K.written sink.old) (K.written sink.new) (records_text script.now client)) }
     ensures short { OnOk result (AreRecorded script.now client) }
     ensures front { OnErr result (AddsFront (K.written sink.old) (K.written sink.new) (records_text script.now client)) }
-    ensures cause { result ≡ Err RunFault.WriteFault → Rose (K.faults sink.old) (K.faults sink.new) }
-    ensures later { K.faults sink.old ≤ K.faults sink.new }
+    ensures cause { HandsOn (K.faults sink.old) (K.faults sink.new) (result ≡ Err RunFault.WriteFault) }
 {
     let Ok(mut game) = Match::new(alloc, script) else {
         return Err(RunFault::NoMemory);
@@ -186,8 +180,7 @@ pub fn write_demo_of<K: Sink>(
     ensures demo { OnOk result (Adds (K.written sink.old) (K.written sink.new) (demo_text script.now client)) }
     ensures short { OnOk result (client < script.now.head.clients → AreRecorded script.now client) }
     ensures front { OnErr result (AddsFront (K.written sink.old) (K.written sink.new) (demo_text script.now client)) }
-    ensures cause { result ≡ Err RunFault.WriteFault → Rose (K.faults sink.old) (K.faults sink.new) }
-    ensures later { K.faults sink.old ≤ K.faults sink.new }
+    ensures cause { HandsOn (K.faults sink.old) (K.faults sink.new) (result ≡ Err RunFault.WriteFault) }
 {
     if client >= script.head.clients {
         return Ok(());

@@ -1,6 +1,6 @@
 //! The whole text of a replay.
 ghost use Rattle.std.specs.Prelude.{◌≡◌, ◌≤◌, ◌+◌, ◌↔◌, ℕ, [], OnOk, OnErr, Ok, Err, length, drop};
-ghost use Rattle.tn_outside.specs.Causes.{Rose};
+ghost use Rattle.tn_outside.specs.Causes.{HasCause, HandsOn};
 ghost use Rattle.tn_outside.specs.Totals.{Adds, AddsFront};
 ghost use Rattle.demo_format.specs.Head.{head_in, read_head};
 ghost use Rattle.demo_format.specs.Records.{records_of};
@@ -39,8 +39,7 @@ fn hand_on<K: Sink>(line: &[u8], sink: &mut K) -> Result<(), ReplayFault>
     ensures written { OnOk result (Adds (K.written sink.old) (K.written sink.new) line.now) }
     ensures front { OnErr result (AddsFront (K.written sink.old) (K.written sink.new) line.now) }
     ensures head { (place : ℕ) → result ≡ Err (ReplayFault.Head place) → ⊥ }
-    ensures cause { OnErr result (Rose (K.faults sink.old) (K.faults sink.new)) }
-    ensures later { K.faults sink.old ≤ K.faults sink.new }
+    ensures cause { HasCause (K.faults sink.old) (K.faults sink.new) result }
 {
     match write_all(sink, line) {
         Ok(()) => Ok(()),
@@ -66,8 +65,7 @@ fn tell_next<K: Sink>(
     ensures terms { terms_of viewer.new ≡ terms_of viewer.old }
     ensures quiet { OnOk result (viewer.new.events.ready ≡ []) }
     ensures head { (place : ℕ) → result ≡ Err (ReplayFault.Head place) → ⊥ }
-    ensures cause { result ≡ Err ReplayFault.WriteFault → Rose (K.faults sink.old) (K.faults sink.new) }
-    ensures later { K.faults sink.old ≤ K.faults sink.new }
+    ensures cause { HandsOn (K.faults sink.old) (K.faults sink.new) (result ≡ Err ReplayFault.WriteFault) }
 {
     let Ok(()) = tell_record(alloc, viewer, k, next, events, text) else {
         return Err(ReplayFault::NoMemory);
@@ -86,8 +84,7 @@ fn tell_end<K: Sink>(
     ensures written { OnOk result (TellsShown Adds viewer.now word.now (K.written sink.old) (K.written sink.new)) }
     ensures front { OnErr result (TellsShown AddsFront viewer.now word.now (K.written sink.old) (K.written sink.new)) }
     ensures head { (place : ℕ) → result ≡ Err (ReplayFault.Head place) → ⊥ }
-    ensures cause { result ≡ Err ReplayFault.WriteFault → Rose (K.faults sink.old) (K.faults sink.new) }
-    ensures later { K.faults sink.old ≤ K.faults sink.new }
+    ensures cause { HandsOn (K.faults sink.old) (K.faults sink.new) (result ≡ Err ReplayFault.WriteFault) }
 {
     let Ok(()) = tell_shown(alloc, viewer, word, text) else {
         return Err(ReplayFault::NoMemory);
@@ -106,8 +103,7 @@ fn tell_all<K: Sink>(
     ensures text { OnOk result (Adds (K.written sink.old) (K.written sink.new) (replay_of head.now body.now)) }
     ensures front { OnErr result (AddsFront (K.written sink.old) (K.written sink.new) (replay_of head.now body.now)) }
     ensures head { (place : ℕ) → result ≡ Err (ReplayFault.Head place) → ⊥ }
-    ensures cause { result ≡ Err ReplayFault.WriteFault → Rose (K.faults sink.old) (K.faults sink.new) }
-    ensures later { K.faults sink.old ≤ K.faults sink.new }
+    ensures cause { HandsOn (K.faults sink.old) (K.faults sink.new) (result ≡ Err ReplayFault.WriteFault) }
 {
     let Ok(mut viewer) = Viewer::new(alloc, &match_kinds(), head.client, head.version) else {
         return Err(ReplayFault::NoMemory);
@@ -152,8 +148,7 @@ fn tell_at<K: Sink>(
     ensures text { OnOk result (Adds (K.written sink.old) (K.written sink.new) (replay_at_of head.now body.now k)) }
     ensures front { OnErr result (AddsFront (K.written sink.old) (K.written sink.new) (replay_at_of head.now body.now k)) }
     ensures head { (place : ℕ) → result ≡ Err (ReplayFault.Head place) → ⊥ }
-    ensures cause { result ≡ Err ReplayFault.WriteFault → Rose (K.faults sink.old) (K.faults sink.new) }
-    ensures later { K.faults sink.old ≤ K.faults sink.new }
+    ensures cause { HandsOn (K.faults sink.old) (K.faults sink.new) (result ≡ Err ReplayFault.WriteFault) }
 {
     let Ok(mut viewer) = Viewer::new(alloc, &match_kinds(), head.client, head.version) else {
         return Err(ReplayFault::NoMemory);
@@ -173,8 +168,7 @@ pub fn replay<K: Sink>(alloc: Global, bytes: &[u8], sink: &mut K) -> Result<(), 
     ensures untouched { (place : ℕ) → result ≡ Err (ReplayFault.Head place)
         → (K.written sink.new ≡ K.written sink.old) × (K.faults sink.new ≡ K.faults sink.old) }
     ensures front { OnErr result (AddsFront (K.written sink.old) (K.written sink.new) (replay_text bytes.now)) }
-    ensures cause { result ≡ Err ReplayFault.WriteFault → Rose (K.faults sink.old) (K.faults sink.new) }
-    ensures later { K.faults sink.old ≤ K.faults sink.new }
+    ensures cause { HandsOn (K.faults sink.old) (K.faults sink.new) (result ≡ Err ReplayFault.WriteFault) }
 {
     match read_head(bytes) {
         Ok(head) => {
@@ -200,8 +194,7 @@ pub fn replay_at<K: Sink>(
     ensures untouched { (place : ℕ) → result ≡ Err (ReplayFault.Head place)
         → (K.written sink.new ≡ K.written sink.old) × (K.faults sink.new ≡ K.faults sink.old) }
     ensures front { OnErr result (AddsFront (K.written sink.old) (K.written sink.new) (replay_at_text bytes.now k)) }
-    ensures cause { result ≡ Err ReplayFault.WriteFault → Rose (K.faults sink.old) (K.faults sink.new) }
-    ensures later { K.faults sink.old ≤ K.faults sink.new }
+    ensures cause { HandsOn (K.faults sink.old) (K.faults sink.new) (result ≡ Err ReplayFault.WriteFault) }
 {
     match read_head(bytes) {
         Ok(head) => {

@@ -23,9 +23,12 @@ pub rose-later : (a b n : ℕ) → a ≤ b → Rose b n → Rose a n
 rose-later a b n le rose = omega arith
 
 -- what a source and a sink were told to be, before a call and after it
-module _ (c : DemoCommand) (held held' : Option (List ℕ)) (faults faults' : ℕ) (taken : GaveAtMost (limit_of c + 1) held held') (reads : faults ≤ faults') where
+module _ (c : DemoCommand) (held held' : Option (List ℕ)) (faults faults' : ℕ) (taken : GaveAtMost (limit_of c + 1) held held') (spared : faults' ≡ faults) where
   abbrev source : Seen
   source = seen held held' faults faults'
+
+  reads : faults ≤ faults'
+  reads = omega (arith, spared)
 
   -- nothing was written
   module _ (w w' : Option (List ℕ)) (same : w' ≡ w) (sink_faults sink_faults' : ℕ) (still : sink_faults' ≡ sink_faults) where
@@ -36,15 +39,15 @@ module _ (c : DemoCommand) (held held' : Option (List ℕ)) (faults faults' : �
     writes = omega (arith, still)
 
     pub no-demo : (place : ℕ) → Makes c source (Err (NoDemo place)) → DemoOutcome (Ok c) source sink (NoDemo place)
-    no-demo place made = record { answer = (made, (same, still)); taken = taken; written = inl same; reads = reads; writes = writes }
+    no-demo place made = record { answer = (spared, (same, still), made); taken = taken; written = inl same; reads = reads; writes = writes }
 
   -- the command made a text of its input
-  module _ (text : List ℕ) (made : Makes c source (Ok text)) (w w' : Option (List ℕ)) (sink_faults sink_faults' : ℕ) (writes : sink_faults ≤ sink_faults') where
-    pub done : Adds w w' text → DemoOutcome (Ok c) source (seen w w' sink_faults sink_faults') Done
-    done adds = record { answer = (text, made, adds); taken = taken; written = inr (text, made, whole_front w w' text adds); reads = reads; writes = writes }
+  module _ (text : List ℕ) (made : Makes c source (Ok text)) (w w' : Option (List ℕ)) (sink_faults sink_faults' : ℕ) where
+    pub done : sink_faults' ≡ sink_faults → Adds w w' text → DemoOutcome (Ok c) source (seen w w' sink_faults sink_faults') Done
+    done kept adds = record { answer = (spared, kept, (text, made, adds)); taken = taken; written = inr (text, made, whole_front w w' text adds); reads = reads; writes = omega (arith, kept) }
 
-    pub write-fault : AddsFront w w' text → Rose sink_faults sink_faults' → DemoOutcome (Ok c) source (seen w w' sink_faults sink_faults') WriteFault
-    write-fault front failed = record { answer = (failed, (text, made, front)); taken = taken; written = inr (text, made, front); reads = reads; writes = writes }
+    pub write-fault : sink_faults ≤ sink_faults' → AddsFront w w' text → Rose sink_faults sink_faults' → DemoOutcome (Ok c) source (seen w w' sink_faults sink_faults') WriteFault
+    write-fault writes front failed = record { answer = (spared, failed, (text, made, front)); taken = taken; written = inr (text, made, front); reads = reads; writes = writes }
 
 -- ---- a script that was read
 

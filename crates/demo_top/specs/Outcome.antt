@@ -7,7 +7,7 @@ use Rattle.match_script.specs.Script.{script_of, Fault}
 use Rattle.match_script.specs.declared.types.Script.{Script as OneScript}
 use Rattle.script_input.specs.declared.status.Status.{Status}
 use Rattle.script_input.specs.declared.status.Status.TheVariants.{Done, Usage, Script, TooLong, ReadFault, WriteFault, NoMemory, Demo as NoDemo}
-use Rattle.script_input.specs.Reading.{Seen, IsUntouched, HasFailed, GaveBytes, GaveAtMost}
+use Rattle.script_input.specs.Reading.{Seen, IsUntouched, IsSpared, HasFailed, GaveBytes, GaveAtMost}
 use Rattle.demo_format.specs.declared.head.DemoHead.{DemoHead}
 use Rattle.demo_format.specs.declared.head.TheConstants.{MAX_DEMO_BYTES}
 use Rattle.demo_format.specs.Head.{read_head}
@@ -60,9 +60,9 @@ pub record Gave (limit : ℕ) (old new : Option (List ℕ)) (bytes : List ℕ) :
 
 -- why nothing was read to its end
 abbrev pub NoInput : ℕ → Seen → Status → Type 0
-NoInput limit source TooLong = GaveBytes (limit + 1) source.old source.new
+NoInput limit source TooLong = GaveBytes (limit + 1) source.old source.new × IsSpared source
 NoInput limit source ReadFault = HasFailed source × GaveAtMost limit source.old source.new
-NoInput limit source NoMemory = Unit {0}
+NoInput limit source NoMemory = IsSpared source
 NoInput limit source s = ⊥
 
 -- the command's input was read, and it makes this of it
@@ -71,18 +71,21 @@ Makes c source made = (input : List ℕ) × Gave (limit_of c) source.old source.
 
 -- ---- the whole call
 
--- the command's input was read, and of the text for it a front was written
+-- the command's input was read, and the text for it was added to the sink: all of it, or a front
+abbrev pub Wrote : (Option (List ℕ) → Option (List ℕ) → List ℕ → Type 0) → DemoCommand → Seen → Seen → Type 0
+Wrote adds c source sink = (text : List ℕ) × Makes c source (Ok text) × adds sink.old sink.new text
+
 abbrev pub WroteFront : Result DemoCommand ℕ → Seen → Seen → Type 0
-WroteFront (Ok c) source sink = (text : List ℕ) × Makes c source (Ok text) × AddsFront sink.old sink.new text
+WroteFront (Ok c) source sink = Wrote AddsFront c source sink
 WroteFront (Err place) source sink = ⊥
 
--- the cause of the answer to a command
+-- the cause of the answer to a command: a fault is answered exactly where that count of faults rose
 abbrev pub Cause : DemoCommand → Seen → Seen → Status → Type 0
-Cause c source sink Done = (text : List ℕ) × Makes c source (Ok text) × Adds sink.old sink.new text
-Cause c source sink (Script line fault) = Makes c source (Err (Script line fault)) × IsUntouched sink
-Cause c source sink (NoDemo place) = Makes c source (Err (NoDemo place)) × IsUntouched sink
-Cause c source sink WriteFault = HasFailed sink × WroteFront (Ok c) source sink
-Cause c source sink NoMemory = Unit {0}
+Cause c source sink Done = IsSpared source × IsSpared sink × Wrote Adds c source sink
+Cause c source sink (Script line fault) = IsSpared source × IsUntouched sink × Makes c source (Err (Script line fault))
+Cause c source sink (NoDemo place) = IsSpared source × IsUntouched sink × Makes c source (Err (NoDemo place))
+Cause c source sink WriteFault = IsSpared source × HasFailed sink × Wrote AddsFront c source sink
+Cause c source sink NoMemory = IsSpared source × IsSpared sink
 Cause c source sink s = NoInput (limit_of c) source s × IsUntouched sink
 
 -- where the words are no command, the answer is `Usage` and nothing was touched

@@ -2,7 +2,7 @@
 ghost use Rattle.std.specs.Prelude.{◌≡◌, ◌∷◌, map, string_bytes, codes};
 ghost use Rattle.demo_top.specs.Command.{command_of};
 
-use match_top::number_at;
+use command_words::number_at;
 use tn_types::MAX_CLIENTS;
 
 // The greatest number of a client.

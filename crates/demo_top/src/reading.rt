@@ -1,5 +1,6 @@
 //! Reading a demo, which may be longer than a script.
-ghost use Rattle.std.specs.Prelude.{◌≡◌, ◌+◌, ◌≤◌, IfOk, IfErr};
+ghost use Rattle.std.specs.Prelude.{◌≡◌, ◌+◌, Err, IfOk, IfErr};
+ghost use Rattle.tn_outside.specs.Causes.{HandsOn};
 ghost use Rattle.script_input.specs.Reading.{seen, GaveAtMost};
 ghost use Rattle.demo_top.specs.Outcome.{Gave, NoInput};
 
@@ -17,7 +18,7 @@ pub(crate) fn read_demo<S: Source>(alloc: Global, source: &mut S) -> Result<Vec<
     ensures err { IfErr result (NoInput MAX_DEMO_BYTES
         (seen (S.held source.old) (S.held source.new) (S.faults source.old) (S.faults source.new))) }
     ensures taken { GaveAtMost (MAX_DEMO_BYTES + 1) (S.held source.old) (S.held source.new) }
-    ensures later { S.faults source.old ≤ S.faults source.new }
+    ensures cause { HandsOn (S.faults source.old) (S.faults source.new) (result ≡ Err Status.ReadFault) }
 {
     let mut bytes = Vec::new(alloc);
     let mut buffer = [0u8; BUFFER_BYTES];

@@ -1,6 +1,6 @@
 //! The commands on demos: each reads a script or a demo, and writes what it makes of it.
-ghost use Rattle.std.specs.Prelude.{◌≡◌, ◌⊎◌, ◌≤◌, List, [], ℕ, map, string_bytes, length, Some, Ok, Err, OnOk};
-ghost use Rattle.tn_outside.specs.Causes.{Rose};
+ghost use Rattle.std.specs.Prelude.{◌≡◌, ◌⊎◌, List, [], ℕ, map, string_bytes, length, Some, Ok, Err, OnOk};
+ghost use Rattle.tn_outside.specs.Causes.{HandsOn};
 ghost use Rattle.tn_outside.specs.Totals.{Adds, AddsFront};
 ghost use Rattle.script_input.specs.declared.status.Status.TheVariants.{Demo as NoDemo};
 ghost use Rattle.script_input.specs.Reading.{seen, HasFailed};
@@ -56,11 +56,11 @@ fn tell<K: Sink>(
     ensures refused { (place : ℕ) → result ≡ Err (ReplayFault.Head place)
         → (text_of (replaying count) bytes.now ≡ Err (NoDemo place))
         × (K.written sink.new ≡ K.written sink.old) × (K.faults sink.new ≡ K.faults sink.old) }
-    ensures failed { result ≡ Err ReplayFault.WriteFault → Rose (K.faults sink.old) (K.faults sink.new)
-        × Writes AddsFront (replaying count) bytes.now (K.written sink.old) (K.written sink.new) }
+    ensures failed { result ≡ Err ReplayFault.WriteFault
+        → Writes AddsFront (replaying count) bytes.now (K.written sink.old) (K.written sink.new) }
     ensures memory { result ≡ Err ReplayFault.NoMemory
         → Writes AddsFront (replaying count) bytes.now (K.written sink.old) (K.written sink.new) }
-    ensures later { K.faults sink.old ≤ K.faults sink.new }
+    ensures cause { HandsOn (K.faults sink.old) (K.faults sink.new) (result ≡ Err ReplayFault.WriteFault) }
 {
     match count {
         None => replay(alloc, bytes, sink),

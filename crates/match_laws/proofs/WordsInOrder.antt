@@ -291,16 +291,16 @@ prefix-printed xs ys p =
 joined-prefix : (ws vs xs ys : List (List ℕ)) → ws ≡ xs → vs ≡ ys → IsPrefixOf xs ys → IsPrefixOf ws vs
 joined-prefix ws vs xs ys e f p = (p.0, ap (λ l. l ++ p.0) e ∙ p.1 ∙ sym f)
 
-no-raw-reversed : (c : ℕ) (lines : List BodyLine) → HasNoRaw c lines → HasNoRaw c (reverse lines)
-no-raw-reversed c [] h = tt
-no-raw-reversed c (line ∷ lines) h =
+pub no_raw_reversed : (c : ℕ) (lines : List BodyLine) → HasNoRaw c lines → HasNoRaw c (reverse lines)
+no_raw_reversed c [] h = tt
+no_raw_reversed c (line ∷ lines) h =
     subst (HasNoRaw c) (sym (reverse_onto lines line []))
-    (all-append (λ l. is_raw c l ≡ false) (reverse lines) (line ∷ []) (no-raw-reversed c lines h.1) (h.0, tt))
+    (all-append (λ l. is_raw c l ≡ false) (reverse lines) (line ∷ []) (no_raw_reversed c lines h.1) (h.0, tt))
 
 pub printed_in_order : OwnListsHold → PrintedInOrder
 printed_in_order own s c n h l quiet =
     let past = first n s in
-    let none : HasNoRaw c past = no-raw-reversed c (take n s.body) quiet in
+    let none : HasNoRaw c past = no_raw_reversed c (take n s.body) quiet in
     let law = in_order own s c n h l (honest s.head c past none) in
     let t = client_terms s.head c in
     let ends = history t (journal_of s c n) in

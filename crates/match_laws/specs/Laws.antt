@@ -83,10 +83,12 @@ TellsLittle (ServerRefused way c k fault) = IsOldAtServer fault
 TellsLittle (ClientRefused c k fault) = IsOldAtClient fault
 TellsLittle other = Unit {0}
 
--- whatever line comes next, at every line, an end refuses no datagram but an old one, where the client that the line names is
--- honest, this line included
+-- the client that the line names, if it names one, is honest after the first n lines and this one
+abbrev pub IsHonestWith : Script → ℕ → BodyLine → Type 0
+IsHonestWith s n line = (c : ℕ) → client_named line ≡ Some c
+    → IsHonest (journal (client_terms s.head c) ((after s.head (line ∷ first n s)).own c))
+
+-- whatever line comes next, at every line, an end refuses no datagram but an old one, where the line's client is honest with it
 abbrev pub LittleIsRefused : Type 0
-LittleIsRefused = (s : Script) (n : ℕ) (line : BodyLine) → HasRanges s → LineFits s.head.clients line
-    → ((c : ℕ) → client_named line ≡ Some c
-    → IsHonest (journal (client_terms s.head c) ((after s.head (line ∷ first n s)).own c)))
+LittleIsRefused = (s : Script) (n : ℕ) (line : BodyLine) → HasRanges s → LineFits s.head.clients line → IsHonestWith s n line
     → TellsLittle (told_after s.head (first n s) line)

@@ -9,3 +9,4 @@ pub mod Others
 pub mod Values
 pub mod Applied
 pub mod Words
+pub mod Promises

@@ -1,5 +1,4 @@
 pub mod Ends
-pub mod Numbers
 pub mod Words
 pub mod Rule
 pub mod Isolated

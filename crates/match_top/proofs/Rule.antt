@@ -4,14 +4,13 @@ use Rattle.std.specs.Prelude.{Option, Some, None, Result, Ok, Err, codes, if◌t
 use Rattle.std.specs.Fmt.{decimal}
 use Rattle.std.specs.Str.{bytes_eq}
 use Rattle.std.specs.Str.Parse.{digits_value}
-use Rattle.std.proofs.lemmas.Bool.{and_parts}
-use Rattle.std.proofs.lemmas.Bool.Decides.{Decides-eqb}
-use Rattle.std.proofs.lemmas.Slice.Eq.{bytes_eq-Decides}
 use Rattle.match_script.proofs.Printing.{number_from_decimal}
 use Rattle.match_top.specs.declared.command.Command.{Command}
 use Rattle.match_top.specs.declared.command.Command.TheVariants.{Run, Alone, Big}
-use Rattle.match_top.specs.Command.{CommandFits, spelling, BeginsCommand, Says, number_said, is_from, of_run, of_alone, of_big, agreeing, agrees, beginning, number_at, command_of}
-use Rattle.match_top.proofs.Numbers.{Told, told}
+use Rattle.command_words.specs.Said.{number_said, is_from, agreeing, agrees, number_at}
+use Rattle.command_words.proofs.Numbers.{Told, told}
+use Rattle.command_words.proofs.Words.{front_agrees, more_agree, few_agree, name_is, said_some, whole, number_is}
+use Rattle.match_top.specs.Command.{CommandFits, spelling, BeginsCommand, Says, of_run, of_alone, of_big, beginning, command_of}
 
 abbrev form : Command → List (List ℕ → Bool)
 form Run = of_run
@@ -26,37 +25,6 @@ spelled (Alone n) f = rw (number_from_decimal 0 15 n (omega arith) (omega arith)
 spelled (Big a b d) f =
     rw (number_from_decimal 0 4294967295 a (omega arith) (omega arith) (omega arith), number_from_decimal 1 16 b (omega arith) (omega arith) (omega arith), number_from_decimal 1 100000 d (omega arith) (omega arith) (omega arith)) refl
 
--- where all of some words agree, those in front do
-pub front_agrees : (ts : List (List ℕ → Bool)) (a b : List (List ℕ)) → agreeing ts (a ++ b) ≡ length (a ++ b) → agreeing ts a ≡ length a
-front_agrees [] [] b e = refl
-front_agrees (t ∷ ts) [] b e = refl
-front_agrees [] (w ∷ a) b e = absurd (omega (arith, e))
-front_agrees (t ∷ ts) (w ∷ a) b e = by_test (t w) refl (front_agrees ts a b)
-  where
-    by_test : (v : Bool) → t w ≡ v → (agreeing ts (a ++ b) ≡ length (a ++ b) → agreeing ts a ≡ length a) → (if v then agreeing ts a + 1 else 0) ≡ suc (length a)
-    by_test true q rest = let k = rw q at e in omega (arith, rest (omega (arith, k)))
-    by_test false q rest = absurd (let k = rw q at e in omega (arith, k))
-
--- further words don't make fewer agree
-pub more_agree : (ts : List (List ℕ → Bool)) (n : ℕ) (words : List (List ℕ)) → agreeing ts (take n words) ≤ agreeing ts words
-more_agree [] n words = omega arith
-more_agree (t ∷ ts) zero words = omega arith
-more_agree (t ∷ ts) (suc n) [] = omega arith
-more_agree (t ∷ ts) (suc n) (w ∷ words) = by_test (t w) (more_agree ts n words)
-  where
-    by_test : (v : Bool) → agreeing ts (take n words) ≤ agreeing ts words → (if v then agreeing ts (take n words) + 1 else 0) ≤ (if v then agreeing ts words + 1 else 0)
-    by_test true rest = omega (arith, rest)
-    by_test false rest = omega arith
-
-pub few_agree : (ts : List (List ℕ → Bool)) (words : List (List ℕ)) → agreeing ts words ≤ length words
-few_agree [] words = omega arith
-few_agree (t ∷ ts) [] = omega arith
-few_agree (t ∷ ts) (w ∷ words) = by_test (t w) (few_agree ts words)
-  where
-    by_test : (v : Bool) → agreeing ts words ≤ length words → (if v then agreeing ts words + 1 else 0) ≤ suc (length words)
-    by_test true rest = omega (arith, rest)
-    by_test false rest = omega arith
-
 longest : (c : Command) (words : List (List ℕ)) → agreeing (form c) words ≤ beginning words
 longest Run words = omega arith
 longest (Alone n) words = omega arith
@@ -69,13 +37,6 @@ stops words lt (c, fits, more, e) =
     omega (arith, front_agrees (form c) front more all, length-take (beginning words + 1) words, more_agree (form c) (beginning words + 1) words, longest c words)
 
 -- ---- words that begin a command
-
-pub name_is : (word name : List ℕ) → bytes_eq word name ≡ true → word ≡ name
-name_is word name h = (bytes_eq-Decides word name).0 h
-
-pub said_some : (o : Option ℕ) → is_some o ≡ true → (n : ℕ) × (o ≡ Some n)
-said_some None h = absurd cc
-said_some (Some n) h = (n, refl)
 
 run_begun : (words : List (List ℕ)) → BeginsCommand (take (agreeing of_run words) words)
 run_begun [] = (Run, tt, spelling Run, refl)
@@ -184,12 +145,6 @@ unsaid c fits words h e =
     let l = spelled_agrees c fits in
     cc
 
--- all of the words agree, and none is missing
-pub whole : (ts : List (List ℕ → Bool)) (words : List (List ℕ)) → agrees ts words ≡ true → (agreeing ts words ≡ length words) × (length words ≡ length ts)
-whole ts words h =
-    let p = and_parts (nat_eq (agreeing ts words) (length words)) (nat_eq (length words) (length ts)) h in
-    ((Decides-eqb (agreeing ts words) (length words)).0 p.0, (Decides-eqb (length words) (length ts)).0 p.1)
-
 run_said : (words : List (List ℕ)) → agrees of_run words ≡ true → words ≡ spelling Run
 run_said [] h = absurd (let p = whole of_run [] h in omega (arith, p.1))
 run_said (w ∷ []) h = by_name (bytes_eq w (codes "run")) refl (whole of_run (w ∷ []) h).0
@@ -198,14 +153,6 @@ run_said (w ∷ []) h = by_name (bytes_eq w (codes "run")) refl (whole of_run (w
     by_name true q k = ap (λ (x : List ℕ). x ∷ []) (name_is w (codes "run") q)
     by_name false q k = absurd (omega (arith, k))
 run_said (w ∷ v ∷ words) h = absurd (let p = whole of_run (w ∷ v ∷ words) h in omega (arith, p.1))
-
--- a word that is a number is its spelling
-pub number_is : (least most : ℕ) (x : List ℕ) → most < 2 ^ 64 → is_from least most x ≡ true → Told least most x (digits_value 10 x)
-number_is least most x small p =
-    let s = said_some (number_said least most x) p in
-    let t = told least most x s.0 small s.1 in
-    let P : ℕ → Type 0 = λ n. Told least most x n in
-    subst P t.value t
 
 alone_said : (words : List (List ℕ)) → agrees of_alone words ≡ true → Says words (Ok (Alone (number_at words 1)))
 alone_said [] h = absurd (let p = whole of_alone [] h in omega (arith, p.1))

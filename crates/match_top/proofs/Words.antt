@@ -1,21 +1,10 @@
 -- What the words behind a name make of a command.
-use Rattle.std.proofs.Common.{◌≡◌, ℕ, ◌^◌, ◌<◌, ◌≤◌, List, [], ◌∷◌, length, arith, refl, sym}
-use Rattle.std.specs.Prelude.{Option, Some, None, Ok, slice_get, codes}
-use Rattle.std.specs.Option.{option_and_then}
+use Rattle.std.proofs.Common.{◌≡◌, ℕ, List, [], ◌∷◌, length, arith, refl, sym}
+use Rattle.std.specs.Prelude.{Some, Ok, codes}
 use Rattle.match_top.specs.declared.command.Command.TheVariants.{Alone, Big}
-use Rattle.match_top.specs.Command.{command_of, number_said}
-use Rattle.match_top.proofs.Numbers.{told}
-
-abbrev pub said_at : ℕ → ℕ → List (List ℕ) → ℕ → Option ℕ
-said_at least most words place = option_and_then (number_said least most) (slice_get words place)
-
-number_few : (least most n : ℕ) (word : Option (List ℕ)) → most < 2 ^ 64 → option_and_then (number_said least most) word ≡ Some n → n ≤ most
-number_few least most n None small e = absurd cc
-number_few least most n (Some w) small e = (told least most w n small e).high
-
--- a number that a word says is in its range
-pub few : (least most n : ℕ) (words : List (List ℕ)) (place : ℕ) → most < 2 ^ 64 → said_at least most words place ≡ Some n → n ≤ most
-few least most n words place small e = number_few least most n (slice_get words place) small e
+use Rattle.match_top.specs.Command.{command_of}
+use Rattle.command_words.proofs.Numbers.{told}
+use Rattle.command_words.proofs.Words.{said_at}
 
 pub alone_said : (words : List (List ℕ)) (n : ℕ) → said_at 0 15 words 0 ≡ Some n → length words ≡ 1 → command_of (codes "alone" ∷ words) ≡ Ok (Alone n)
 alone_said [] n e l = absurd cc

@@ -2,11 +2,9 @@
 -- its range and written in decimal digits, as in a script.
 use Rattle.std.specs.Prelude.{ℕ, ◌≡◌, ◌+◌, ◌-◌, ◌^◌, ◌<◌, ◌≤◌, ◌==◌, ◌&&◌, max, take, List, [], ◌∷◌, ◌++◌, length, Bool, if◌then◌else◌, is_some, Option, codes, Result, Ok, Err, refl, slice_index_or}
 use Rattle.std.specs.Fmt.{decimal}
-use Rattle.std.specs.Result.{result_ok}
-use Rattle.std.specs.Str.{bytes_eq}
-use Rattle.std.specs.Str.Parse.{digits_value}
 use Rattle.tn_types.specs.declared.limits.TheConstants.{MAX_CLIENTS, MAX_BODY_LINES}
 use Rattle.match_script.specs.Words.{number, number_from}
+use Rattle.command_words.specs.Said.{is_name, is_from, agreeing, agrees, number_at}
 use Rattle.match_top.specs.declared.command.Command.{Command}
 use Rattle.match_top.specs.declared.command.Command.TheVariants.{Run, Alone, Big}
 
@@ -43,16 +41,6 @@ Says words (Err place) = IsUsage words place
 
 -- ---- what words say
 
-abbrev pub is_name : List ℕ → List ℕ → Bool
-is_name name word = bytes_eq word name
-
--- the number in this range that a word says, if it says one
-abbrev pub number_said : ℕ → ℕ → List ℕ → Option ℕ
-number_said least most word = result_ok (number_from least most word)
-
-abbrev pub is_from : ℕ → ℕ → List ℕ → Bool
-is_from least most word = is_some (number_said least most word)
-
 -- what each word of a command may be
 abbrev pub of_run : List (List ℕ → Bool)
 of_run = is_name (codes "run") ∷ []
@@ -63,22 +51,9 @@ of_alone = is_name (codes "alone") ∷ is_from 0 (MAX_CLIENTS - 1) ∷ []
 abbrev pub of_big : List (List ℕ → Bool)
 of_big = is_name (codes "big") ∷ is_from 0 (2 ^ 32 - 1) ∷ is_from 1 MAX_CLIENTS ∷ is_from 1 MAX_BODY_LINES ∷ []
 
--- how many of the words, from the first on, are as they are to be
-abbrev pub agreeing : List (List ℕ → Bool) → List (List ℕ) → ℕ
-agreeing [] words = 0
-agreeing (may_be ∷ more) [] = 0
-agreeing (may_be ∷ more) (word ∷ words) = if may_be word then agreeing more words + 1 else 0
-
--- all of them are, and none is missing
-abbrev pub agrees : List (List ℕ → Bool) → List (List ℕ) → Bool
-agrees form words = (agreeing form words == length words) && (length words == length form)
-
 -- how many of the words, from the first on, begin a command
 abbrev pub beginning : List (List ℕ) → ℕ
 beginning words = max (agreeing of_run words) (max (agreeing of_alone words) (agreeing of_big words))
-
-abbrev pub number_at : List (List ℕ) → ℕ → ℕ
-number_at words place = digits_value 10 (slice_index_or words place [])
 
 -- the command that the words are, or how many of them begin one
 abbrev pub command_of : List (List ℕ) → Result Command ℕ

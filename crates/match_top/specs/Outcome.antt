@@ -1,6 +1,6 @@
 -- How a call ends, and what it leaves of its source and its sink. A command has a script: `run` and `alone` read theirs, a
 -- text of at most 1,048,576 bytes, to its end; `big` makes its own of its numbers and reads nothing. The command writes the
--- text that it makes of its script. Every other end has its cause.
+-- text that it makes of its script. Every other end has its cause, and a fault is answered exactly where there was one.
 use Rattle.std.specs.Prelude.{ℕ, ◌≡◌, ◌+◌, ◌<◌, ◌≤◌, ◌⊎◌, List, length, reverse, Option, Some, Result, Ok, Err}
 use Rattle.std.specs.List.{flat_map}
 use Rattle.tn_types.specs.declared.limits.TheConstants.{MAX_SCRIPT_BYTES}
@@ -17,8 +17,8 @@ use Rattle.match_count.specs.Summary.{summary_text}
 use Rattle.match_top.specs.declared.command.Command.{Command}
 use Rattle.match_top.specs.declared.command.Command.TheVariants.{Run, Alone, Big}
 use Rattle.script_input.specs.declared.status.Status.{Status}
-use Rattle.script_input.specs.declared.status.Status.TheVariants.{Done, Usage, ReadFault, WriteFault, NoMemory}
-use Rattle.script_input.specs.Reading.{Seen, IsUntouched, HasFailed, ReadAs, NotRead, GaveAtMost, answer_of}
+use Rattle.script_input.specs.declared.status.Status.TheVariants.{Done, Usage, Script, TooLong, ReadFault, WriteFault, NoMemory}
+use Rattle.script_input.specs.Reading.{Seen, IsUntouched, IsSpared, HasFailed, ReadAs, NotRead, GaveBytes, GaveAtMost, answer_of}
 
 -- what a command writes for its script
 abbrev pub text_of : Command → OneScript → List ℕ
@@ -48,7 +48,14 @@ HasScript c source script = IsScriptOf c source script × HasRanges script
 abbrev pub NoScript : Command → Seen → Status → Type 0
 NoScript Run source s = NotRead script_of source s
 NoScript (Alone client) source s = NotRead script_of source s
-NoScript (Big seed clients steps) source s = s ≡ NoMemory
+NoScript (Big seed clients steps) source s = (s ≡ NoMemory) × IsSpared source
+
+-- the words are a command that reads a script
+abbrev pub Reads : Result Command ℕ → Type 0
+Reads (Ok Run) = Unit {0}
+Reads (Ok (Alone client)) = Unit {0}
+Reads (Ok (Big seed clients steps)) = ⊥
+Reads (Err place) = ⊥
 
 -- where the words are no command, or one that reads nothing, the source is left as it was
 abbrev pub LeavesSource : Result Command ℕ → Seen → Type 0
@@ -59,23 +66,27 @@ LeavesSource (Err place) source = IsUntouched source
 
 -- ---- the whole call
 
--- the command has a script, and of its text for it a front was written
+-- the command has a script, and its text for it was added to the sink: all of it, or a front
+abbrev pub Wrote : (Option (List ℕ) → Option (List ℕ) → List ℕ → Type 0) → Command → Seen → Seen → Type 0
+Wrote adds c source sink = (script : OneScript) × HasScript c source script × adds sink.old sink.new (text_of c script)
+
 abbrev pub WroteFront : Result Command ℕ → Seen → Seen → Type 0
-WroteFront (Ok c) source sink =
-    (script : OneScript) × HasScript c source script × AddsFront sink.old sink.new (text_of c script)
+WroteFront (Ok c) source sink = Wrote AddsFront c source sink
 WroteFront (Err place) source sink = ⊥
 
--- the cause of the answer to a command
-abbrev pub Cause : Command → Seen → Seen → Status → Type 0
-Cause c source sink Done = (script : OneScript) × HasScript c source script × Adds sink.old sink.new (text_of c script)
-Cause c source sink WriteFault = HasFailed sink × WroteFront (Ok c) source sink
-Cause c source sink NoMemory = Unit {0}
-Cause c source sink s = NoScript c source s × IsUntouched sink
-
--- where the words are no command, the answer is `Usage` and nothing was touched
+-- the seven answers, each with what it says of the source, of the sink, and of the script
 abbrev pub AnswerTo : Result Command ℕ → Seen → Seen → Status → Type 0
-AnswerTo (Err place) source sink s = (s ≡ Usage place) × IsUntouched source × IsUntouched sink
-AnswerTo (Ok c) source sink s = Cause c source sink s
+AnswerTo (Err place) source sink s = IsUntouched source × IsUntouched sink × (s ≡ Usage place)
+AnswerTo (Ok c) source sink (Script line fault) =
+    IsSpared source × IsUntouched sink × Reads (Ok c) × ReadAs script_of source.old source.new (Err (line, fault))
+AnswerTo (Ok c) source sink TooLong =
+    IsSpared source × IsUntouched sink × Reads (Ok c) × GaveBytes (MAX_SCRIPT_BYTES + 1) source.old source.new
+AnswerTo (Ok c) source sink ReadFault =
+    HasFailed source × IsUntouched sink × Reads (Ok c) × GaveAtMost MAX_SCRIPT_BYTES source.old source.new
+AnswerTo (Ok c) source sink Done = IsSpared source × IsSpared sink × Wrote Adds c source sink
+AnswerTo (Ok c) source sink WriteFault = IsSpared source × HasFailed sink × Wrote AddsFront c source sink
+AnswerTo (Ok c) source sink NoMemory = IsSpared source × IsSpared sink
+AnswerTo (Ok c) source sink s = ⊥
 
 pub record Outcome (command : Result Command ℕ) (source sink : Seen) (s : Status) : Type 0 where
   pub answer : AnswerTo command source sink s
@@ -100,12 +111,6 @@ wanted (Ok (Big seed clients steps)) text = Done
 abbrev pub IsCommand : Result Command ℕ → Type 0
 IsCommand (Ok c) = Unit {0}
 IsCommand (Err place) = ⊥
-
-abbrev pub Reads : Result Command ℕ → Type 0
-Reads (Ok Run) = Unit {0}
-Reads (Ok (Alone client)) = Unit {0}
-Reads (Ok (Big seed clients steps)) = ⊥
-Reads (Err place) = ⊥
 
 -- the wanted answer, or that of a fault of the outside or of want of memory, which came before it
 abbrev pub IsWanted : Result Command ℕ → List ℕ → Seen → Seen → Status → Type 0

@@ -4,5 +4,4 @@
 mod command;
 mod serving;
 
-pub use command::number_at;
 pub use serving::top;

@@ -1,24 +1,16 @@
 //! The commands: each has a script, which is read or made, and what the command makes of it is written.
-ghost use Rattle.std.specs.Prelude.{◌≡◌, ◌⊎◌, ◌≤◌, ◌+◌, List, [], ℕ, map, string_bytes, Some, Ok, OnOk, OnErr, IfOk, IfErr};
-ghost use Rattle.tn_outside.specs.Causes.{Rose};
+ghost use Rattle.std.specs.Prelude.{◌≡◌, ◌⊎◌, ◌+◌, List, [], ℕ, map, string_bytes, Some, Ok, Err, OnOk, OnErr, IfOk, IfErr};
+ghost use Rattle.tn_outside.specs.Causes.{HandsOn};
 ghost use Rattle.tn_outside.specs.Totals.{Adds, AddsFront};
 ghost use Rattle.match_script.specs.Ranges.{HasRanges};
-ghost use Rattle.match_count.specs.match_laws.Laws.{Isolation, EventsInOrder, MovesInOrder, LooseInOrder, LittleIsRefused};
-ghost use Rattle.match_count.specs.match_laws.Others.{NonInterference};
-ghost use Rattle.match_count.specs.match_laws.Values.{CopiesShowValues, SettledIsNewest, ChangesRecover};
-ghost use Rattle.match_count.specs.match_laws.Applied.{AppliedAreAccepted, AppliedInOrder};
-ghost use Rattle.match_count.specs.match_laws.Words.{PrintedInOrder};
+ghost use Rattle.match_count.specs.match_laws.Promises.{MatchLaws};
 ghost use Rattle.match_top.specs.Command.{command_of, CommandFits, Says};
 ghost use Rattle.script_input.specs.Reading.{seen, GaveAtMost, HasFailed};
 ghost use Rattle.match_top.specs.Outcome.{text_of, AloneIsOfRun, Outcome, IsWanted, CanBeDone, HasScript, NoScript, LeavesSource};
 
 use crate::command::{Command, command_of};
 use match_count::match_engine::{RunFault, run};
-use match_count::match_laws::{
-    applied_in_order, changes_recover, copies_show_values, events_in_order, isolation,
-    little_is_refused, loose_events_in_order, moves_in_order, non_interference, printed_in_order,
-    settled_is_newest,
-};
+use match_count::match_laws::laws_of_matches;
 use match_count::{count, put_counts};
 use match_script::Script;
 use script_input::{Status, read_script};
@@ -38,7 +30,7 @@ fn script_for<S: Source>(alloc: Global, command: Command, source: &mut S) -> Res
     ensures ranges { IfOk result HasRanges }
     ensures left { LeavesSource (Ok command) (seen (S.held source.old) (S.held source.new) (S.faults source.old) (S.faults source.new)) }
     ensures taken { GaveAtMost (MAX_SCRIPT_BYTES + 1) (S.held source.old) (S.held source.new) }
-    ensures later { S.faults source.old ≤ S.faults source.new }
+    ensures cause { HandsOn (S.faults source.old) (S.faults source.new) (result ≡ Err Status.ReadFault) }
 {
     match command {
         Command::Run => read_script(alloc, source),
@@ -68,8 +60,7 @@ fn write_counts<K: Sink>(
         (Adds (K.written sink.old) (K.written sink.new) (text_of (Command.Big seed clients steps) script.now)) }
     ensures front { OnErr result
         (AddsFront (K.written sink.old) (K.written sink.new) (text_of (Command.Big seed clients steps) script.now)) }
-    ensures cause { result ≡ Err RunFault.WriteFault → Rose (K.faults sink.old) (K.faults sink.new) }
-    ensures later { K.faults sink.old ≤ K.faults sink.new }
+    ensures cause { HandsOn (K.faults sink.old) (K.faults sink.new) (result ≡ Err RunFault.WriteFault) }
 {
     let Ok(counts) = count(alloc, script) else {
         return Err(RunFault::NoMemory);
@@ -94,8 +85,7 @@ fn write_text<K: Sink>(
     requires { HasRanges script.now }
     ensures text { OnOk result (Adds (K.written sink.old) (K.written sink.new) (text_of command script.now)) }
     ensures front { OnErr result (AddsFront (K.written sink.old) (K.written sink.new) (text_of command script.now)) }
-    ensures cause { result ≡ Err RunFault.WriteFault → Rose (K.faults sink.old) (K.faults sink.new) }
-    ensures later { K.faults sink.old ≤ K.faults sink.new }
+    ensures cause { HandsOn (K.faults sink.old) (K.faults sink.new) (result ≡ Err RunFault.WriteFault) }
 {
     match command {
         Command::Run => run(alloc, script, sink),
@@ -161,39 +151,12 @@ pub fn top<S: Source, K: Sink>(
         → (HasFailed (seen (S.held source.old) (S.held source.new) (S.faults source.old) (S.faults source.new)) → ⊥)
         → (HasFailed (seen (K.written sink.old) (K.written sink.new) (K.faults sink.old) (K.faults sink.new)) → ⊥)
         → (result ≡ Status.Done) ⊎ (result ≡ Status.NoMemory) }
-    // What an honest client's copies show at every line, its object had; a settled field shows the newest value; and each field of
-    // what is shown and not hidden is due, or written and not drained, or on its way, or right.
-    ensures copies_show_values { CopiesShowValues }
-    ensures settled_is_newest { SettledIsNewest }
-    ensures changes_recover { ChangesRecover }
-    // Each client's datagrams in the report are a function of its own list, to which no line of another client adds anything, and
-    // `alone` writes them; in the journal of an honest client, at every line, what is delivered is a front of what was posted, of
-    // unguaranteed events some in their order, the accepted moves are a front of the sampled ones, and no end refuses a datagram but
-    // an old one.
-    ensures isolation { Isolation }
-    ensures non_interference { NonInterference }
+    // What the report and the journals of every match keep: isolation, what is delivered, accepted, shown, settled, printed.
+    ensures laws { MatchLaws }
+    // `alone` writes the datagrams that the report has of its client.
     ensures alone { AloneIsOfRun }
-    ensures events_in_order { EventsInOrder }
-    ensures moves_in_order { MovesInOrder }
-    ensures loose_events_in_order { LooseInOrder }
-    ensures little_is_refused { LittleIsRefused }
-    // The moves that ticks took are the first that the server accepted, and of an honest client the first that it sampled; and
-    // the printed words of delivered events are the first of those of posted ones.
-    ensures applied_are_accepted { AppliedAreAccepted }
-    ensures applied_in_order { AppliedInOrder }
-    ensures printed_in_order { PrintedInOrder }
 {
-    isolation();
-    non_interference();
-    copies_show_values();
-    settled_is_newest();
-    changes_recover();
-    events_in_order();
-    moves_in_order();
-    loose_events_in_order();
-    little_is_refused();
-    applied_in_order();
-    printed_in_order();
+    laws_of_matches();
     match command_of(words) {
         Ok(command) => serve(alloc, command, source, sink),
         Err(place) => Status::Usage(place),

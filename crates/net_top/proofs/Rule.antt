@@ -5,9 +5,9 @@ use Rattle.std.specs.Fmt.{decimal}
 use Rattle.std.specs.Str.{bytes_eq}
 use Rattle.std.specs.Str.Parse.{digits_value}
 use Rattle.match_script.proofs.Printing.{number_from_decimal}
-use Rattle.match_top.specs.Command.{number_said, is_from, agreeing, agrees, number_at}
-use Rattle.match_top.proofs.Numbers.{Told, told}
-use Rattle.match_top.proofs.Rule.{front_agrees, more_agree, few_agree, name_is, said_some, whole, number_is}
+use Rattle.command_words.specs.Said.{number_said, is_from, agreeing, agrees, number_at}
+use Rattle.command_words.proofs.Numbers.{Told, told}
+use Rattle.command_words.proofs.Words.{front_agrees, more_agree, few_agree, name_is, said_some, whole, number_is}
 use Rattle.net_top.specs.declared.command.NetCommand.{NetCommand}
 use Rattle.net_top.specs.declared.command.NetCommand.TheVariants.{Serve, Join}
 use Rattle.net_top.specs.Command.{CommandFits, spelling, BeginsCommand, Says, of_serve, of_join, command_of}

@@ -1,8 +1,8 @@
 -- What the words behind `serve` make of it.
 use Rattle.std.proofs.Common.{◌≡◌, ℕ, List, [], ◌∷◌, length, arith, refl, sym}
 use Rattle.std.specs.Prelude.{Some, Ok, codes}
-use Rattle.match_top.proofs.Numbers.{told}
-use Rattle.match_top.proofs.Words.{said_at}
+use Rattle.command_words.proofs.Numbers.{told}
+use Rattle.command_words.proofs.Words.{said_at}
 use Rattle.net_top.specs.declared.command.NetCommand.TheVariants.{Serve, Join}
 use Rattle.net_top.specs.Command.{command_of}
 

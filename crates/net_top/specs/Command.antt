@@ -3,7 +3,7 @@ use Rattle.std.specs.Prelude.{ℕ, ◌≡◌, ◌+◌, ◌-◌, ◌^◌, ◌<◌
 use Rattle.std.specs.Fmt.{decimal}
 use Rattle.tn_types.specs.declared.limits.TheConstants.{MAX_CLIENTS}
 use Rattle.match_script.specs.Words.{number, number_from}
-use Rattle.match_top.specs.Command.{is_name, is_from, agreeing, agrees, number_at}
+use Rattle.command_words.specs.Said.{is_name, is_from, agreeing, agrees, number_at}
 use Rattle.net_rules.specs.declared.limits.TheConstants.{MAX_TURNS}
 use Rattle.net_top.specs.declared.command.NetCommand.{NetCommand}
 use Rattle.net_top.specs.declared.command.NetCommand.TheVariants.{Serve, Join}

@@ -2,7 +2,7 @@
 ghost use Rattle.std.specs.Prelude.{◌≡◌, ◌∷◌, map, string_bytes, codes};
 ghost use Rattle.net_top.specs.Command.{command_of};
 
-use match_top::number_at;
+use command_words::number_at;
 use net_rules::MAX_TURNS;
 use tn_types::MAX_CLIENTS;
 

@@ -5,5 +5,4 @@ mod command;
 mod serving;
 
 pub use command::NetCommand;
-pub use match_top;
 pub use serving::top_net;

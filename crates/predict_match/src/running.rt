@@ -1,7 +1,7 @@
 //! The run of a script, line by line, beside a prediction of one client's player.
-ghost use Rattle.std.specs.Prelude.{◌≡◌, ◌<◌, ◌≤◌, List, ◌∷◌, OnOk, OnErr, IfOk, Err, length};
+ghost use Rattle.std.specs.Prelude.{◌≡◌, ◌<◌, List, ◌∷◌, OnOk, OnErr, IfOk, Err, length};
 ghost use Rattle.tn_types.specs.declared.limits.TheConstants.{MAX_COUNTED_LINES};
-ghost use Rattle.tn_outside.specs.Causes.{Rose};
+ghost use Rattle.tn_outside.specs.Causes.{HandsOn};
 ghost use Rattle.tn_outside.specs.Totals.{Adds, AddsFront};
 ghost use Rattle.match_script.specs.declared.types.BodyLine.{BodyLine as OneLine};
 ghost use Rattle.match_script.specs.Ranges.{HasRanges, LineFits};
@@ -42,8 +42,7 @@ fn write_prediction<K: Sink>(
         (Adds (K.written sink.old) (K.written sink.new) (prediction_line client predict.now.value predict.now.offset)) }
     ensures front { OnErr result
         (AddsFront (K.written sink.old) (K.written sink.new) (prediction_line client predict.now.value predict.now.offset)) }
-    ensures cause { result ≡ Err RunFault.WriteFault → Rose (K.faults sink.old) (K.faults sink.new) }
-    ensures later { K.faults sink.old ≤ K.faults sink.new }
+    ensures cause { HandsOn (K.faults sink.old) (K.faults sink.new) (result ≡ Err RunFault.WriteFault) }
 {
     text.clear();
     let Ok(()) = put_prediction(text, client, predict.value(), predict.offset()) else {
@@ -98,8 +97,7 @@ fn step<K: Sink>(
         → Adds (K.written sink.old) (K.written sink.new) (predicted_at game.old.script.head client past line.now)) }
     ensures front { OnErr result ((past : List OneLine) → StandBeside game.old predict.old client past
         → AddsFront (K.written sink.old) (K.written sink.new) (predicted_at game.old.script.head client past line.now)) }
-    ensures cause { result ≡ Err RunFault.WriteFault → Rose (K.faults sink.old) (K.faults sink.new) }
-    ensures later { K.faults sink.old ≤ K.faults sink.new }
+    ensures cause { HandsOn (K.faults sink.old) (K.faults sink.new) (result ≡ Err RunFault.WriteFault) }
 {
     let Ok(change) = change_by(alloc, game, client, line) else {
         return Err(RunFault::NoMemory);
@@ -122,8 +120,7 @@ fn write_lines<K: Sink>(
     requires client { client < script.now.head.clients }
     ensures text { OnOk result (Adds (K.written sink.old) (K.written sink.new) (predicted script.now client)) }
     ensures front { OnErr result (AddsFront (K.written sink.old) (K.written sink.new) (predicted script.now client)) }
-    ensures cause { result ≡ Err RunFault.WriteFault → Rose (K.faults sink.old) (K.faults sink.new) }
-    ensures later { K.faults sink.old ≤ K.faults sink.new }
+    ensures cause { HandsOn (K.faults sink.old) (K.faults sink.new) (result ≡ Err RunFault.WriteFault) }
 {
     let Ok(mut game) = Match::new(alloc, script) else {
         return Err(RunFault::NoMemory);
@@ -156,8 +153,7 @@ pub fn run_predicted<K: Sink>(
     requires { HasRanges script.now }
     ensures text { OnOk result (Adds (K.written sink.old) (K.written sink.new) (predicted script.now client)) }
     ensures front { OnErr result (AddsFront (K.written sink.old) (K.written sink.new) (predicted script.now client)) }
-    ensures cause { result ≡ Err RunFault.WriteFault → Rose (K.faults sink.old) (K.faults sink.new) }
-    ensures later { K.faults sink.old ≤ K.faults sink.new }
+    ensures cause { HandsOn (K.faults sink.old) (K.faults sink.new) (result ≡ Err RunFault.WriteFault) }
     // Nothing jumps where the server did what was predicted, and what is left of a jump is gone after 22 samples.
     ensures accepted_changes_nothing { AcceptedChangesNothing }
     ensures offset_settles { OffsetSettles }

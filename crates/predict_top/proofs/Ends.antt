@@ -1,39 +1,35 @@
 -- Each end of the command has its outcome.
-use Rattle.std.proofs.Common.{ℕ, ◌≤◌, inr, List, Option, Ok}
+use Rattle.std.proofs.Common.{ℕ, ◌≤◌, inr, Ok, arith}
+use Rattle.tn_outside.specs.Causes.{Rose}
 use Rattle.tn_outside.specs.Totals.{Adds, AddsFront}
 use Rattle.tn_outside.proofs.Totals.{whole_front}
 use Rattle.match_script.specs.Script.{script_of}
 use Rattle.match_script.specs.declared.types.Script.{Script as OneScript}
 use Rattle.script_input.specs.declared.status.Status.TheVariants.{Done, WriteFault}
-use Rattle.script_input.specs.Reading.{Seen, seen, GaveAtMost, HasFailed, ReadAs}
+use Rattle.script_input.specs.Reading.{Seen, GaveAtMost, HasFailed, IsSpared, ReadAs}
 use Rattle.predict_match.specs.predict_lines.Lines.{predicted}
 use Rattle.predict_top.specs.Outcome.{PredictOutcome}
 
--- what a source and a sink were told to be, before a call and after it
-module _ (client : ℕ) (held held' : Option (List ℕ)) (faults faults' : ℕ) (written written' : Option (List ℕ)) (sink_faults sink_faults' : ℕ) where
-  abbrev source : Seen
-  source = seen held held' faults faults'
+-- a fault that comes later in a call is one of the call
+pub rose_later : (a b n : ℕ) → a ≤ b → Rose b n → Rose a n
+rose_later a b n le rose = omega arith
 
-  abbrev sink : Seen
-  sink = seen written written' sink_faults sink_faults'
-
-  pub done : (script : OneScript) → ReadAs script_of held held' (Ok script) → GaveAtMost 1048577 held held' → faults ≤ faults'
-      → Adds written written' (predicted script client) → sink_faults ≤ sink_faults' → PredictOutcome (Ok client) source sink Done
-  done script has taken later adds sink_later = record {
-    answer = (script, has, adds);
+-- what a source and a sink were told to be, before a call and after it: a script was read
+module _ (client : ℕ) (source sink : Seen) (script : OneScript) (has : ReadAs script_of source.old source.new (Ok script)) (spared : IsSpared source) (taken : GaveAtMost 1048577 source.old source.new) where
+  pub done : Adds sink.old sink.new (predicted script client) → IsSpared sink → PredictOutcome (Ok client) source sink Done
+  done adds kept = record {
+    answer = (spared, kept, (script, has, adds));
     taken = taken;
-    written = inr (script, has, whole_front written written' (predicted script client) adds);
-    reads = later;
-    writes = sink_later;
+    written = inr (script, has, whole_front sink.old sink.new (predicted script client) adds);
+    reads = omega (arith, spared);
+    writes = omega (arith, kept);
   }
 
-  pub write_fault : (script : OneScript) → ReadAs script_of held held' (Ok script) → GaveAtMost 1048577 held held' → faults ≤ faults'
-      → AddsFront written written' (predicted script client) → sink_faults ≤ sink_faults' → HasFailed sink
-      → PredictOutcome (Ok client) source sink WriteFault
-  write_fault script has taken later front sink_later failed = record {
-    answer = (failed, (script, has, front));
+  pub write_fault : AddsFront sink.old sink.new (predicted script client) → sink.faults ≤ sink.faults_after → HasFailed sink → PredictOutcome (Ok client) source sink WriteFault
+  write_fault front later failed = record {
+    answer = (spared, failed, (script, has, front));
     taken = taken;
     written = inr (script, has, front);
-    reads = later;
-    writes = sink_later;
+    reads = omega (arith, spared);
+    writes = later;
   }

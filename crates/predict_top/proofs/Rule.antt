@@ -5,9 +5,9 @@ use Rattle.std.specs.Fmt.{decimal}
 use Rattle.std.specs.Str.{bytes_eq}
 use Rattle.std.specs.Str.Parse.{digits_value}
 use Rattle.match_script.proofs.Printing.{number_from_decimal}
-use Rattle.match_top.specs.Command.{number_said, is_from, agreeing, agrees, number_at}
-use Rattle.match_top.proofs.Numbers.{told}
-use Rattle.match_top.proofs.Rule.{front_agrees, more_agree, few_agree, name_is, said_some, whole, number_is}
+use Rattle.command_words.specs.Said.{number_said, is_from, agreeing, agrees, number_at}
+use Rattle.command_words.proofs.Numbers.{told}
+use Rattle.command_words.proofs.Words.{front_agrees, more_agree, few_agree, name_is, said_some, whole, number_is}
 use Rattle.predict_top.specs.Command.{spelling, BeginsCommand, Says, of_predict, client_of}
 
 -- ---- how far words agree

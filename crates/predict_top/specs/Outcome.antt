@@ -7,21 +7,23 @@ use Rattle.match_script.specs.Script.{script_of}
 use Rattle.match_script.specs.declared.types.Script.{Script as OneScript}
 use Rattle.script_input.specs.declared.status.Status.{Status}
 use Rattle.script_input.specs.declared.status.Status.TheVariants.{Done, Usage, ReadFault, WriteFault, NoMemory}
-use Rattle.script_input.specs.Reading.{Seen, IsUntouched, HasFailed, ReadAs, NotRead, GaveAtMost, answer_of}
+use Rattle.script_input.specs.Reading.{Seen, IsUntouched, IsSpared, HasFailed, ReadAs, NotRead, GaveAtMost, answer_of}
 use Rattle.predict_match.specs.predict_lines.Lines.{predicted}
 
--- a script was read, and of the lines of its prediction a front was written
+-- a script was read, and the lines of its prediction were added to the sink: all of them, or a front
+abbrev pub Wrote : (Option (List ℕ) → Option (List ℕ) → List ℕ → Type 0) → ℕ → Seen → Seen → Type 0
+Wrote adds client source sink =
+    (script : OneScript) × ReadAs script_of source.old source.new (Ok script) × adds sink.old sink.new (predicted script client)
+
 abbrev pub WroteFront : Result ℕ ℕ → Seen → Seen → Type 0
-WroteFront (Ok client) source sink =
-    (script : OneScript) × ReadAs script_of source.old source.new (Ok script) × AddsFront sink.old sink.new (predicted script client)
+WroteFront (Ok client) source sink = Wrote AddsFront client source sink
 WroteFront (Err place) source sink = ⊥
 
--- the cause of an answer to the command for a client
+-- the cause of an answer to the command for a client: a fault is answered exactly where that count of faults rose
 abbrev pub Cause : ℕ → Seen → Seen → Status → Type 0
-Cause client source sink Done =
-    (script : OneScript) × ReadAs script_of source.old source.new (Ok script) × Adds sink.old sink.new (predicted script client)
-Cause client source sink WriteFault = HasFailed sink × WroteFront (Ok client) source sink
-Cause client source sink NoMemory = Unit {0}
+Cause client source sink Done = IsSpared source × IsSpared sink × Wrote Adds client source sink
+Cause client source sink WriteFault = IsSpared source × HasFailed sink × Wrote AddsFront client source sink
+Cause client source sink NoMemory = IsSpared source × IsSpared sink
 Cause client source sink s = NotRead script_of source s × IsUntouched sink
 
 -- where the words are no command, the answer is `Usage` and nothing was touched

@@ -4,5 +4,4 @@
 mod command;
 mod serving;
 
-pub use match_top;
 pub use serving::top_predict;

@@ -22,8 +22,11 @@ seen old new faults faults_after = record { old = old; new = new; faults = fault
 abbrev pub HasFailed : Seen → Type 0
 HasFailed s = Rose s.faults s.faults_after
 
+abbrev pub IsSpared : Seen → Type 0
+IsSpared s = s.faults_after ≡ s.faults
+
 abbrev pub IsUntouched : Seen → Type 0
-IsUntouched s = (s.new ≡ s.old) × (s.faults_after ≡ s.faults)
+IsUntouched s = (s.new ≡ s.old) × IsSpared s
 
 -- ---- reading
 
@@ -47,12 +50,12 @@ GaveBytes n old new = (bytes : List ℕ) × (length bytes ≡ n) × GaveFront ol
 abbrev pub GaveAtMost : ℕ → Option (List ℕ) → Option (List ℕ) → Type 0
 GaveAtMost n old new = (k : ℕ) × (k ≤ n) × GaveBytes k old new
 
--- why no script was read
+-- why no script was read: the source failed, or it did not and the text is none, too long, or more than memory holds
 abbrev pub NotRead : Reading → Seen → Status → Type 0
-NotRead reading source (Script line fault) = ReadAs reading source.old source.new (Err (line, fault))
-NotRead reading source TooLong = GaveBytes (MAX_SCRIPT_BYTES + 1) source.old source.new
+NotRead reading source (Script line fault) = ReadAs reading source.old source.new (Err (line, fault)) × IsSpared source
+NotRead reading source TooLong = GaveBytes (MAX_SCRIPT_BYTES + 1) source.old source.new × IsSpared source
 NotRead reading source ReadFault = HasFailed source × GaveAtMost MAX_SCRIPT_BYTES source.old source.new
-NotRead reading source NoMemory = Unit {0}
+NotRead reading source NoMemory = IsSpared source
 NotRead reading source s = ⊥
 
 -- ---- which answer it is

@@ -1,5 +1,6 @@
 //! Reading a script, as every command does.
-ghost use Rattle.std.specs.Prelude.{◌≡◌, ◌+◌, ◌≤◌, IfOk, IfErr, Ok};
+ghost use Rattle.std.specs.Prelude.{◌≡◌, ◌+◌, IfOk, IfErr, Ok, Err};
+ghost use Rattle.tn_outside.specs.Causes.{HandsOn};
 ghost use Rattle.match_script.specs.Ranges.{HasRanges};
 ghost use Rattle.match_script.specs.Script.{script_of, threads_script_of};
 ghost use Rattle.script_input.specs.Reading.{seen, GaveText, GaveAtMost, Reading, ReadAs, NotRead};
@@ -14,12 +15,12 @@ use tn_types::MAX_SCRIPT_BYTES;
 const BUFFER_BYTES: usize = 4096;
 
 /// All bytes of a source, and never more than one past the limit.
-fn read_all<S: Source>(alloc: Global, source: &mut S) -> Result<Vec<u8>, Status>
+pub fn read_all<S: Source>(alloc: Global, source: &mut S) -> Result<Vec<u8>, Status>
     ensures ok { IfOk result (λ text. GaveText (S.held source.old) (S.held source.new) text.items) }
     ensures err { IfErr result (λ status. (reading : Reading)
         → NotRead reading (seen (S.held source.old) (S.held source.new) (S.faults source.old) (S.faults source.new)) status) }
     ensures taken { GaveAtMost (MAX_SCRIPT_BYTES + 1) (S.held source.old) (S.held source.new) }
-    ensures later { S.faults source.old ≤ S.faults source.new }
+    ensures cause { HandsOn (S.faults source.old) (S.faults source.new) (result ≡ Err Status.ReadFault) }
 {
     let mut text = Vec::new(alloc);
     let mut buffer = [0u8; BUFFER_BYTES];
@@ -46,7 +47,7 @@ pub fn read_script<S: Source>(alloc: Global, source: &mut S) -> Result<Script, S
         (NotRead script_of (seen (S.held source.old) (S.held source.new) (S.faults source.old) (S.faults source.new))) }
     ensures ranges { IfOk result HasRanges }
     ensures taken { GaveAtMost (MAX_SCRIPT_BYTES + 1) (S.held source.old) (S.held source.new) }
-    ensures later { S.faults source.old ≤ S.faults source.new }
+    ensures cause { HandsOn (S.faults source.old) (S.faults source.new) (result ≡ Err Status.ReadFault) }
 {
     let text = read_all(alloc, source)?;
     match parse(alloc, text.as_slice()) {
@@ -63,7 +64,7 @@ pub fn read_threads_script<S: Source>(alloc: Global, source: &mut S) -> Result<S
         (NotRead threads_script_of (seen (S.held source.old) (S.held source.new) (S.faults source.old) (S.faults source.new))) }
     ensures ranges { IfOk result HasRanges }
     ensures taken { GaveAtMost (MAX_SCRIPT_BYTES + 1) (S.held source.old) (S.held source.new) }
-    ensures later { S.faults source.old ≤ S.faults source.new }
+    ensures cause { HandsOn (S.faults source.old) (S.faults source.new) (result ≡ Err Status.ReadFault) }
 {
     let text = read_all(alloc, source)?;
     match parse_threads(alloc, text.as_slice()) {

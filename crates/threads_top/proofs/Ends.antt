@@ -6,7 +6,7 @@ use Rattle.tn_outside.specs.Totals.{Adds, AddsFront}
 use Rattle.match_script.specs.Script.{threads_script_of}
 use Rattle.match_script.specs.declared.types.Script.{Script as OneScript}
 use Rattle.script_input.specs.declared.status.Status.TheVariants.{Done, WriteFault}
-use Rattle.script_input.specs.Reading.{Seen, seen, GaveAtMost, HasFailed, ReadAs}
+use Rattle.script_input.specs.Reading.{Seen, GaveAtMost, HasFailed, IsSpared, ReadAs}
 use Rattle.threads_top.specs.Telling.{Tells, TellsFront}
 use Rattle.threads_top.specs.Outcome.{ThreadsOutcome}
 
@@ -19,28 +19,22 @@ pub whole : (script : OneScript) (old new : Option (List ℕ)) → Tells script 
 whole script old new (text, is, adds) =
     (text, is, (length text, omega arith, subst (λ (b : List ℕ). Adds old new b) (sym (take_all (length text) text (omega arith))) adds))
 
--- what a source and a sink were told to be, before a call and after it
-module _ (held held' : Option (List ℕ)) (faults faults' : ℕ) (written written' : Option (List ℕ)) (sink_faults sink_faults' : ℕ) where
-  abbrev source : Seen
-  source = seen held held' faults faults'
-
-  abbrev sink : Seen
-  sink = seen written written' sink_faults sink_faults'
-
-  pub done : (script : OneScript) → ReadAs threads_script_of held held' (Ok script) → GaveAtMost 1048577 held held' → faults ≤ faults' → Tells script written written' → sink_faults ≤ sink_faults' → ThreadsOutcome (Ok tt) source sink Done
-  done script has taken later tells sink_later = record {
-    answer = (script, has, tells);
+-- what a source and a sink were told to be, before a call and after it: a script was read
+module _ (source sink : Seen) (script : OneScript) (has : ReadAs threads_script_of source.old source.new (Ok script)) (spared : IsSpared source) (taken : GaveAtMost 1048577 source.old source.new) where
+  pub done : Tells script sink.old sink.new → IsSpared sink → ThreadsOutcome (Ok tt) source sink Done
+  done tells kept = record {
+    answer = (spared, kept, (script, has, tells));
     taken = taken;
-    written = inr (script, has, whole script written written' tells);
-    reads = later;
-    writes = sink_later;
+    written = inr (script, has, whole script sink.old sink.new tells);
+    reads = omega (arith, spared);
+    writes = omega (arith, kept);
   }
 
-  pub write_fault : (script : OneScript) → ReadAs threads_script_of held held' (Ok script) → GaveAtMost 1048577 held held' → faults ≤ faults' → TellsFront script written written' → sink_faults ≤ sink_faults' → HasFailed sink → ThreadsOutcome (Ok tt) source sink WriteFault
-  write_fault script has taken later front sink_later failed = record {
-    answer = (failed, (script, has, front));
+  pub write_fault : TellsFront script sink.old sink.new → sink.faults ≤ sink.faults_after → HasFailed sink → ThreadsOutcome (Ok tt) source sink WriteFault
+  write_fault front later failed = record {
+    answer = (spared, failed, (script, has, front));
     taken = taken;
     written = inr (script, has, front);
-    reads = later;
-    writes = sink_later;
+    reads = omega (arith, spared);
+    writes = later;
   }

@@ -7,7 +7,7 @@ use Rattle.match_script.specs.Script.{threads_script_of}
 use Rattle.match_script.specs.declared.types.Script.{Script as OneScript}
 use Rattle.script_input.specs.declared.status.Status.{Status}
 use Rattle.script_input.specs.declared.status.Status.TheVariants.{Done, Usage, ReadFault, WriteFault, NoMemory}
-use Rattle.script_input.specs.Reading.{Seen, IsUntouched, HasFailed, ReadAs, NotRead, GaveAtMost, answer_of}
+use Rattle.script_input.specs.Reading.{Seen, IsUntouched, IsSpared, HasFailed, ReadAs, NotRead, GaveAtMost, answer_of}
 use Rattle.threads_top.specs.Telling.{Tells, TellsFront}
 
 -- what words behind `threads` make of it: none may stand there
@@ -20,17 +20,16 @@ abbrev pub threads_of : List (List ℕ) → Result (Unit {0}) ℕ
 threads_of [] = Err 0
 threads_of (word ∷ words) = if bytes_eq word (codes "threads") then threads_with words else Err 0
 
--- a script was read, and of the text of a legal race of it a front was written
-abbrev pub WroteFront : Seen → Seen → Type 0
-WroteFront source sink =
-    (script : OneScript) × ReadAs threads_script_of source.old source.new (Ok script) × TellsFront script sink.old sink.new
+-- a script was read, and the text of a legal race of it was added to the sink: all of it, or a front
+abbrev pub Wrote : (OneScript → Option (List ℕ) → Option (List ℕ) → Type 0) → Seen → Seen → Type 0
+Wrote tells source sink =
+    (script : OneScript) × ReadAs threads_script_of source.old source.new (Ok script) × tells script sink.old sink.new
 
--- the cause of an answer
+-- the cause of an answer: a fault is answered exactly where that count of faults rose
 abbrev pub Cause : Seen → Seen → Status → Type 0
-Cause source sink Done =
-    (script : OneScript) × ReadAs threads_script_of source.old source.new (Ok script) × Tells script sink.old sink.new
-Cause source sink WriteFault = HasFailed sink × WroteFront source sink
-Cause source sink NoMemory = Unit {0}
+Cause source sink Done = IsSpared source × IsSpared sink × Wrote Tells source sink
+Cause source sink WriteFault = IsSpared source × HasFailed sink × Wrote TellsFront source sink
+Cause source sink NoMemory = IsSpared source × IsSpared sink
 Cause source sink s = NotRead threads_script_of source s × IsUntouched sink
 
 -- where the words are no command, the answer is `Usage` and nothing was touched
@@ -43,7 +42,7 @@ pub record ThreadsOutcome (command : Result (Unit {0}) ℕ) (source sink : Seen)
   -- one byte past the limit tells that a text is too long, and no further byte is taken
   pub taken : GaveAtMost (MAX_SCRIPT_BYTES + 1) source.old source.new
   -- whatever the answer, nothing was written, or a front of the text of a legal race
-  pub written : (sink.new ≡ sink.old) ⊎ WroteFront source sink
+  pub written : (sink.new ≡ sink.old) ⊎ Wrote TellsFront source sink
   -- no count of faults fell
   pub reads : source.faults ≤ source.faults_after
   pub writes : sink.faults ≤ sink.faults_after

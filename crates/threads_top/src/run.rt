@@ -1,6 +1,6 @@
 //! The run of a match in threads.
-ghost use Rattle.std.specs.Prelude.{◌≡◌, ◌≤◌, Err, IfOk, OnOk};
-ghost use Rattle.tn_outside.specs.Causes.{Rose};
+ghost use Rattle.std.specs.Prelude.{◌≡◌, Err, IfOk, OnOk};
+ghost use Rattle.tn_outside.specs.Causes.{HandsOn};
 ghost use Rattle.match_script.specs.Ranges.{HasRanges};
 ghost use Rattle.threads_top.specs.Telling.{IsRaceText, Tells, TellsFront};
 
@@ -63,8 +63,7 @@ pub fn run_threads<R: Threads + Wait + Sync, G: Gate + Sync, K: Sink>(
     ensures text { OnOk result (Tells script.now (K.written sink.old) (K.written sink.new)) }
     ensures front { result ≡ Err RunFault.WriteFault → TellsFront script.now (K.written sink.old) (K.written sink.new) }
     ensures nothing { result ≡ Err RunFault.NoMemory → K.written sink.new ≡ K.written sink.old }
-    ensures cause { result ≡ Err RunFault.WriteFault → Rose (K.faults sink.old) (K.faults sink.new) }
-    ensures later { K.faults sink.old ≤ K.faults sink.new }
+    ensures cause { HandsOn (K.faults sink.old) (K.faults sink.new) (result ≡ Err RunFault.WriteFault) }
 {
     let Ok(text) = text_of_race(rt, alloc, script, gate) else {
         return Err(RunFault::NoMemory);

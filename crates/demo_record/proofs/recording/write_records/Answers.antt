@@ -40,7 +40,7 @@ lines-preserved g c =
       script = c.in_ok-step.ensures.script ∙ same;
       written = rw place (moved s c.args.script.now client (at + 1) first new same (records-more s client at (c.in_ok-step.ensures.more ok) first old new before (c.in_ok-step.ensures.written ok)));
       short = rw place (short_moved s c.args.script.now client (at + 1) same (short-more s client at (c.in_ok-step.ensures.more ok) short (c.in_ok-step.ensures.short ok)));
-      later = omega arith;
+      spared = c.in_ok-step.ensures.cause.spared (λ e. absurd cc) ∙ c.lines.invariant.spared;
     }
 
 pub returns-in_err-step-clause-front : goal.returns-in_err-step-clause-front

@@ -1,4 +1,4 @@
-use Rattle.std.proofs.Common.{◌≡◌, ◌≤◌, ◌-◌, length, reverse, take}
+use Rattle.std.proofs.Common.{◌≡◌, ◌-◌, length, reverse, take}
 use Rattle.std.specs.List.{AllByRecursion}
 use Rattle.tn_outside.specs.Totals.{Adds}
 use Rattle.match_engine.specs.Match.{IsPlayed}
@@ -13,7 +13,7 @@ invariant-lines g l = record {
   script : l.game.script ≡ l.script;
   written : Adds (g.K.Sink.written l.fn.sink) (g.K.Sink.written l.sink) (so_far l.script l.client l.game.place);
   short : AllByRecursion IsRecord (taken_lines l.script.head l.client (reverse (take l.game.place l.script.body)));
-  later : g.K.Sink.faults l.fn.sink ≤ g.K.Sink.faults l.sink;
+  spared : g.K.Sink.faults l.sink ≡ g.K.Sink.faults l.fn.sink;
 }
 
 abbrev pub decreases-lines : goal.decreases-lines

@@ -25,7 +25,7 @@ records-preserved g c =
           (next-taken body c.records.k c.records.start inv.begins c.in-Some.next.now is);
       written = record-more head body c.records.k c.records.viewer inv.viewer (g.K.Sink.written c.args.sink.now) (g.K.Sink.written c.records.sink) (g.K.Sink.written c.tell_next.new.sink) inv.written
           c.records.start inv.begins c.in-Some.next.now is e.written;
-      later = omega (arith, inv.later, e.later);
+      spared = e.cause.spared (λ h. absurd cc) ∙ inv.spared;
     }
 
 pub returns-in_err-tell_next-clause-front : goal.returns-in_err-tell_next-clause-front

@@ -11,7 +11,7 @@ invariant-records g l = record {
   begins : Begins l.body l.k l.start;
   viewer : IsViewerAfter (record { head = l.head; records = records_of l.body }) l.k l.viewer;
   written : Adds (g.K.Sink.written l.fn.sink) (g.K.Sink.written l.sink) (lines l.head l.body l.k);
-  later : g.K.Sink.faults l.fn.sink ≤ g.K.Sink.faults l.sink;
+  spared : g.K.Sink.faults l.sink ≡ g.K.Sink.faults l.fn.sink;
 }
 
 abbrev pub decreases-records : goal.decreases-records

@@ -1,4 +1,4 @@
-use Rattle.std.proofs.Common.{◌≤◌, ◌-◌, ◌+◌, vec_len}
+use Rattle.std.proofs.Common.{◌≡◌, ◌≤◌, ◌-◌, ◌+◌, vec_len}
 use Rattle.tn_outside.specs.Totals.{GaveFront}
 use Rattle.demo_format.specs.declared.head.TheConstants.{MAX_DEMO_BYTES}
 use Rattle.demo_top.proofs.reading.read_demo.Given as goal
@@ -7,7 +7,7 @@ abbrev pub invariant-reads : goal.invariant-reads
 invariant-reads g l = record {
   gave : GaveFront (g.S.Source.held l.fn.source) (g.S.Source.held l.source) l.bytes.items;
   few : vec_len l.bytes ≤ MAX_DEMO_BYTES + 1;
-  later : g.S.Source.faults l.fn.source ≤ g.S.Source.faults l.source;
+  spared : g.S.Source.faults l.source ≡ g.S.Source.faults l.fn.source;
 }
 
 abbrev pub decreases-reads : goal.decreases-reads

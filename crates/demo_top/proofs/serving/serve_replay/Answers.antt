@@ -17,9 +17,9 @@ returns-in-Ok-flush-clause-outcome g c =
     let w = g.K.Sink.written c.args.sink.now in
     let gave : Gave 16777216 held held' c.as_slice.result.now = subst (λ (b : List ℕ). Gave 16777216 held held' b) (sym c.as_slice.ensures.value) e.ok in
     let adds : Adds w (g.K.Sink.written c.flush.new.self) told.0 = subst (λ (x : Option (List ℕ)). Adds w x told.0) (sym f.bytes) told.2 in
-    done (replaying c.args.count) (g.S.Source.held c.args.source.now) (g.S.Source.held c.read_demo.new.source) (g.S.Source.faults c.args.source.now) (g.S.Source.faults c.read_demo.new.source) (taken-few c.args.count held held' e.taken) e.later told.0
+    done (replaying c.args.count) (g.S.Source.held c.args.source.now) (g.S.Source.held c.read_demo.new.source) (g.S.Source.faults c.args.source.now) (g.S.Source.faults c.read_demo.new.source) (taken-few c.args.count held held' e.taken) (e.cause.spared (λ h. absurd cc)) told.0
     (made-of c.args.count (seen (g.S.Source.held c.args.source.now) (g.S.Source.held c.read_demo.new.source) (g.S.Source.faults c.args.source.now) (g.S.Source.faults c.read_demo.new.source)) c.as_slice.result.now (Ok told.0) gave told.1)
-    w (g.K.Sink.written c.flush.new.self) (g.K.Sink.faults c.args.sink.now) (g.K.Sink.faults c.flush.new.self) (omega (arith, c.tell.ensures.later, f.cause.later)) adds
+    w (g.K.Sink.written c.flush.new.self) (g.K.Sink.faults c.args.sink.now) (g.K.Sink.faults c.flush.new.self) (omega (arith, c.tell.ensures.later, f.caus(e.cause.spared (λ h. absurd cc)))) adds
 
 pub returns-in-Ok-tell-clause-outcome : goal.returns-in-Ok-tell-clause-outcome
 returns-in-Ok-tell-clause-outcome g c =
@@ -31,10 +31,10 @@ returns-in-Ok-tell-clause-outcome g c =
     let w' = g.K.Sink.written c.flush.new.self in
     let gave : Gave 16777216 held held' c.as_slice.result.now = subst (λ (b : List ℕ). Gave 16777216 held held' b) (sym c.as_slice.ensures.value) e.ok in
     let adds : Adds w w' told.0 = subst (λ (x : Option (List ℕ)). Adds w x told.0) (sym f.bytes) told.2 in
-    write-fault (replaying c.args.count) (g.S.Source.held c.args.source.now) (g.S.Source.held c.read_demo.new.source) (g.S.Source.faults c.args.source.now) (g.S.Source.faults c.read_demo.new.source) (taken-few c.args.count held held' e.taken) e.later told.0
+    write-fault (replaying c.args.count) (g.S.Source.held c.args.source.now) (g.S.Source.held c.read_demo.new.source) (g.S.Source.faults c.args.source.now) (g.S.Source.faults c.read_demo.new.source) (taken-few c.args.count held held' e.taken) (e.cause.spared (λ h. absurd cc)) told.0
     (made-of c.args.count (seen (g.S.Source.held c.args.source.now) (g.S.Source.held c.read_demo.new.source) (g.S.Source.faults c.args.source.now) (g.S.Source.faults c.read_demo.new.source)) c.as_slice.result.now (Ok told.0) gave told.1)
-    w w' (g.K.Sink.faults c.args.sink.now) (g.K.Sink.faults c.flush.new.self) (omega (arith, c.tell.ensures.later, f.cause.later)) (whole_front w w' told.0 adds)
-    (rose-later (g.K.Sink.faults c.args.sink.now) (g.K.Sink.faults c.tell.new.sink) (g.K.Sink.faults c.flush.new.self) c.tell.ensures.later f.cause.failed)
+    w w' (g.K.Sink.faults c.args.sink.now) (g.K.Sink.faults c.flush.new.self) (omega (arith, c.in-Ok-tell.ensures.cause.later, f.caus(e.cause.spared (λ h. absurd cc)))) (whole_front w w' told.0 adds)
+    (rose-later (g.K.Sink.faults c.args.sink.now) (g.K.Sink.faults c.tell.new.sink) (g.K.Sink.faults c.flush.new.self) c.in-Ok-tell.ensures.cause.later f.cause.failed)
 
 pub returns-in-Err-Head-clause-outcome : goal.returns-in-Err-Head-clause-outcome
 returns-in-Err-Head-clause-outcome g c =
@@ -44,6 +44,6 @@ returns-in-Err-Head-clause-outcome g c =
     let held = g.S.Source.held c.args.source.now in
     let held' = g.S.Source.held c.read_demo.new.source in
     let gave : Gave 16777216 held held' c.as_slice.result.now = subst (λ (b : List ℕ). Gave 16777216 held held' b) (sym c.as_slice.ensures.value) e.ok in
-    no-demo (replaying c.args.count) (g.S.Source.held c.args.source.now) (g.S.Source.held c.read_demo.new.source) (g.S.Source.faults c.args.source.now) (g.S.Source.faults c.read_demo.new.source) (taken-few c.args.count held held' e.taken) e.later
+    no-demo (replaying c.args.count) (g.S.Source.held c.args.source.now) (g.S.Source.held c.read_demo.new.source) (g.S.Source.faults c.args.source.now) (g.S.Source.faults c.read_demo.new.source) (taken-few c.args.count held held' e.taken) (e.cause.spared (λ h. absurd cc))
     (g.K.Sink.written c.args.sink.now) (g.K.Sink.written c.tell.new.sink) still.1 (g.K.Sink.faults c.args.sink.now) (g.K.Sink.faults c.tell.new.sink) still.2 place
     (made-of c.args.count (seen (g.S.Source.held c.args.source.now) (g.S.Source.held c.read_demo.new.source) (g.S.Source.faults c.args.source.now) (g.S.Source.faults c.read_demo.new.source)) c.as_slice.result.now (Err (NoDemo place)) gave still.0)

@@ -18,7 +18,7 @@ pub returns-in-None-clause-failed : goal.returns-in-None-clause-failed
 returns-in-None-clause-failed g c e =
     let bytes = c.args.bytes.now in
     let there = write-failed bytes c.replay.result c.replay.ensures.refused e in
-    (c.replay.ensures.cause e, (replay_text bytes, rw c.in-None.is (ap (told_behind (λ (head : DemoHead). replay_of head (body_of bytes))) there), on-err c.replay.result fault.WriteFault e c.replay.ensures.front))
+    (replay_text bytes, rw c.in-None.is (ap (told_behind (λ (head : DemoHead). replay_of head (body_of bytes))) there), on-err c.replay.result fault.WriteFault e c.replay.ensures.front)
 
 pub returns-in-None-clause-memory : goal.returns-in-None-clause-memory
 returns-in-None-clause-memory g c e =
@@ -37,7 +37,7 @@ pub returns-in-Some-clause-failed : goal.returns-in-Some-clause-failed
 returns-in-Some-clause-failed g c e =
     let bytes = c.args.bytes.now in
     let there = write-failed bytes c.replay_at.result c.replay_at.ensures.refused e in
-    (c.replay_at.ensures.cause e, (replay_at_text bytes c.in-Some.count, rw c.in-Some.is (ap (told_behind (λ (head : DemoHead). replay_at_of head (body_of bytes) c.in-Some.count)) there), on-err c.replay_at.result fault.WriteFault e c.replay_at.ensures.front))
+    (replay_at_text bytes c.in-Some.count, rw c.in-Some.is (ap (told_behind (λ (head : DemoHead). replay_at_of head (body_of bytes) c.in-Some.count)) there), on-err c.replay_at.result fault.WriteFault e c.replay_at.ensures.front)
 
 pub returns-in-Some-clause-memory : goal.returns-in-Some-clause-memory
 returns-in-Some-clause-memory g c e =

@@ -1,6 +1,7 @@
 use Rattle.std.proofs.Common.{map, string_bytes, arith, sym}
 use Rattle.std.proofs.lemmas.List.{length-map}
-use Rattle.match_top.proofs.Words.{few, big_said}
+use Rattle.command_words.proofs.Words.{few}
+use Rattle.match_top.proofs.Words.{big_said}
 use Rattle.match_top.proofs.command.big_of.Goals as goal
 
 pub overflow_cast-result : goal.overflow_cast-result

@@ -1,6 +1,6 @@
 use Rattle.std.proofs.Common.{map, string_bytes, arith, sym}
 use Rattle.std.proofs.lemmas.List.{length-map}
-use Rattle.match_top.proofs.Words.{few}
+use Rattle.command_words.proofs.Words.{few}
 use Rattle.net_top.proofs.Words.{serve_said}
 use Rattle.net_top.proofs.command.serve_of.Goals as goal
 

@@ -31,7 +31,7 @@ lines-preserved g c =
       beside = subst (λ (l : List BodyLine). StandBeside c.step.new.game c.step.new.predict client l) (sym next) (c.in_ok-step.ensures.stands past c.lines.invariant.beside);
       script = c.in_ok-step.ensures.script ∙ same;
       written = more_written c.args.script.now.head client lines i line (g.K.Sink.written c.args.sink.now) old new c.lines-test.true c.lines.invariant.written adds;
-      later = omega (arith, c.lines.invariant.later, c.step.ensures.later);
+      spared = c.in_ok-step.ensures.cause.spared (λ e. absurd cc) ∙ c.lines.invariant.spared;
     }
 
 pub returns-in_err-step-clause-front : goal.returns-in_err-step-clause-front

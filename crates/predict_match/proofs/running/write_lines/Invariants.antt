@@ -1,4 +1,4 @@
-use Rattle.std.proofs.Common.{◌≡◌, ◌≤◌, reverse, take}
+use Rattle.std.proofs.Common.{◌≡◌, reverse, take}
 use Rattle.tn_outside.specs.Totals.{Adds}
 use Rattle.predict_laws.specs.predict_lines.Lines.{predicted_so_far}
 use Rattle.predict_match.specs.Beside.{StandBeside}
@@ -10,5 +10,5 @@ invariant-lines g l = record {
   script : l.game.script ≡ l.script;
   written : Adds (g.K.Sink.written l.fn.sink) (g.K.Sink.written l.sink)
       (predicted_so_far l.script.head l.client (reverse (take l.line-index l.lines)));
-  later : g.K.Sink.faults l.fn.sink ≤ g.K.Sink.faults l.sink;
+  spared : g.K.Sink.faults l.sink ≡ g.K.Sink.faults l.fn.sink;
 }

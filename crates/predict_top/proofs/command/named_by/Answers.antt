@@ -1,6 +1,6 @@
 use Rattle.std.proofs.Common.{map, string_bytes, arith, sym}
 use Rattle.std.proofs.lemmas.List.{length-map}
-use Rattle.match_top.proofs.Words.{few}
+use Rattle.command_words.proofs.Words.{few}
 use Rattle.predict_top.proofs.Words.{predict_said}
 use Rattle.predict_top.proofs.command.named_by.Goals as goal
 

@@ -1,0 +1,10 @@
+//! What the bytes of a report say of shown fields and of moves, and what is found by looking back: definitions and laws.
+#![tactic(auto)]
+
+mod laws;
+
+pub use laws::{
+    honest_by_lines, laws_of_reports, looks_back, one_holder, printed_as_shown, printed_counts,
+    printed_values,
+};
+pub use match_laws;
