@@ -21,9 +21,9 @@ use tn_types::{
 };
 use world_rules::{Setup, Spawns};
 
-// The line that is to stand at place n of the header, and what comes after it.
+/// The line that is to stand at place n of a header, and what comes after it.
 #[tactic(auto, using(crate::proofs::Bodies::no_line), unfolding(crate::specs::Script::header_words, crate::specs::Script::text_line))]
-pub(crate) fn header_line(n: u32, text: &[u8]) -> Result<(&[u8], &[u8]), ParseFault>
+pub fn header_line(n: u32, text: &[u8]) -> Result<(&[u8], &[u8]), ParseFault>
     ensures { Gives (λ x. (words_of x.0.now, lines_of x.1.now)) result (header_words n (lines_of text.now)) }
 {
     if text.len() == 0 {
@@ -109,9 +109,9 @@ fn match_numbers(
     })
 }
 
-// The header that `match SEED CLIENTS LIFE SIZE RADIUS` gives.
+/// The header that `match SEED CLIENTS LIFE SIZE RADIUS` gives, with no block and no object yet.
 #[tactic(auto, unfolding(crate::specs::Header::match_line))]
-fn match_line(alloc: Global, version: u8, line: &[u8]) -> Option<Head>
+pub fn match_line(alloc: Global, version: u8, line: &[u8]) -> Option<Head>
     ensures value { result ≡ match_line version (words_of line.now) }
     ensures fits { MIN_VERSION ≤ version → version ≤ MAX_VERSION → IfSome result HeadFits }
 {
@@ -163,8 +163,8 @@ pub(crate) fn is_go(line: &[u8]) -> bool
     }
 }
 
-// Line n of the header can't stand there.
-pub(crate) fn misplaced(n: u32) -> ParseFault
+/// Line n of a header can't stand there.
+pub fn misplaced(n: u32) -> ParseFault
     ensures { result ≡ Bad n BadHeader }
 {
     ParseFault::Bad {

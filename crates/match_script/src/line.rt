@@ -13,12 +13,12 @@ use crate::words::Words;
 use std::alloc::Global;
 use tn_types::{Bytes, MAX_DATAGRAM_BYTES, Move, NoMemory};
 
-// Why a line of the body was not read.
+/// Why a line of the body was not read.
 #[derive(Clone, Copy, Debug, PartialEq, Eq)]
-pub(crate) enum LineFault {
-    // The line can't stand there: its first fault.
+pub enum LineFault {
+    /// The line can't stand there: its first fault.
     Faulty(ScriptFault),
-    // Memory was not to be had.
+    /// Memory was not to be had.
     NoMemory,
 }
 

@@ -15,11 +15,11 @@ use crate::words::{Words, first_words, parted};
 use std::alloc::Global;
 use tn_types::{MAX_BLOCKS, MAX_BODY_LINES, MAX_OBJECTS, MAX_THREAD_TICKS};
 
-// Lines of a header without blocks and objects.
-const BARE_HEADER_LINES: u32 = 3;
+/// Lines of a header without blocks and objects.
+pub const BARE_HEADER_LINES: u32 = 3;
 
-// How many lines a header is.
-fn header_length(head: &Head) -> u32
+/// How many lines a header is.
+pub fn header_length(head: &Head) -> u32
     requires blocks { length head.now.blocks ≤ MAX_BLOCKS }
     requires objects { length head.now.setup.spawns ≤ MAX_OBJECTS }
     ensures value { result ≡ header_length head.now }
@@ -52,8 +52,8 @@ fn line_at(alloc: Global, clients: u8, k: u32, line: &[u8]) -> Result<BodyLine, 
     words_at(alloc, clients, k, parted(line))
 }
 
-// The first line of a text, which is line k of the body, and what comes after it.
-fn next_line(
+/// The first line of a text, which is line k of the body, and what comes after it.
+pub fn next_line(
     alloc: Global,
     clients: u8,
     k: u32,

@@ -14,7 +14,7 @@ use tn_types::MAX_SCRIPT_BYTES;
 const BUFFER_BYTES: usize = 4096;
 
 /// All bytes of a source, and never more than one past the limit.
-fn read_all<S: Source>(alloc: Global, source: &mut S) -> Result<Vec<u8>, Status>
+pub fn read_all<S: Source>(alloc: Global, source: &mut S) -> Result<Vec<u8>, Status>
     ensures ok { IfOk result (λ text. GaveText (S.held source.old) (S.held source.new) text.items) }
     ensures err { IfErr result (λ status. (reading : Reading)
         → NotRead reading (seen (S.held source.old) (S.held source.new) (S.faults source.old) (S.faults source.new)) status) }

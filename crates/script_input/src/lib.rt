@@ -4,5 +4,5 @@
 mod input;
 mod status;
 
-pub use input::{read_script, read_threads_script};
+pub use input::{read_all, read_script, read_threads_script};
 pub use status::{Status, exit_of};
