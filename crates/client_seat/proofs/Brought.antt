@@ -14,14 +14,14 @@ use Rattle.stream_manager.specs.declared.server.Taken.{Taken}
 use Rattle.stream_manager.specs.Limits.{Terms}
 use Rattle.stream_manager.specs.Server.{ServerEvent, accepted_at, took_at_server, taken_of, server_answer, server_datagrams}
 use Rattle.stream_manager.specs.Client.{client_datagrams, arrive_answer}
-use Rattle.pair_core.specs.declared.step.Answer.{Answer}
-use Rattle.pair_core.specs.declared.step.Answer.TheVariants as says
-use Rattle.pair_core.specs.declared.step.PairStep.{PairStep as GivenStep}
-use Rattle.pair_core.specs.declared.step.PairStep.TheVariants as given
-use Rattle.pair_core.specs.History.{PairStep, Down, history, server_gets}
-use Rattle.pair_core.specs.Answers.{accepted_in, answer, brought_up, brought_down, came_up, came_down}
-use Rattle.pair_core.specs.Calls.{step_of, Does, Hands, HandsUp, Keeps, Accepts, LendsMoves}
-use Rattle.pair_core.specs.Stands.{PairState}
+use Rattle.own_lists.specs.pair_core.declared.step.Answer.{Answer}
+use Rattle.own_lists.specs.pair_core.declared.step.Answer.TheVariants as says
+use Rattle.own_lists.specs.pair_core.declared.step.PairStep.{PairStep as GivenStep}
+use Rattle.own_lists.specs.pair_core.declared.step.PairStep.TheVariants as given
+use Rattle.own_lists.specs.pair_core.History.{PairStep, Down, history, server_gets}
+use Rattle.own_lists.specs.pair_core.Answers.{accepted_in, answer, brought_up, brought_down, came_up, came_down}
+use Rattle.own_lists.specs.pair_core.Calls.{step_of, Does, Hands, HandsUp, Keeps, Accepts, LendsMoves}
+use Rattle.own_lists.specs.pair_core.Stands.{PairState}
 use Rattle.own_lists.specs.Course.{Course, room_in, with_step}
 use Rattle.client_seat.specs.Answering.{TellsUp, TellsDown, ComesUp, room_for}
 use Rattle.client_seat.specs.Stands.{SeatState, Holds, StandsFor}

@@ -25,8 +25,8 @@ use Rattle.ghost_client.specs.State.{field_value, value_of}
 use Rattle.stream_manager.specs.Limits.{Terms}
 use Rattle.stream_manager.specs.Server.{ghost_log}
 use Rattle.stream_manager.specs.Client.{ghosts_came}
-use Rattle.pair_core.specs.History.{PairStep, history}
-use Rattle.pair_core.specs.Stands.{PairState, StandsFor}
+use Rattle.own_lists.specs.pair_core.History.{PairStep, history}
+use Rattle.own_lists.specs.pair_core.Stands.{PairState, StandsFor}
 use Rattle.conn_packing.proofs.Scoped.{up-alive, up-from, kind-here}
 use Rattle.client_seat.specs.Told.{is_newest, field_told}
 

@@ -1,3 +1,4 @@
+pub mod Below
 pub mod Making
 pub mod Posts
 pub mod Packs

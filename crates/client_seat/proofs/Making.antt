@@ -2,10 +2,10 @@
 use Rattle.std.proofs.Common.{◌≡◌, ℕ, ◌+◌, ◌<◌, refl, sym, subst, List, [], ◌∷◌, ◌++◌, length, map, take, drop, get_or}
 use Rattle.std.proofs.lemmas.List.{map_more, drop_more}
 use Rattle.stream_manager.specs.Limits.{Terms}
-use Rattle.pair_core.specs.History.{PairStep}
-use Rattle.pair_core.specs.Answers.{accepted_in}
-use Rattle.pair_core.specs.Calls.{Does, KeepsAtServer}
-use Rattle.pair_core.specs.Stands.{PairState}
+use Rattle.own_lists.specs.pair_core.History.{PairStep}
+use Rattle.own_lists.specs.pair_core.Answers.{accepted_in}
+use Rattle.own_lists.specs.pair_core.Calls.{Does, KeepsAtServer}
+use Rattle.own_lists.specs.pair_core.Stands.{PairState}
 use Rattle.own_lists.specs.Course.{onto, with_step, with_steps}
 use Rattle.own_lists.specs.Conditions.{MeetEach}
 use Rattle.client_seat.specs.Stands.{SeatState, StandsFor, Becomes, MayMake}

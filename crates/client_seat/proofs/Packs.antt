@@ -14,14 +14,14 @@ use Rattle.stream_manager.specs.Server.{ServerEvent, accepted_at, server_state, 
 use Rattle.stream_manager.specs.Wire.{bytes_down}
 use Rattle.stream_manager.specs.Client as client_log
 use Rattle.stream_manager.specs.Client.{client_state, client_datagrams, client_bytes, client_ping_bytes}
-use Rattle.pair_core.specs.declared.step.Answer.{Answer}
-use Rattle.pair_core.specs.declared.step.Answer.TheVariants as says
+use Rattle.own_lists.specs.pair_core.declared.step.Answer.{Answer}
+use Rattle.own_lists.specs.pair_core.declared.step.Answer.TheVariants as says
 use Rattle.conn_packing.specs.Packs.{absorbing, values_of}
-use Rattle.pair_core.specs.History.{PairStep, Pack, ClientPack, history}
-use Rattle.pair_core.specs.Answers.{answer, made, accepted_in}
-use Rattle.pair_core.specs.Calls.{Stays}
+use Rattle.own_lists.specs.pair_core.History.{PairStep, Pack, ClientPack, history}
+use Rattle.own_lists.specs.pair_core.Answers.{answer, made, accepted_in}
+use Rattle.own_lists.specs.pair_core.Calls.{Stays}
 use Rattle.conn_packing.specs.Reads.{IsReadFor}
-use Rattle.pair_core.specs.Stands.{PairState}
+use Rattle.own_lists.specs.pair_core.Stands.{PairState}
 use Rattle.conn_packing.proofs.Absorbed.{absorbed-end, absorbed-state, absorbed-sends}
 use Rattle.conn_packing.proofs.Lists.{slice_get-at}
 use Rattle.match_report.specs.declared.told.Told.{Told}

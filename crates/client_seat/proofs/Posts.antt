@@ -10,10 +10,10 @@ use Rattle.stream_manager.specs.End.{dropped_of}
 use Rattle.stream_manager.specs.Server as server
 use Rattle.stream_manager.specs.Server.{server_end, posted_at_server, accepted_at}
 use Rattle.stream_manager.specs.Client.{client_end, posted_at_client}
-use Rattle.pair_core.specs.declared.step.Answer.{Answer}
-use Rattle.pair_core.specs.declared.step.Answer.TheVariants as says
-use Rattle.pair_core.specs.History.{PairStep, Post, ClientPost, history}
-use Rattle.pair_core.specs.Answers.{answer, post_answer, accepted_in}
+use Rattle.own_lists.specs.pair_core.declared.step.Answer.{Answer}
+use Rattle.own_lists.specs.pair_core.declared.step.Answer.TheVariants as says
+use Rattle.own_lists.specs.pair_core.History.{PairStep, Post, ClientPost, history}
+use Rattle.own_lists.specs.pair_core.Answers.{answer, post_answer, accepted_in}
 use Rattle.match_report.specs.declared.told.Told.{Told}
 use Rattle.match_report.specs.declared.told.Told.TheVariants as told_as
 use Rattle.client_seat.specs.Told.{post_told, client_post_told}

@@ -1,9 +1,9 @@
 -- The answers that a step of each kind may have, and which steps bring something to the server.
 use Rattle.std.specs.Prelude.{ℕ}
-use Rattle.pair_core.specs.declared.step.Answer.{Answer}
-use Rattle.pair_core.specs.declared.step.Answer.TheVariants as says
-use Rattle.pair_core.specs.declared.step.PairStep.{PairStep as GivenStep}
-use Rattle.pair_core.specs.declared.step.PairStep.TheVariants as given
+use Rattle.own_lists.specs.pair_core.declared.step.Answer.{Answer}
+use Rattle.own_lists.specs.pair_core.declared.step.Answer.TheVariants as says
+use Rattle.own_lists.specs.pair_core.declared.step.PairStep.{PairStep as GivenStep}
+use Rattle.own_lists.specs.pair_core.declared.step.PairStep.TheVariants as given
 
 abbrev pub TellsPost : Answer → Type 0
 TellsPost (says.Posted number) = Unit {0}

@@ -9,10 +9,10 @@ use Rattle.ghost_model.specs.Legal.{IsUp}
 use Rattle.stream_manager.specs.Limits.{Terms}
 use Rattle.stream_manager.specs.Server.{server_state, ghost_log}
 use Rattle.conn_packing.specs.Packs.{absorbing}
-use Rattle.pair_core.specs.History.{PairStep, Pack, history}
-use Rattle.pair_core.specs.Answers.{accepted_in}
+use Rattle.own_lists.specs.pair_core.History.{PairStep, Pack, history}
+use Rattle.own_lists.specs.pair_core.Answers.{accepted_in}
 use Rattle.conn_packing.specs.Reads.{IsReadFor}
-use Rattle.pair_core.specs.Stands.{PairState, StandsFor as PairStandsFor}
+use Rattle.own_lists.specs.pair_core.Stands.{PairState, StandsFor as PairStandsFor}
 use Rattle.own_lists.specs.Course.{Course, waiting_in, with_step}
 use Rattle.client_seat.specs.Told.{packed_told}
 use Rattle.own_lists.specs.Conditions.{MeetEach}

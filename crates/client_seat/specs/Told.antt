@@ -23,11 +23,11 @@ use Rattle.stream_manager.specs.End.{dropped_of}
 use Rattle.stream_manager.specs.Wire.{bytes_down}
 use Rattle.stream_manager.specs.Server.{ServerEvent, server_end, server_state, server_datagrams, posted_at_server, next_body, server_ping_bytes, ghost_log}
 use Rattle.stream_manager.specs.Client.{ClientEvent, client_end, client_state, client_datagrams, client_bytes, client_ping_bytes, posted_at_client, sampled_answer, control_at, ghosts_came}
-use Rattle.pair_core.specs.declared.step.Answer.{Answer}
-use Rattle.pair_core.specs.declared.step.Answer.TheVariants as says
+use Rattle.own_lists.specs.pair_core.declared.step.Answer.{Answer}
+use Rattle.own_lists.specs.pair_core.declared.step.Answer.TheVariants as says
 use Rattle.conn_packing.specs.Packs.{absorbing, values_of}
-use Rattle.pair_core.specs.History.{PairStep, Down, Up, Raw, history}
-use Rattle.pair_core.specs.Answers.{answer, client_delivered, server_delivered, client_run, sampled_in, accepted_in}
+use Rattle.own_lists.specs.pair_core.History.{PairStep, Down, Up, Raw, history}
+use Rattle.own_lists.specs.pair_core.Answers.{answer, client_delivered, server_delivered, client_run, sampled_in, accepted_in}
 use Rattle.match_report.specs.declared.told.Way.{Way}
 use Rattle.match_report.specs.declared.told.Way.TheVariants as way
 use Rattle.match_report.specs.declared.told.EventTold.{EventTold}

@@ -1,9 +1,9 @@
 //! Datagrams that come to either end.
 ghost use Rattle.std.specs.Prelude.{◌≡◌, ◌≤◌, ◌<◌, ◌++◌, ◌∷◌, [], List, ℕ, IfOk, OnOk, length, map};
 ghost use Rattle.stream_manager.specs.Limits.{Terms};
-ghost use Rattle.pair_core.specs.History.{Down, Up, Raw};
-ghost use Rattle.pair_core.specs.Answers.{answer, server_delivered};
-ghost use Rattle.pair_core.specs.Calls.{step_of, Stays, Unchanged};
+ghost use Rattle.own_lists.specs.pair_core.History.{Down, Up, Raw};
+ghost use Rattle.own_lists.specs.pair_core.Answers.{answer, server_delivered};
+ghost use Rattle.own_lists.specs.pair_core.Calls.{step_of, Stays, Unchanged};
 ghost use Rattle.client_seat.specs.Answering.{TellsUp, ComesUp, room_for};
 ghost use Rattle.own_lists.specs.Course.{Course, room_in, with_step};
 ghost use Rattle.client_seat.specs.Stands.{Holds, StandsFor, Answers, Becomes};
@@ -11,7 +11,7 @@ ghost use Rattle.client_seat.specs.Told.{event_told, arrived_told, brought_down_
 
 use crate::seat::Seat;
 use match_report::{EventTold, Events, Told, Way};
-use pair_core::{Answer, Pair, PairStep};
+use own_lists::pair_core::{Answer, Pair, PairStep};
 use std::alloc::Global;
 use tn_types::{MAX_WAITING_MOVES, NoMemory, RawBytes};
 

@@ -8,4 +8,6 @@ mod scanning;
 mod seat;
 mod showing;
 
+pub use own_lists;
+pub use own_lists::pair_core;
 pub use seat::Seat;

@@ -2,14 +2,14 @@
 ghost use Rattle.std.specs.Prelude.{◌≡◌, true, ℕ, Bool, ◌<◌, ◌≤◌, List, [], IfOk, IfSome, OnOk, length, slice_get, if◌then◌else◌, Some};
 ghost use Rattle.std.specs.Option.{option_copied};
 ghost use Rattle.tn_types.specs.declared.choices.Read.{Read};
-ghost use Rattle.pair_core.specs.declared.step.Answer.TheVariants as says;
-ghost use Rattle.pair_core.specs.History.{ClientPack};
+ghost use Rattle.own_lists.specs.pair_core.declared.step.Answer.TheVariants as says;
+ghost use Rattle.own_lists.specs.pair_core.History.{ClientPack};
 ghost use Rattle.match_report.specs.declared.told.Told.TheVariants as told_as;
 ghost use Rattle.client_seat.specs.Answering.{TellsPack};
 
 use crate::seat::Seat;
 use match_report::Told;
-use pair_core::{Answer, Pair, PairStep};
+use own_lists::pair_core::{Answer, Pair, PairStep};
 use std::alloc::Global;
 use tn_types::{Drain, MAX_DATAGRAM_BYTES, MAX_DATAGRAMS, NoMemory, RawBytes, Values};
 
@@ -83,7 +83,7 @@ fn packed_by(
 
 impl Seat {
     ghost use Rattle.conn_packing.specs.Asking.{Asks};
-    ghost use Rattle.pair_core.specs.Calls.{MayPack};
+    ghost use Rattle.own_lists.specs.pair_core.Calls.{MayPack};
     ghost use Rattle.client_seat.specs.Told.{client_pack_told};
     ghost use Rattle.own_lists.specs.Course.{with_step};
     ghost use Rattle.client_seat.specs.Stands.{Stands, Answers, Becomes, Packs};

@@ -2,9 +2,9 @@
 ghost use Rattle.std.specs.Prelude.{◌≡◌, ℕ, List, Option, Result};
 ghost use Rattle.event_manager.specs.declared.sender.PostFault.{PostFault};
 ghost use Rattle.move_manager.specs.declared.faults.MoveFault.{MoveFault};
-ghost use Rattle.pair_core.specs.declared.step.Answer.TheVariants as says;
-ghost use Rattle.pair_core.specs.History.{Post, ClientPost, Sample};
-ghost use Rattle.pair_core.specs.Answers.{post_answer, sample_answer};
+ghost use Rattle.own_lists.specs.pair_core.declared.step.Answer.TheVariants as says;
+ghost use Rattle.own_lists.specs.pair_core.History.{Post, ClientPost, Sample};
+ghost use Rattle.own_lists.specs.pair_core.Answers.{post_answer, sample_answer};
 ghost use Rattle.match_report.specs.declared.told.Told.TheVariants as told_as;
 ghost use Rattle.client_seat.specs.Answering.{TellsPost, TellsMove};
 ghost use Rattle.own_lists.specs.Course.{with_step};
@@ -12,7 +12,7 @@ ghost use Rattle.client_seat.specs.Told.{post_told, client_post_told, move_told}
 
 use crate::seat::Seat;
 use match_report::Told;
-use pair_core::{Answer, PairStep};
+use own_lists::pair_core::{Answer, PairStep};
 use tn_types::{Class, Move, Payload};
 
 /// What is told of a post, by its answer.

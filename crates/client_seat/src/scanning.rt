@@ -5,7 +5,7 @@ ghost use Rattle.own_lists.specs.Course.{scan_steps, hide_step, near_step, show_
 use crate::seat::Seat;
 use client_scope::Near;
 use own_lists::Showing;
-use pair_core::PairStep;
+use own_lists::pair_core::PairStep;
 
 impl Seat {
     ghost use Rattle.std.specs.Prelude.{map};

@@ -3,11 +3,11 @@ ghost use Rattle.std.specs.Prelude.{◌≡◌, ◌<◌, ◌≤◌, ◌-◌, ◌^
 ghost use Rattle.notify_window.specs.declared.SendState.{SendState as State};
 ghost use Rattle.stream_manager.specs.Limits.{IsConfig};
 ghost use Rattle.stream_manager.specs.Server.{server_state};
-ghost use Rattle.pair_core.specs.History.{history};
+ghost use Rattle.own_lists.specs.pair_core.History.{history};
 
 use circular_buffer::HeapCircularBuffer;
 use notify_window::SendState;
-use pair_core::Pair;
+use own_lists::pair_core::Pair;
 use quantised_fields::KindTable;
 use std::alloc::Global;
 use std::marker::Model;

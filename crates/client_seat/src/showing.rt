@@ -5,8 +5,8 @@ ghost use Rattle.std.specs.List.{AllByRecursion};
 ghost use Rattle.ghost_model.specs.Legal.{IsUp};
 ghost use Rattle.stream_manager.specs.Limits.{Terms};
 ghost use Rattle.stream_manager.specs.Server.{ghost_log};
-ghost use Rattle.pair_core.specs.History.{PairStep as Step, history};
-ghost use Rattle.pair_core.specs.Stands.{StandsFor};
+ghost use Rattle.own_lists.specs.pair_core.History.{PairStep as Step, history};
+ghost use Rattle.own_lists.specs.pair_core.Stands.{StandsFor};
 ghost use Rattle.tn_types.specs.declared.choices.Drain.{Drain as Written};
 ghost use Rattle.ghost_client.specs.declared.copy.GhostCopy.{GhostCopy as Ghost};
 ghost use Rattle.ghost_client.specs.Copies.{copy_of};
@@ -15,7 +15,7 @@ ghost use Rattle.client_seat.specs.Told.{show_told, holder_at, is_newest, fields
 
 use crate::seat::Seat;
 use match_report::{CopyList, CopyTold, FieldList, FieldTold, Told};
-use pair_core::Pair;
+use own_lists::pair_core::Pair;
 use std::alloc::Global;
 use tn_types::{Drain, MAX_FIELDS, MAX_SLOTS, NoMemory};
 

@@ -1,3 +1,4 @@
+pub use Rattle.stream_manager.specs as stream_manager
 pub mod Said
 pub mod Packs
 pub mod Reads

@@ -12,4 +12,5 @@ mod writing;
 pub use asking::MAX_PACKET_VALUES;
 pub use made::{Made, TooSmall};
 pub use packer::Packer;
+pub use stream_manager;
 pub use writing::{ping_into, seal_into};

@@ -70,6 +70,7 @@ gets-grows t log room (Some bytes) = came-grows t log room (read_up t.config (ru
 
 pub line-grows : (t : Terms) (past : List PairStep) (room : ℕ) (l : NetLine) → Grows room (accepted_in t past) (accepted_in t (line_step room l ∷ past))
 line-grows t past room (line.Up k) = gets-grows t (history t past).server room (slice_get (client_datagrams t.config (history t past).client) k)
+line-grows t past room (line.Raw bytes) = gets-grows t (history t past).server room (Some bytes)
 line-grows t past room (line.ClientPost class v) = none-new room _ _ refl
 line-grows t past room (line.Down k) = none-new room _ _ refl
 line-grows t past room (line.Move m) = none-new room _ _ refl
@@ -83,6 +84,7 @@ line-is room (line.Down k) = refl
 line-is room (line.Move m) = refl
 line-is room line.ClientPack = refl
 line-is room (line.Up k) = refl
+line-is room (line.Raw bytes) = refl
 
 pub line-met : (t : Terms) (past : List PairStep) (room : ℕ) (l : NetLine) → IsMet t past (step_of (line_given room l))
 line-met t past room (line.ClientPost class v) = tt
@@ -90,6 +92,7 @@ line-met t past room (line.Down k) = tt
 line-met t past room (line.Move m) = tt
 line-met t past room line.ClientPack = tt
 line-met t past room (line.Up k) = tt
+line-met t past room (line.Raw bytes) = tt
 
 pub line-ready : (k : KeptState) → IsQuietPair k → (room : ℕ) (l : NetLine) → IsReady k.pair (line_given room l)
 line-ready k q room (line.ClientPost class v) = tt
@@ -97,6 +100,7 @@ line-ready k q room (line.Down n) = q.client
 line-ready k q room (line.Move m) = tt
 line-ready k q room line.ClientPack = tt
 line-ready k q room (line.Up n) = q.server
+line-ready k q room (line.Raw bytes) = q.server
 
 pub line-quiet : (room : ℕ) (l : NetLine) → IsQuiet (line_step room l) × IsNoPack (line_step room l)
 line-quiet room (line.ClientPost class v) = (tt, tt)
@@ -104,3 +108,4 @@ line-quiet room (line.Down k) = (tt, tt)
 line-quiet room (line.Move m) = (tt, tt)
 line-quiet room line.ClientPack = (tt, tt)
 line-quiet room (line.Up k) = (tt, tt)
+line-quiet room (line.Raw bytes) = (tt, tt)

@@ -11,7 +11,7 @@ use Rattle.stream_manager.specs.Server.{server_state}
 use Rattle.kept_pair.specs.pair_core.declared.step.Answer.{Answer}
 use Rattle.kept_pair.specs.pair_core.declared.step.PairStep.{PairStep as GivenStep}
 use Rattle.kept_pair.specs.pair_core.declared.step.PairStep.TheVariants as given
-use Rattle.kept_pair.specs.pair_core.History.{PairStep, ClientPost, Sample, ClientPack, Down, Up, Pack}
+use Rattle.kept_pair.specs.pair_core.History.{PairStep, ClientPost, Sample, ClientPack, Down, Up, Raw, Pack}
 use Rattle.kept_pair.specs.pair_core.Answers.{answer}
 use Rattle.kept_pair.specs.declared.fault.KeepFault.{KeepFault}
 use Rattle.kept_pair.specs.declared.fault.KeepFault.TheVariants as keeps
@@ -110,6 +110,7 @@ line_step room (line.Down k) = Down k
 line_step room (line.Move m) = Sample m
 line_step room line.ClientPack = ClientPack
 line_step room (line.Up k) = Up k room
+line_step room (line.Raw bytes) = Raw bytes room
 
 -- the same step as it is given
 abbrev pub line_given : ℕ → NetLine → GivenStep
@@ -118,6 +119,7 @@ line_given room (line.Down k) = given.Down k
 line_given room (line.Move m) = given.Sample m
 line_given room line.ClientPack = given.ClientPack
 line_given room (line.Up k) = given.Up k room
+line_given room (line.Raw bytes) = given.Raw bytes room
 
 -- the step was made, in which no more moves were accepted than had a place
 pub record StepsLine (old : KeptState) (netline : NetLine) (room : ℕ) (answered : Answer) (new : KeptState) : Type 0 where

@@ -13,18 +13,16 @@ use rtrb::Producer;
 use tn_types::Move;
 
 /// The step of a line, where so many further moves have a place.
-fn step_of(line: &NetLine, room: u32) -> PairStep
-    ensures { result ≡ line_given room line.now }
+fn step_of(line: NetLine, room: u32) -> PairStep
+    ensures { result ≡ line_given room line }
 {
     match line {
-        NetLine::ClientPost { class, payload } => PairStep::ClientPost {
-            class: *class,
-            payload: payload.copy(),
-        },
-        NetLine::Down { k } => PairStep::Down { k: *k },
-        NetLine::Move { m } => PairStep::Sample { m: *m },
+        NetLine::ClientPost { class, payload } => PairStep::ClientPost { class, payload },
+        NetLine::Down { k } => PairStep::Down { k },
+        NetLine::Move { m } => PairStep::Sample { m },
         NetLine::ClientPack => PairStep::ClientPack,
-        NetLine::Up { k } => PairStep::Up { k: *k, room },
+        NetLine::Up { k } => PairStep::Up { k, room },
+        NetLine::Raw { bytes } => PairStep::Raw { bytes, room },
     }
 }
 
@@ -47,10 +45,10 @@ fn newer(moves: &[Move], before: usize) -> &[Move]
 }
 
 /// Makes the step of a line, where so many further moves have a place, and drops the events that it hands out.
-fn step_line(pair: &mut KeptPair, line: &NetLine, room: u32) -> Answer
+fn step_line(pair: &mut KeptPair, line: NetLine, room: u32) -> Answer
     requires prepared { pair.old.prepared ≡ true }
     requires quiet { IsQuiet pair.old }
-    ensures step { StepsLine pair.old line.now room result pair.new }
+    ensures step { StepsLine pair.old line room result pair.new }
     ensures quiet { IsQuiet pair.new }
     ensures terms { terms_in pair.new ≡ terms_in pair.old }
 {
@@ -60,10 +58,10 @@ fn step_line(pair: &mut KeptPair, line: &NetLine, room: u32) -> Answer
 }
 
 /// Makes the step of a line. The moves that are accepted in it go into the ring, whose free places are the room.
-pub(crate) fn make(pair: &mut KeptPair, outbox: &mut Producer<Move>, line: &NetLine) -> Answer
+pub(crate) fn make(pair: &mut KeptPair, outbox: &mut Producer<Move>, line: NetLine) -> Answer
     requires prepared { pair.old.prepared ≡ true }
     requires quiet { IsQuiet pair.old }
-    ensures made { MadeLine pair.old (sent outbox.old) (known_free outbox.old) line.now result pair.new (sent outbox.new) }
+    ensures made { MadeLine pair.old (sent outbox.old) (known_free outbox.old) line result pair.new (sent outbox.new) }
     ensures quiet { IsQuiet pair.new }
     ensures terms { terms_in pair.new ≡ terms_in pair.old }
 {

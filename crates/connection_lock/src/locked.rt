@@ -120,9 +120,9 @@ impl<N: LaneName> Locked<N> {
     }
 
     /// Makes one line of the client. Accepted moves go into the ring to the simulation, whose free places are the room; events that
-    /// a delivery hands out are dropped. After a refusal nothing has changed.
-    pub fn net_turn(&mut self, alloc: Global, line: &NetLine) -> Result<Answer, KeepFault>
-        ensures turn { NetTurn self.old line.now self.new result }
+    /// a delivery hands out are dropped. After a refusal nothing has changed, and the line is dropped.
+    pub fn net_turn(&mut self, alloc: Global, line: NetLine) -> Result<Answer, KeepFault>
+        ensures turn { NetTurn self.old line self.new result }
         ensures holds { LockHolds self.new }
     {
         let result = self.make_line(alloc, line);
@@ -157,8 +157,8 @@ impl<N: LaneName> Locked<N> {
     }
 
     // What a line does.
-    fn make_line(&mut self, alloc: Global, line: &NetLine) -> Result<Answer, KeepFault>
-        ensures { NetTurn self.old line.now self.new result }
+    fn make_line(&mut self, alloc: Global, line: NetLine) -> Result<Answer, KeepFault>
+        ensures { NetTurn self.old line self.new result }
     {
         match self.pair.prepare(alloc) {
             Err(fault) => Err(fault),

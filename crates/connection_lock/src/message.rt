@@ -1,6 +1,6 @@
 //! What the simulation and the net tell a connection.
 
-use tn_types::{Class, Move, Payload};
+use tn_types::{Class, Move, Payload, RawBytes};
 
 /// What the simulation tells a connection.
 #[derive(Drop)]
@@ -43,4 +43,6 @@ pub enum NetLine {
     ClientPack,
     /// The server gets the client's datagram of place `k`.
     Up { k: u32 },
+    /// The server gets these bytes, which nobody need have made.
+    Raw { bytes: RawBytes },
 }

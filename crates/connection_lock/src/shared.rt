@@ -52,7 +52,7 @@ impl<N: LaneName> SharedPair<N> {
         &self,
         rt: &R,
         alloc: Global,
-        line: &NetLine,
+        line: NetLine,
     ) -> Result<Answer, KeepFault> {
         self.locked.lock(rt).net_turn(alloc, line)
     }

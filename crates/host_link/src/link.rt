@@ -8,17 +8,16 @@ use std::alloc::Global;
 use std::io;
 use std::io::ErrorKind;
 use std::net::{Ipv4Addr, Net, SocketAddr, SocketAddrV4, UdpSocket};
-use std::time::Duration;
+use std::thread;
+use std::time::{Clock as SystemTimes, Duration};
 use tn_outside::{Failed, Link, Peer};
 
 /// As many addresses have a place at a time.
 const MAX_GUESTS: usize = 1_024;
 
-/// Behind so many datagrams in a row a pause is told, so that a turn whose time has come begins though more of them wait.
-const MAX_IN_A_ROW: u32 = 4;
-
-/// How long a call waits for a datagram, in milliseconds.
-const WAIT_MILLISECONDS: u64 = 1;
+/// How long a call that finds nothing sleeps before it says so, in milliseconds. A socket's own wait is rounded up to the kernel's ticks
+/// of 4 to 10 milliseconds, and a sleep is not.
+const REST_MILLISECONDS: u64 = 1;
 
 /// The byte of a welcome that names the client.
 const CLIENT_BYTE: usize = 5;
@@ -30,18 +29,19 @@ const NOBODY: Peer = Peer { number: u32::MAX };
 /// on any network, and so is what is held back: to an address of which no arrival was taken goes no more than three times what came from
 /// it. It tells no contents.
 #[derive(Drop)]
-pub struct HostLink<'a> {
+pub struct HostLink<'a, R: SystemTimes> {
+    // asked without waiting
     socket: UdpSocket,
+    // by whose clock it rests where nothing came
+    rt: &'a R,
     guests: Guests,
     counters: &'a Counters,
     faults: u64,
-    // datagrams that came since the last pause
-    in_a_row: u32,
 }
 
 fn bound<R: Net>(net: &R, address: SocketAddrV4) -> io::Result<UdpSocket> {
     let socket = UdpSocket::bind(net, address)?;
-    socket.set_read_timeout(Some(Duration::from_millis(WAIT_MILLISECONDS)))?;
+    socket.set_nonblocking(true)?;
     Ok(socket)
 }
 
@@ -71,29 +71,31 @@ fn size_of(count: usize) -> u16 {
     u16::try_from(count).unwrap_or(u16::MAX)
 }
 
-impl<'a> HostLink<'a> {
+impl<'a, R: Net + SystemTimes> HostLink<'a, R> {
     /// A link at an address, with nobody at the other end. Fails where the address can't be had, or memory is wanting.
-    pub fn bind<R: Net>(
-        net: &R,
+    pub fn bind(
+        rt: &'a R,
         alloc: Global,
         address: SocketAddrV4,
         counters: &'a Counters,
-    ) -> Result<HostLink<'a>, Failed> {
+    ) -> Result<HostLink<'a, R>, Failed> {
         let Ok(guests) = Guests::new(alloc, MAX_GUESTS) else {
             return Err(Failed);
         };
-        match bound(net, address) {
+        match bound(rt, address) {
             Ok(socket) => Ok(HostLink {
                 socket,
+                rt,
                 guests,
                 counters,
                 faults: 0,
-                in_a_row: 0,
             }),
             Err(_) => Err(Failed),
         }
     }
+}
 
+impl<R: SystemTimes> HostLink<'_, R> {
     // What a datagram to the guest at a place tells of it: the client that it has, and whether an arrival of it was taken.
     fn look(&mut self, i: usize, bytes: &[u8])
         requires { i < length self.old.guests.places }
@@ -158,7 +160,7 @@ impl<'a> HostLink<'a> {
     }
 }
 
-impl Link for HostLink<'_> {
+impl<R: SystemTimes> Link for HostLink<'_, R> {
     ghost ahead = { λ _. None };
 
     ghost sent = { λ _. None };
@@ -175,15 +177,9 @@ impl Link for HostLink<'_> {
         Ok(())
     }
 
-    /// A datagram of one for whom there is no place is given with no byte. Behind 4 datagrams in a row it answers None once, though
-    /// more may wait.
+    /// A datagram of one for whom there is no place is given with no byte. Where nothing stands ready it rests for a millisecond.
     fn receive(&mut self, buf: &mut [u8]) -> Result<Option<(Peer, usize)>, Failed> {
         let faults = self.faults;
-        if self.in_a_row >= MAX_IN_A_ROW {
-            self.in_a_row = 0;
-            return Ok(None);
-        }
-        self.in_a_row += 1;
         match self.socket.recv_from(buf) {
             Ok((count, address)) => match self.meet(address, count) {
                 Some(peer) => Ok(Some((peer, count))),
@@ -194,7 +190,7 @@ impl Link for HostLink<'_> {
             },
             Err(e) => {
                 if is_quiet(e.kind()) {
-                    self.in_a_row = 0;
+                    thread::sleep(self.rt, Duration::from_millis(REST_MILLISECONDS));
                     return Ok(None);
                 }
                 self.faults = faults.saturating_add(1);

@@ -10,7 +10,7 @@ use Rattle.match_script.specs.declared.types.BodyLine.{BodyLine}
 use Rattle.match_script.specs.declared.types.BodyLine.TheVariants as script
 use Rattle.match_script.specs.declared.types.Script.{Script}
 use Rattle.match_script.specs.Ranges.{HasRanges}
-use Rattle.own_lists.proofs.Counting.{counted_few}
+use Rattle.match_laws.proofs.Below.own_lists.Counting.{counted_few}
 use Rattle.match_laws.specs.Report.{line_text, report_so_far, report}
 use Rattle.match_engine.specs.Match.{MatchState, IsPlayed, last_told}
 use Rattle.match_engine.proofs.Written.{reverse_next, one_line_more, split_at_line}

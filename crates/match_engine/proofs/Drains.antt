@@ -8,7 +8,7 @@ use Rattle.std.proofs.lemmas.Bool.{cases_eq, eq-eqb, ne_eqb}
 use Rattle.tn_types.specs.declared.choices.Drain.{Drain}
 use Rattle.client_scope.specs.declared.period.ShownPeriod.{ShownPeriod}
 use Rattle.dirty_lanes.specs.Words.{Words, mask_at, after_drain}
-use Rattle.own_lists.specs.Kept.{has_bits}
+use Rattle.match_laws.specs.own_lists.Kept.{has_bits}
 use Rattle.match_engine.specs.Serving.{AreApart, marked}
 use Rattle.match_engine.proofs.Draining.{objects_stay}
 

@@ -13,12 +13,12 @@ use Rattle.world_scope.specs.declared.viewer.Seen.{Seen}
 use Rattle.client_scope.specs.Scans.{shown}
 use Rattle.client_scope.specs.StandsFor.{Table}
 use Rattle.dirty_lanes.specs.Words.{Words}
-use Rattle.own_lists.specs.Own.{OwnItem, Line, client_named, StandsAlone}
-use Rattle.own_lists.specs.Counted.{counted, counted_in}
-use Rattle.own_lists.specs.Kept.{Kept, kept, follows, put}
-use Rattle.own_lists.specs.Past.{Past, client_terms, kept_by, after}
-use Rattle.own_lists.specs.Agreement.{AreLines}
-use Rattle.own_lists.proofs.Counting.{counted_item, counted_items, one_counted}
+use Rattle.match_laws.specs.own_lists.Own.{OwnItem, Line, client_named, StandsAlone}
+use Rattle.match_laws.specs.own_lists.Counted.{counted, counted_in}
+use Rattle.match_laws.specs.own_lists.Kept.{Kept, kept, follows, put}
+use Rattle.match_laws.specs.own_lists.Past.{Past, client_terms, kept_by, after}
+use Rattle.match_laws.specs.own_lists.Agreement.{AreLines}
+use Rattle.match_laws.proofs.Below.own_lists.Counting.{counted_item, counted_items, one_counted}
 use Rattle.match_laws.specs.client_seat.Stands.{SeatState, StandsFor as SeatStandsFor}
 use Rattle.match_engine.specs.Stands.{GameState, ClientHolds, StandsFor, IsDirect}
 use Rattle.match_engine.specs.Serving.{Serves, OthersStay}

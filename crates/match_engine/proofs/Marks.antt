@@ -8,13 +8,13 @@ use Rattle.world_sim.specs.declared.rows.Write.{Write}
 use Rattle.world_sim.specs.Worlds.{Worlds}
 use Rattle.client_scope.specs.declared.period.ShownPeriod.{ShownPeriod}
 use Rattle.dirty_lanes.specs.Words.{Words, mask_at}
-use Rattle.own_lists.specs.Own.{OwnWrite, OwnShow}
-use Rattle.own_lists.specs.Kept.{Kept, wrote, wrote_all, all_begin, begins}
-use Rattle.own_lists.specs.Past.{write_of, own_writes}
-use Rattle.own_lists.specs.pair_steps.Steps.{shows_in}
+use Rattle.match_laws.specs.own_lists.Own.{OwnWrite, OwnShow}
+use Rattle.match_laws.specs.own_lists.Kept.{Kept, wrote, wrote_all, all_begin, begins}
+use Rattle.match_laws.specs.own_lists.Past.{write_of, own_writes}
+use Rattle.match_laws.specs.own_lists.pair_steps.Steps.{shows_in}
 use Rattle.world_scope.specs.declared.viewer.Seen.{Seen}
 use Rattle.client_scope.specs.Marks.{goes_on, with_level, begun}
-use Rattle.own_lists.proofs.ScanFacts.{IsNone, AreDifferent, numbers, all_on}
+use Rattle.match_laws.proofs.Below.own_lists.ScanFacts.{IsNone, AreDifferent, numbers, all_on}
 use Rattle.match_engine.specs.Stands.{IsMarked}
 use Rattle.match_engine.specs.Serving.{marked, raised_by}
 

@@ -31,26 +31,26 @@ use Rattle.client_scope.specs.declared.period.ShownPeriod.{ShownPeriod}
 use Rattle.client_scope.specs.Scans.{shown, periods}
 use Rattle.client_scope.specs.StandsFor.{Table}
 use Rattle.dirty_lanes.specs.Words.{Words}
-use Rattle.own_lists.specs.Own.{OwnItem, Line}
-use Rattle.own_lists.specs.Course.{with_step}
-use Rattle.own_lists.specs.pair_steps.Steps.{shows_in, is_hidden_in, up_in, traits_in}
-use Rattle.own_lists.specs.Counted.{counted_in}
-use Rattle.own_lists.specs.Kept.{Kept, undrained, drained, has_bits, drains_of, read_of, reads_for, reads_of, packs, kept}
-use Rattle.own_lists.specs.Past.{client_terms, kept_by, after}
-use Rattle.own_lists.specs.Conditions.{AreOwn}
-use Rattle.own_lists.specs.Agreement.{Agrees, IsPeriodOf}
-use Rattle.own_lists.proofs.Agreeing.{own_lists_agree}
-use Rattle.own_lists.proofs.Meeting.{are_met, all_up, reads_forced}
-use Rattle.own_lists.proofs.Below.pair_steps.Journals.{up_from, up_to, kind_told}
-use Rattle.own_lists.proofs.ScanFacts.{AreShown, AreDifferent, IsNone, objects, numbers, shown_are_shown}
-use Rattle.own_lists.proofs.ScanChanges.{has, has_itself}
-use Rattle.own_lists.proofs.WorldFacts.{scans_are_sights}
+use Rattle.match_laws.specs.own_lists.Own.{OwnItem, Line}
+use Rattle.match_laws.specs.own_lists.Course.{with_step}
+use Rattle.match_laws.specs.own_lists.pair_steps.Steps.{shows_in, is_hidden_in, up_in, traits_in}
+use Rattle.match_laws.specs.own_lists.Counted.{counted_in}
+use Rattle.match_laws.specs.own_lists.Kept.{Kept, undrained, drained, has_bits, drains_of, read_of, reads_for, reads_of, packs, kept}
+use Rattle.match_laws.specs.own_lists.Past.{client_terms, kept_by, after}
+use Rattle.match_laws.specs.own_lists.Conditions.{AreOwn}
+use Rattle.match_laws.specs.own_lists.Agreement.{Agrees, IsPeriodOf}
+use Rattle.match_laws.proofs.Below.own_lists.Agreeing.{own_lists_agree}
+use Rattle.match_laws.proofs.Below.own_lists.Meeting.{are_met, all_up, reads_forced}
+use Rattle.match_laws.proofs.Below.own_lists.Below.pair_steps.Journals.{up_from, up_to, kind_told}
+use Rattle.match_laws.proofs.Below.own_lists.ScanFacts.{AreShown, AreDifferent, IsNone, objects, numbers, shown_are_shown}
+use Rattle.match_laws.proofs.Below.own_lists.ScanChanges.{has, has_itself}
+use Rattle.match_laws.proofs.Below.own_lists.WorldFacts.{scans_are_sights}
 use Rattle.match_laws.specs.client_seat.Stands.{SeatState, Packs, StandsFor as SeatStandsFor}
 use Rattle.match_laws.specs.client_seat.Told.{packed_told, pack_told}
 use Rattle.match_report.specs.declared.told.Told.{Told}
 use Rattle.match_laws.specs.pair_core.Calls.{MayPack}
 use Rattle.world_sim.specs.Rows.{values_of}
-use Rattle.own_lists.proofs.Counting.{few_down}
+use Rattle.match_laws.proofs.Below.own_lists.Counting.{few_down}
 use Rattle.match_engine.specs.Stands.{ClientHolds, IsMarked}
 use Rattle.match_engine.specs.Serving.{Serves, OthersStay, AreApart, marked}
 use Rattle.match_engine.specs.Values.{period_of, Rise, range_in, range_at, ranges, IsNewest}

@@ -9,7 +9,7 @@ use Rattle.std.proofs.lemmas.Option.{slice_get-get_or}
 use Rattle.std.proofs.lemmas.Bool.{eq-eqb, ne_eqb}
 use Rattle.std.proofs.lemmas.Bool.Decides.{nat_tests}
 use Rattle.client_scope.specs.declared.period.ShownPeriod.{ShownPeriod}
-use Rattle.own_lists.proofs.ScanFacts.{RiseTo, numbers}
+use Rattle.match_laws.proofs.Below.own_lists.ScanFacts.{RiseTo, numbers}
 use Rattle.match_engine.specs.Values.{period_of, Rise, IsAt}
 
 -- ---- numbers that rise

@@ -17,20 +17,20 @@ use Rattle.client_scope.specs.Changes.{hides, nears, shows}
 use Rattle.client_scope.specs.Marks.{goes_on, begun}
 use Rattle.client_scope.specs.StandsFor.{Table, StandsFor as ScopeStandsFor}
 use Rattle.dirty_lanes.specs.Words.{Words, mask_at}
-use Rattle.own_lists.specs.declared.showing.Showing.{Showing}
-use Rattle.own_lists.specs.Own.{OwnItem, OwnShow}
-use Rattle.own_lists.specs.pair_steps.Steps.{shows_in}
-use Rattle.own_lists.specs.Course.{Course, onto, with_steps, scan_steps, hide_step, near_step}
-use Rattle.own_lists.specs.Kept.{Kept, kept, with_course, all_begin, begins, after_scan}
-use Rattle.own_lists.specs.Past.{client_terms, kept_by, after, showing_of, own_show, scan_item}
-use Rattle.own_lists.specs.Conditions.{AreOwn, MeetEach}
-use Rattle.own_lists.specs.Agreement.{AreLines}
-use Rattle.own_lists.specs.Counted.{counted_in}
-use Rattle.own_lists.proofs.Agreeing.{own_lists_agree}
-use Rattle.own_lists.proofs.Meeting.{scan_journal}
-use Rattle.own_lists.proofs.Standing.{onto_on, shows_hides, shows_nears}
-use Rattle.own_lists.proofs.ScanFacts.{IsSight, IsNone, objects, numbers, sights, sights_rise, few_rising, below_rising, shows_are_new, shown_next, shown_are_shown}
-use Rattle.own_lists.proofs.WorldFacts.{world_after, visible_is_sight, match_periods_few, scans_are_sights}
+use Rattle.match_laws.specs.own_lists.declared.showing.Showing.{Showing}
+use Rattle.match_laws.specs.own_lists.Own.{OwnItem, OwnShow}
+use Rattle.match_laws.specs.own_lists.pair_steps.Steps.{shows_in}
+use Rattle.match_laws.specs.own_lists.Course.{Course, onto, with_steps, scan_steps, hide_step, near_step}
+use Rattle.match_laws.specs.own_lists.Kept.{Kept, kept, with_course, all_begin, begins, after_scan}
+use Rattle.match_laws.specs.own_lists.Past.{client_terms, kept_by, after, showing_of, own_show, scan_item}
+use Rattle.match_laws.specs.own_lists.Conditions.{AreOwn, MeetEach}
+use Rattle.match_laws.specs.own_lists.Agreement.{AreLines}
+use Rattle.match_laws.specs.own_lists.Counted.{counted_in}
+use Rattle.match_laws.proofs.Below.own_lists.Agreeing.{own_lists_agree}
+use Rattle.match_laws.proofs.Below.own_lists.Meeting.{scan_journal}
+use Rattle.match_laws.proofs.Below.own_lists.Standing.{onto_on, shows_hides, shows_nears}
+use Rattle.match_laws.proofs.Below.own_lists.ScanFacts.{IsSight, IsNone, objects, numbers, sights, sights_rise, few_rising, below_rising, shows_are_new, shown_next, shown_are_shown}
+use Rattle.match_laws.proofs.Below.own_lists.WorldFacts.{world_after, visible_is_sight, match_periods_few, scans_are_sights}
 use Rattle.match_laws.specs.client_seat.Stands.{SeatState, MayMake, Becomes, StandsFor as SeatStandsFor}
 use Rattle.match_engine.specs.Stands.{ClientHolds, IsMarked}
 use Rattle.match_engine.specs.Serving.{Serves, OthersStay, is_of}

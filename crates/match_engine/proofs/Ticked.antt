@@ -22,20 +22,20 @@ use Rattle.world_sim.specs.Facts.{IsWriteOf}
 use Rattle.client_scope.specs.Scans.{shown, periods}
 use Rattle.client_scope.specs.StandsFor.{Table}
 use Rattle.dirty_lanes.specs.Words.{Words, mask_at, SizesStay}
-use Rattle.own_lists.specs.Own.{OwnShow, OwnItem, Line, Scan, Tick}
-use Rattle.own_lists.specs.Course.{Course, waiting_in, next_move, ticked, with_steps, scan_steps}
-use Rattle.own_lists.specs.Kept.{Kept, after_line, all_begin, begins, with_course, wrote_all, kept}
-use Rattle.own_lists.specs.Past.{client_terms, kept_by, after, own_writes, moves_of, taken_from}
-use Rattle.own_lists.specs.Conditions.{AreOwn}
-use Rattle.own_lists.proofs.Agreeing.{own_lists_agree}
-use Rattle.own_lists.proofs.KeptValues.{wrote_course}
-use Rattle.own_lists.proofs.ScanFacts.{numbers, different_rising, shown_are_shown}
-use Rattle.own_lists.proofs.WorldFacts.{IsFieldWrite, world_after, scans_are_sights, tick_writes_fit}
+use Rattle.match_laws.specs.own_lists.Own.{OwnShow, OwnItem, Line, Scan, Tick}
+use Rattle.match_laws.specs.own_lists.Course.{Course, waiting_in, next_move, ticked, with_steps, scan_steps}
+use Rattle.match_laws.specs.own_lists.Kept.{Kept, after_line, all_begin, begins, with_course, wrote_all, kept}
+use Rattle.match_laws.specs.own_lists.Past.{client_terms, kept_by, after, own_writes, moves_of, taken_from}
+use Rattle.match_laws.specs.own_lists.Conditions.{AreOwn}
+use Rattle.match_laws.proofs.Below.own_lists.Agreeing.{own_lists_agree}
+use Rattle.match_laws.proofs.Below.own_lists.KeptValues.{wrote_course}
+use Rattle.match_laws.proofs.Below.own_lists.ScanFacts.{numbers, different_rising, shown_are_shown}
+use Rattle.match_laws.proofs.Below.own_lists.WorldFacts.{IsFieldWrite, world_after, scans_are_sights, tick_writes_fit}
 use Rattle.match_laws.specs.client_seat.Stands.{SeatState, StandsFor as SeatStandsFor, without_first}
 use Rattle.match_engine.specs.Stands.{GameState, StandsFor, IsMarked, AreFew}
 use Rattle.match_engine.specs.Serving.{raised_by}
-use Rattle.own_lists.specs.Counted.{counted_in}
-use Rattle.own_lists.proofs.Counting.{counted_items}
+use Rattle.match_laws.specs.own_lists.Counted.{counted_in}
+use Rattle.match_laws.proofs.Below.own_lists.Counting.{counted_items}
 use Rattle.match_engine.proofs.Fed.{more_lines, own_few}
 use Rattle.match_engine.proofs.Marks.{marks_after_tick}
 

@@ -11,8 +11,8 @@ use Rattle.world_scope.specs.declared.viewer.Seen.{Seen}
 use Rattle.client_scope.specs.declared.period.ShownPeriod.{ShownPeriod}
 use Rattle.client_scope.specs.StandsFor.{Table}
 use Rattle.dirty_lanes.specs.Words.{Words, mask_at}
-use Rattle.own_lists.specs.Past.{client_terms, kept_by, after}
-use Rattle.own_lists.specs.Agreement.{AreLines}
+use Rattle.match_laws.specs.own_lists.Past.{client_terms, kept_by, after}
+use Rattle.match_laws.specs.own_lists.Agreement.{AreLines}
 use Rattle.match_laws.specs.client_seat.Stands.{SeatState}
 use Rattle.match_engine.specs.Stands.{ClientHolds}
 

@@ -13,10 +13,10 @@ use Rattle.client_scope.specs.declared.period.ShownPeriod.{ShownPeriod}
 use Rattle.client_scope.specs.Scans.{shown}
 use Rattle.client_scope.specs.StandsFor.{Table, StandsFor as ScopeStandsFor}
 use Rattle.dirty_lanes.specs.Words.{Words, mask_at}
-use Rattle.own_lists.specs.Counted.{counted_in}
-use Rattle.own_lists.specs.Kept.{Kept}
-use Rattle.own_lists.specs.Past.{client_terms, kept_by, after}
-use Rattle.own_lists.specs.Agreement.{AreLines}
+use Rattle.match_laws.specs.own_lists.Counted.{counted_in}
+use Rattle.match_laws.specs.own_lists.Kept.{Kept}
+use Rattle.match_laws.specs.own_lists.Past.{client_terms, kept_by, after}
+use Rattle.match_laws.specs.own_lists.Agreement.{AreLines}
 use Rattle.match_laws.specs.client_seat.Stands.{SeatState, StandsFor as SeatStandsFor}
 
 pub record GameState : Type 0 where

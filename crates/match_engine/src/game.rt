@@ -3,10 +3,10 @@ ghost use Rattle.std.specs.Prelude.{◌≡◌, ℕ, ◌<◌, ◌≤◌, List, []
 ghost use Rattle.std.specs.Prelude.{slice_index_or};
 ghost use Rattle.match_script.specs.Ranges.{HeadFits};
 ghost use Rattle.client_scope.specs.StandsFor.{Table, StandsFor as ScopeStandsFor};
-ghost use Rattle.own_lists.specs.Counted.{counted};
-ghost use Rattle.own_lists.specs.Own.{client_named};
-ghost use Rattle.own_lists.specs.Course.{beginning};
-ghost use Rattle.own_lists.specs.Past.{client_terms};
+ghost use Rattle.match_laws.specs.own_lists.Counted.{counted};
+ghost use Rattle.match_laws.specs.own_lists.Own.{client_named};
+ghost use Rattle.match_laws.specs.own_lists.Course.{beginning};
+ghost use Rattle.match_laws.specs.own_lists.Past.{client_terms};
 ghost use Rattle.match_laws.specs.client_seat.Stands.{SeatState, StandsFor as SeatStandsFor};
 
 use crate::lanes::raise_all;

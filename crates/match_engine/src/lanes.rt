@@ -3,7 +3,7 @@ ghost use Rattle.std.specs.Prelude.{◌≡◌, ℕ, ◌<◌, ◌≤◌, ◌==◌
 ghost use Rattle.std.specs.List.{All, list_any};
 ghost use Rattle.tn_types.specs.declared.limits.TheConstants.{MAX_CLIENTS};
 ghost use Rattle.dirty_lanes.specs.Words.{mask_at, SizesStay};
-ghost use Rattle.own_lists.specs.Kept.{has_bits};
+ghost use Rattle.match_laws.specs.own_lists.Kept.{has_bits};
 ghost use Rattle.match_engine.specs.Serving.{OthersStay, AreApart, marked, is_of, raised_by};
 
 use client_scope::ShownPeriod;

@@ -13,22 +13,28 @@ use Rattle.match_script.specs.declared.types.BodyLine.{BodyLine}
 use Rattle.match_script.specs.declared.types.BodyLine.TheVariants as script
 use Rattle.match_script.specs.declared.types.Head.{Head}
 use Rattle.match_script.specs.Ranges.{LineFits}
-use Rattle.pair_core.specs.History.{PairStep, Show, Near}
+use Rattle.client_seat.specs.pair_core.History.{PairStep, Show, Near}
 use Rattle.pair_copies.specs.Reads.{HasRead, WasRead}
-use Rattle.own_lists.specs.pair_steps.Steps.{shows_in, traits_in}
-use Rattle.own_lists.specs.Own.{OwnItem, Line, Scan, Tick}
-use Rattle.own_lists.specs.Course.{onto, scan_steps}
-use Rattle.own_lists.specs.Kept.{Kept, reads_of, after_line, follows, kept, journal}
-use Rattle.own_lists.specs.Past.{client_terms, kept_by, after}
-use Rattle.own_lists.specs.Conditions.{AreOwn}
-use Rattle.own_lists.specs.Agreement.{Agrees, AreLines, OwnListsHold}
-use Rattle.own_lists.proofs.Meeting.{are_met, scan_journal}
-use Rattle.own_lists.proofs.KeptValues.{own_fields, is_kept, wrote_course}
-use Rattle.own_lists.proofs.Standing.{IsShownIn}
-use Rattle.match_laws.specs.Values.{HasValue, HadValue}
+use Rattle.client_seat.specs.own_lists.pair_steps.Steps.{shows_in, traits_in}
+use Rattle.client_seat.specs.own_lists.Own.{OwnItem, Line, Scan, Tick}
+use Rattle.client_seat.specs.own_lists.Course.{onto, scan_steps}
+use Rattle.client_seat.specs.own_lists.Kept.{Kept, reads_of, after_line, follows, kept, journal}
+use Rattle.client_seat.specs.own_lists.Past.{client_terms, kept_by, after}
+use Rattle.client_seat.specs.own_lists.Conditions.{AreOwn}
+use Rattle.client_seat.specs.own_lists.Agreement.{Agrees, AreLines, OwnListsHold}
+use Rattle.client_seat.proofs.Below.own_lists.Meeting.{are_met, scan_journal}
+use Rattle.client_seat.proofs.Below.own_lists.KeptValues.{own_fields, is_kept, wrote_course}
+use Rattle.client_seat.proofs.Below.own_lists.Standing.{IsShownIn}
+use Rattle.match_laws.specs.Values.{ClientMoment, Spot, HasValue, HadValue}
 use Rattle.match_laws.proofs.Grown.{grows}
 use Rattle.match_laws.proofs.ValuesNewest.{newest_of}
 use Rattle.match_laws.proofs.ValuesRead.{up_at, pack_reads, item_read}
+
+abbrev pub moment : Head → List BodyLine → ℕ → ClientMoment
+moment head past c = record { head = head; past = past; client = c }
+
+abbrev pub spot : ℕ → ℕ → ℕ → Spot
+spot n kind f = record { period = n; kind = kind; field = f }
 
 -- ---- a period keeps its kind
 
@@ -104,7 +110,7 @@ module _ (own : OwnListsHold) (head : Head) (c : ℕ) (below : c < head.clients)
     agreed = (own head past c lines below).1
 
     pub has_newest : (n f : ℕ) → IsShownIn (steps past) n → f < length (own_fields t (steps past) n)
-        → HasValue head past c n (traits_in (steps past) n).kind f (newest_of (k past).values n f)
+        → HasValue (moment head past c) (spot n (traits_in (steps past) n).kind f) (newest_of (k past).values n f)
     has_newest n f up field =
         let at = up_at (after head past).world c ((after head past).scans c) (k past) agreed n up in
         let fit = ((is_kept t ((after head past).own c) listed).periods n up.0 up.1).values in
@@ -122,7 +128,7 @@ module _ (own : OwnListsHold) (head : Head) (c : ℕ) (below : c < head.clients)
 
   pub record HadRead (past : List BodyLine) (n f : ℕ) (v : ℤ) : Type 0 where
     pub shown : n < shows_in (steps past)
-    pub had : HadValue head past c n (traits_in (steps past) n).kind f v
+    pub had : HadValue (moment head past c) (spot n (traits_in (steps past) n).kind f) v
 
   fewer : (line : BodyLine) (past : List BodyLine) → AreLines head (line ∷ past) → AreLines head past
   fewer line past lines = record {
@@ -137,7 +143,7 @@ module _ (own : OwnListsHold) (head : Head) (c : ℕ) (below : c < head.clients)
       let p = continues n h.shown in
       record {
         shown = p.0;
-        had = subst (λ kind. HadValue head (line ∷ past) c n kind f v) (sym p.1) (record {
+        had = subst (λ kind. HadValue (moment head (line ∷ past) c) (spot n kind f) v) (sym p.1) (record {
           later = line ∷ h.had.later;
           earlier = h.had.earlier;
           whole = ap (λ (l : List BodyLine). line ∷ l) h.had.whole;
@@ -170,7 +176,7 @@ module _ (own : OwnListsHold) (head : Head) (c : ℕ) (below : c < head.clients)
           later = [];
           earlier = past;
           whole = refl;
-          there = subst (λ x. HasValue head past c n (traits_in (steps past) n).kind f x) (sym r.newest)
+          there = subst (λ x. HasValue (moment head past c) (spot n (traits_in (steps past) n).kind f) x) (sym r.newest)
               (has_newest past lines n f r.up r.field);
         };
       }

@@ -21,10 +21,10 @@ use Rattle.ghost_client.specs.State.{field_value}
 use Rattle.stream_manager.specs.Limits.{Terms}
 use Rattle.stream_manager.specs.Server.{ghost_log}
 use Rattle.stream_manager.specs.Client.{ghosts_came}
-use Rattle.pair_core.specs.History.{PairStep, history}
-use Rattle.pair_core.specs.Conditions.{IsHonest}
-use Rattle.pair_core.specs.Laws.{StepFits, Always}
-use Rattle.pair_core.proofs.Good.{AreGood}
+use Rattle.client_seat.specs.pair_core.History.{PairStep, history}
+use Rattle.client_seat.specs.pair_core.Conditions.{IsHonest}
+use Rattle.client_seat.specs.pair_core.Laws.{StepFits, Always}
+use Rattle.client_seat.proofs.Below.pair_core.Good.{AreGood}
 use Rattle.pair_copies.specs.Reads.{AllShowReads, ShowNewest, IsNewest, last_read}
 use Rattle.match_script.specs.declared.types.BodyLine.{BodyLine}
 use Rattle.match_script.specs.declared.types.Head.{Head}
@@ -34,21 +34,21 @@ use Rattle.match_report.specs.declared.copies.FieldTold.{FieldTold}
 use Rattle.world_rules.specs.Kinds.{match_kinds}
 use Rattle.client_scope.specs.declared.period.ShownPeriod.{ShownPeriod}
 use Rattle.client_scope.specs.Scans.{shown}
-use Rattle.own_lists.specs.pair_steps.Steps.{up_in, traits_in}
-use Rattle.own_lists.specs.Kept.{Kept, undrained}
-use Rattle.own_lists.specs.Past.{client_terms, kept_by, after}
-use Rattle.own_lists.specs.Agreement.{AreLines, OwnListsHold}
-use Rattle.own_lists.proofs.Below.pair_steps.Journals.{up_to, kind_told}
-use Rattle.own_lists.proofs.Meeting.{are_met}
-use Rattle.own_lists.proofs.KeptValues.{own_fields}
-use Rattle.own_lists.proofs.Standing.{IsShownIn, up_are_shown, mapped_all}
+use Rattle.client_seat.specs.own_lists.pair_steps.Steps.{up_in, traits_in}
+use Rattle.client_seat.specs.own_lists.Kept.{Kept, undrained}
+use Rattle.client_seat.specs.own_lists.Past.{client_terms, kept_by, after}
+use Rattle.client_seat.specs.own_lists.Agreement.{AreLines, OwnListsHold}
+use Rattle.client_seat.proofs.Below.own_lists.Below.pair_steps.Journals.{up_to, kind_told}
+use Rattle.client_seat.proofs.Below.own_lists.Meeting.{are_met}
+use Rattle.client_seat.proofs.Below.own_lists.KeptValues.{own_fields}
+use Rattle.client_seat.proofs.Below.own_lists.Standing.{IsShownIn, up_are_shown, mapped_all}
 use Rattle.client_seat.specs.Told.{holder_at, is_newest}
 use Rattle.match_laws.specs.Laws.{first, journal_of}
-use Rattle.match_laws.specs.Values.{HasValue, HadValue, IsShownFor, ShowsHad, ShowsNewest, IsRecovered, FieldsRecover, AllRecover, HasLevel, copy_at, shown_at, CopiesShowValues, SettledIsNewest, ChangesRecover}
+use Rattle.match_laws.specs.Values.{ClientMoment, HasValue, HadValue, IsShownField, IsShownFor, ShowsHad, ShowsNewest, IsRecovered, FieldsRecover, AllRecover, HasLevel, CopiesShowValues, SettledIsNewest, ChangesRecover}
 use Rattle.match_laws.proofs.InOrder.{are_lines, terms_fit, are_good}
 use Rattle.match_laws.proofs.ValuesNewest.{newest_of}
 use Rattle.match_laws.proofs.ValuesTold.{IsTold, all_told}
-use Rattle.match_laws.proofs.ValuesHad.{listed, agreed, has_newest, was_had}
+use Rattle.match_laws.proofs.ValuesHad.{moment, spot, listed, agreed, has_newest, was_had}
 
 -- ---- what is told of a field
 
@@ -138,6 +138,9 @@ module _ (own : OwnListsHold) (head : Head) (c : ℕ) (below : c < head.clients)
   abbrev t : Terms
   t = client_terms head c
 
+  abbrev here_now : ClientMoment
+  here_now = moment head past c
+
   abbrev k : Kept
   k = kept_by head (after head past) c
 
@@ -150,20 +153,20 @@ module _ (own : OwnListsHold) (head : Head) (c : ℕ) (below : c < head.clients)
   kind-is : (kind n : ℕ) → kind ≡ kind_of log n → (traits_in steps n).kind ≡ kind
   kind-is kind n is = sym (kind_told t steps n) ∙ sym is
 
-  pub had : AllShowReads t steps → (at : ℕ) (copy : GhostCopy) (f : ℕ) (told : FieldTold) → copy_at head past c at ≡ Some copy
-      → shown_at head past c at copy f ≡ Some told → ShowsHad head past c at copy f told
-  had reads at copy f told here e =
+  pub had : AllShowReads t steps → (at : ℕ) (copy : GhostCopy) (f : ℕ) (told : FieldTold) → IsShownField here_now at f copy told
+      → ShowsHad here_now at copy.kind f told.value
+  had reads at copy f told is =
       let a = told-as (field_value match_kinds f copy)
-      (option_map_or (is_newest t steps f) (holder_at t steps (undrained k) at) false) told e in
+      (option_map_or (is_newest t steps f) (holder_at t steps (undrained k) at) false) told is.shown in
       let p = field-of match_kinds f copy told.value a.value in
-      let r = reads at copy here in
+      let r = reads at copy is.here in
       let l = r.levels f (slice_get_within copy.levels f p.level p.at) in
       let h = was_had own head c below past lines r.period f l.value l.read in
       record {
         n = r.period;
         holds = r.holds;
         value = l.value;
-        was = subst (λ kind. HadValue head past c r.period kind f l.value) (kind-is copy.kind r.period r.kind) h.had;
+        had = subst (λ kind. HadValue here_now (spot r.period kind f) l.value) (kind-is copy.kind r.period r.kind) h.had;
         shown_for = shown-for f copy told.value l.value l.spec l.field l.level_is a.value;
       }
 
@@ -243,28 +246,28 @@ module _ (own : OwnListsHold) (head : Head) (c : ℕ) (below : c < head.clients)
       less : (a b : ℕ) → nat_lt a b ≡ true → a < b
       less a b e = grind (arith, nat_tests)
 
-  pub settled : ShowNewest t steps → (at : ℕ) (copy : GhostCopy) (f : ℕ) (told : FieldTold) → copy_at head past c at ≡ Some copy
-      → shown_at head past c at copy f ≡ Some told → told.settled ≡ true → ShowsNewest head past c at copy f told
-  settled newest at copy f told here e mark = by-holder (holder_at t steps (undrained k) at) refl (a.mark ∙ mark)
+  pub settled : ShowNewest t steps → (at : ℕ) (copy : GhostCopy) (f : ℕ) (told : FieldTold) → IsShownField here_now at f copy told
+      → told.settled ≡ true → ShowsNewest here_now at copy.kind f told.value
+  settled newest at copy f told is mark = by-holder (holder_at t steps (undrained k) at) refl (a.mark ∙ mark)
     where
       a : IsToldAs (field_value match_kinds f copy) (option_map_or (is_newest t steps f) (holder_at t steps (undrained k) at) false) told
-      a = told-as (field_value match_kinds f copy) (option_map_or (is_newest t steps f) (holder_at t steps (undrained k) at) false) told e
+      a = told-as (field_value match_kinds f copy) (option_map_or (is_newest t steps f) (holder_at t steps (undrained k) at) false) told is.shown
 
       -- the copy is the one in the slot
       of-copy : (d : Drain) → IsUpDrain d → slot log d.n ≡ Some at → IsSettledIn d f → (there : IsNewest t steps d.n f)
           → last_read steps d.n f ≡ Some (newest_of k.values d.n f)
-          → ShowsNewest head past c at copy f told
+          → ShowsNewest here_now at copy.kind f told.value
       of-copy d up holds s there last =
           let at_is : there.at ≡ at = slots-same (sym there.holds ∙ holds) in
           let same : there.copy ≡ copy = copies-same (sym there.here ∙ ap (λ x. copy_of (ghosts_came (history t steps).client) x) at_is
-          ∙ here) in
+          ∙ is.here) in
           let l = level-is d.n f s.field there last in
           let value : field_value match_kinds f there.copy ≡ Some told.value = ap (field_value match_kinds f) same ∙ a.value in
           record {
             n = d.n;
             holds = holds;
             value = newest_of k.values d.n f;
-            was = subst (λ kind. HasValue head past c d.n kind f (newest_of k.values d.n f)) (kind-is there.copy.kind d.n there.kind
+            has = subst (λ kind. HasValue here_now (spot d.n kind f) (newest_of k.values d.n f)) (kind-is there.copy.kind d.n there.kind
                 ∙ ap (λ (x : GhostCopy). x.kind) same)
                 (has_newest own head c below past lines d.n f up.0 s.field);
             shown_for = subst (λ (x : GhostCopy). IsShownFor x.kind f (newest_of k.values d.n f) told.value) same
@@ -278,14 +281,14 @@ module _ (own : OwnListsHold) (head : Head) (c : ℕ) (below : c < head.clients)
           copies-same {a} {b} e = cc
 
       by-newest : (d : Drain) → IsUpDrain d → slot log d.n ≡ Some at → IsSettledIn d f → IsKnown d.n f
-          → ShowsNewest head past c at copy f told
+          → ShowsNewest here_now at copy.kind f told.value
       by-newest d up holds s (inl due) = absurd (s.due due)
       by-newest d up holds s (inr (inl bit)) = absurd (s.written (subst (λ bits. has_bit bits f ≡ true) (sym up.1) bit))
       by-newest d up holds s (inr (inr (inl carried))) = absurd (s.carried carried)
       by-newest d up holds s (inr (inr (inr there))) = of-copy d up holds s there.0 there.1
 
       by-holder : (o : Option Drain) → holder_at t steps (undrained k) at ≡ o → option_map_or (is_newest t steps f) o false ≡ true
-          → ShowsNewest head past c at copy f told
+          → ShowsNewest here_now at copy.kind f told.value
       by-holder None is e = absurd (cc)
       by-holder (Some d) is e =
           let d_is = found IsUpDrain (λ x. is_slot at (slot log x.n)) (undrained k) d (all-up (up_in steps) (up_are_shown steps)) is in
@@ -294,10 +297,10 @@ module _ (own : OwnListsHold) (head : Head) (c : ℕ) (below : c < head.clients)
 
   -- ---- recovery
 
-  one-recovers : ShowNewest t steps → (n : ℕ) → IsShownIn steps n → FieldsRecover head past c n (kind_of log n)
+  one-recovers : ShowNewest t steps → (n : ℕ) → IsShownIn steps n → FieldsRecover here_now n (kind_of log n)
   one-recovers newest n up f lt = record {
     value = newest_of k.values n f;
-    has = subst (λ kind. HasValue head past c n kind f (newest_of k.values n f)) same
+    has = subst (λ kind. HasValue here_now (spot n kind f) (newest_of k.values n f)) same
         (has_newest own head c below past lines n f up field);
     recovered = go (newest-level n f up field newest);
   }
@@ -309,7 +312,7 @@ module _ (own : OwnListsHold) (head : Head) (c : ℕ) (below : c < head.clients)
       field = subst (λ kind. f < length (fields_of match_kinds kind)) (kind_told t steps n) lt
 
       there : (here : IsNewest t steps n f) → last_read steps n f ≡ Some (newest_of k.values n f)
-          → HasLevel head past c n (kind_of log n) f (newest_of k.values n f)
+          → HasLevel here_now (spot n (kind_of log n) f) (newest_of k.values n f)
       there here last =
           let l = level-is n f field here last in
           record {
@@ -323,22 +326,22 @@ module _ (own : OwnListsHold) (head : Head) (c : ℕ) (below : c < head.clients)
             level = slice_get-get_or here.copy.levels f 0 l.within ∙ ap (λ (x : ℕ). Some x) l.level;
           }
 
-      go : IsKnown n f → IsRecovered head past c n (kind_of log n) f (newest_of k.values n f)
+      go : IsKnown n f → IsRecovered here_now (spot n (kind_of log n) f) (newest_of k.values n f)
       go (inl due) = inl due
       go (inr (inl bit)) = inr (inl bit)
       go (inr (inr (inl carried))) = inr (inr (inl carried))
       go (inr (inr (inr here))) = inr (inr (inr (there here.0 here.1)))
 
   all-recover : ShowNewest t steps → (ps : List ShownPeriod) → AllByRecursion (λ (p : ShownPeriod). IsShownIn steps p.n) ps
-      → AllByRecursion (λ (p : ShownPeriod). FieldsRecover head past c p.n (kind_of log p.n)) ps
+      → AllByRecursion (λ (p : ShownPeriod). FieldsRecover here_now p.n (kind_of log p.n)) ps
   all-recover newest [] up = tt
   all-recover newest (p ∷ ps) up = (one-recovers newest p.n up.0, all-recover newest ps up.1)
 
-  pub recover : ShowNewest t steps → AllRecover head past c
+  pub recover : ShowNewest t steps → AllRecover here_now
   recover newest =
       let scans = (after head past).scans c in
       let up = subst (AllByRecursion (IsShownIn steps)) (agreed own head c below past lines).up (up_are_shown steps) in
-      All-from_recursion (λ (p : ShownPeriod). FieldsRecover head past c p.n (kind_of log p.n)) (shown scans)
+      All-from_recursion (λ (p : ShownPeriod). FieldsRecover here_now p.n (kind_of log p.n)) (shown scans)
       (all-recover newest (shown scans) (mapped_all (IsShownIn steps) (λ (p : ShownPeriod). p.n) (shown scans) up))
 
 -- ---- at every line
@@ -356,12 +359,12 @@ module _ (own : OwnListsHold) where
       (are_met (client_terms s.head c) refl items (own s.head (first n s) c (are_lines s n h) l).0) honest
 
   pub copies_had : Always AllShowReads → CopiesShowValues
-  copies_had law s c n h l honest at f copy told here e =
-      had own s.head c l (first n s) (are_lines s n h) (at-line AllShowReads law s c n h l honest) at copy f told here e
+  copies_had law s c n h l honest at f copy told is =
+      had own s.head c l (first n s) (are_lines s n h) (at-line AllShowReads law s c n h l honest) at copy f told is
 
   pub settled_newest : Always ShowNewest → SettledIsNewest
-  settled_newest law s c n h l honest at f copy told here e mark =
-      settled own s.head c l (first n s) (are_lines s n h) (at-line ShowNewest law s c n h l honest) at copy f told here e mark
+  settled_newest law s c n h l honest at f copy told is mark =
+      settled own s.head c l (first n s) (are_lines s n h) (at-line ShowNewest law s c n h l honest) at copy f told is mark
 
   pub changes_recover : Always ShowNewest → ChangesRecover
   changes_recover law s c n h l honest = recover own s.head c l (first n s) (are_lines s n h) (at-line ShowNewest law s c n h l honest)

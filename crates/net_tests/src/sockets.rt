@@ -7,7 +7,7 @@ use std::test::Fail;
 use tn_outside::{Clock, Link, MemSink, Peer, SERVER_PORT, SystemClock, UdpLink};
 
 // The length of the next datagram from the server, or 0 where none came in time.
-fn next_length(client: &mut UdpLink) -> usize {
+fn next_length(client: &mut UdpLink<'_, HostRuntime>) -> usize {
     let mut buf = [0u8; 1_201];
     for _ in 0..1_000 {
         match client.receive(&mut buf) {

@@ -3,21 +3,21 @@ use Rattle.std.proofs.Common.{◌≡◌, ℕ, List, ◌∷◌, ◌++◌, Some, N
 use Rattle.std.specs.Prelude.{slice_get, Option}
 use Rattle.wire_format.specs.declared.client.ClientPacket.{ClientPacket}
 use Rattle.wire_format.specs.declared.server.ServerPacket.{ServerPacket}
-use Rattle.stream_manager.specs.declared.config.Config.{Config}
-use Rattle.stream_manager.specs.declared.fault.ArriveFault.{ArriveFault}
-use Rattle.stream_manager.specs.declared.fault.ClientFault.{ClientFault}
+use Rattle.conn_packing.specs.stream_manager.declared.config.Config.{Config}
+use Rattle.conn_packing.specs.stream_manager.declared.fault.ArriveFault.{ArriveFault}
+use Rattle.conn_packing.specs.stream_manager.declared.fault.ClientFault.{ClientFault}
 use Rattle.quantised_fields.specs.declared.kind.Kind.{Kind}
-use Rattle.stream_manager.specs.Limits.{Terms}
+use Rattle.conn_packing.specs.stream_manager.Limits.{Terms}
 use Rattle.tn_types.specs.Checks.{Checked}
-use Rattle.stream_manager.specs.declared.server.Taken.{Taken}
-use Rattle.stream_manager.specs.ConnCalls.{Answers as AnswersServer, Hands as HandsServer, Accepts as AcceptsServer}
-use Rattle.stream_manager.specs.ClientCalls.{KeepsTerms, Answers as AnswersClient, Hands as HandsClient}
-use Rattle.stream_manager.specs.End.{delivered_at}
-use Rattle.stream_manager.specs.Stands.{ConnState, ConnStandsFor, terms_of, ClientState, ClientStandsFor}
-use Rattle.stream_manager.specs.Server as server
-use Rattle.stream_manager.specs.Server.{ServerEvent, server_end, accepted_at, server_datagrams, server_answer, took_at_server}
-use Rattle.stream_manager.specs.Client as client
-use Rattle.stream_manager.specs.Client.{ClientEvent, client_end, client_datagrams, client_answer, took_at_client}
+use Rattle.conn_packing.specs.stream_manager.declared.server.Taken.{Taken}
+use Rattle.conn_packing.specs.stream_manager.ConnCalls.{Answers as AnswersServer, Hands as HandsServer, Accepts as AcceptsServer}
+use Rattle.conn_packing.specs.stream_manager.ClientCalls.{KeepsTerms, Answers as AnswersClient, Hands as HandsClient}
+use Rattle.conn_packing.specs.stream_manager.End.{delivered_at}
+use Rattle.conn_packing.specs.stream_manager.Stands.{ConnState, ConnStandsFor, terms_of, ClientState, ClientStandsFor}
+use Rattle.conn_packing.specs.stream_manager.Server as server
+use Rattle.conn_packing.specs.stream_manager.Server.{ServerEvent, server_end, accepted_at, server_datagrams, server_answer, took_at_server}
+use Rattle.conn_packing.specs.stream_manager.Client as client
+use Rattle.conn_packing.specs.stream_manager.Client.{ClientEvent, client_end, client_datagrams, client_answer, took_at_client}
 use Rattle.pair_core.specs.History.{PairStep, Down, Up, Raw, history, client_gets, server_gets}
 use Rattle.pair_core.specs.Answers.{answer, came_down, brought_down, came_up, brought_up, client_delivered, server_delivered, accepted_in}
 use Rattle.pair_core.specs.Stands.{PairState, StandsFor}

@@ -2,9 +2,9 @@
 -- packet that was sent at its place, and nothing more has to be asked of steps than what they are made with and who is honest.
 use Rattle.std.proofs.Common.{◌∙◌, List, [], ◌∷◌, length, refl, ap, subst}
 use Rattle.std.specs.List.{AllByRecursion}
-use Rattle.stream_manager.specs.Limits.{Terms, AreTerms}
-use Rattle.stream_manager.specs.Server.{ServerEvent, server_end, seen_client_body, accepted_at}
-use Rattle.stream_manager.specs.Client.{ClientEvent, client_end, sampled_at}
+use Rattle.conn_packing.specs.stream_manager.Limits.{Terms, AreTerms}
+use Rattle.conn_packing.specs.stream_manager.Server.{ServerEvent, server_end, seen_client_body, accepted_at}
+use Rattle.conn_packing.specs.stream_manager.Client.{ClientEvent, client_end, sampled_at}
 use Rattle.wire_logs.specs.event_logs.Joined as events
 use Rattle.wire_logs.proofs.Below.event_logs.Came.{finds-numbers}
 use Rattle.wire_logs.specs.ghost_logs.Ends.{AreJoined}

@@ -8,11 +8,11 @@ use Rattle.tn_types.specs.declared.choices.Read.{Read}
 use Rattle.notify_window.specs.declared.SendState.{SendState}
 use Rattle.notify_window.specs.declared.SendState.TheVariants.{Room}
 use Rattle.ghost_model.specs.Ghosts.{Grant}
-use Rattle.stream_manager.specs.ghost_masks.Carried.{all_carried, AreValues}
-use Rattle.stream_manager.specs.Limits.{Terms}
-use Rattle.stream_manager.specs.Server as server
-use Rattle.stream_manager.specs.Server.{ServerEvent, server_end, server_state, server_datagrams, ghost_log, choices_at}
-use Rattle.stream_manager.specs.Client.{client_datagrams}
+use Rattle.conn_packing.specs.stream_manager.ghost_masks.Carried.{all_carried, AreValues}
+use Rattle.conn_packing.specs.stream_manager.Limits.{Terms}
+use Rattle.conn_packing.specs.stream_manager.Server as server
+use Rattle.conn_packing.specs.stream_manager.Server.{ServerEvent, server_end, server_state, server_datagrams, ghost_log, choices_at}
+use Rattle.conn_packing.specs.stream_manager.Client.{client_datagrams}
 use Rattle.conn_packing.specs.Packs.{absorbing, values_of}
 use Rattle.pair_core.specs.History.{PairStep, Down, Up, History, history, client_gets, server_gets}
 use Rattle.conn_packing.proofs.Absorbed.{absorbed-state}

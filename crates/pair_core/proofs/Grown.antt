@@ -11,14 +11,14 @@ use Rattle.notify_window.specs.declared.SendState.TheVariants.{Held, Worn, Room}
 use Rattle.notify_window.specs.Log.{WindowEvent}
 use Rattle.wire_format.specs.declared.server.ServerPacket.{ServerPacket}
 use Rattle.wire_format.specs.declared.client.ClientPacket.{ClientPacket}
-use Rattle.stream_manager.specs.declared.fault.ArriveFault.{ArriveFault}
-use Rattle.stream_manager.specs.declared.fault.ClientFault.{ClientFault}
-use Rattle.stream_manager.specs.Limits.{Terms}
-use Rattle.stream_manager.specs.End.{window_log, with_event}
-use Rattle.stream_manager.specs.Server as server_log
-use Rattle.stream_manager.specs.Server.{ServerEvent, server_end, server_datagrams, server_state, server_answer, posted_at_server, took_at_server}
-use Rattle.stream_manager.specs.Client as client_log
-use Rattle.stream_manager.specs.Client.{ClientEvent, client_end, client_datagrams, client_state, client_answer, posted_at_client, sampled_answer, took_at_client}
+use Rattle.conn_packing.specs.stream_manager.declared.fault.ArriveFault.{ArriveFault}
+use Rattle.conn_packing.specs.stream_manager.declared.fault.ClientFault.{ClientFault}
+use Rattle.conn_packing.specs.stream_manager.Limits.{Terms}
+use Rattle.conn_packing.specs.stream_manager.End.{window_log, with_event}
+use Rattle.conn_packing.specs.stream_manager.Server as server_log
+use Rattle.conn_packing.specs.stream_manager.Server.{ServerEvent, server_end, server_datagrams, server_state, server_answer, posted_at_server, took_at_server}
+use Rattle.conn_packing.specs.stream_manager.Client as client_log
+use Rattle.conn_packing.specs.stream_manager.Client.{ClientEvent, client_end, client_datagrams, client_state, client_answer, posted_at_client, sampled_answer, took_at_client}
 use Rattle.conn_packing.specs.Packs.{absorbing, values_of}
 use Rattle.pair_core.specs.History.{PairStep, Show, Hide, Near, Post, ClientPost, Sample, Pack, ClientPack, Down, Up, Raw, history, server_posts, client_posts, client_samples, client_gets, server_gets}
 

@@ -5,17 +5,17 @@ use Rattle.wire_format.specs.declared.server.ServerPacket.{ServerPacket}
 use Rattle.wire_format.specs.declared.server.ServerPacket.TheVariants as down
 use Rattle.wire_format.specs.declared.client.ClientPacket.{ClientPacket}
 use Rattle.wire_format.specs.declared.client.ClientPacket.TheVariants as up
-use Rattle.stream_manager.specs.declared.config.Config.{Config}
-use Rattle.stream_manager.specs.declared.fault.HeadFault.{HeadFault}
-use Rattle.stream_manager.specs.declared.fault.ArriveFault.{ArriveFault}
-use Rattle.stream_manager.specs.declared.fault.ClientFault.{ClientFault}
+use Rattle.conn_packing.specs.stream_manager.declared.config.Config.{Config}
+use Rattle.conn_packing.specs.stream_manager.declared.fault.HeadFault.{HeadFault}
+use Rattle.conn_packing.specs.stream_manager.declared.fault.ArriveFault.{ArriveFault}
+use Rattle.conn_packing.specs.stream_manager.declared.fault.ClientFault.{ClientFault}
 use Rattle.tn_types.specs.Checks.{Checked, then_check}
-use Rattle.stream_manager.specs.Faults.{head_at_server, head_at_client}
-use Rattle.stream_manager.specs.End.{head_answer}
-use Rattle.stream_manager.specs.Server as server_log
-use Rattle.stream_manager.specs.Server.{ServerEvent, server_end, seen_up}
-use Rattle.stream_manager.specs.Client as client_log
-use Rattle.stream_manager.specs.Client.{ClientEvent, client_end, seen_down}
+use Rattle.conn_packing.specs.stream_manager.Faults.{head_at_server, head_at_client}
+use Rattle.conn_packing.specs.stream_manager.End.{head_answer}
+use Rattle.conn_packing.specs.stream_manager.Server as server_log
+use Rattle.conn_packing.specs.stream_manager.Server.{ServerEvent, server_end, seen_up}
+use Rattle.conn_packing.specs.stream_manager.Client as client_log
+use Rattle.conn_packing.specs.stream_manager.Client.{ClientEvent, client_end, seen_down}
 
 pub head-ok_down : (c : Config) (log : List ClientEvent) (p : ServerPacket) → is_ok (client_log.packet_check c log p) ≡ true → is_ok (head_answer c.client (client_end log) (seen_down p)) ≡ true
 head-ok_down c log (down.Ping head) ok = go (head_answer c.client (client_end log) (seen_down (down.Ping head))) ok

@@ -18,22 +18,22 @@ use Rattle.wire_format.specs.declared.client.ClientPacket.TheVariants as up
 use Rattle.wire_format.specs.declared.widths.TheConstants.{SERVER_FIXED_BITS}
 use Rattle.tn_types.specs.declared.limits.TheConstants.{MAX_PACKET_BLOCKS}
 use Rattle.wire_format.specs.Blocks.{block_size}
-use Rattle.stream_manager.specs.datablocks.Sending.{due_of}
+use Rattle.conn_packing.specs.stream_manager.datablocks.Sending.{due_of}
 use Rattle.tn_types.specs.Fitting.{fitting}
 use Rattle.move_manager.specs.Sending.{acked_of}
-use Rattle.stream_manager.specs.declared.fault.ArriveFault.{ArriveFault}
-use Rattle.stream_manager.specs.declared.fault.ClientFault.{ClientFault}
-use Rattle.stream_manager.specs.Limits.{Terms, AreTerms}
+use Rattle.conn_packing.specs.stream_manager.declared.fault.ArriveFault.{ArriveFault}
+use Rattle.conn_packing.specs.stream_manager.declared.fault.ClientFault.{ClientFault}
+use Rattle.conn_packing.specs.stream_manager.Limits.{Terms, AreTerms}
 use Rattle.tn_types.specs.Checks.{Checked}
-use Rattle.stream_manager.specs.Faults.{checked_packet}
+use Rattle.conn_packing.specs.stream_manager.Faults.{checked_packet}
 use Rattle.event_manager.specs.Receiving.{run_of}
 use Rattle.notify_window.specs.Log.{sent_of}
-use Rattle.stream_manager.specs.End.{window_log, fates, came_of, with_event}
-use Rattle.stream_manager.proofs.Fitting.{fitting-all}
-use Rattle.stream_manager.specs.Server as server_log
-use Rattle.stream_manager.specs.Server.{ServerEvent, server_end, block_log, server_datagrams, server_state, posted_at_server, seen_up, next_body, server_ping, took_at_server, block_item, accepted_at, move_log}
-use Rattle.stream_manager.specs.Client as client_log
-use Rattle.stream_manager.specs.Client.{ClientEvent, client_end, client_datagrams, client_state, posted_at_client, sampled_answer, seen_down, client_body, client_ping, took_at_client, sample_log, sampled_at}
+use Rattle.conn_packing.specs.stream_manager.End.{window_log, fates, came_of, with_event}
+use Rattle.conn_packing.proofs.Below.stream_manager.Fitting.{fitting-all}
+use Rattle.conn_packing.specs.stream_manager.Server as server_log
+use Rattle.conn_packing.specs.stream_manager.Server.{ServerEvent, server_end, block_log, server_datagrams, server_state, posted_at_server, seen_up, next_body, server_ping, took_at_server, block_item, accepted_at, move_log}
+use Rattle.conn_packing.specs.stream_manager.Client as client_log
+use Rattle.conn_packing.specs.stream_manager.Client.{ClientEvent, client_end, client_datagrams, client_state, posted_at_client, sampled_answer, seen_down, client_body, client_ping, took_at_client, sample_log, sampled_at}
 use Rattle.conn_packing.specs.Packs.{absorbing, values_of}
 use Rattle.pair_core.specs.History.{PairStep, Show, Hide, Near, Post, ClientPost, Sample, Pack, ClientPack, Down, Up, Raw, history, server_posts, client_posts, client_samples}
 use Rattle.pair_core.proofs.Good.{AreGood}

@@ -2,10 +2,10 @@
 -- sampled.
 use Rattle.std.proofs.Common.{List}
 use Rattle.move_manager.proofs.InOrder.{front_is_prefix}
-use Rattle.stream_manager.specs.Limits.{Terms, AreTerms}
-use Rattle.stream_manager.specs.End.{came_of}
-use Rattle.stream_manager.specs.Server.{server_end}
-use Rattle.stream_manager.specs.Client.{client_end}
+use Rattle.conn_packing.specs.stream_manager.Limits.{Terms, AreTerms}
+use Rattle.conn_packing.specs.stream_manager.End.{came_of}
+use Rattle.conn_packing.specs.stream_manager.Server.{server_end}
+use Rattle.conn_packing.specs.stream_manager.Client.{client_end}
 use Rattle.pair_core.specs.History.{PairStep, history}
 use Rattle.pair_core.specs.Answers.{accepted_in, sampled_in}
 use Rattle.pair_core.specs.Laws.{posted_at, DeliversDown, DeliversUp, AcceptsInOrder}

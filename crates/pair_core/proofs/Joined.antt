@@ -14,16 +14,16 @@ use Rattle.wire_format.specs.declared.server.ServerBody.{ServerBody}
 use Rattle.wire_format.specs.declared.server.ServerPacket.{ServerPacket}
 use Rattle.wire_format.specs.declared.server.ServerPacket.TheVariants as down
 use Rattle.wire_format.specs.declared.client.ClientPacket.{ClientPacket}
-use Rattle.stream_manager.specs.declared.fault.ArriveFault.{ArriveFault}
-use Rattle.stream_manager.specs.declared.fault.ClientFault.{ClientFault}
-use Rattle.stream_manager.specs.Limits.{Terms, AreTerms}
+use Rattle.conn_packing.specs.stream_manager.declared.fault.ArriveFault.{ArriveFault}
+use Rattle.conn_packing.specs.stream_manager.declared.fault.ClientFault.{ClientFault}
+use Rattle.conn_packing.specs.stream_manager.Limits.{Terms, AreTerms}
 use Rattle.tn_types.specs.Checks.{Checked}
-use Rattle.stream_manager.specs.Faults.{checked_packet}
-use Rattle.stream_manager.specs.End.{with_event}
-use Rattle.stream_manager.specs.Server as server_log
-use Rattle.stream_manager.specs.Server.{ServerEvent, server_datagrams, server_state, posted_at_server, with_plan, next_body, server_ping, took_at_server, server_answer}
-use Rattle.stream_manager.specs.Client as client_log
-use Rattle.stream_manager.specs.Client.{ClientEvent, client_datagrams, client_state, posted_at_client, sampled_answer, took_at_client}
+use Rattle.conn_packing.specs.stream_manager.Faults.{checked_packet}
+use Rattle.conn_packing.specs.stream_manager.End.{with_event}
+use Rattle.conn_packing.specs.stream_manager.Server as server_log
+use Rattle.conn_packing.specs.stream_manager.Server.{ServerEvent, server_datagrams, server_state, posted_at_server, with_plan, next_body, server_ping, took_at_server, server_answer}
+use Rattle.conn_packing.specs.stream_manager.Client as client_log
+use Rattle.conn_packing.specs.stream_manager.Client.{ClientEvent, client_datagrams, client_state, posted_at_client, sampled_answer, took_at_client}
 use Rattle.wire_logs.specs.ghost_logs.Sent.{WasPacked}
 use Rattle.wire_logs.specs.ghost_logs.Ends.{IsMade, CameFrom, AreJoined}
 use Rattle.conn_packing.specs.Packs.{absorbing, values_of}

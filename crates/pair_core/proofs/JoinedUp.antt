@@ -15,15 +15,15 @@ use Rattle.notify_window.specs.declared.SendState.TheVariants.{Held, Worn, Room}
 use Rattle.wire_format.specs.declared.client.ClientPacket.{ClientPacket}
 use Rattle.wire_format.specs.declared.client.ClientPacket.TheVariants as up
 use Rattle.wire_format.specs.declared.server.ServerPacket.{ServerPacket}
-use Rattle.stream_manager.specs.declared.fault.ArriveFault.{ArriveFault}
-use Rattle.stream_manager.specs.declared.fault.ClientFault.{ClientFault}
-use Rattle.stream_manager.specs.Limits.{Terms, AreTerms}
-use Rattle.stream_manager.specs.Faults.{checked_packet}
-use Rattle.stream_manager.specs.End.{Seen, EndEvent, Posted, Packed, Pinged, Took, with_event}
-use Rattle.stream_manager.specs.Server as server_log
-use Rattle.stream_manager.specs.Server.{ServerEvent, server_end, seen_client_body, seen_up, server_state, posted_at_server, took_at_server}
-use Rattle.stream_manager.specs.Client as client_log
-use Rattle.stream_manager.specs.Client.{ClientEvent, client_end, client_state, client_body, client_ping, posted_at_client, sampled_answer, took_at_client}
+use Rattle.conn_packing.specs.stream_manager.declared.fault.ArriveFault.{ArriveFault}
+use Rattle.conn_packing.specs.stream_manager.declared.fault.ClientFault.{ClientFault}
+use Rattle.conn_packing.specs.stream_manager.Limits.{Terms, AreTerms}
+use Rattle.conn_packing.specs.stream_manager.Faults.{checked_packet}
+use Rattle.conn_packing.specs.stream_manager.End.{Seen, EndEvent, Posted, Packed, Pinged, Took, with_event}
+use Rattle.conn_packing.specs.stream_manager.Server as server_log
+use Rattle.conn_packing.specs.stream_manager.Server.{ServerEvent, server_end, seen_client_body, seen_up, server_state, posted_at_server, took_at_server}
+use Rattle.conn_packing.specs.stream_manager.Client as client_log
+use Rattle.conn_packing.specs.stream_manager.Client.{ClientEvent, client_end, client_state, client_body, client_ping, posted_at_client, sampled_answer, took_at_client}
 use Rattle.wire_logs.specs.event_logs.Joined.{SendsDue, WasSent, IsOfOther, CameFrom, AreJoined}
 use Rattle.wire_logs.proofs.Ends.{next-due}
 use Rattle.conn_packing.specs.Packs.{absorbing, values_of}

@@ -11,13 +11,13 @@ use Rattle.notify_window.specs.Log.{sent_of, horizon_of, Fate}
 use Rattle.wire_format.specs.declared.events.EventItem.{EventItem}
 use Rattle.event_manager.specs.Sending.{SenderEvent, posted_of, waiting_of, is_due, is_loose, loose_count, loose_item, guaranteed_item, items_that, due_guaranteed, due_of}
 use Rattle.event_manager.specs.Receiving.{items_onto, run_of, payloads, guaranteed_event, by_class, news, delivered_of}
-use Rattle.stream_manager.specs.declared.config.Config.{Config}
-use Rattle.stream_manager.specs.declared.fault.HeadFault.{HeadFault}
-use Rattle.stream_manager.specs.declared.fault.HeadFault.TheVariants.{WrongClient, Old}
+use Rattle.conn_packing.specs.stream_manager.declared.config.Config.{Config}
+use Rattle.conn_packing.specs.stream_manager.declared.fault.HeadFault.{HeadFault}
+use Rattle.conn_packing.specs.stream_manager.declared.fault.HeadFault.TheVariants.{WrongClient, Old}
 use Rattle.tn_types.specs.Checks.{Checked, then_check}
 use Rattle.tn_types.specs.Fitting.{fitting}
-use Rattle.stream_manager.specs.Wire.{event_bits}
-use Rattle.stream_manager.specs.End.{Seen, EndEvent, Posted, Packed, Pinged, Took, window_log, sender_log, fates, events_for, came_of, delivered_at, client_or_old, ack_answer, head_answer}
+use Rattle.conn_packing.specs.stream_manager.Wire.{event_bits}
+use Rattle.conn_packing.specs.stream_manager.End.{Seen, EndEvent, Posted, Packed, Pinged, Took, window_log, sender_log, fates, events_for, came_of, delivered_at, client_or_old, ack_answer, head_answer}
 use Rattle.tn_types.specs.Prefix.{IsPrefixOf}
 use Rattle.tn_types.specs.Subsequence.{IsSubsequenceOf}
 use Rattle.pair_core.specs.LooseEvents.{of_loose, loose_of, loose_posted_at}

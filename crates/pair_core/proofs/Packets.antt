@@ -7,14 +7,14 @@ use Rattle.wire_format.specs.declared.server.ServerPacket.{ServerPacket}
 use Rattle.wire_format.specs.declared.server.ServerPacket.TheVariants as down
 use Rattle.wire_format.specs.declared.client.ClientPacket.{ClientPacket}
 use Rattle.wire_format.specs.declared.client.ClientPacket.TheVariants as up
-use Rattle.stream_manager.specs.declared.config.Config.{Config}
-use Rattle.stream_manager.specs.Limits.{Terms}
-use Rattle.stream_manager.specs.Wire.{bytes_down, bytes_up}
-use Rattle.stream_manager.specs.Faults.{checked_packet}
-use Rattle.stream_manager.specs.Server as server_log
-use Rattle.stream_manager.specs.Server.{ServerEvent, server_datagrams, server_answer, took_at_server}
-use Rattle.stream_manager.specs.Client as client_log
-use Rattle.stream_manager.specs.Client.{ClientEvent, client_datagrams, client_answer, took_at_client}
+use Rattle.conn_packing.specs.stream_manager.declared.config.Config.{Config}
+use Rattle.conn_packing.specs.stream_manager.Limits.{Terms}
+use Rattle.conn_packing.specs.stream_manager.Wire.{bytes_down, bytes_up}
+use Rattle.conn_packing.specs.stream_manager.Faults.{checked_packet}
+use Rattle.conn_packing.specs.stream_manager.Server as server_log
+use Rattle.conn_packing.specs.stream_manager.Server.{ServerEvent, server_datagrams, server_answer, took_at_server}
+use Rattle.conn_packing.specs.stream_manager.Client as client_log
+use Rattle.conn_packing.specs.stream_manager.Client.{ClientEvent, client_datagrams, client_answer, took_at_client}
 use Rattle.pair_core.specs.History.{client_gets, server_gets}
 use Rattle.pair_core.specs.Exchange.{server_packets, client_packets, given_down, given_up}
 

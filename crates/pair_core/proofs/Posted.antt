@@ -5,9 +5,9 @@ use Rattle.wire_format.specs.declared.events.EventItem.{EventItem}
 use Rattle.event_manager.specs.Receiving.{items_onto, run_of, delivered_of}
 use Rattle.event_manager.specs.Posted.{ArePosted, guaranteed_of}
 use Rattle.event_manager.proofs.Prefixes.{posted-due, delivered-posted}
-use Rattle.stream_manager.specs.declared.config.Config.{Config}
-use Rattle.stream_manager.specs.Wire.{event_bits}
-use Rattle.stream_manager.specs.End.{EndEvent, sender_log, fates, events_for}
+use Rattle.conn_packing.specs.stream_manager.declared.config.Config.{Config}
+use Rattle.conn_packing.specs.stream_manager.Wire.{event_bits}
+use Rattle.conn_packing.specs.stream_manager.End.{EndEvent, sender_log, fates, events_for}
 use Rattle.tn_types.specs.Fitting.{fitting}
 use Rattle.tn_types.specs.Prefix.{IsPrefixOf}
 use Rattle.pair_core.specs.Laws.{posted_at}

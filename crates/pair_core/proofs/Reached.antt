@@ -16,10 +16,10 @@ use Rattle.notify_window.proofs.Fates.{not-false}
 use Rattle.notify_window.proofs.Least.{least_below}
 use Rattle.event_manager.proofs.Runs.{has-more, run-ends}
 use Rattle.event_manager.proofs.Prefixes.{run-more}
-use Rattle.stream_manager.specs.declared.config.Config.{Config}
-use Rattle.stream_manager.specs.Wire.{event_bits}
-use Rattle.stream_manager.specs.End.{Seen, EndEvent, Posted, Packed, Pinged, Took, window_log, sender_log, fates, came_of, events_for}
-use Rattle.stream_manager.proofs.Fitting.{fitting-all}
+use Rattle.conn_packing.specs.stream_manager.declared.config.Config.{Config}
+use Rattle.conn_packing.specs.stream_manager.Wire.{event_bits}
+use Rattle.conn_packing.specs.stream_manager.End.{Seen, EndEvent, Posted, Packed, Pinged, Took, window_log, sender_log, fates, came_of, events_for}
+use Rattle.conn_packing.proofs.Below.stream_manager.Fitting.{fitting-all}
 use Rattle.pair_core.specs.Verdicts.{ReceivedIsTrue}
 use Rattle.conn_packing.proofs.Lists.{all-append, all-map, all-take}
 

@@ -12,13 +12,13 @@ use Rattle.wire_format.specs.declared.server.ServerPacket.{ServerPacket}
 use Rattle.wire_format.specs.declared.server.ServerPacket.TheVariants as down
 use Rattle.wire_format.specs.declared.client.ClientPacket.{ClientPacket}
 use Rattle.wire_format.specs.declared.client.ClientPacket.TheVariants as up
-use Rattle.stream_manager.specs.datablocks.Holding.{held_of, bytes_differ}
+use Rattle.conn_packing.specs.stream_manager.datablocks.Holding.{held_of, bytes_differ}
 use Rattle.event_manager.specs.Receiving.{run_of, take_answer}
-use Rattle.stream_manager.specs.declared.fault.HeadFault.{HeadFault}
-use Rattle.stream_manager.specs.declared.fault.HeadFault.TheVariants.{WrongClient, Old, AckAhead}
-use Rattle.stream_manager.specs.declared.fault.ArriveFault.{ArriveFault}
-use Rattle.stream_manager.specs.declared.fault.ClientFault.{ClientFault}
-use Rattle.stream_manager.specs.Limits.{Terms, AreTerms}
+use Rattle.conn_packing.specs.stream_manager.declared.fault.HeadFault.{HeadFault}
+use Rattle.conn_packing.specs.stream_manager.declared.fault.HeadFault.TheVariants.{WrongClient, Old, AckAhead}
+use Rattle.conn_packing.specs.stream_manager.declared.fault.ArriveFault.{ArriveFault}
+use Rattle.conn_packing.specs.stream_manager.declared.fault.ClientFault.{ClientFault}
+use Rattle.conn_packing.specs.stream_manager.Limits.{Terms, AreTerms}
 use Rattle.tn_types.specs.declared.choices.Class.TheVariants.{Guaranteed, Loose}
 use Rattle.notify_window.specs.declared.SendState.{SendState}
 use Rattle.notify_window.specs.declared.SendState.TheVariants.{Held, Worn, Room}
@@ -26,12 +26,12 @@ use Rattle.event_manager.specs.declared.sender.PostFault.{PostFault}
 use Rattle.move_manager.specs.declared.faults.MoveFault.{MoveFault}
 use Rattle.wire_format.specs.declared.server.ServerBody.{ServerBody}
 use Rattle.tn_types.specs.Checks.{Checked, then_check}
-use Rattle.stream_manager.specs.Faults.{head_at_server, head_at_client, events_at_server, events_at_client, checked_packet, without_packet}
-use Rattle.stream_manager.specs.End.{Seen, EndEvent, window_log, came_of, head_answer, events_answer}
-use Rattle.stream_manager.specs.Server as server_log
-use Rattle.stream_manager.specs.Server.{ServerEvent, server_end, server_datagrams, seen_up, server_state, posted_at_server, accepted_at, taken_of, server_answer}
-use Rattle.stream_manager.specs.Client as client_log
-use Rattle.stream_manager.specs.Client.{ClientEvent, client_end, client_datagrams, client_state, posted_at_client, sampled_answer, seen_down, blocks_check, blocks_came, sampled_at, client_answer}
+use Rattle.conn_packing.specs.stream_manager.Faults.{head_at_server, head_at_client, events_at_server, events_at_client, checked_packet, without_packet}
+use Rattle.conn_packing.specs.stream_manager.End.{Seen, EndEvent, window_log, came_of, head_answer, events_answer}
+use Rattle.conn_packing.specs.stream_manager.Server as server_log
+use Rattle.conn_packing.specs.stream_manager.Server.{ServerEvent, server_end, server_datagrams, seen_up, server_state, posted_at_server, accepted_at, taken_of, server_answer}
+use Rattle.conn_packing.specs.stream_manager.Client as client_log
+use Rattle.conn_packing.specs.stream_manager.Client.{ClientEvent, client_end, client_datagrams, client_state, posted_at_client, sampled_answer, seen_down, blocks_check, blocks_came, sampled_at, client_answer}
 use Rattle.wire_logs.specs.ghost_logs.Blocks.{RefusesNoGhosts}
 use Rattle.wire_logs.proofs.Below.ghost_logs.Refused.{refuses-no-ghosts}
 use Rattle.pair_core.specs.History.{PairStep, Show, Hide, Near, Post, ClientPost, Sample, Pack, ClientPack, Down, Up, Raw, history}

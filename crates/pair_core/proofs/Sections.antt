@@ -7,11 +7,11 @@ use Rattle.wire_format.specs.Blocks.{block_size, IsBlock}
 use Rattle.wire_format.specs.Moves.{AnyMove}
 use Rattle.wire_format.specs.Reading.{AreListed}
 use Rattle.tn_types.specs.Least.{those_below}
-use Rattle.stream_manager.specs.datablocks.Sending.{due_of, is_due}
-use Rattle.stream_manager.specs.End.{fates}
-use Rattle.stream_manager.specs.Limits.{Terms, IsBlockBytes, AreTerms}
-use Rattle.stream_manager.specs.Server.{ServerEvent, server_end, block_log, block_item, blocks_at}
-use Rattle.stream_manager.proofs.Fitting.{fitting-all, fitting-short}
+use Rattle.conn_packing.specs.stream_manager.datablocks.Sending.{due_of, is_due}
+use Rattle.conn_packing.specs.stream_manager.End.{fates}
+use Rattle.conn_packing.specs.stream_manager.Limits.{Terms, IsBlockBytes, AreTerms}
+use Rattle.conn_packing.specs.stream_manager.Server.{ServerEvent, server_end, block_log, block_item, blocks_at}
+use Rattle.conn_packing.proofs.Below.stream_manager.Fitting.{fitting-all, fitting-short}
 use Rattle.conn_packing.proofs.Lists.{all-append, all-take}
 
 -- ---- blocks

@@ -14,10 +14,10 @@ use Rattle.notify_window.proofs.Words.{bit_at-from_bits}
 use Rattle.notify_window.proofs.Verdicts.{fate-told, fate-told_judged}
 use Rattle.notify_window.proofs.Horizons.{processed-fresh}
 use Rattle.wire_format.specs.declared.header.Header.{Header}
-use Rattle.stream_manager.specs.declared.fault.HeadFault.{HeadFault}
-use Rattle.stream_manager.specs.declared.fault.HeadFault.TheVariants.{WrongClient, Old, AckAhead}
+use Rattle.conn_packing.specs.stream_manager.declared.fault.HeadFault.{HeadFault}
+use Rattle.conn_packing.specs.stream_manager.declared.fault.HeadFault.TheVariants.{WrongClient, Old, AckAhead}
 use Rattle.tn_types.specs.Checks.{Checked, then_check}
-use Rattle.stream_manager.specs.End.{Seen, EndEvent, window_log, data_head, ping_head, head_answer}
+use Rattle.conn_packing.specs.stream_manager.End.{Seen, EndEvent, window_log, data_head, ping_head, head_answer}
 use Rattle.conn_packing.proofs.Lists.{all-append, all-map}
 
 -- the header of a packet that an end sent, by what its window has seen by now: the packet's number is one that was sent,

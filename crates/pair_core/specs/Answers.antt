@@ -9,16 +9,16 @@ use Rattle.event_manager.specs.declared.sender.PostFault.{PostFault}
 use Rattle.move_manager.specs.declared.faults.MoveFault.{MoveFault}
 use Rattle.ghost_model.specs.Scope.{shows}
 use Rattle.ghost_model.specs.Ghosts.{scope_log}
-use Rattle.stream_manager.specs.declared.server.Taken.{Taken}
-use Rattle.stream_manager.specs.Limits.{Terms}
-use Rattle.stream_manager.specs.declared.fault.ArriveFault.{ArriveFault}
-use Rattle.stream_manager.specs.declared.fault.ClientFault.{ClientFault}
+use Rattle.conn_packing.specs.stream_manager.declared.server.Taken.{Taken}
+use Rattle.conn_packing.specs.stream_manager.Limits.{Terms}
+use Rattle.conn_packing.specs.stream_manager.declared.fault.ArriveFault.{ArriveFault}
+use Rattle.conn_packing.specs.stream_manager.declared.fault.ClientFault.{ClientFault}
 use Rattle.event_manager.specs.Receiving.{run_of}
-use Rattle.stream_manager.specs.End.{came_of, delivered_at, dropped_of}
-use Rattle.stream_manager.specs.Server as server
-use Rattle.stream_manager.specs.Server.{server_end, server_state, server_datagrams, accepted_at, posted_at_server, ghost_log}
-use Rattle.stream_manager.specs.Client as client
-use Rattle.stream_manager.specs.Client.{client_end, client_state, client_datagrams, sampled_at, posted_at_client, sampled_answer}
+use Rattle.conn_packing.specs.stream_manager.End.{came_of, delivered_at, dropped_of}
+use Rattle.conn_packing.specs.stream_manager.Server as server
+use Rattle.conn_packing.specs.stream_manager.Server.{server_end, server_state, server_datagrams, accepted_at, posted_at_server, ghost_log}
+use Rattle.conn_packing.specs.stream_manager.Client as client
+use Rattle.conn_packing.specs.stream_manager.Client.{client_end, client_state, client_datagrams, sampled_at, posted_at_client, sampled_answer}
 use Rattle.conn_packing.specs.declared.made.Made.{Made}
 use Rattle.conn_packing.specs.declared.made.Made.TheVariants as packs
 use Rattle.pair_core.specs.declared.step.Answer.{Answer}

@@ -4,10 +4,10 @@ use Rattle.tn_types.specs.Histories as histories
 use Rattle.tn_types.specs.declared.limits.TheConstants.{MAX_DATAGRAMS}
 use Rattle.tn_types.specs.declared.choices.Drain.{Drain}
 use Rattle.tn_types.specs.declared.choices.Read.{Read}
-use Rattle.stream_manager.specs.Limits.{Terms}
-use Rattle.stream_manager.specs.ConnCalls as conn
-use Rattle.stream_manager.specs.ClientCalls as client
-use Rattle.stream_manager.specs.Server.{server_state, ghost_log}
+use Rattle.conn_packing.specs.stream_manager.Limits.{Terms}
+use Rattle.conn_packing.specs.stream_manager.ConnCalls as conn
+use Rattle.conn_packing.specs.stream_manager.ClientCalls as client
+use Rattle.conn_packing.specs.stream_manager.Server.{server_state, ghost_log}
 use Rattle.pair_core.specs.declared.step.PairStep.{PairStep as GivenStep}
 use Rattle.pair_core.specs.declared.step.PairStep.TheVariants as given
 use Rattle.pair_core.specs.declared.step.Answer.{Answer}

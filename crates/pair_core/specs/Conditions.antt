@@ -8,9 +8,9 @@ use Rattle.tn_types.specs.declared.limits.TheConstants.{MAX_SHOWN_PERIODS, MAX_S
 use Rattle.ghost_model.specs.Scope.{shows, up_periods, had_control}
 use Rattle.ghost_model.specs.Ghosts.{GhostEvent, scope_log}
 use Rattle.ghost_model.specs.Legal.{IsShowable, IsUp}
-use Rattle.stream_manager.specs.ghost_masks.Plan.{sizes}
-use Rattle.stream_manager.specs.Limits.{Terms}
-use Rattle.stream_manager.specs.Server.{ServerEvent, ghost_log, server_state}
+use Rattle.conn_packing.specs.stream_manager.ghost_masks.Plan.{sizes}
+use Rattle.conn_packing.specs.stream_manager.Limits.{Terms}
+use Rattle.conn_packing.specs.stream_manager.Server.{ServerEvent, ghost_log, server_state}
 use Rattle.conn_packing.specs.Packs.{absorbing}
 use Rattle.conn_packing.specs.Reads.{MayDrain, IsReadFor}
 use Rattle.pair_core.specs.History.{PairStep, Show, Hide, Near, Post, ClientPost, Sample, Pack, ClientPack, Down, Up, Raw, history}

@@ -9,13 +9,13 @@ use Rattle.wire_format.specs.declared.client.ClientPacket.{ClientPacket}
 use Rattle.wire_format.specs.declared.client.ClientPacket.TheVariants as up
 use Rattle.tn_types.specs.BitWords.{from_bits}
 use Rattle.event_manager.specs.Sending.{due_guaranteed}
-use Rattle.stream_manager.specs.declared.config.Config.{Config}
-use Rattle.stream_manager.specs.Limits.{Terms}
-use Rattle.stream_manager.specs.Faults.{checked_packet}
-use Rattle.stream_manager.specs.Server as server
-use Rattle.stream_manager.specs.Server.{ServerEvent, took_at_server}
-use Rattle.stream_manager.specs.Client as client
-use Rattle.stream_manager.specs.Client.{ClientEvent, took_at_client}
+use Rattle.conn_packing.specs.stream_manager.declared.config.Config.{Config}
+use Rattle.conn_packing.specs.stream_manager.Limits.{Terms}
+use Rattle.conn_packing.specs.stream_manager.Faults.{checked_packet}
+use Rattle.conn_packing.specs.stream_manager.Server as server
+use Rattle.conn_packing.specs.stream_manager.Server.{ServerEvent, took_at_server}
+use Rattle.conn_packing.specs.stream_manager.Client as client
+use Rattle.conn_packing.specs.stream_manager.Client.{ClientEvent, took_at_client}
 use Rattle.pair_core.specs.History.{PairStep, ClientPack, Down, Up, History, at_server, at_client, happens, history}
 
 -- ---- what was sent, the oldest first

@@ -2,13 +2,13 @@
 -- Those that a Received packet carried are held; of others nothing says that they are.
 use Rattle.std.specs.Prelude.{ℕ, ◌≡◌, Bool, true, List, slice_get, is_some, Some}
 use Rattle.wire_format.specs.declared.blocks.BlockItem.{BlockItem}
-use Rattle.stream_manager.specs.datablocks.Holding.{held_of}
-use Rattle.stream_manager.specs.datablocks.Sending.{carriers}
+use Rattle.conn_packing.specs.stream_manager.datablocks.Holding.{held_of}
+use Rattle.conn_packing.specs.stream_manager.datablocks.Sending.{carriers}
 use Rattle.notify_window.specs.Fates.{any_received}
-use Rattle.stream_manager.specs.Limits.{Terms}
-use Rattle.stream_manager.specs.End.{fates}
-use Rattle.stream_manager.specs.Server.{ServerEvent, server_end, block_log}
-use Rattle.stream_manager.specs.Client.{blocks_came}
+use Rattle.conn_packing.specs.stream_manager.Limits.{Terms}
+use Rattle.conn_packing.specs.stream_manager.End.{fates}
+use Rattle.conn_packing.specs.stream_manager.Server.{ServerEvent, server_end, block_log}
+use Rattle.conn_packing.specs.stream_manager.Client.{blocks_came}
 use Rattle.pair_core.specs.History.{PairStep, history}
 
 -- the block of this number has these bytes

@@ -9,13 +9,13 @@ use Rattle.tn_types.specs.declared.choices.Class.TheVariants.{Guaranteed, Loose}
 use Rattle.tn_types.specs.declared.choices.Drain.{Drain}
 use Rattle.tn_types.specs.declared.choices.Read.{Read}
 use Rattle.tn_types.specs.declared.moves.Move.{Move}
-use Rattle.stream_manager.specs.declared.config.Config.{Config}
-use Rattle.stream_manager.specs.Limits.{Terms}
-use Rattle.stream_manager.specs.End.{with_event}
-use Rattle.stream_manager.specs.Server as server
-use Rattle.stream_manager.specs.Server.{ServerEvent, posted_at_server, server_datagrams}
-use Rattle.stream_manager.specs.Client as client
-use Rattle.stream_manager.specs.Client.{ClientEvent, posted_at_client, sampled_answer, client_datagrams}
+use Rattle.conn_packing.specs.stream_manager.declared.config.Config.{Config}
+use Rattle.conn_packing.specs.stream_manager.Limits.{Terms}
+use Rattle.conn_packing.specs.stream_manager.End.{with_event}
+use Rattle.conn_packing.specs.stream_manager.Server as server
+use Rattle.conn_packing.specs.stream_manager.Server.{ServerEvent, posted_at_server, server_datagrams}
+use Rattle.conn_packing.specs.stream_manager.Client as client
+use Rattle.conn_packing.specs.stream_manager.Client.{ClientEvent, posted_at_client, sampled_answer, client_datagrams}
 use Rattle.conn_packing.specs.Packs.{server_packs}
 
 pub data PairStep : Type 0 where

@@ -6,10 +6,10 @@ use Rattle.tn_types.specs.Bytes.{AreBytes}
 use Rattle.tn_types.specs.Prefix.{IsPrefixOf}
 use Rattle.event_manager.specs.Sending.{posted_of}
 use Rattle.event_manager.specs.Posted.{guaranteed_of}
-use Rattle.stream_manager.specs.Limits.{Terms, AreTerms}
-use Rattle.stream_manager.specs.End.{EndEvent, sender_log}
-use Rattle.stream_manager.specs.Server.{server_end}
-use Rattle.stream_manager.specs.Client.{client_end}
+use Rattle.conn_packing.specs.stream_manager.Limits.{Terms, AreTerms}
+use Rattle.conn_packing.specs.stream_manager.End.{EndEvent, sender_log}
+use Rattle.conn_packing.specs.stream_manager.Server.{server_end}
+use Rattle.conn_packing.specs.stream_manager.Client.{client_end}
 use Rattle.pair_core.specs.History.{PairStep, Post, ClientPost, history}
 use Rattle.pair_core.specs.Conditions.{AreMet, IsHonest}
 use Rattle.pair_core.specs.Answers.{client_delivered, server_delivered, sampled_in, accepted_in}

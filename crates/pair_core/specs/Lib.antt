@@ -1,5 +1,5 @@
-pub use Rattle.stream_manager.specs as stream_manager
-pub use Rattle.stream_manager.specs.ghost_masks as ghost_masks
+pub use Rattle.conn_packing.specs.stream_manager as stream_manager
+pub use Rattle.conn_packing.specs.stream_manager.ghost_masks as ghost_masks
 pub use Rattle.event_manager.specs as event_manager
 pub use Rattle.conn_packing.specs as conn_packing
 pub mod History

@@ -4,10 +4,10 @@ use Rattle.std.specs.Prelude.{ℕ, ◌≡◌, List, [], ◌∷◌, ◌++◌, ref
 use Rattle.tn_types.specs.Subsequence.{IsSubsequenceOf}
 use Rattle.tn_types.specs.declared.choices.Class.{Class}
 use Rattle.tn_types.specs.declared.choices.Class.TheVariants.{Guaranteed, Loose}
-use Rattle.stream_manager.specs.Limits.{Terms}
-use Rattle.stream_manager.specs.End.{EndEvent, Posted, Packed, Pinged, Took}
-use Rattle.stream_manager.specs.Server.{server_end}
-use Rattle.stream_manager.specs.Client.{client_end}
+use Rattle.conn_packing.specs.stream_manager.Limits.{Terms}
+use Rattle.conn_packing.specs.stream_manager.End.{EndEvent, Posted, Packed, Pinged, Took}
+use Rattle.conn_packing.specs.stream_manager.Server.{server_end}
+use Rattle.conn_packing.specs.stream_manager.Client.{client_end}
 use Rattle.pair_core.specs.History.{PairStep, history}
 use Rattle.pair_core.specs.Answers.{client_delivered, server_delivered}
 

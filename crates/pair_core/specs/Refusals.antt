@@ -1,9 +1,9 @@
 -- What a delivery between honest ends may answer. The network brings what was sent, as late and as often as it likes, so a
 -- packet may be old when it comes, and nothing may have been sent at a place. Nothing else is ever refused.
-use Rattle.stream_manager.specs.declared.fault.ArriveFault.{ArriveFault}
-use Rattle.stream_manager.specs.declared.fault.ArriveFault.TheVariants as server
-use Rattle.stream_manager.specs.declared.fault.ClientFault.{ClientFault}
-use Rattle.stream_manager.specs.declared.fault.ClientFault.TheVariants as client
+use Rattle.conn_packing.specs.stream_manager.declared.fault.ArriveFault.{ArriveFault}
+use Rattle.conn_packing.specs.stream_manager.declared.fault.ArriveFault.TheVariants as server
+use Rattle.conn_packing.specs.stream_manager.declared.fault.ClientFault.{ClientFault}
+use Rattle.conn_packing.specs.stream_manager.declared.fault.ClientFault.TheVariants as client
 use Rattle.pair_core.specs.declared.step.Answer.{Answer}
 use Rattle.pair_core.specs.declared.step.Answer.TheVariants as says
 

@@ -1,9 +1,9 @@
 -- The tie between a pair and its steps.
 use Rattle.std.specs.Prelude.{◌≡◌, ℕ, Bool, List}
-use Rattle.stream_manager.specs.Limits.{Terms}
-use Rattle.stream_manager.specs.Stands.{ConnState, ConnStandsFor, terms_of, ClientState, ClientStandsFor}
-use Rattle.stream_manager.specs.Server.{server_datagrams}
-use Rattle.stream_manager.specs.Client.{client_datagrams}
+use Rattle.conn_packing.specs.stream_manager.Limits.{Terms}
+use Rattle.conn_packing.specs.stream_manager.Stands.{ConnState, ConnStandsFor, terms_of, ClientState, ClientStandsFor}
+use Rattle.conn_packing.specs.stream_manager.Server.{server_datagrams}
+use Rattle.conn_packing.specs.stream_manager.Client.{client_datagrams}
 use Rattle.pair_core.specs.History.{PairStep, history}
 
 pub record PairState : Type 0 where

@@ -2,10 +2,10 @@
 -- the other end did not and never will: as soon as a packet is judged, it is Received exactly where it was processed.
 use Rattle.std.specs.Prelude.{ℕ, ◌≡◌, true, false, List, ◌++◌}
 use Rattle.notify_window.specs.Log.{Received, Lost, is_processed}
-use Rattle.stream_manager.specs.Limits.{Terms}
-use Rattle.stream_manager.specs.End.{EndEvent, window_log, fates}
-use Rattle.stream_manager.specs.Server.{server_end}
-use Rattle.stream_manager.specs.Client.{client_end}
+use Rattle.conn_packing.specs.stream_manager.Limits.{Terms}
+use Rattle.conn_packing.specs.stream_manager.End.{EndEvent, window_log, fates}
+use Rattle.conn_packing.specs.stream_manager.Server.{server_end}
+use Rattle.conn_packing.specs.stream_manager.Client.{client_end}
 use Rattle.pair_core.specs.History.{PairStep, history}
 
 -- each packet of the sender that is Lost was not processed at the receiver

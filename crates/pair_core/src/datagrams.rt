@@ -7,10 +7,10 @@ ghost use Rattle.conn_packing.specs.Asking.{Asks};
 ghost use Rattle.conn_packing.specs.Calls.{MayPackEnd, PacksEnd};
 ghost use Rattle.pair_core.specs.Flat.{cut, Rise, with_made};
 
+use conn_packing::stream_manager::Conn;
 use conn_packing::{MAX_PACKET_VALUES, Made, Packer};
 use std::alloc::Global;
 use std::marker::Model;
-use stream_manager::Conn;
 use tn_types::{Drain, MAX_DATAGRAM_BYTES, MAX_DATAGRAMS, NoMemory, Read, Values};
 
 /// The room for datagrams, and for their bytes, that a list begins with.

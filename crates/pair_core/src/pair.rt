@@ -5,11 +5,11 @@ ghost use Rattle.std.specs.Option.{option_copied};
 use crate::datagrams::Datagrams;
 use crate::step::{Answer, PairStep};
 use conn_packing::Packer;
+use conn_packing::stream_manager::{Client, Config, Conn};
 use event_manager::MAX_READY_EVENTS;
 use quantised_fields::KindTable;
 use std::alloc::Global;
 use std::marker::Model;
-use stream_manager::{Client, Config, Conn};
 use tn_types::{BlockBytes, Class, MAX_BLOCKS, MAX_DATAGRAM_BYTES, NoMemory, Payload};
 
 /// The server's end, the client's end, and the datagrams that each sent.
@@ -52,8 +52,8 @@ impl Model for Pair {
 }
 
 impl Pair {
-    ghost use Rattle.stream_manager.specs.Limits.{IsConfig};
-    ghost use Rattle.stream_manager.specs.EndCalls.{popped};
+    ghost use Rattle.conn_packing.specs.stream_manager.Limits.{IsConfig};
+    ghost use Rattle.conn_packing.specs.stream_manager.EndCalls.{popped};
     ghost use Rattle.pair_core.specs.Stands.{StandsFor};
     ghost use Rattle.pair_core.specs.Answers.{answer};
     ghost use Rattle.pair_core.specs.Calls.{step_of, Meets, IsReady, Does, Answers, Stays, Hands, Accepts, Keeps, Unchanged};

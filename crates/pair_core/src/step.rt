@@ -1,8 +1,8 @@
 //! What is done to a pair, and what it answers.
 
+use conn_packing::stream_manager::{ArriveFault, ClientFault};
 use event_manager::PostFault;
 use move_manager::MoveFault;
-use stream_manager::{ArriveFault, ClientFault};
 use tn_types::{Class, Move, Payload, RawBytes};
 
 /// One step of a pair. Each has the condition of the call of an end that it names (docs/connection.md).

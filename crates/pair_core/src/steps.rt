@@ -4,8 +4,8 @@ ghost use Rattle.pair_core.specs.Answers.{post_answer};
 
 use crate::pair::Pair;
 use crate::step::Answer;
+use conn_packing::stream_manager::ClientOut;
 use event_manager::PostFault;
-use stream_manager::ClientOut;
 use tn_types::{Class, MAX_DATAGRAM_BYTES, MAX_DATAGRAMS, Move, Payload};
 
 /// What a guaranteed post answers.

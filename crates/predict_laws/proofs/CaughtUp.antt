@@ -21,10 +21,10 @@ use Rattle.pair_core.specs.History.{PairStep, history}
 use Rattle.pair_core.specs.Answers.{accepted_in, sampled_in}
 use Rattle.pair_core.specs.Conditions.{IsHonest}
 use Rattle.conn_packing.specs.Packs.{absorbing}
-use Rattle.match_laws.specs.Applied.{applied}
-use Rattle.match_laws.specs.Laws.{first, journal_of}
-use Rattle.match_laws.proofs.Applied.{taken}
-use Rattle.match_laws.proofs.InOrder.{terms_fit, are_good, moves_in_order}
+use Rattle.predict_lines.specs.match_laws.Applied.{applied}
+use Rattle.predict_lines.specs.match_laws.Laws.{first, journal_of}
+use Rattle.predict_lines.proofs.Below.match_laws.Applied.{taken}
+use Rattle.predict_lines.proofs.Below.match_laws.InOrder.{terms_fit, are_good, moves_in_order}
 use Rattle.own_lists.specs.Kept.{drains_of}
 use Rattle.own_lists.specs.Past.{client_terms, kept_by, after}
 use Rattle.own_lists.specs.Agreement.{OwnListsHold}

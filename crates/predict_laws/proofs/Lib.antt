@@ -1,3 +1,4 @@
+pub mod Below
 pub mod Ticks
 pub mod Acknowledged
 pub mod Known

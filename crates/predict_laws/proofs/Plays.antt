@@ -13,7 +13,7 @@ use Rattle.world_rules.specs.Moves as rules
 use Rattle.world_rules.specs.Moves.{or_still, still}
 use Rattle.own_lists.specs.Past.{Past, move_of, moves_of, after}
 use Rattle.own_lists.proofs.WorldFacts.{world_after}
-use Rattle.match_laws.specs.Applied.{one_move, applied}
+use Rattle.predict_lines.specs.match_laws.Applied.{one_move, applied}
 use Rattle.client_predict.specs.Standing.{stepped_by, played}
 use Rattle.client_predict.proofs.PredictLogs.{value_more}
 use Rattle.predict_laws.specs.Players.{measures_in, stands_in}

@@ -11,7 +11,7 @@ use Rattle.world_rules.specs.Kinds.{match_kinds}
 use Rattle.pair_core.specs.History.{history}
 use Rattle.pair_core.specs.Answers.{sampled_in}
 use Rattle.conn_packing.specs.Packs.{absorbing, values_of}
-use Rattle.match_laws.specs.Values.{steps_of, AtEachLine}
+use Rattle.predict_lines.specs.match_laws.Values.{steps_of, AtEachLine}
 use Rattle.own_lists.specs.Course.{waiting_in}
 use Rattle.own_lists.specs.Kept.{drains_of, reads_of}
 use Rattle.own_lists.specs.Past.{client_terms, kept_by, after}

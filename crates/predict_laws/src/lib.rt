@@ -4,3 +4,4 @@
 mod laws;
 
 pub use laws::value_is_servers;
+pub use predict_lines;

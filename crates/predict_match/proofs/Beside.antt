@@ -16,7 +16,7 @@ use Rattle.match_engine.specs.match_laws.pair_core.stream_manager.Stands.{Client
 use Rattle.world_rules.specs.Kinds.{match_kinds}
 use Rattle.match_engine.specs.Match.{MatchState, StandsFor}
 use Rattle.match_engine.proofs.Written.{reverse_next}
-use Rattle.predict_lines.specs.Lines.{end_of, predicted_at, predicted_so_far, predicted}
+use Rattle.predict_laws.specs.predict_lines.Lines.{end_of, predicted_at, predicted_so_far, predicted}
 
 -- ---- the client's end
 

@@ -4,7 +4,7 @@ use Rattle.match_script.specs.declared.types.BodyLine.{BodyLine}
 use Rattle.match_engine.specs.Match.{MatchState, StandsFor}
 use Rattle.client_predict.specs.Predicting.{Prediction}
 use Rattle.predict_client.specs.Following.{Follows}
-use Rattle.predict_lines.specs.Lines.{end_of}
+use Rattle.predict_laws.specs.predict_lines.Lines.{end_of}
 
 pub record StandBeside (m : MatchState) (p : Prediction) (c : ℕ) (past : List BodyLine) : Type 0 where
   pub lines : StandsFor m past

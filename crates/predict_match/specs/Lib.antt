@@ -1,3 +1,3 @@
 pub use Rattle.predict_laws.specs as predict_laws
-pub use Rattle.predict_lines.specs as predict_lines
+pub use Rattle.predict_laws.specs.predict_lines as predict_lines
 pub mod Beside

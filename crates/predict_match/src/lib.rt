@@ -4,6 +4,5 @@
 mod running;
 
 pub use match_engine::RunFault;
-pub use predict_laws::value_is_servers;
-pub use predict_lines;
+pub use predict_laws::{predict_lines, value_is_servers};
 pub use running::run_predicted;

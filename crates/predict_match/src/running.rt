@@ -7,16 +7,16 @@ ghost use Rattle.match_script.specs.declared.types.BodyLine.{BodyLine as OneLine
 ghost use Rattle.match_script.specs.Ranges.{HasRanges, LineFits};
 ghost use Rattle.match_engine.specs.Match.{StandsFor, Does};
 ghost use Rattle.client_predict.specs.Laws.{AcceptedChangesNothing, OffsetSettles};
-ghost use Rattle.predict_lines.specs.Changes.{IsChange};
-ghost use Rattle.predict_lines.specs.Lines.{end_of, prediction_line, is_show, predicted_at, predicted};
+ghost use Rattle.predict_laws.specs.predict_lines.Changes.{IsChange};
+ghost use Rattle.predict_laws.specs.predict_lines.Lines.{end_of, prediction_line, is_show, predicted_at, predicted};
 ghost use Rattle.predict_laws.specs.Promise.{ValueIsServers};
 ghost use Rattle.predict_match.specs.Beside.{StandBeside};
 
 use client_predict::{Predict, accepted_changes_nothing, offset_settles};
 use match_engine::{Match, RunFault};
 use match_script::{BodyLine, Script};
+use predict_laws::predict_lines::{EndChange, change_of, follow, put_prediction};
 use predict_laws::value_is_servers;
-use predict_lines::{EndChange, change_of, follow, put_prediction};
 use std::alloc::Global;
 use tn_outside::{Sink, write_all};
 use tn_types::NoMemory;

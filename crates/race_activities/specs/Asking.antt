@@ -19,4 +19,5 @@ net_line client (script.ClientPack named) = asked_of client named net.ClientPack
 net_line client (script.Down named k) = asked_of client named (net.Down k)
 net_line client (script.Up named k) = asked_of client named (net.Up k)
 net_line client (script.Move named m) = asked_of client named (net.Move m)
+net_line client (script.Raw named bytes) = asked_of client named (net.Raw bytes)
 net_line client line = None

@@ -1,7 +1,7 @@
 //! The activities of a client: its packer and its net.
 ghost use Rattle.match_script.specs.Ranges.{HasRanges};
 
-use crate::asked::{is_pack_of, net_line};
+use crate::asked::{is_net_of, is_pack_of, net_line};
 use dirty_lanes::{LaneName, Lanes};
 use match_script::{BodyLine, Script};
 use race_sim::connection_lock::SharedPair;
@@ -50,6 +50,20 @@ impl<'a, N: LaneName, G: Gate> Served<'a, N, G> {
         stopped
     }
 
+    // Gives the connection what a line asks of the client's net.
+    fn give<R: Wait>(&self, rt: &R, line: &BodyLine) -> Result<(), KeepFault> {
+        let Ok(asked) = net_line(self.alloc, self.client, line) else {
+            return Err(KeepFault::NoMemory);
+        };
+        match asked {
+            Some(asked) => {
+                self.pair.net_turn(rt, self.alloc, asked)?;
+                Ok(())
+            }
+            None => Ok(()),
+        }
+    }
+
     // The net comes to a line. After a fault it does no more, but comes by the places that are left.
     fn net_turn<R: Wait>(
         &self,
@@ -58,13 +72,13 @@ impl<'a, N: LaneName, G: Gate> Served<'a, N, G> {
         line: &BodyLine,
         stopped: Option<KeepFault>,
     ) -> Option<KeepFault> {
-        let Some(asked) = net_line(self.client, line) else {
+        if !is_net_of(self.client, line) {
             return stopped;
-        };
+        }
         self.gate
             .pass(Actor::Net(self.client), Place::Before(place));
         let stopped = match stopped {
-            None => self.pair.net_turn(rt, self.alloc, &asked).err(),
+            None => self.give(rt, line).err(),
             fault => fault,
         };
         self.gate.pass(Actor::Net(self.client), Place::After(place));

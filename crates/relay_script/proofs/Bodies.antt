@@ -14,7 +14,7 @@ use Rattle.relay_script.specs.declared.entries.Entry.{Entry}
 use Rattle.relay_script.specs.declared.entries.Entry.TheVariants.{OfMatch, OfRelay}
 use Rattle.relay_script.specs.Lines.{relay_line_at}
 use Rattle.relay_script.specs.Whole.{entry_at, entries_of, match_lines, relay_lines, parts_of}
-use Rattle.relay_script.specs.Ranges.{PlacedFits, InOrderFrom}
+use Rattle.relay_script.specs.Ranges.{RelayLineFits, PlacedFits, InOrderFrom}
 use Rattle.relay_script.proofs.Cutting.{no_line}
 
 -- these lines in front of those of further entries
@@ -42,11 +42,11 @@ module _ (clients spectators n k : ℕ) (text line rest : List ℕ) (own : List 
   unfolding entries_of
   match_goes_on read cut e = rw (cut, e, add-one) (match_moved own lines read (entries_of clients spectators n (suc k) (lines_of rest)))
 
-  pub relay_goes_on : (read : RelayLine) → lines_of text ≡ line ∷ lines_of rest → entry_at clients spectators k line ≡ Ok (OfRelay read)
+  pub relay_goes_on : (read : RelayLine) (behind : ℕ) → lines_of text ≡ line ∷ lines_of rest → entry_at clients spectators k line ≡ Ok (OfRelay read) → behind ≡ length own
       → behind_parts own lines (entries_of clients spectators n k (lines_of text))
-      ≡ behind_parts own (lines ++ record { behind = length own; line = read } ∷ []) (entries_of clients spectators n (k + 1) (lines_of rest))
+      ≡ behind_parts own (lines ++ record { behind = behind; line = read } ∷ []) (entries_of clients spectators n (k + 1) (lines_of rest))
   unfolding entries_of
-  relay_goes_on read cut e = rw (cut, e, add-one) (relay_moved own lines read (entries_of clients spectators n (suc k) (lines_of rest)))
+  relay_goes_on read behind cut e b = rw (cut, e, add-one, b) (relay_moved own lines read (entries_of clients spectators n (suc k) (lines_of rest)))
 
   pub body_stops : (fault : ScriptFault) → lines_of text ≡ line ∷ lines_of rest → entry_at clients spectators k line ≡ Err fault
       → behind_parts own lines (entries_of clients spectators n k (lines_of text)) ≡ Err (n + (k + 1), fault)
@@ -74,12 +74,38 @@ still_placed spectators own line lines all k d lt =
     let one : length (own ++ line ∷ []) ≡ length own + 1 = omega (arith, length-append own (line ∷ [])) in
     rw one (placed_later spectators (length own) _ (all k d lt))
 
-pub in_order_more : (least spectators n : ℕ) (lines : List PlacedLine) (line : RelayLine) → least ≤ n → InOrderFrom least lines → All (PlacedFits spectators n) lines
-    → InOrderFrom least (lines ++ record { behind = n; line = line } ∷ [])
-in_order_more least spectators n [] line le order all = (le, unit)
-in_order_more least spectators n (placed ∷ lines) line le (low, order) all =
-    (low, in_order_more placed.behind spectators n lines line (all 0 placed (omega arith)).1 order (λ k d lt. all (suc k) d (omega arith)))
+one_more : (least spectators n : ℕ) (lines : List PlacedLine) (line : PlacedLine) → least ≤ line.behind → InOrderFrom least lines → All (PlacedFits spectators n) lines → n ≤ line.behind
+    → InOrderFrom least (lines ++ line ∷ [])
+one_more least spectators n [] line le order all last = (le, tt)
+one_more least spectators n (placed ∷ lines) line le (low, order) all last =
+    let here = (all 0 placed (omega arith)).1 in
+    (low, one_more placed.behind spectators n lines line (omega (arith, here, last)) order (λ k d lt. all (suc k) d (omega (arith, lt))) last)
+
+pub in_order_more : (spectators n : ℕ) (lines : List PlacedLine) (line : PlacedLine) → InOrderFrom 0 lines → All (PlacedFits spectators n) lines → n ≤ line.behind → InOrderFrom 0 (lines ++ line ∷ [])
+in_order_more spectators n lines line order all last = one_more 0 spectators n lines line (omega arith) order all last
 
 pub entry_few : (clients spectators k : ℕ) (line : List ℕ) (read : Entry) → entry_at clients spectators k line ≡ Ok read → k < 100000
 unfolding entry_at relay_line_at line_at
 entry_few clients spectators k line read e = grind arith
+
+-- what holds behind a relay's line
+pub record Kept (clients spectators n k : ℕ) (text rest : List ℕ) (own : List BodyLine) (lines after : List PlacedLine) : Type 0 where
+  pub goes_on : behind_parts own lines (entries_of clients spectators n k (lines_of text)) ≡ behind_parts own after (entries_of clients spectators n (k + 1) (lines_of rest))
+  pub few : k < 100000
+  pub count : length after ≡ length lines + 1
+  pub placed : All (PlacedFits spectators (length own)) after
+  pub in_order : InOrderFrom 0 after
+
+pub kept : (clients spectators n k : ℕ) (text line rest : List ℕ) (own : List BodyLine) (lines : List PlacedLine) (read : RelayLine) (behind : ℕ) (after : List PlacedLine)
+    → lines_of text ≡ line ∷ lines_of rest → entry_at clients spectators k line ≡ Ok (OfRelay read) → RelayLineFits spectators read → behind ≡ length own
+    → after ≡ lines ++ record { behind = behind; line = read } ∷ [] → All (PlacedFits spectators (length own)) lines → InOrderFrom 0 lines
+    → Kept clients spectators n k text rest own lines after
+kept clients spectators n k text line rest own lines read behind after cut e fit b items placed order =
+    let last : PlacedLine = record { behind = behind; line = read } in
+    record {
+      goes_on = rw items (relay_goes_on clients spectators n k text line rest own lines read behind cut e b);
+      few = entry_few clients spectators k line (OfRelay read) e;
+      count = rw items (omega (arith, length-append lines (last ∷ [])));
+      placed = rw items (placed_more spectators (length own) lines last placed (fit, omega (arith, b)));
+      in_order = rw items (in_order_more spectators (length own) lines last order placed (omega (arith, b)));
+    }

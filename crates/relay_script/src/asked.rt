@@ -63,7 +63,7 @@ fn clients_named(alloc: Global, text: &[u8]) -> u8
     }
 }
 
-#[tactic(auto, unfolding(crate::specs::Asked::relay_numbers))]
+#[tactic(auto, using(match_script::proofs::Numbers::number_from_fits), unfolding(crate::specs::Asked::relay_numbers))]
 fn relay_numbers(clients: u8, c: &[u8], count: &[u8]) -> Result<Asked, ScriptFault>
     ensures value { result ≡ relay_numbers clients c.now count.now }
     ensures fits { IfOk result (AskedFits clients) }

@@ -72,22 +72,25 @@ pub(crate) fn body_of(
     let mut lines = Vec::new(alloc);
     let mut rest = text;
     let mut k = 0u32;
-    while rest.len() > 0 {
-        let at = n + (k + 1);
+    'lines: while rest.len() > 0 {
         let (read, after) = next_entry(alloc, clients, spectators, k, rest);
+        rest = after;
+        k += 1;
         match read {
-            Ok(Entry::OfMatch(line)) => own.push(line)?,
+            Ok(Entry::OfMatch(line)) => {
+                own.push(line)?;
+                continue 'lines;
+            }
             Ok(Entry::OfRelay(line)) => {
                 let behind = own.len() as u32;
-                lines.push(PlacedLine { behind, line })?
+                lines.push(PlacedLine { behind, line })?;
+                continue 'lines;
             }
             Err(LineFault::NoMemory) => return Err(ParseFault::NoMemory),
             Err(LineFault::Faulty(fault)) => {
-                return Err(ParseFault::Bad { line: at, fault });
+                return Err(ParseFault::Bad { line: n + k, fault });
             }
         }
-        rest = after;
-        k += 1;
     }
     Ok((Body::from_vec(own), RelayLines::from_vec(lines)))
 }

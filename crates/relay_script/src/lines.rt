@@ -10,11 +10,14 @@ use match_script::{ScriptFault, Words, below, is_name, is_text, number_32, parte
 use tn_types::MAX_BODY_LINES;
 
 /// Whether the first line of a text is one of the relay's.
-#[tactic(auto, using(crate::proofs::Cutting::begins_with_r, crate::proofs::Cutting::begins_otherwise, crate::proofs::Cutting::is_short))]
+#[tactic(auto, using(crate::proofs::Cutting::with_r, crate::proofs::Cutting::without_r, crate::proofs::Cutting::too_short))]
 pub(crate) fn is_relay(text: &[u8]) -> bool
     ensures { result ≡ is_relay (first_line text.now) }
 {
-    text.len() >= 2 && text[0] == b'r' && text[1] == b' '
+    if text.len() < 2 {
+        return false;
+    }
+    text[0] == b'r' && text[1] == b' '
 }
 
 #[tactic(auto, unfolding(crate::specs::Lines::scan_line))]

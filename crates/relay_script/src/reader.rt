@@ -19,7 +19,7 @@ fn header_behind(alloc: Global, text: &[u8]) -> Result<(Head, &[u8]), ParseFault
     ensures fits { IfOk result (λ x. HeadFits x.0) }
 {
     match header(alloc, text) {
-        Ok(begun) => Ok(begun),
+        Ok((head, rest)) => Ok((head, rest)),
         Err(ParseFault::Bad { line, fault }) => Err(ParseFault::Bad {
             line: line + 1,
             fault,
@@ -30,7 +30,7 @@ fn header_behind(alloc: Global, text: &[u8]) -> Result<(Head, &[u8]), ParseFault
 
 /// The relay script of a text, or the least line that can't stand where it stands, with its first fault; each exactly as docs/relay.md,
 /// "The relay script", says. Any bytes may come.
-#[tactic(auto, unfolding(crate::specs::Whole::relay_script_in))]
+#[tactic(auto, using(crate::proofs::Clients::asked_names), unfolding(crate::specs::Whole::relay_script_in))]
 pub fn parse_relay(alloc: Global, bytes: &[u8]) -> Result<RelayScript, ParseFault>
     ensures grammar { Gives (λ script. script) result (relay_script_of bytes.now) }
     ensures ranges { IfOk result HasRelayRanges }

@@ -7,7 +7,7 @@ use Rattle.match_script.specs.Script.{threads_script_of}
 use Rattle.match_script.specs.declared.types.Script.{Script as OneScript}
 use Rattle.script_input.specs.declared.status.Status.TheVariants.{Done, WriteFault}
 use Rattle.script_input.specs.Reading.{Seen, seen, GaveAtMost, HasFailed, ReadAs}
-use Rattle.match_threads.specs.Telling.{Tells, TellsFront}
+use Rattle.threads_top.specs.Telling.{Tells, TellsFront}
 use Rattle.threads_top.specs.Outcome.{ThreadsOutcome}
 
 -- a fault that comes later in a call is one of the call

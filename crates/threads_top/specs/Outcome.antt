@@ -8,7 +8,7 @@ use Rattle.match_script.specs.declared.types.Script.{Script as OneScript}
 use Rattle.script_input.specs.declared.status.Status.{Status}
 use Rattle.script_input.specs.declared.status.Status.TheVariants.{Done, Usage, ReadFault, WriteFault, NoMemory}
 use Rattle.script_input.specs.Reading.{Seen, IsUntouched, HasFailed, ReadAs, NotRead, GaveAtMost, answer_of}
-use Rattle.match_threads.specs.Telling.{Tells, TellsFront}
+use Rattle.threads_top.specs.Telling.{Tells, TellsFront}
 
 -- what words behind `threads` make of it: none may stand there
 abbrev pub threads_with : List (List ℕ) → Result (Unit {0}) ℕ

@@ -1,7 +1,11 @@
-//! The call of the program that runs a match in threads, over a source and a sink.
+//! A match in threads: its run, written to a sink, and the call of the program over a source and a sink.
 #![tactic(auto)]
 
+mod run;
 mod threads;
 
-pub use match_threads::{FreeGate, Gate, run_threads, tell};
+pub use legal_race::tell;
+pub use match_engine::RunFault;
+pub use race_run::{FreeGate, Gate};
+pub use run::run_threads;
 pub use threads::top_threads;

@@ -3,7 +3,9 @@ ghost use Rattle.std.specs.Prelude.{◌≡◌, ◌⊎◌, List, [], ℕ, map, st
 ghost use Rattle.script_input.specs.Reading.{seen, HasFailed};
 ghost use Rattle.threads_top.specs.Outcome.{threads_of, ThreadsOutcome, IsWanted, CanBeDone};
 
-use match_threads::{FreeGate, RunFault, run_threads};
+use crate::run::run_threads;
+use match_engine::RunFault;
+use race_run::FreeGate;
 use script_input::{Status, read_threads_script};
 use std::alloc::Global;
 use std::sync::Wait;

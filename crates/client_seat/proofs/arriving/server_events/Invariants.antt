@@ -1,6 +1,6 @@
 use Rattle.std.proofs.Common.{◌≡◌, ◌≤◌, ◌++◌, length, map}
 use Rattle.event_manager.specs.declared.TheConstants.{MAX_READY_EVENTS}
-use Rattle.pair_core.specs.Calls.{Stays}
+use Rattle.own_lists.specs.pair_core.Calls.{Stays}
 use Rattle.client_seat.specs.Told.{event_told}
 use Rattle.client_seat.proofs.arriving.server_events.Given as goal
 

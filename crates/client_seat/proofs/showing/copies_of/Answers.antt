@@ -12,7 +12,7 @@ use Rattle.ghost_masks.proofs.Holders.{built_none, built_some, built_not}
 use Rattle.stream_manager.specs.Client.{ghosts_came}
 use Rattle.stream_manager.specs.Server.{ghost_log}
 use Rattle.stream_manager.specs.Stands.{ClientState}
-use Rattle.pair_core.specs.History.{history}
+use Rattle.own_lists.specs.pair_core.History.{history}
 use Rattle.match_report.specs.declared.copies.CopyTold.{CopyTold}
 use Rattle.client_seat.specs.Told.{holder_at, fields_told, copy_told, slot_told}
 use Rattle.client_seat.proofs.Copies.{found-of}

@@ -2,8 +2,8 @@ use Rattle.std.proofs.Common.{◌≡◌, List}
 use Rattle.std.specs.Prelude.{filter_map}
 use Rattle.ghost_model.specs.Words.{upto}
 use Rattle.stream_manager.specs.Limits.{Terms}
-use Rattle.pair_core.specs.History.{PairStep}
-use Rattle.pair_core.specs.Stands.{StandsFor}
+use Rattle.own_lists.specs.pair_core.History.{PairStep}
+use Rattle.own_lists.specs.pair_core.Stands.{StandsFor}
 use Rattle.client_seat.specs.Told.{slot_told}
 use Rattle.client_seat.proofs.showing.copies_of.Given as goal
 

@@ -5,8 +5,8 @@ use Rattle.ghost_client.specs.declared.copy.GhostCopy.{GhostCopy}
 use Rattle.ghost_client.specs.Copies.{copy_of}
 use Rattle.stream_manager.specs.Limits.{Terms}
 use Rattle.stream_manager.specs.Client.{ghosts_came}
-use Rattle.pair_core.specs.History.{PairStep, history}
-use Rattle.pair_core.specs.Stands.{StandsFor}
+use Rattle.own_lists.specs.pair_core.History.{PairStep, history}
+use Rattle.own_lists.specs.pair_core.Stands.{StandsFor}
 use Rattle.client_seat.specs.Told.{field_told}
 use Rattle.client_seat.proofs.showing.fields_of.Given as goal
 

@@ -6,8 +6,8 @@ use Rattle.ghost_model.specs.Ghosts.{slot}
 use Rattle.stream_manager.specs.Limits.{Terms}
 use Rattle.stream_manager.specs.Stands.{ConnState, ConnStandsFor}
 use Rattle.stream_manager.specs.Server.{ghost_log}
-use Rattle.pair_core.specs.History.{PairStep, history}
-use Rattle.pair_core.specs.Stands.{StandsFor}
+use Rattle.own_lists.specs.pair_core.History.{PairStep, history}
+use Rattle.own_lists.specs.pair_core.Stands.{StandsFor}
 use Rattle.client_seat.specs.Told.{holder_at}
 use Rattle.client_seat.proofs.Copies.{no-slot, held-slot, free-slot}
 use Rattle.client_seat.proofs.showing.holders.Goals as goal

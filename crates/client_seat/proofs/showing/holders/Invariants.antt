@@ -2,8 +2,8 @@ use Rattle.std.proofs.Common.{◌≡◌, ℕ, ◌<◌, List, length, take}
 use Rattle.std.specs.Prelude.{None, slice_index_or}
 use Rattle.tn_types.specs.declared.limits.TheConstants.{MAX_SLOTS}
 use Rattle.stream_manager.specs.Limits.{Terms}
-use Rattle.pair_core.specs.History.{PairStep}
-use Rattle.pair_core.specs.Stands.{StandsFor}
+use Rattle.own_lists.specs.pair_core.History.{PairStep}
+use Rattle.own_lists.specs.pair_core.Stands.{StandsFor}
 use Rattle.client_seat.specs.Told.{holder_at}
 use Rattle.client_seat.proofs.showing.holders.Given as goal
 

@@ -6,7 +6,7 @@ use Rattle.ghost_masks.specs.StandsFor.{AreOwnFields}
 use Rattle.ghost_model.specs.Ghosts.{is_settled}
 use Rattle.stream_manager.specs.Stands.{ConnState, ConnStandsFor}
 use Rattle.stream_manager.specs.Server.{ghost_log}
-use Rattle.pair_core.specs.History.{history}
+use Rattle.own_lists.specs.pair_core.History.{history}
 use Rattle.client_seat.specs.Told.{is_newest}
 use Rattle.client_seat.proofs.Copies.{up-here, alive-here, not-of-kind, not-settled, newest-bit}
 use Rattle.client_seat.proofs.showing.is_settled.Goals as goal

@@ -2,8 +2,8 @@ use Rattle.std.proofs.Common.{◌≡◌, ◌∙◌, ◌<◌, ◌+◌, ℕ, List,
 use Rattle.std.specs.Prelude.{slice_index_or}
 use Rattle.std.proofs.lemmas.List.{length_push}
 use Rattle.quantised_fields.specs.declared.kind.Kind.{Kind}
-use Rattle.own_lists.specs.Course.{beginning}
-use Rattle.own_lists.specs.Past.{client_terms}
+use Rattle.match_laws.specs.own_lists.Course.{beginning}
+use Rattle.match_laws.specs.own_lists.Past.{client_terms}
 use Rattle.match_laws.specs.client_seat.Stands.{SeatState, StandsFor}
 use Rattle.match_engine.proofs.Growing.{one_more}
 use Rattle.match_engine.proofs.game.seats_of.Goals as goal

@@ -1,6 +1,6 @@
 use Rattle.std.proofs.Common.{◌≡◌, ◌<◌, ℕ, length, slice_index_or}
-use Rattle.own_lists.specs.Course.{beginning}
-use Rattle.own_lists.specs.Past.{client_terms}
+use Rattle.match_laws.specs.own_lists.Course.{beginning}
+use Rattle.match_laws.specs.own_lists.Past.{client_terms}
 use Rattle.match_laws.specs.client_seat.Stands.{SeatState, StandsFor}
 use Rattle.match_engine.proofs.game.seats_of.Given as goal
 

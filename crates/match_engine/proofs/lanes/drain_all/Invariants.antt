@@ -1,7 +1,7 @@
 use Rattle.std.proofs.Common.{◌≡◌, take, drop, filter}
 use Rattle.std.specs.List.{All}
 use Rattle.dirty_lanes.specs.Words.{mask_at}
-use Rattle.own_lists.specs.Kept.{has_bits}
+use Rattle.match_laws.specs.own_lists.Kept.{has_bits}
 use Rattle.match_engine.specs.Serving.{OthersStay, marked}
 use Rattle.match_engine.proofs.lanes.drain_all.Given as goal
 

@@ -29,7 +29,7 @@ lines-preserved g c =
       played = c.in_ok-step.ensures.played ok;
       script = c.in_ok-step.ensures.script ∙ same;
       written = rw place (moved s c.args.script.now (c.lines.game.place + 1) first new same (told_more s c.lines.game.place first old new (c.in_ok-step.ensures.more ok) so_far (c.in_ok-step.ensures.written ok)));
-      later = omega arith;
+      spared = c.in_ok-step.ensures.cause.spared (λ e. absurd cc) ∙ c.lines.invariant.spared;
     }
 
 pub returns-in_err-step-clause-front : goal.returns-in_err-step-clause-front

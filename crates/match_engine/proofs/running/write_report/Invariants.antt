@@ -1,4 +1,4 @@
-use Rattle.std.proofs.Common.{◌≡◌, ◌≤◌, ◌-◌, length, reverse, take}
+use Rattle.std.proofs.Common.{◌≡◌, ◌-◌, length, reverse, take}
 use Rattle.tn_outside.specs.Totals.{Adds}
 use Rattle.match_laws.specs.Report.{report_so_far}
 use Rattle.match_engine.specs.Match.{IsPlayed}
@@ -10,7 +10,7 @@ invariant-lines g l = record {
   script : l.game.script ≡ l.script;
   written : Adds (g.K.Sink.written l.fn.sink) (g.K.Sink.written l.sink)
       (report_so_far l.script.head (reverse (take l.game.place l.script.body)));
-  later : g.K.Sink.faults l.fn.sink ≤ g.K.Sink.faults l.sink;
+  spared : g.K.Sink.faults l.sink ≡ g.K.Sink.faults l.fn.sink;
 }
 
 abbrev pub decreases-lines : goal.decreases-lines

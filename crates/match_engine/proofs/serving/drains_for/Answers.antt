@@ -2,8 +2,8 @@ use Rattle.std.proofs.Common.{◌<◌, ◌∙◌, List, ap, sym, subst}
 use Rattle.std.specs.Prelude.{OnOk}
 use Rattle.std.specs.List.{All}
 use Rattle.client_scope.specs.declared.period.ShownPeriod.{ShownPeriod}
-use Rattle.own_lists.specs.Kept.{has_bits}
-use Rattle.own_lists.specs.Past.{client_terms, kept_by, after}
+use Rattle.match_laws.specs.own_lists.Kept.{has_bits}
+use Rattle.match_laws.specs.own_lists.Past.{client_terms, kept_by, after}
 use Rattle.match_engine.specs.Serving.{AreApart, marked}
 use Rattle.match_engine.proofs.Fed.{map_on_ok}
 use Rattle.match_engine.proofs.Packing.{objects_there, objects_apart, drains_at_room}

@@ -5,8 +5,8 @@ use Rattle.tn_types.specs.declared.choices.Read.{Read}
 use Rattle.match_report.specs.declared.told.Told.{Told}
 use Rattle.world_sim.specs.Worlds.{Worlds}
 use Rattle.client_scope.specs.declared.period.ShownPeriod.{ShownPeriod}
-use Rattle.own_lists.specs.Kept.{drains_of}
-use Rattle.own_lists.specs.Past.{client_terms, kept_by, after}
+use Rattle.match_laws.specs.own_lists.Kept.{drains_of}
+use Rattle.match_laws.specs.own_lists.Past.{client_terms, kept_by, after}
 use Rattle.match_laws.specs.pair_core.Calls.{MayPack}
 use Rattle.match_engine.specs.Values.{Rise, ranges, IsNewest}
 use Rattle.match_engine.proofs.Fed.{map_if_ok}

@@ -3,7 +3,7 @@ use Rattle.std.specs.List.{All, list_any}
 use Rattle.world_scope.specs.declared.viewer.Seen.{Seen}
 use Rattle.world_scope.specs.Scope.{visible_list}
 use Rattle.dirty_lanes.specs.Words.{mask_at}
-use Rattle.own_lists.specs.Past.{after, showing_of}
+use Rattle.match_laws.specs.own_lists.Past.{after, showing_of}
 use Rattle.match_engine.specs.Serving.{is_of}
 use Rattle.match_engine.proofs.Scanning.{seen_below, few_periods, shows_there, may_scan, scanned_serves}
 use Rattle.match_engine.proofs.serving.scan_for.Goals as goal

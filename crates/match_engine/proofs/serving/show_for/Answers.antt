@@ -1,7 +1,7 @@
 use Rattle.std.proofs.Common.{◌<◌, ◌∙◌, List, ap, sym, subst}
 use Rattle.std.specs.List.{All}
 use Rattle.client_scope.specs.declared.period.ShownPeriod.{ShownPeriod}
-use Rattle.own_lists.specs.Past.{client_terms, kept_by, after}
+use Rattle.match_laws.specs.own_lists.Past.{client_terms, kept_by, after}
 use Rattle.match_laws.specs.client_seat.Told.{show_told}
 use Rattle.match_engine.specs.Serving.{marked}
 use Rattle.match_engine.proofs.Fed.{map_if_ok}

@@ -7,8 +7,8 @@ use Rattle.world_rules.specs.Kinds.{kind_of}
 use Rattle.world_rules.specs.Flags.{is_player}
 use Rattle.world_sim.specs.Worlds.{Worlds}
 use Rattle.world_scope.specs.declared.viewer.Seen.{Seen}
-use Rattle.own_lists.specs.declared.showing.Showing.{Showing}
-use Rattle.own_lists.specs.Past.{showing_of}
+use Rattle.match_laws.specs.own_lists.declared.showing.Showing.{Showing}
+use Rattle.match_laws.specs.own_lists.Past.{showing_of}
 use Rattle.match_engine.proofs.serving.showings.Goals as goal
 
 -- what is read of an object says how its period begins

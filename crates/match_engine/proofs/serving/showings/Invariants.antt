@@ -1,5 +1,5 @@
 use Rattle.std.proofs.Common.{◌≡◌, map, take}
-use Rattle.own_lists.specs.Past.{showing_of}
+use Rattle.match_laws.specs.own_lists.Past.{showing_of}
 use Rattle.match_engine.proofs.serving.showings.Given as goal
 
 abbrev pub invariant-loop-s : goal.invariant-loop-s

@@ -3,10 +3,10 @@ use Rattle.std.specs.Option.{option_copied}
 use Rattle.match_script.specs.declared.types.Script.{Script}
 use Rattle.match_engine.specs.Match.{last_told}
 use Rattle.match_engine.specs.match_laws.Report.{told_after}
-use Rattle.predict_lines.specs.declared.changes.EndChange.{EndChange}
-use Rattle.predict_lines.specs.Changes.{IsChange, change_of}
-use Rattle.predict_lines.specs.Lines.{end_of}
-use Rattle.predict_lines.proofs.EndLines.{line_changes}
+use Rattle.predict_laws.specs.predict_lines.declared.changes.EndChange.{EndChange}
+use Rattle.predict_laws.specs.predict_lines.Changes.{IsChange, change_of}
+use Rattle.predict_laws.specs.predict_lines.Lines.{end_of}
+use Rattle.predict_laws.proofs.Below.predict_lines.EndLines.{line_changes}
 use Rattle.predict_match.proofs.running.change_by.Goals as goal
 
 pub returns-clause-change : goal.returns-clause-change

@@ -4,7 +4,7 @@ use Rattle.tn_outside.specs.Totals.{Adds, AddsFront}
 use Rattle.match_script.specs.declared.types.BodyLine.{BodyLine}
 use Rattle.match_script.specs.declared.types.Script.{Script}
 use Rattle.match_engine.proofs.Written.{reverse_next}
-use Rattle.predict_lines.specs.Lines.{predicted_so_far, predicted_at}
+use Rattle.predict_laws.specs.predict_lines.Lines.{predicted_so_far, predicted_at}
 use Rattle.predict_match.specs.Beside.{StandBeside}
 use Rattle.predict_match.proofs.Beside.{few_done, more_written, front_written, all_written, of_client}
 use Rattle.predict_match.proofs.running.write_lines.Goals as goal

@@ -1,6 +1,6 @@
 use Rattle.std.proofs.Common.{◌≡◌, ◌≤◌, reverse, take}
 use Rattle.tn_outside.specs.Totals.{Adds}
-use Rattle.predict_lines.specs.Lines.{predicted_so_far}
+use Rattle.predict_laws.specs.predict_lines.Lines.{predicted_so_far}
 use Rattle.predict_match.specs.Beside.{StandBeside}
 use Rattle.predict_match.proofs.running.write_lines.Given as goal
 

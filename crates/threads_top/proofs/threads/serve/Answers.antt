@@ -1,5 +1,5 @@
 use Rattle.std.proofs.Common.{sym, subst, arith, Option, List, ℕ}
-use Rattle.match_threads.specs.Telling.{Tells}
+use Rattle.threads_top.specs.Telling.{Tells}
 use Rattle.threads_top.proofs.Ends.{done, write_fault, whole, rose_later}
 use Rattle.threads_top.proofs.threads.serve.Goals as goal
 

@@ -1,4 +1,4 @@
-use Rattle.std.proofs.Common.{length, drop, Ok, arith, length-drop, ap}
+use Rattle.std.proofs.Common.{length, drop, Ok, arith, length-drop, ap, ◌∙◌}
 use Rattle.tn_outside.specs.Streams.{WriteAdds}
 use Rattle.tn_outside.proofs.Totals.{adds_more}
 use Rattle.tn_outside.proofs.output.write_all.Goals as goal
@@ -12,5 +12,5 @@ loop-done-preserved g c =
     record {
       written = adds_more old mid new d k piece c.loop-done.invariant.written adds;
       within = omega (arith, c.in_ok-count.ensures.bound, ap length back, length-drop d piece);
-      later = omega arith;
+      spared = c.in_ok-count.ensures.cause.worked ∙ c.loop-done.invariant.spared;
     }

@@ -1,4 +1,4 @@
-use Rattle.std.proofs.Common.{◌≤◌, ◌-◌, length, take}
+use Rattle.std.proofs.Common.{◌≡◌, ◌≤◌, ◌-◌, length, take}
 use Rattle.tn_outside.specs.Totals.{Adds}
 use Rattle.tn_outside.proofs.output.write_all.Given as goal
 
@@ -6,7 +6,7 @@ abbrev pub invariant-loop-done : goal.invariant-loop-done
 invariant-loop-done g l = record {
   written : Adds (g.K.Sink.written l.fn.sink) (g.K.Sink.written l.sink) (take l.done l.piece);
   within : l.done ≤ length l.piece;
-  later : g.K.Sink.faults l.fn.sink ≤ g.K.Sink.faults l.sink;
+  spared : g.K.Sink.faults l.sink ≡ g.K.Sink.faults l.fn.sink;
 }
 
 abbrev pub decreases-loop-done : goal.decreases-loop-done

@@ -1,6 +1,6 @@
 use Rattle.std.proofs.Common.{sym, subst, ◌∷◌, ◌∙◌, ap}
 use Rattle.stream_manager.specs.Stands.{ClientState}
-use Rattle.pair_core.specs.Calls.{step_of}
+use Rattle.own_lists.specs.pair_core.Calls.{step_of}
 use Rattle.own_lists.specs.Course.{with_step}
 use Rattle.client_seat.specs.Stands.{SeatState, Holds}
 use Rattle.client_seat.proofs.seat.Seat.arrive.Goals as goal

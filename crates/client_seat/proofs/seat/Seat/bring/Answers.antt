@@ -3,9 +3,9 @@ use Rattle.circular_buffer.specs.Buffer.{Buffer}
 use Rattle.tn_types.specs.declared.moves.Move.{Move}
 use Rattle.stream_manager.specs.Limits.{Terms}
 use Rattle.stream_manager.specs.Stands.{ConnState}
-use Rattle.pair_core.specs.Answers.{answer}
-use Rattle.pair_core.specs.Calls.{step_of, Unchanged}
-use Rattle.pair_core.specs.declared.step.Answer.{Answer}
+use Rattle.own_lists.specs.pair_core.Answers.{answer}
+use Rattle.own_lists.specs.pair_core.Calls.{step_of, Unchanged}
+use Rattle.own_lists.specs.pair_core.declared.step.Answer.{Answer}
 use Rattle.own_lists.specs.Course.{Course}
 use Rattle.client_seat.specs.Answering.{TellsUp}
 use Rattle.client_seat.specs.Stands.{SeatState, StandsFor}

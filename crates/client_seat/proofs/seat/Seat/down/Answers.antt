@@ -1,8 +1,8 @@
 use Rattle.std.proofs.Common.{sym, subst, ◌∷◌, ◌∙◌, ap}
 use Rattle.stream_manager.specs.Stands.{ConnState}
-use Rattle.pair_core.specs.History.{Down}
+use Rattle.own_lists.specs.pair_core.History.{Down}
 use Rattle.client_seat.specs.Stands.{SeatState, StandsFor}
-use Rattle.pair_core.specs.declared.step.Answer.{Answer}
+use Rattle.own_lists.specs.pair_core.declared.step.Answer.{Answer}
 use Rattle.client_seat.specs.Answering.{TellsDown}
 use Rattle.client_seat.proofs.Brought.{down-tells, no_other_down}
 use Rattle.client_seat.proofs.seat.Seat.down.Goals as goal

@@ -2,8 +2,8 @@ use Rattle.std.proofs.Common.{sym, subst, List}
 use Rattle.tn_types.specs.declared.choices.Read.{Read}
 use Rattle.stream_manager.specs.Limits.{Terms}
 use Rattle.conn_packing.specs.Asking.{Asks}
-use Rattle.pair_core.specs.Calls.{MayPack}
-use Rattle.pair_core.specs.History.{Pack}
+use Rattle.own_lists.specs.pair_core.Calls.{MayPack}
+use Rattle.own_lists.specs.pair_core.History.{Pack}
 use Rattle.own_lists.specs.Course.{Course, with_step}
 use Rattle.client_seat.specs.Stands.{SeatState, StandsFor, Becomes}
 use Rattle.client_seat.proofs.Making.{with_pair, stands_more}

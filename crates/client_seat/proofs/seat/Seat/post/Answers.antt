@@ -1,5 +1,5 @@
 use Rattle.std.proofs.Common.{sym, subst}
-use Rattle.pair_core.specs.History.{Post}
+use Rattle.own_lists.specs.pair_core.History.{Post}
 use Rattle.client_seat.specs.Stands.{SeatState, StandsFor, Becomes}
 use Rattle.own_lists.specs.Course.{with_step}
 use Rattle.client_seat.proofs.Making.{with_pair, stands_more}

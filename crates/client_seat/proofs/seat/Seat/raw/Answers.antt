@@ -1,7 +1,7 @@
 use Rattle.std.proofs.Common.{ℕ, ◌∙◌, ap, Ok, Err}
 use Rattle.std.specs.Prelude.{Result, IfOk}
 use Rattle.match_report.specs.declared.told.Way.TheVariants as way
-use Rattle.pair_core.specs.History.{Raw}
+use Rattle.own_lists.specs.pair_core.History.{Raw}
 use Rattle.client_seat.specs.Told.{arrived_told}
 use Rattle.client_seat.proofs.seat.Seat.raw.Goals as goal
 

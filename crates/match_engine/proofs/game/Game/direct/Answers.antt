@@ -6,11 +6,11 @@ use Rattle.match_script.specs.Ranges.{LineFits}
 use Rattle.match_report.specs.declared.told.Told.{Told}
 use Rattle.client_scope.specs.StandsFor.{Table}
 use Rattle.stream_manager.specs.Limits.{Terms}
-use Rattle.own_lists.specs.Own.{client_named}
-use Rattle.own_lists.specs.Counted.{counted}
-use Rattle.own_lists.specs.Kept.{Kept, after_line}
-use Rattle.own_lists.specs.Past.{Past, client_terms, kept_by, after}
-use Rattle.own_lists.proofs.Counting.{few_up}
+use Rattle.match_laws.specs.own_lists.Own.{client_named}
+use Rattle.match_laws.specs.own_lists.Counted.{counted}
+use Rattle.match_laws.specs.own_lists.Kept.{Kept, after_line}
+use Rattle.match_laws.specs.own_lists.Past.{Past, client_terms, kept_by, after}
+use Rattle.match_laws.proofs.Below.own_lists.Counting.{few_up}
 use Rattle.match_laws.specs.client_seat.Stands.{SeatState, StandsFor as SeatStandsFor}
 use Rattle.match_laws.specs.Report.{told, told_after}
 use Rattle.match_engine.specs.Stands.{GameState, StandsFor, IsDirect}

@@ -4,7 +4,7 @@ use Rattle.match_script.specs.declared.types.BodyLine.{BodyLine}
 use Rattle.match_script.specs.declared.types.BodyLine.TheVariants as script
 use Rattle.match_report.specs.declared.told.Told.{Told}
 use Rattle.client_scope.specs.StandsFor.{Table}
-use Rattle.own_lists.specs.Counted.{counted_in}
+use Rattle.match_laws.specs.own_lists.Counted.{counted_in}
 use Rattle.dirty_lanes.specs.Words.{Words}
 use Rattle.match_laws.specs.client_seat.Stands.{SeatState}
 use Rattle.match_laws.specs.Report.{told_after}

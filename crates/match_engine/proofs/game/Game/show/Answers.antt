@@ -4,9 +4,9 @@ use Rattle.match_script.specs.declared.types.BodyLine.{BodyLine}
 use Rattle.match_script.specs.declared.types.BodyLine.TheVariants as script
 use Rattle.match_report.specs.declared.told.Told.{Told}
 use Rattle.client_scope.specs.StandsFor.{Table}
-use Rattle.own_lists.specs.Own.{OwnItem}
-use Rattle.own_lists.specs.Kept.{kept}
-use Rattle.own_lists.specs.Past.{client_terms, after}
+use Rattle.match_laws.specs.own_lists.Own.{OwnItem}
+use Rattle.match_laws.specs.own_lists.Kept.{kept}
+use Rattle.match_laws.specs.own_lists.Past.{client_terms, after}
 use Rattle.match_laws.specs.client_seat.Stands.{SeatState}
 use Rattle.match_laws.specs.Report.{told_after}
 use Rattle.match_engine.specs.Stands.{GameState, ClientHolds, StandsFor}

@@ -1,5 +1,5 @@
 use Rattle.std.proofs.Common.{◌≡◌, ◌∙◌, ◌+◌, ◌<◌, ◌≤◌, length, ap, arith}
-use Rattle.stream_manager.specs.declared.config.Config.{Config}
+use Rattle.conn_packing.specs.stream_manager.declared.config.Config.{Config}
 use Rattle.pair_core.specs.Flat.{cut, with_made}
 use Rattle.pair_core.proofs.Flat.{made-flat, made-cut, cut-length}
 use Rattle.pair_core.proofs.Packed.{none-where-worn}

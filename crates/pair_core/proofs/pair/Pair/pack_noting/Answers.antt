@@ -1,5 +1,5 @@
 use Rattle.std.proofs.Common.{◌&&◌, [], ap, sym, subst}
-use Rattle.stream_manager.specs.ConnCalls.{Keeps as KeepsConn}
+use Rattle.conn_packing.specs.stream_manager.ConnCalls.{Keeps as KeepsConn}
 use Rattle.pair_core.specs.History.{Pack}
 use Rattle.pair_core.specs.Answers.{answer}
 use Rattle.pair_core.specs.Stands.{PairState}

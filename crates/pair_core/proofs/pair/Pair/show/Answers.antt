@@ -1,6 +1,6 @@
 use Rattle.std.proofs.Common.{◌≡◌, ◌∙◌, ◌<◌, false, sym, subst, arith}
-use Rattle.stream_manager.specs.ghost_scope.Shown.{up_count, has_control}
-use Rattle.stream_manager.specs.Server.{ghost_log}
+use Rattle.conn_packing.specs.stream_manager.ghost_scope.Shown.{up_count, has_control}
+use Rattle.conn_packing.specs.stream_manager.Server.{ghost_log}
 use Rattle.pair_core.specs.History.{history}
 use Rattle.pair_core.specs.Stands.{PairState}
 use Rattle.conn_packing.proofs.Scoped.{ups-told, control-told}

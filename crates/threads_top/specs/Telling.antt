@@ -1,0 +1,20 @@
+-- What a match in threads writes: the text of a race that is legal for its script.
+use Rattle.std.specs.Prelude.{◌≡◌, ℕ, List, Option}
+use Rattle.tn_outside.specs.Totals.{Adds, AddsFront}
+use Rattle.match_script.specs.declared.types.Script.{Script}
+use Rattle.legal_race.specs.race_record.declared.race.Race.{Race}
+use Rattle.legal_race.specs.Legal.{IsLegal}
+use Rattle.legal_race.specs.Text.{race_text}
+
+pub record IsRaceText (script : Script) (text : List ℕ) : Type 0 where
+  pub race : Race
+  pub legal : IsLegal script race
+  pub told : text ≡ race_text script race
+
+-- the sink has such a text more
+abbrev pub Tells : Script → Option (List ℕ) → Option (List ℕ) → Type 0
+Tells script old new = (text : List ℕ) × IsRaceText script text × Adds old new text
+
+-- or a front of one
+abbrev pub TellsFront : Script → Option (List ℕ) → Option (List ℕ) → Type 0
+TellsFront script old new = (text : List ℕ) × IsRaceText script text × AddsFront old new text
