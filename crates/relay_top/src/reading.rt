@@ -1,0 +1,29 @@
+//! Reading a relay script.
+ghost use Rattle.std.specs.Prelude.{◌≡◌, ◌+◌, ◌≤◌, IfOk, IfErr, Ok};
+ghost use Rattle.script_input.specs.Reading.{seen, GaveAtMost, NotRead};
+ghost use Rattle.relay_script.specs.Ranges.{HasRelayRanges};
+ghost use Rattle.relay_top.specs.Outcome.{ReadRelay, match_of};
+
+use match_script::ParseFault;
+use relay_script::{RelayScript, parse_relay};
+use script_input::{Status, read_all};
+use std::alloc::Global;
+use tn_outside::Source;
+use tn_types::MAX_SCRIPT_BYTES;
+
+/// The relay script of a source, or why there is none.
+pub(crate) fn read_relay<S: Source>(alloc: Global, source: &mut S) -> Result<RelayScript, Status>
+    ensures ok { IfOk result (λ script. ReadRelay (S.held source.old) (S.held source.new) (Ok script)) }
+    ensures err { IfErr result
+        (NotRead match_of (seen (S.held source.old) (S.held source.new) (S.faults source.old) (S.faults source.new))) }
+    ensures ranges { IfOk result HasRelayRanges }
+    ensures taken { GaveAtMost (MAX_SCRIPT_BYTES + 1) (S.held source.old) (S.held source.new) }
+    ensures later { S.faults source.old ≤ S.faults source.new }
+{
+    let text = read_all(alloc, source)?;
+    match parse_relay(alloc, text.as_slice()) {
+        Ok(script) => Ok(script),
+        Err(ParseFault::Bad { line, fault }) => Err(Status::Script(line, fault)),
+        Err(ParseFault::NoMemory) => Err(Status::NoMemory),
+    }
+}
