@@ -7,7 +7,7 @@ use Rattle.tn_outside.proofs.Totals.{adds_then, adds_nothing, front_more}
 use Rattle.match_script.specs.declared.types.BodyLine.{BodyLine}
 use Rattle.match_script.specs.declared.types.BodyLine.TheVariants as script
 use Rattle.match_script.specs.declared.types.Head.{Head}
-use Rattle.stream_manager.specs.Limits.{Terms}
+use Rattle.own_lists.specs.pair_steps.stream_manager.Limits.{Terms}
 use Rattle.own_lists.specs.Own.{OwnItem, Line, Scan, Tick}
 use Rattle.own_lists.specs.Kept.{put}
 use Rattle.own_lists.specs.Past.{client_terms, after}
@@ -15,11 +15,12 @@ use Rattle.own_lists.specs.Conditions.{AreOwn}
 use Rattle.own_lists.specs.Agreement.{AreLines}
 use Rattle.own_lists.proofs.Agreeing.{own_lists_agree}
 use Rattle.own_lists.proofs.Counting.{counted_item, counted_items, counted_few as lines_few}
-use Rattle.own_items.proofs.Below.match_engine.Fed.{own_few}
+use Rattle.alone_server.proofs.Below.own_items.match_engine.Fed.{own_few}
 use Rattle.two_worlds.specs.declared.alone.Alone.{Alone}
 use Rattle.two_worlds.specs.Laws.{text_of}
-use Rattle.two_worlds.specs.Stands.{StandsFor, MayFeed, Feeds, Tells, is_counted, item_text}
-use Rattle.own_items.specs.Source.{SourceState, Stands, first_lines, made, whole_own}
+use Rattle.alone_server.specs.Stands.{is_counted}
+use Rattle.two_worlds.specs.Stands.{StandsFor, MayFeed, Feeds, Tells, item_text}
+use Rattle.alone_server.specs.own_items.Source.{SourceState, Stands, first_lines, made, whole_own}
 use Rattle.two_worlds.specs.Fed.{IsFed, terms_in, text_made, whole_text, Continues, Moves, Breaks}
 
 -- ---- the text of a list stands in front of that of a longer one

@@ -1,9 +1,4 @@
-pub mod Numbers
-pub mod Holding
-pub mod Sending
-pub mod Packing
-pub mod Mapped
-pub mod Feeding
 pub mod Texts
+pub mod Writing
 pub mod Feeds
 pub mod WholeText

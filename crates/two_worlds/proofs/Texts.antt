@@ -4,13 +4,13 @@ use Rattle.std.specs.List.{flat_map}
 use Rattle.std.proofs.lemmas.List.{append-nil}
 use Rattle.std.proofs.lemmas.List.Concat.{flat_map-append}
 use Rattle.match_report.specs.Text.{report_line}
-use Rattle.stream_manager.specs.Limits.{Terms}
+use Rattle.own_lists.specs.pair_steps.stream_manager.Limits.{Terms}
 use Rattle.own_lists.specs.Own.{OwnItem}
 use Rattle.own_lists.specs.Kept.{kept}
 use Rattle.own_lists.specs.Past.{client_terms, after}
-use Rattle.own_items.specs.client_seat.Told.{pack_told}
-use Rattle.own_items.specs.match_laws.Laws.{is_own_pack, pack_lines}
-use Rattle.own_items.proofs.Below.match_laws.Isolated.{isolated}
+use Rattle.alone_server.specs.own_items.client_seat.Told.{pack_told}
+use Rattle.alone_server.specs.own_items.match_laws.Laws.{is_own_pack, pack_lines}
+use Rattle.alone_server.proofs.Below.own_items.match_laws.Isolated.{isolated}
 use Rattle.two_worlds.specs.Stands.{item_text}
 use Rattle.two_worlds.specs.Laws.{text_of, whole_line, WritesThePacks, SameListsSameLines}
 

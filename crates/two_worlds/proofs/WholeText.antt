@@ -7,9 +7,9 @@ use Rattle.tn_outside.specs.Totals.{Adds, AddsFront}
 use Rattle.tn_outside.proofs.Totals.{adds_nothing}
 use Rattle.match_script.specs.declared.types.Script.{Script}
 use Rattle.own_lists.specs.Past.{client_terms}
-use Rattle.own_items.specs.match_laws.Laws.{pack_lines}
+use Rattle.alone_server.specs.own_items.match_laws.Laws.{pack_lines}
 use Rattle.two_worlds.specs.Laws.{text_of, whole_line}
-use Rattle.own_items.specs.Source.{SourceState, Stands, made, whole_own}
+use Rattle.alone_server.specs.own_items.Source.{SourceState, Stands, made, whole_own}
 use Rattle.two_worlds.specs.Fed.{terms_in, text_made, whole_text}
 use Rattle.two_worlds.specs.Text.{alone_text}
 use Rattle.two_worlds.proofs.Texts.{text_is}

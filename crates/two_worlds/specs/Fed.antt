@@ -1,11 +1,11 @@
 -- A client's server that is fed by the maker of its own list: the two agree on the items, and the text is that of these.
 use Rattle.std.specs.Prelude.{◌≡◌, ℕ, ◌<◌, List, Option, length}
 use Rattle.tn_outside.specs.Totals.{Adds, AddsFront}
-use Rattle.stream_manager.specs.Limits.{Terms}
+use Rattle.own_lists.specs.pair_steps.stream_manager.Limits.{Terms}
 use Rattle.own_lists.specs.Past.{client_terms}
 use Rattle.two_worlds.specs.declared.alone.Alone.{Alone}
 use Rattle.two_worlds.specs.Laws.{text_of}
-use Rattle.own_items.specs.Source.{SourceState, Stands, made, whole_own}
+use Rattle.alone_server.specs.own_items.Source.{SourceState, Stands, made, whole_own}
 use Rattle.two_worlds.specs.Stands.{StandsFor}
 
 abbrev pub terms_in : SourceState → Terms

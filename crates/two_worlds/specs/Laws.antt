@@ -3,11 +3,11 @@ use Rattle.std.specs.Prelude.{◌≡◌, ℕ, List, [], ◌∷◌, ◌++◌}
 use Rattle.std.specs.List.{flat_map}
 use Rattle.match_script.specs.declared.types.BodyLine.{BodyLine}
 use Rattle.match_script.specs.declared.types.Head.{Head}
-use Rattle.stream_manager.specs.Limits.{Terms}
+use Rattle.own_lists.specs.pair_steps.stream_manager.Limits.{Terms}
 use Rattle.own_lists.specs.Own.{OwnItem}
 use Rattle.own_lists.specs.Past.{client_terms, after}
-use Rattle.own_items.specs.match_laws.Report.{told_lines}
-use Rattle.own_items.specs.match_laws.Laws.{packs_in}
+use Rattle.alone_server.specs.own_items.match_laws.Report.{told_lines}
+use Rattle.alone_server.specs.own_items.match_laws.Laws.{packs_in}
 use Rattle.two_worlds.specs.Stands.{item_text}
 
 -- the text that all these items add, the oldest first

@@ -1,5 +1,3 @@
-pub mod Periods
-pub mod Values
 pub mod Stands
 pub mod Laws
 pub mod Fed

@@ -1,92 +1,29 @@
--- The tie between a server that serves one client alone and the items that it was fed, the newest first.
-use Rattle.std.specs.Prelude.{◌≡◌, ℕ, ◌<◌, ◌≤◌, Bool, true, false, if◌then◌else◌, Option, List, [], ◌∷◌, length, filter}
-use Rattle.tn_types.specs.declared.limits.TheConstants.{MAX_BLOCKS, MAX_COUNTED_LINES}
-use Rattle.match_script.specs.declared.types.BodyLine.TheVariants as script
+-- The tie between a server that serves one client alone and the items that it was fed, the newest first, and what it writes of them.
+use Rattle.std.specs.Prelude.{ℕ, if◌then◌else◌, Option, List, [], ◌∷◌}
 use Rattle.match_report.specs.Text.{report_line}
-use Rattle.world_rules.specs.Kinds.{match_kinds}
-use Rattle.stream_manager.specs.Limits.{Terms, IsConfig}
-use Rattle.own_lists.specs.Own.{OwnItem, Line, Scan}
+use Rattle.own_lists.specs.pair_steps.stream_manager.Limits.{Terms}
+use Rattle.own_lists.specs.Own.{OwnItem}
 use Rattle.own_lists.specs.Kept.{kept}
-use Rattle.own_lists.specs.Conditions.{AreOwn, MayFollow}
-use Rattle.own_items.specs.client_seat.Stands.{SeatState, StandsFor as SeatStandsFor}
-use Rattle.own_items.specs.client_seat.Told.{pack_told}
-use Rattle.own_items.specs.match_laws.Laws.{is_own_pack}
-use Rattle.two_worlds.specs.declared.alone.AloneHeader.{AloneHeader}
+use Rattle.own_lists.specs.Conditions.{MayFollow}
+use Rattle.alone_server.specs.own_items.client_seat.Told.{pack_told}
+use Rattle.alone_server.specs.own_items.match_laws.Laws.{is_own_pack}
+use Rattle.alone_server.specs.Stands as server
 use Rattle.two_worlds.specs.declared.alone.Alone.{Alone}
-use Rattle.two_worlds.specs.Periods.{Table, Holds}
-
--- ---- what it is made with
-
--- what the header says of the client's connection, in a match
-abbrev pub terms_of : AloneHeader → Terms
-terms_of h = record {
-  config = record { client = h.client; life = h.life; size = h.size; version = h.version };
-  kinds = match_kinds;
-  blocks = h.blocks;
-}
-
--- the header has the ranges of a match
-pub record HeaderFits (h : AloneHeader) : Type 0 where
-  pub config : IsConfig (terms_of h).config
-  pub blocks : length h.blocks ≤ MAX_BLOCKS
-
--- ---- what it is fed
-
--- the items of which no more than a limit are fed: scans, and packs of either end
-abbrev pub is_counted : OwnItem → Bool
-is_counted (Line (script.Pack c)) = true
-is_counted (Line (script.ClientPack c)) = true
-is_counted (Scan hides nears shows) = true
-is_counted item = false
-
-abbrev pub counted_in : List OwnItem → ℕ
-counted_in items = length (filter is_counted items)
-
--- its connection and what it holds of shown periods, after these items
-pub record Serves (c : ℕ) (seat : SeatState) (x : Table) (t : Terms) (items : List OwnItem) : Type 0 where
-  pub own : AreOwn t items
-  pub config : IsConfig t.config
-  pub kinds : t.kinds ≡ match_kinds
-  pub client : t.config.client ≡ c
-  pub course : SeatStandsFor seat t (kept t items).course
-  pub periods : Holds x (kept t items)
-
-abbrev pub table_of : Alone → Table
-table_of a = record { shows = a.shows; periods = a.periods.items }
 
 abbrev pub ServesBy : Alone → Terms → List OwnItem → Type 0
-ServesBy a t items = Serves a.client a.seat (table_of a) t items
+ServesBy a t items = server.ServesBy a.server t items
 
-pub record StandsFor (a : Alone) (t : Terms) (items : List OwnItem) : Type 0 where
-  pub serves : ServesBy a t items
-  pub counted : a.counted ≡ counted_in items
+abbrev pub StandsFor : Alone → Terms → List OwnItem → Type 0
+StandsFor a t items = server.StandsFor a.server t items
 
 -- it stands for some items, which this one may follow, and which were not too many
-pub record MayFeed (a : Alone) (item : OwnItem) : Type 0 where
-  pub terms : Terms
-  pub items : List OwnItem
-  pub stands : StandsFor a terms items
-  pub follows : MayFollow terms (kept terms items) item
-  pub few : a.counted < MAX_COUNTED_LINES
-
--- the same of its connection and of what it holds
-pub record MayServe (a : Alone) (item : OwnItem) : Type 0 where
-  pub terms : Terms
-  pub items : List OwnItem
-  pub serves : ServesBy a terms items
-  pub follows : MayFollow terms (kept terms items) item
-  pub few : counted_in items < MAX_COUNTED_LINES
-
--- ---- what it does
+abbrev pub MayFeed : Alone → OwnItem → Type 0
+MayFeed a item = server.MayFeed a.server item
 
 -- for all items that the old server stood for, and that this one may follow, the new one stands for them with this one
 abbrev pub Feeds : Alone → OwnItem → Alone → Type 0
 Feeds old item new =
     (t : Terms) (items : List OwnItem) → StandsFor old t items → MayFollow t (kept t items) item → StandsFor new t (item ∷ items)
-
-abbrev pub Goes : Alone → OwnItem → Alone → Type 0
-Goes old item new =
-    (t : Terms) (items : List OwnItem) → ServesBy old t items → MayFollow t (kept t items) item → ServesBy new t (item ∷ items)
 
 -- the text that an item adds: the report's line of a pack
 abbrev pub item_text : Terms → List OwnItem → OwnItem → List ℕ

@@ -3,7 +3,7 @@ use Rattle.std.specs.Prelude.{ℕ, List, [], nat_lt, reverse, if◌then◌else�
 use Rattle.std.specs.List.{flat_map}
 use Rattle.match_script.specs.declared.types.Script.{Script}
 use Rattle.own_lists.specs.Past.{client_terms, after}
-use Rattle.own_items.specs.match_laws.Laws.{pack_lines}
+use Rattle.alone_server.specs.own_items.match_laws.Laws.{pack_lines}
 use Rattle.two_worlds.specs.Laws.{whole_line}
 
 -- the lines of the packs of a client's whole own list; none where the match has no such client

@@ -1,139 +1,50 @@
-//! The server of one client that is fed the client's own list.
-ghost use Rattle.std.specs.Prelude.{◌≡◌, ◌≤◌, List, [], IfOk, OnOk, OnErr, map, if◌then◌else◌};
+//! The server of one client that is fed the client's own list, and writes what the report has of its packs.
+ghost use Rattle.std.specs.Prelude.{◌≡◌, ◌≤◌, [], IfOk, OnOk, OnErr};
 ghost use Rattle.tn_outside.specs.Causes.{Rose};
 ghost use Rattle.tn_outside.specs.Totals.{Adds, AddsFront};
-ghost use Rattle.own_lists.specs.Own as own;
-ghost use Rattle.own_lists.specs.declared.showing.Showing.{Showing as How};
-ghost use Rattle.own_items.specs.Items.{show_of, write_of, item_of};
+ghost use Rattle.alone_server.specs.own_items.Items.{item_of};
+ghost use Rattle.alone_server.specs.own_items.match_laws.Laws.{is_own_pack};
+ghost use Rattle.alone_server.specs.Stands.{terms_of, HeaderFits};
 
-use crate::direct::line_on;
-use crate::periods::{OwnPeriod, drain_all, hide_all, show_all, write_each};
-use crate::values::AloneValues;
-use client_scope::Near;
-use match_report::Told;
-use match_script::{Blocks, BodyLine};
-use own_items::client_seat::Seat;
-use own_items::match_engine::{RunFault, tell};
-use own_items::{OwnItem, OwnShow, OwnWrite};
-use own_lists::Showing;
-use std::alloc::{AllocError, Global};
-use stream_manager::Config;
+use alone_server::own_items::OwnItem;
+use alone_server::own_items::match_engine::{RunFault, tell};
+use alone_server::{AloneHeader, AloneServer};
+use match_script::BodyLine;
+use std::alloc::Global;
 use tn_outside::Sink;
-use tn_types::{Drain, NoMemory};
-use world_rules::match_kinds;
-
-/// What the header of a match says of one client's connection.
-#[derive(Drop)]
-pub struct AloneHeader {
-    /// The client's number, 0 to 15.
-    pub client: u8,
-    /// What ends each counter of the connection: 1 to 16,777,215.
-    pub life: u32,
-    /// Bytes of a datagram at the most: 128 to 1,200.
-    pub size: u32,
-    /// The version of the datagrams: 1 or 2.
-    pub version: u8,
-    /// What the client is to hold: at most 64 blocks.
-    pub blocks: Blocks,
-}
+use tn_types::NoMemory;
 
 /// A server that serves one client alone. It knows nothing of the match but what it is fed: the items of the client's own list
 /// (docs/proofs.md, "Own lists").
+#[derive(Drop)]
 pub struct Alone {
-    pub(crate) client: u8,
-    pub(crate) seat: Seat,
-    // the shown periods, by rising number, and how many were shown so far
-    pub(crate) periods: Vec<OwnPeriod>,
-    pub(crate) shows: u32,
-    // scans and packs so far
-    pub(crate) counted: u32,
-    // room for what a scan begins and a pack drains
-    begins: Vec<Showing>,
-    drains: Vec<Drain>,
+    pub(crate) server: AloneServer,
 }
 
-// Written out, so that a function that lets a server go calls this, and doesn't prove again how its parts are let go.
-impl Drop for Alone {
-    fn drop(self) {
-        let Alone {
-            client: _client,
-            seat: _seat,
-            periods: _periods,
-            shows: _shows,
-            counted: _counted,
-            begins: _begins,
-            drains: _drains,
-        } = self;
-    }
-}
-
-/// How these periods begin.
-fn showings(shows: &[OwnShow], out: &mut Vec<Showing>) -> Result<(), AllocError>
-    ensures { OnOk result (out.new.items ≡ map (λ s. (show_of s).how) shows.now) }
+// Whether it is a pack of the client's server.
+fn is_pack(item: &OwnItem) -> bool
+    ensures { result ≡ is_own_pack (item_of item.now) }
 {
-    out.clear();
-    for show in shows {
-        out.push(Showing {
-            kind: show.kind,
-            block: show.block,
-            level: show.level,
-            control: show.control,
-        })?;
+    match item {
+        OwnItem::Line { line } => match line {
+            BodyLine::Pack { client: _ } => true,
+            _ => false,
+        },
+        _ => false,
     }
-    Ok(())
 }
 
 impl Alone {
-    ghost use Rattle.std.specs.Prelude.{◌∷◌, ℕ, ◌<◌};
-    ghost use Rattle.stream_manager.specs.Limits.{Terms};
-    ghost use Rattle.match_script.specs.declared.types.BodyLine.TheVariants as script;
-    ghost use Rattle.own_lists.specs.Kept.{kept};
-    ghost use Rattle.own_items.specs.client_seat.Told.{pack_told};
-    ghost use Rattle.two_worlds.specs.Stands.{terms_of, HeaderFits, is_counted, ServesBy, StandsFor, MayFeed, MayServe, Feeds, Goes, Tells};
-    ghost use Rattle.own_items.specs.match_engine.Stands.{IsDirect};
+    ghost use Rattle.two_worlds.specs.Stands.{StandsFor, MayFeed, Feeds, Tells};
 
     /// A server that was fed nothing.
     pub fn new(alloc: Global, header: &AloneHeader) -> Result<Alone, NoMemory>
         requires { HeaderFits header.now }
         ensures { IfOk result (λ a. StandsFor a (terms_of header.now) []) }
     {
-        let config = Config {
-            client: header.client,
-            life: header.life,
-            size: header.size,
-            version: header.version,
-        };
-        let seat = Seat::new(alloc, config, &match_kinds(), header.blocks.as_slice())?;
         Ok(Alone {
-            client: header.client,
-            seat,
-            periods: Vec::new(alloc),
-            shows: 0,
-            counted: 0,
-            begins: Vec::new(alloc),
-            drains: Vec::new(alloc),
+            server: AloneServer::new(alloc, header)?,
         })
-    }
-
-    // 1 for an item of those that are counted.
-    fn count_of(item: &OwnItem) -> u32
-        ensures { result ≡ (if is_counted (item_of item.now) then 1 else 0) }
-    {
-        match item {
-            OwnItem::Line { line } => match line {
-                BodyLine::Pack { client: _ } | BodyLine::ClientPack { client: _ } => 1,
-                _ => 0,
-            },
-            OwnItem::Scan {
-                hides: _,
-                nears: _,
-                shows: _,
-            } => 1,
-            OwnItem::Tick {
-                writes: _,
-                taken: _,
-            } => 0,
-        }
     }
 
     /// Takes the next item of the client's own list. A pack writes its line of the report, and no other item writes. After an
@@ -151,124 +62,13 @@ impl Alone {
         ensures cause { result ≡ Err RunFault.WriteFault → Rose (K.faults sink.old) (K.faults sink.new) }
         ensures later { K.faults sink.old ≤ K.faults sink.new }
     {
-        self.counted += Alone::count_of(item);
-        self.serve(alloc, item, sink)
-    }
-
-    // The same without the count.
-    fn serve<K: Sink>(
-        &mut self,
-        alloc: Global,
-        item: &OwnItem,
-        sink: &mut K,
-    ) -> Result<(), RunFault>
-        requires { MayServe self.old (item_of item.now) }
-        ensures goes { OnOk result (Goes self.old (item_of item.now) self.new) }
-        ensures counted { self.new.counted ≡ self.old.counted }
-        ensures lines { OnOk result (Tells Adds self.old (item_of item.now) (K.written sink.old) (K.written sink.new)) }
-        ensures front { OnErr result (Tells AddsFront self.old (item_of item.now) (K.written sink.old) (K.written sink.new)) }
-        ensures cause { result ≡ Err RunFault.WriteFault → Rose (K.faults sink.old) (K.faults sink.new) }
-        ensures later { K.faults sink.old ≤ K.faults sink.new }
-    {
-        match item {
-            OwnItem::Line { line } => match line {
-                BodyLine::Pack { client } => self.pack(alloc, *client, sink),
-                BodyLine::Show { client: _ } => Ok(()),
-                _ => {
-                    let Ok(()) = self.direct(alloc, line) else {
-                        return Err(RunFault::NoMemory);
-                    };
-                    Ok(())
-                }
-            },
-            OwnItem::Scan {
-                hides,
-                nears,
-                shows,
-            } => {
-                let Ok(()) = self.scan(hides.as_slice(), nears.as_slice(), shows.as_slice()) else {
-                    return Err(RunFault::NoMemory);
-                };
-                Ok(())
-            }
-            OwnItem::Tick { writes, taken } => {
-                self.tick(writes.as_slice(), *taken);
-                Ok(())
-            }
-        }
-    }
-
-    // Does a line on the client's connection alone.
-    fn direct(&mut self, alloc: Global, line: &BodyLine) -> Result<(), NoMemory>
-        requires direct { IsDirect line.now }
-        requires may { MayServe self.old (own.Line line.now) }
-        ensures goes { OnOk result (Goes self.old (own.Line line.now) self.new) }
-        ensures counted { self.new.counted ≡ self.old.counted }
-    {
-        line_on(alloc, &mut self.seat, line)
-    }
-
-    // The client's scope is brought up to date.
-    fn scan(&mut self, hides: &[u32], nears: &[Near], shows: &[OwnShow]) -> Result<(), NoMemory>
-        requires { MayServe self.old (own.Scan hides.now nears.now (map show_of shows.now)) }
-        ensures goes { OnOk result (Goes self.old (own.Scan hides.now nears.now (map show_of shows.now)) self.new) }
-        ensures counted { self.new.counted ≡ self.old.counted }
-    {
-        hide_all(&mut self.periods, hides);
-        let Ok(count) = show_all(&mut self.periods, self.shows, shows) else {
-            return Err(NoMemory);
-        };
-        let Ok(()) = showings(shows, &mut self.begins) else {
-            return Err(NoMemory);
-        };
-        self.shows = count;
-        self.seat.scan(hides, nears, &self.begins);
-        Ok(())
-    }
-
-    // Objects in shown periods have other values, and a move may be taken.
-    fn tick(&mut self, writes: &[OwnWrite], taken: u32)
-        requires { MayServe self.old (own.Tick (map write_of writes.now) taken) }
-        ensures goes { Goes self.old (own.Tick (map write_of writes.now) taken) self.new }
-        ensures counted { self.new.counted ≡ self.old.counted }
-    {
-        write_each(&mut self.periods, writes);
-        if taken != 0 {
-            let _move = self.seat.take_move();
-        }
-    }
-
-    // The server makes its next datagram.
-    fn packed(&mut self, alloc: Global, client: u8) -> Result<Told, NoMemory>
-        requires { MayServe self.old (own.Line (script.Pack client)) }
-        ensures told { IfOk result (λ told. (t : Terms) (items : List own.OwnItem) → ServesBy self.old t items
-            → told ≡ pack_told t (kept t items) t.config.client) }
-        ensures goes { OnOk result (Goes self.old (own.Line (script.Pack client)) self.new) }
-        ensures counted { self.new.counted ≡ self.old.counted }
-    {
-        let Ok(()) = drain_all(self.seat.pack_state(), &mut self.periods, &mut self.drains) else {
-            return Err(NoMemory);
-        };
-        let mut values = AloneValues {
-            periods: &self.periods,
-        };
-        self.seat
-            .pack(alloc, self.client, &self.drains, &mut values)
-    }
-
-    // The same, and its line is written.
-    fn pack<K: Sink>(&mut self, alloc: Global, client: u8, sink: &mut K) -> Result<(), RunFault>
-        requires { MayServe self.old (own.Line (script.Pack client)) }
-        ensures goes { OnOk result (Goes self.old (own.Line (script.Pack client)) self.new) }
-        ensures counted { self.new.counted ≡ self.old.counted }
-        ensures lines { OnOk result (Tells Adds self.old (own.Line (script.Pack client)) (K.written sink.old) (K.written sink.new)) }
-        ensures front { OnErr result (Tells AddsFront self.old (own.Line (script.Pack client)) (K.written sink.old) (K.written sink.new)) }
-        ensures cause { result ≡ Err RunFault.WriteFault → Rose (K.faults sink.old) (K.faults sink.new) }
-        ensures later { K.faults sink.old ≤ K.faults sink.new }
-    {
-        let Ok(told) = self.packed(alloc, client) else {
+        let Ok(told) = self.server.feed(alloc, item) else {
             return Err(RunFault::NoMemory);
         };
+        if !is_pack(item) {
+            return Ok(());
+        }
+        let Some(told) = told else { unreachable!() };
         let mut text = Vec::new(alloc);
         tell(alloc, &told, &mut text, sink)
     }

@@ -3,16 +3,17 @@ ghost use Rattle.std.specs.Prelude.{◌≡◌, ◌≤◌, ◌<◌, OnOk, OnErr, 
 ghost use Rattle.tn_outside.specs.Causes.{Rose};
 ghost use Rattle.tn_outside.specs.Totals.{Adds, AddsFront};
 ghost use Rattle.match_script.specs.Ranges.{HasRanges};
-ghost use Rattle.own_items.specs.Source.{made, whole_own};
+ghost use Rattle.alone_server.specs.own_items.Source.{made, whole_own};
 ghost use Rattle.two_worlds.specs.Fed.{IsFed, Moves, Breaks};
 ghost use Rattle.two_worlds.specs.Laws.{WritesThePacks, SameListsSameLines};
 ghost use Rattle.two_worlds.specs.Text.{alone_text};
 
-use crate::alone::{Alone, AloneHeader};
+use crate::alone::Alone;
 use crate::laws::{same_lists_same_lines, writes_the_packs};
+use alone_server::AloneHeader;
+use alone_server::own_items::match_engine::RunFault;
+use alone_server::own_items::{OwnItem, OwnSource, OwnWrites};
 use match_script::Script;
-use own_items::match_engine::RunFault;
-use own_items::{OwnItem, OwnSource, OwnWrites};
 use std::alloc::Global;
 use tn_outside::Sink;
 

@@ -3,12 +3,12 @@
 
 mod alone;
 mod both;
-mod direct;
 mod laws;
-mod periods;
-mod values;
 
-pub use alone::{Alone, AloneHeader};
+pub use alone::Alone;
+pub use alone_server::AloneHeader;
+pub use alone_server::own_items::{
+    Hides, Nears, OwnItem, OwnShow, OwnSource, OwnWrite, OwnWrites, Shows,
+};
 pub use both::run_alone;
 pub use laws::{same_lists_same_lines, writes_the_packs};
-pub use own_items::{Hides, Nears, OwnItem, OwnShow, OwnSource, OwnWrite, OwnWrites, Shows};

@@ -2,8 +2,8 @@ use Rattle.std.proofs.Common.{◌≡◌, ◌∙◌, Ok, Err, Bool, true, false, 
 use Rattle.std.specs.Prelude.{Result}
 use Rattle.std.proofs.lemmas.Result.{err_from_is_err_and}
 use Rattle.tn_types.specs.declared.choices.NoMemory.{NoMemory}
-use Rattle.own_items.specs.match_engine.declared.running.RunFault.{RunFault}
-use Rattle.own_items.specs.Items.{item_of}
+use Rattle.alone_server.specs.own_items.match_engine.declared.running.RunFault.{RunFault}
+use Rattle.alone_server.specs.own_items.Items.{item_of}
 use Rattle.two_worlds.proofs.Feeds.{may_feed, moves, breaks, breaks_here}
 use Rattle.two_worlds.proofs.both.feed_next.Goals as goal
 

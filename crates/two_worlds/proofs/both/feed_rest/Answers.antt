@@ -2,7 +2,7 @@ use Rattle.std.proofs.Common.{◌≡◌, ◌∙◌, Ok, Err, Bool, false, List, 
 use Rattle.std.specs.Prelude.{Result}
 use Rattle.std.proofs.lemmas.Result.{err_from_is_err_and}
 use Rattle.tn_outside.specs.Totals.{Adds}
-use Rattle.own_items.specs.match_engine.declared.running.RunFault.{RunFault}
+use Rattle.alone_server.specs.own_items.match_engine.declared.running.RunFault.{RunFault}
 use Rattle.two_worlds.specs.Text.{alone_text}
 use Rattle.two_worlds.proofs.WholeText.{all_written, front_written, rose_later}
 use Rattle.two_worlds.proofs.both.feed_rest.Goals as goal

@@ -1,7 +1,0 @@
-use Rattle.std.proofs.Common.{◌≡◌, map, take, filter}
-use Rattle.own_lists.specs.Kept.{has_bits}
-use Rattle.two_worlds.specs.Periods.{drain_of}
-use Rattle.two_worlds.proofs.periods.drains_of.Given as goal
-
-abbrev pub invariant-loop-p : goal.invariant-loop-p
-invariant-loop-p l = l.drains.items ≡ filter has_bits (map drain_of (take l.p-index l.periods))
