@@ -1,0 +1,5 @@
+pub mod Mapped
+pub mod Stretches
+pub mod Written
+pub mod Shown
+pub mod Following

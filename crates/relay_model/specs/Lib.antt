@@ -1,0 +1,3 @@
+pub mod Watching
+pub mod Items
+pub mod Laws

@@ -1,0 +1,5 @@
+pub mod Changes
+pub mod Held
+pub mod Moments
+pub mod Text
+pub mod Laws
