@@ -3,3 +3,5 @@ pub mod Stretches
 pub mod Written
 pub mod Shown
 pub mod Following
+pub mod Taken
+pub mod Copies

@@ -6,10 +6,14 @@ use Rattle.tn_types.specs.declared.limits.TheConstants.{MAX_SLOTS, MAX_BLOCKS, M
 use Rattle.quantised_fields.specs.declared.kind.Kind.{Kind}
 use Rattle.quantised_fields.specs.Kinds.{table_fault}
 use Rattle.ghost_client.specs.declared.copy.GhostCopy.{GhostCopy}
+use Rattle.ghost_client.specs.Copies.{copy_of}
 use Rattle.ghost_client.specs.State.{IsInRange}
+use Rattle.wire_format.specs.declared.server.ServerPacket.{ServerPacket}
 use Rattle.stream_manager.specs.Limits.{Terms}
 use Rattle.match_script.specs.declared.types.BodyLine.{BodyLine}
 use Rattle.match_script.specs.declared.types.BodyLine.TheVariants as script
+use Rattle.stream_manager.specs.Packets.{packets_at, ghosts_seen}
+use Rattle.pair_core.specs.History.{PairStep, history}
 use Rattle.own_lists.specs.Conditions.{AreOwn}
 use Rattle.relay_model.specs.Watching.{WatchEvent, Took, Scans, Own, copy_at}
 use Rattle.relay_model.specs.Items.{items_of}
@@ -45,6 +49,17 @@ AreSpectators [] = Unit {0}
 AreSpectators (Took p ∷ events) = AreSpectators events
 AreSpectators (Scans ∷ events) = AreSpectators events
 AreSpectators (Own line ∷ events) = IsSpectators line × AreSpectators events
+
+-- of these packets, the newest first, each makes such a change of the copies that those before it show
+abbrev pub AreChanges : List Kind → List ServerPacket → Type 0
+AreChanges kinds [] = Unit {0}
+AreChanges kinds (p ∷ packets) =
+    IsChange kinds (copy_of (ghosts_seen packets)) (copy_of (ghosts_seen (p ∷ packets))) × AreChanges kinds packets
+
+-- the packets that a client of a connection takes are such
+abbrev pub TakenAreChanges : Type 0
+TakenAreChanges =
+    (t : Terms) (steps : List PairStep) → table_fault t.kinds ≡ None → AreChanges t.kinds (packets_at (history t steps).client)
 
 abbrev pub ItemsMayFollow : Type 0
 ItemsMayFollow =

@@ -3,4 +3,4 @@
 
 mod laws;
 
-pub use laws::relay_items_may_follow;
+pub use laws::{relay_items_may_follow, taken_packets_keep_copies};
