@@ -1,6 +1,6 @@
 //! Writing the demo of a client, line by line of its match.
 ghost use Rattle.std.specs.Prelude.{◌≡◌, ◌<◌, ◌≤◌, ◌+◌, ◌∷◌, List, OnOk, OnErr, Ok, Err, true, false, length, reverse};
-ghost use Rattle.tn_outside.specs.Causes.{HasCause, HandsOn};
+ghost use Rattle.tn_outside.specs.Causes.{HandsOn};
 ghost use Rattle.tn_outside.specs.Totals.{Adds, AddsFront};
 ghost use Rattle.match_script.specs.Ranges.{HasRanges};
 ghost use Rattle.match_script.specs.declared.types.BodyLine.{BodyLine as OneLine};
@@ -37,7 +37,7 @@ fn place_taken(told: &Told, client: u8) -> Option<u32>
 fn hand_on<K: Sink>(piece: &[u8], sink: &mut K) -> Result<(), RunFault>
     ensures written { OnOk result (Adds (K.written sink.old) (K.written sink.new) piece.now) }
     ensures front { OnErr result (AddsFront (K.written sink.old) (K.written sink.new) piece.now) }
-    ensures cause { HasCause (K.faults sink.old) (K.faults sink.new) result }
+    ensures cause { HandsOn (K.faults sink.old) (K.faults sink.new) (result ≡ Err RunFault.WriteFault) }
 {
     match write_all(sink, piece) {
         Ok(()) => Ok(()),

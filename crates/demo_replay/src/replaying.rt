@@ -1,6 +1,6 @@
 //! The whole text of a replay.
 ghost use Rattle.std.specs.Prelude.{◌≡◌, ◌≤◌, ◌+◌, ◌↔◌, ℕ, [], OnOk, OnErr, Ok, Err, length, drop};
-ghost use Rattle.tn_outside.specs.Causes.{HasCause, HandsOn};
+ghost use Rattle.tn_outside.specs.Causes.{HandsOn};
 ghost use Rattle.tn_outside.specs.Totals.{Adds, AddsFront};
 ghost use Rattle.demo_format.specs.Head.{head_in, read_head};
 ghost use Rattle.demo_format.specs.Records.{records_of};
@@ -39,7 +39,7 @@ fn hand_on<K: Sink>(line: &[u8], sink: &mut K) -> Result<(), ReplayFault>
     ensures written { OnOk result (Adds (K.written sink.old) (K.written sink.new) line.now) }
     ensures front { OnErr result (AddsFront (K.written sink.old) (K.written sink.new) line.now) }
     ensures head { (place : ℕ) → result ≡ Err (ReplayFault.Head place) → ⊥ }
-    ensures cause { HasCause (K.faults sink.old) (K.faults sink.new) result }
+    ensures cause { HandsOn (K.faults sink.old) (K.faults sink.new) (result ≡ Err ReplayFault.WriteFault) }
 {
     match write_all(sink, line) {
         Ok(()) => Ok(()),
