@@ -4,6 +4,7 @@ ghost use Rattle.tn_outside.specs.Causes.{HandsOn};
 ghost use Rattle.tn_outside.specs.Totals.{Adds, AddsFront};
 ghost use Rattle.match_script.specs.Ranges.{HasRanges};
 ghost use Rattle.match_count.specs.match_laws.Promises.{MatchLaws};
+ghost use Rattle.report_laws.specs.Promises.{ReportLaws};
 ghost use Rattle.match_top.specs.Command.{command_of, CommandFits, Says};
 ghost use Rattle.script_input.specs.Reading.{seen, GaveAtMost, HasFailed};
 ghost use Rattle.match_top.specs.Outcome.{text_of, AloneIsOfRun, Outcome, IsWanted, CanBeDone, HasScript, NoScript, LeavesSource};
@@ -13,6 +14,7 @@ use match_count::match_engine::{RunFault, run};
 use match_count::match_laws::laws_of_matches;
 use match_count::{count, put_counts};
 use match_script::Script;
+use report_laws::laws_of_reports;
 use script_input::{Status, read_script};
 use script_maker::make;
 use std::alloc::Global;
@@ -153,10 +155,13 @@ pub fn top<S: Source, K: Sink>(
         → (result ≡ Status.Done) ⊎ (result ≡ Status.NoMemory) }
     // What the report and the journals of every match keep: isolation, what is delivered, accepted, shown, settled, printed.
     ensures laws { MatchLaws }
+    // What the words of a report's `show` lines say of shown fields and of moves, and which fields are settled, by looking back.
+    ensures reports { ReportLaws }
     // `alone` writes the datagrams that the report has of its client.
     ensures alone { AloneIsOfRun }
 {
     laws_of_matches();
+    laws_of_reports();
     match command_of(words) {
         Ok(command) => serve(alloc, command, source, sink),
         Err(place) => Status::Usage(place),

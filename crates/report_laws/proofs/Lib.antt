@@ -5,3 +5,4 @@ pub mod Saying
 pub mod Counting
 pub mod Honesty
 pub mod Looking
+pub mod Settling

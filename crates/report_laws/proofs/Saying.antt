@@ -1,5 +1,5 @@
 -- Each field that a `show` line prints shows a value that the object had, and one with `s` the newest.
-use Rattle.std.proofs.Common.{◌≡◌, ℕ, zero, suc, ◌+◌, List, [], ◌∷◌, ◌++◌, map, Option, Some, None, refl, sym, ap, subst, ◌∙◌, arith}
+use Rattle.std.proofs.Common.{◌≡◌, ℕ, zero, suc, ◌<◌, List, [], ◌∷◌, ◌++◌, map, Option, Some, None, refl, sym, ap, subst, ◌∙◌}
 use Rattle.std.specs.Prelude.{slice_get, option_map, filter_map}
 use Rattle.std.specs.Option.{option_and_then}
 use Rattle.std.specs.List.{All, AllByRecursion, cons_option}
@@ -38,26 +38,35 @@ all-fields : upto MAX_FIELDS ≡ from 0 MAX_FIELDS
 unfolding upto
 all-fields = refl
 
-module _ {X : Type 0} (g : ℕ → Option X) (ends : (f : ℕ) → g f ≡ None → g (suc f) ≡ None) where
-  none-later : (i k : ℕ) → g i ≡ None → g (k + i) ≡ None
-  none-later i zero h = h
-  none-later i (suc k) h = ends (k + i) (none-later i k h)
+-- so many behind i
+abbrev on : ℕ → ℕ → ℕ
+on zero i = i
+on (suc k) i = suc (on k i)
 
-  at-place : (n i f : ℕ) (x : X) → slice_get (filter_map g (from i n)) f ≡ Some x → g (f + i) ≡ Some x
+on-next : (k i : ℕ) → on k (suc i) ≡ suc (on k i)
+on-next zero i = refl
+on-next (suc k) i = ap suc (on-next k i)
+
+on-none : (k : ℕ) → on k 0 ≡ k
+on-none zero = refl
+on-none (suc k) = ap suc (on-none k)
+
+module _ {X : Type 0} (g : ℕ → Option X) (ends : (f : ℕ) → g f ≡ None → g (suc f) ≡ None) where
+  none-later : (i k : ℕ) → g i ≡ None → g (on k i) ≡ None
+  none-later i zero h = h
+  none-later i (suc k) h = ends (on k i) (none-later i k h)
+
+  at-place : (n i f : ℕ) (x : X) → slice_get (filter_map g (from i n)) f ≡ Some x → g (on f i) ≡ Some x
   at-place zero i f x e = absurd cc
-  at-place (suc n) i f x e = go (g i) refl f e
+  at-place (suc n) i f x e = go (λ j d. at-place n (suc i) j x d) (g i) refl f e
     where
-      go : (o : Option X) → g i ≡ o → (f : ℕ) → slice_get (cons_option o (filter_map g (from (suc i) n))) f ≡ Some x
-          → g (f + i) ≡ Some x
-      go None is f e =
-          let later = at-place n (suc i) f x e in
-          let none = none-later i (suc f) is in
-          let same : f + suc i ≡ suc f + i = omega arith in
-          absurd (let never : Some x ≡ None = sym later ∙ ap g same ∙ none in cc)
-      go (Some y) is zero e = is ∙ e
-      go (Some y) is (suc f) e =
-          let same : f + suc i ≡ suc f + i = omega arith in
-          ap g (sym same) ∙ at-place n (suc i) f x e
+      go : ((j : ℕ) → slice_get (filter_map g (from (suc i) n)) j ≡ Some x → g (on j (suc i)) ≡ Some x)
+          → (o : Option X) → g i ≡ o → (f : ℕ) → slice_get (cons_option o (filter_map g (from (suc i) n))) f ≡ Some x
+          → g (on f i) ≡ Some x
+      go later None is f e =
+          absurd (let never : Some x ≡ None = sym (later f e) ∙ ap g (on-next f i) ∙ none-later i (suc f) is in cc)
+      go later (Some y) is zero e = is ∙ e
+      go later (Some y) is (suc f) e = ap g (sym (on-next f i)) ∙ later f e
 
 ends-there : {X : Type 0} (xs : List X) (f : ℕ) → slice_get xs f ≡ None → slice_get xs (suc f) ≡ None
 ends-there [] f e = refl
@@ -113,8 +122,7 @@ module _ (copy : GhostCopy) where
   at_field m at f told e =
       let placed = at-place (shown_at m at copy) (shown-ends m at) MAX_FIELDS 0 f told
       (ap (λ (l : List ℕ). slice_get (filter_map (shown_at m at copy) l) f) (sym all-fields) ∙ e) in
-      let same : f ≡ f + 0 = omega arith in
-      ap (shown_at m at copy) same ∙ placed
+      ap (shown_at m at copy) (sym (on-none f)) ∙ placed
 
 -- a word is that of what is told
 record IsWordOf (o : Option FieldTold) (word : List ℕ) : Type 0 where
@@ -162,12 +170,12 @@ module _ (had : CopiesShowValues) (settled : SettledIsNewest) (s : Script) (c n 
 
   all-say : (xs : List ℕ) → AllByRecursion (SaysCopy m) (filter_map (slot_words m) xs)
   all-say [] = tt
-  all-say (at ∷ xs) = go (copy_at m at) refl
+  all-say (at ∷ xs) = go (copy_at m at) refl (all-say xs)
     where
-      go : (o : Option GhostCopy) → copy_at m at ≡ o
+      go : (o : Option GhostCopy) → copy_at m at ≡ o → AllByRecursion (SaysCopy m) (filter_map (slot_words m) xs)
           → AllByRecursion (SaysCopy m) (cons_option (option_map (copy_words m at) o) (filter_map (slot_words m) xs))
-      go None here = all-say xs
-      go (Some copy) here = (says-copy at copy here, all-say xs)
+      go None here rest = rest
+      go (Some copy) here rest = (says-copy at copy here, rest)
 
 pub printed_values : CopiesShowValues → SettledIsNewest → PrintedValues
 printed_values had settled s c n text h below quiet is =

@@ -45,13 +45,14 @@ module _ (m : ClientMoment) where
   -- slot by slot, what is told has these words
   pub slots_are : (xs : List ℕ) → map told_words (filter_map (slot_told terms steps written) xs) ≡ filter_map (slot_words m) xs
   slots_are [] = refl
-  slots_are (at ∷ xs) = go (copy_at m at)
+  slots_are (at ∷ xs) = go (copy_at m at) (slots_are xs)
     where
       go : (o : Option GhostCopy)
+          → map told_words (filter_map (slot_told terms steps written) xs) ≡ filter_map (slot_words m) xs
           → map told_words (cons_option (option_map (copy_told terms steps written at) o) (filter_map (slot_told terms steps written) xs))
           ≡ cons_option (option_map (copy_words m at) o) (filter_map (slot_words m) xs)
-      go None = slots_are xs
-      go (Some copy) = ap (λ l. copy_words m at copy ∷ l) (slots_are xs)
+      go None rest = rest
+      go (Some copy) rest = ap (λ l. copy_words m at copy ∷ l) rest
 
 pub printed_as_shown : PrintedAsShown
 printed_as_shown s c n text is =

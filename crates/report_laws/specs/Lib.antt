@@ -3,4 +3,5 @@ pub mod Shown
 pub mod Moves
 pub mod Honest
 pub mod Looking
+pub mod Settled
 pub mod Promises

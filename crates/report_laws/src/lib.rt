@@ -4,7 +4,7 @@
 mod laws;
 
 pub use laws::{
-    honest_by_lines, laws_of_reports, looks_back, one_holder, printed_as_shown, printed_counts,
-    printed_values,
+    changes_are_caught, honest_by_lines, laws_of_reports, looks_back, marked_where_settled,
+    one_holder, printed_as_shown, printed_counts, printed_values, settled_is_last,
 };
 pub use match_laws;

@@ -8,4 +8,7 @@ returns c = record {
   honest_by_lines = c.honest_by_lines.ensures;
   one_holder = c.one_holder.ensures;
   looks_back = c.looks_back.ensures;
+  marked_where_settled = c.marked_where_settled.ensures;
+  settled_is_last = c.settled_is_last.ensures;
+  changes_are_caught = c.changes_are_caught.ensures;
 }
