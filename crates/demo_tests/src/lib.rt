@@ -7,4 +7,6 @@ mod hostile;
 #[cfg(test)]
 mod rows;
 #[cfg(test)]
+mod seeks;
+#[cfg(test)]
 mod served;

@@ -1,5 +1,5 @@
 -- A viewer of what a client took takes what the client takes.
-use Rattle.std.proofs.Common.{◌≡◌, ℕ, Bool, true, false, not, ◌&&◌, ◌==◌, nat_le, List, [], ◌∷◌, ◌++◌, Option, Ok, Err, Result, refl, sym, ◌∙◌, ap, if◌then◌else◌}
+use Rattle.std.proofs.Common.{◌≡◌, ℕ, not, ◌&&◌, ◌==◌, nat_le, List, [], ◌++◌, Ok, Err, Result, refl, sym, ◌∙◌, ap, if◌then◌else◌}
 use Rattle.std.specs.Prelude.{reverse}
 use Rattle.quantised_fields.specs.declared.kind.Kind.{Kind}
 use Rattle.tn_types.specs.declared.choices.PacketKind.{PacketKind}
@@ -27,7 +27,7 @@ use Rattle.stream_manager.specs.Wire.{map_ok, whole_down, read_down}
 use Rattle.stream_manager.specs.End.{Seen, seen, came_of, client_or_old, ack_answer}
 use Rattle.stream_manager.specs.Server.{seen_ping, seen_body}
 use Rattle.stream_manager.specs.Client.{ClientEvent, client_end, blocks_came, ghosts_came, blocks_check, moves_check, ghosts_fault, ghosts_refused, held_word, head_check, head_first, first_look, body_check, packet_check, packet_answer, read_at, whole_answer, client_answer, took_at_client, arriving}
-use Rattle.stream_manager.specs.Packets.{packets_at, took, horizon_seen, blocks_seen, events_seen, ghosts_seen}
+use Rattle.stream_manager.specs.Packets.{packets_at, took, events_seen, ghosts_seen}
 use Rattle.stream_manager.proofs.Packets.{shows-alike}
 use Rattle.demo_view.specs.Viewing.{ViewTerms, config_of, head_view, body_view, packet_view, viewed_packet, reading, whole_view, view_of, taken_by, taking}
 use Rattle.demo_view.specs.Laws.{TakesWithClient, view_terms}

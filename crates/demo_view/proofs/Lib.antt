@@ -3,3 +3,4 @@ pub mod Refusing
 pub mod Alike
 pub mod Seen
 pub mod Views
+pub mod Keeping

@@ -6,4 +6,5 @@ pub use Rattle.stream_manager.specs as stream_manager
 pub mod Viewing
 pub mod Stands
 pub mod Calls
+pub mod Keeping
 pub mod Laws

@@ -1,7 +1,10 @@
 -- The tie between a viewer and the packets that it took.
 use Rattle.std.specs.Prelude.{◌≡◌, ℕ, ◌*◌, ◌≤◌, List, Option}
 use Rattle.tn_types.specs.declared.limits.TheConstants.{MAX_LIFE, MAX_PACKET_EVENTS}
+use Rattle.std.specs.List.{AllByRecursion}
+use Rattle.wire_format.specs.declared.ghosts.GhostItem.{GhostItem}
 use Rattle.wire_format.specs.declared.server.ServerPacket.{ServerPacket}
+use Rattle.wire_format.specs.Ghosts.{IsGhostInRange}
 use Rattle.datablocks.specs.Holding.{StandsFor as BlocksStandFor}
 use Rattle.event_manager.specs.ReceiverState.{ReceiverState, event_count}
 use Rattle.event_manager.specs.ReceiverStands.{StandsFor as EventsStandFor}
@@ -33,3 +36,9 @@ pub record StandsFor (v : ViewerState) (packets : List ServerPacket) : Type 0 wh
 pub record AreFew (horizon : ℕ) (events : ReceiverState) : Type 0 where
   pub horizon_most : horizon ≤ MAX_LIFE
   pub counted : event_count events ≤ MAX_PACKET_EVENTS * horizon
+
+-- the copies are those of ghosts that came, each in the ranges of the table of kinds
+pub record AreSeen (c : copies.State) : Type 0 where
+  pub came : List GhostItem
+  pub stands : copies_stand.StandsFor c came
+  pub ranges : AllByRecursion (IsGhostInRange c.kinds) came

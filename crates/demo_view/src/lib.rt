@@ -4,12 +4,14 @@
 
 mod checks;
 mod fault;
+mod kept;
 mod laws;
 mod numbers;
 mod viewer;
 
 pub use fault::ViewFault;
 pub use ghost_client;
+pub use kept::KeptViewer;
 pub use laws::client_packets_are_viewed;
 pub use stream_manager;
 pub use viewer::Viewer;

@@ -12,10 +12,11 @@ ghost use Rattle.notify_window.specs.declared.Arrival.TheVariants.{Fresh};
 ghost use Rattle.stream_manager.specs.Client.{kind_at};
 ghost use Rattle.stream_manager.specs.Packets.{took, ghosts_seen};
 ghost use Rattle.demo_view.specs.Calls.{Admits, Takes, made_whole, viewer_of};
-ghost use Rattle.demo_view.specs.Stands.{AreFew};
+ghost use Rattle.demo_view.specs.Stands.{AreFew, AreSeen};
 
 use crate::checks::{check_blocks, check_control};
 use crate::fault::ViewFault;
+use crate::kept::{KeptViewer, creates_of};
 use crate::numbers::{check_events, take_events};
 use datablocks::BlockReceiver;
 use event_manager::{EventReceiver, MAX_READY_EVENTS};
@@ -59,7 +60,7 @@ impl Drop for Viewer {
 }
 
 impl Model for Viewer {
-    ghost use Rattle.demo_view.specs.Stands.{ViewerState, AreFew};
+    ghost use Rattle.demo_view.specs.Stands.{ViewerState, AreFew, AreSeen};
 
     ghost Value = { ViewerState };
 
@@ -72,7 +73,10 @@ impl Model for Viewer {
       copies = v.copies;
     } };
 
-    ghost invariant = { λ v. AreFew v.horizon v.events };
+    ghost invariant = { λ v. record {
+      few : AreFew v.horizon v.events;
+      seen : AreSeen v.copies;
+    } };
 }
 
 impl Viewer {
@@ -82,6 +86,7 @@ impl Viewer {
     ghost use Rattle.demo_view.specs.Viewing.{as_client, config_of, head_view, packet_view, view_answer, whole_view, taken_by, taking, count_delivered};
     ghost use Rattle.demo_view.specs.Stands.{StandsFor, terms_of};
     ghost use Rattle.demo_view.specs.Calls.{Answers, Becomes, Does, Hands, popped, FitGhosts};
+    ghost use Rattle.demo_view.specs.Keeping.{Keeps};
 
     /// A viewer of this client's datagrams, which are of this version, in a match of these kinds.
     pub fn new(
@@ -101,7 +106,7 @@ impl Viewer {
     }
 
     /// A viewer of these parts.
-    fn of_parts(
+    pub(crate) fn of_parts(
         alloc: Global,
         client: u8,
         version: u8,
@@ -110,7 +115,8 @@ impl Viewer {
         events: EventReceiver,
         copies: Copies,
     ) -> Result<Viewer, NoMemory>
-        requires { AreFew horizon events }
+        requires few { AreFew horizon events }
+        requires seen { AreSeen copies }
         ensures { IfOk result (λ v. v ≡ viewer_of client version horizon blocks events copies) }
     {
         let Ok(body) = Box::new(alloc, ServerBody::new()) else {
@@ -143,6 +149,23 @@ impl Viewer {
             events,
             copies,
         )
+    }
+
+    /// What is kept of the viewer, so that it can be made again; small where few copies are there.
+    pub fn keep(&self, alloc: Global) -> Result<KeptViewer, NoMemory>
+        ensures { IfOk result (Keeps self.now) }
+    {
+        let blocks = self.blocks.try_clone(alloc)?;
+        let events = self.events.try_clone(alloc)?;
+        let creates = creates_of(alloc, &self.copies)?;
+        Ok(KeptViewer {
+            client: self.client,
+            version: self.version,
+            horizon: self.horizon,
+            blocks,
+            events,
+            creates,
+        })
     }
 
     /// The copies of the objects that are shown.
@@ -346,10 +369,12 @@ fn take_body(
     requires admits { let old = viewer_of 0 version horizon.old blocks.old events.old copies.old in
         Admits old (made_whole old body.now) }
     requires few { AreFew horizon.old events.old }
+    requires seen { AreSeen copies.old }
     requires none_waits { events.old.ready ≡ [] }
     ensures took { (client : ℕ) → let old = viewer_of client version horizon.old blocks.old events.old copies.old in
         Takes old (made_whole old body.now) (viewer_of client version horizon.new blocks.new events.new copies.new) }
     ensures few { AreFew horizon.new events.new }
+    ensures seen { AreSeen copies.new }
 {
     take_events(events, version, &body.events);
     *horizon = (*horizon).max(body.head.seq);

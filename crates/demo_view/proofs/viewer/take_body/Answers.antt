@@ -1,4 +1,4 @@
-use Rattle.std.proofs.Common.{◌≡◌, ◌∙◌, ℕ, List, [], length, max, ap, sym, arith}
+use Rattle.std.proofs.Common.{◌≡◌, ◌∙◌, ℕ, List, [], length, max, ap, arith}
 use Rattle.quantised_fields.specs.declared.kind.Kind.{Kind}
 use Rattle.tn_types.specs.Checks.{first_fault}
 use Rattle.ghost_client.specs.State.{copy_in}
@@ -7,6 +7,8 @@ use Rattle.stream_manager.specs.ClientCalls.{held_bits}
 use Rattle.stream_manager.specs.Packets.{blocks_seen, events_seen, ghosts_seen}
 use Rattle.stream_manager.proofs.Came.{held-word}
 use Rattle.demo_view.specs.Viewing.{ViewTerms}
+use Rattle.stream_manager.proofs.Clients.{ghosts-in_range}
+use Rattle.demo_view.proofs.Keeping.{seen-more}
 use Rattle.demo_view.proofs.Seen.{horizon-grows}
 use Rattle.demo_view.proofs.viewer.take_body.Goals as goal
 
@@ -38,3 +40,8 @@ returns-clause-few c =
       horizon_most = omega (arith, h, c.requires.few.horizon_most, c.requires.fits.head.seq);
       counted = omega (arith, h, c.take_events.ensures.grown, c.requires.few.counted, horizon-grows c.args.body.now.head.seq c.args.horizon.now (length c.args.body.now.events) c.requires.admits.fresh (c.requires.fits.events.few));
     }
+
+pub returns-clause-seen : goal.returns-clause-seen
+returns-clause-seen c =
+    seen-more c.args.copies.now c.take_checked.new.self c.args.body.now.ghosts c.requires.seen c.take_checked.ensures.kinds
+    (ghosts-in_range c.args.version c.args.copies.now.kinds c.args.body.now c.requires.fits) c.take_checked.ensures.taken

@@ -1,0 +1,87 @@
+//! A seek to each place of a demo beside `replay K`.
+ghost use Rattle.std.specs.Prelude.{◌≡◌, ◌<◌, ◌≤◌, length};
+
+use crate::rows::whole;
+use crate::served::{ALL, asked};
+use copies_told::copies_told;
+use demo_record::write_demo_of;
+use demo_seek::Demo;
+use demo_top::demo_format::MAX_DEMO_BYTES;
+use match_report::put_shown;
+use script_input::Status;
+use script_maker::make;
+use std::marker::Brand;
+use std::sync::ledger::{Blank, Ledger};
+use std::test::Fail;
+use tn_outside::MemSink;
+use tn_types::Steps;
+
+/// The demo of client 0 of a made match.
+fn made(rt: &HostRuntime) -> Result<Vec<u8>, Fail> {
+    let script = make(rt.alloc(), 7, 8, 5000)?;
+    let mut sink = MemSink {
+        bytes: Vec::new(rt.alloc()),
+        most: ALL,
+        failing: &[],
+        calls: 0,
+        faults: 0,
+    };
+    match write_demo_of(rt.alloc(), &script, 0, &mut sink) {
+        Ok(()) => Ok(sink.bytes),
+        Err(_) => Err("a match that can't be recorded".into()),
+    }
+}
+
+/// What the viewer shows behind the first `k` records, in the words of `replay K`.
+fn shown<L: Ledger>(
+    rt: &HostRuntime,
+    demo: &Demo,
+    k: u32,
+    blank: Blank,
+) -> Result<Vec<u8>, Fail>
+    requires few { k ≤ length demo.now.records }
+    requires name { blank.name ≡ L.name }
+    requires parts { blank.parts ≡ L.parts }
+    requires some { 0 < blank.parts }
+{
+    let mut steps: Steps<L> = Steps::new(blank);
+    let viewer = demo.at(rt.alloc(), k, &mut steps)?;
+    let copies = copies_told(rt.alloc(), viewer.copies())?;
+    let mut text = Vec::new(rt.alloc());
+    put_shown(
+        rt.alloc(),
+        "at",
+        viewer.delivered(),
+        copies.as_slice(),
+        &mut text,
+    )?;
+    Ok(text)
+}
+
+/// Holds that each place of a demo shows what a replay of so many records shows, and gives how many records there are.
+fn seeks(rt: &HostRuntime, bytes: &[u8]) -> Result<u32, Fail> {
+    if bytes.len() > MAX_DEMO_BYTES {
+        return Err("a demo that is too long".into());
+    }
+    let Ok(demo) = Demo::load(rt.alloc(), bytes) else {
+        return Err("a demo that can't be loaded".into());
+    };
+    for k in 0..=demo.count() {
+        let word = format!(in rt.alloc(); "{k}")?;
+        let (status, text) = asked(rt, &["replay", word.as_str()], bytes)?;
+        let same = shown::<Brand>(rt, &demo, k, Blank::new(1))?;
+        if status != Status::Done || same.as_slice() != text.as_slice() {
+            return Err("a seek that does not show what a replay shows".into());
+        }
+    }
+    Ok(demo.count())
+}
+
+#[test]
+fn each_seek_shows_what_a_replay_shows(rt: HostRuntime) -> Result<(), Fail> {
+    let demo = made(&rt)?;
+    assert!(rt; seeks(&rt, demo.as_slice())? > 64);
+    // three of its records are refused
+    assert_eq!(rt; seeks(&rt, whole())?, 7);
+    Ok(())
+}

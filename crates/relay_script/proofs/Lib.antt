@@ -1,0 +1,5 @@
+pub mod Cutting
+pub mod Headers
+pub mod Bodies
+pub mod Alike
+pub mod Clients
