@@ -1,5 +1,5 @@
 //! The commands on demos: each reads a script or a demo, and writes what it makes of it.
-ghost use Rattle.std.specs.Prelude.{◌≡◌, ◌⊎◌, List, [], ℕ, map, string_bytes, length, Some, Ok, Err, OnOk};
+ghost use Rattle.std.specs.Prelude.{◌≡◌, ◌≤◌, ◌⊎◌, List, [], ℕ, map, string_bytes, length, Some, Ok, Err, OnOk};
 ghost use Rattle.tn_outside.specs.Causes.{HandsOn};
 ghost use Rattle.tn_outside.specs.Totals.{Adds, AddsFront};
 ghost use Rattle.script_input.specs.declared.status.Status.TheVariants.{Demo as NoDemo};

@@ -14,7 +14,7 @@ returns-in-Ok-flush-clause-outcome g c =
     let text = demo_text c.in-Ok.script c.args.client in
     let adds : Adds w (g.K.Sink.written c.flush.new.self) text = subst (λ (x : Option (List ℕ)). Adds w x text) (sym f.bytes) r.demo in
     done (Demo c.args.client) (g.S.Source.held c.args.source.now) (g.S.Source.held c.read_script.new.source) (g.S.Source.faults c.args.source.now) (g.S.Source.faults c.read_script.new.source) e.taken (e.cause.spared (λ h. absurd cc)) text (demo-made c.args.client (seen (g.S.Source.held c.args.source.now) (g.S.Source.held c.read_script.new.source) (g.S.Source.faults c.args.source.now) (g.S.Source.faults c.read_script.new.source)) c.in-Ok.script e.ok)
-    w (g.K.Sink.written c.flush.new.self) (g.K.Sink.faults c.args.sink.now) (g.K.Sink.faults c.flush.new.self) (omega (arith, r.later, f.caus(e.cause.spared (λ h. absurd cc)))) adds
+    w (g.K.Sink.written c.flush.new.self) (g.K.Sink.faults c.args.sink.now) (g.K.Sink.faults c.flush.new.self) (f.cause.worked ∙ r.cause.spared (λ h. absurd cc)) adds
 
 pub returns-in-Ok-write_demo_of-clause-outcome : goal.returns-in-Ok-write_demo_of-clause-outcome
 returns-in-Ok-write_demo_of-clause-outcome g c =
@@ -24,5 +24,5 @@ returns-in-Ok-write_demo_of-clause-outcome g c =
     let text = demo_text c.in-Ok.script c.args.client in
     let adds : Adds w w' text = subst (λ (x : Option (List ℕ)). Adds w x text) (sym f.bytes) r.demo in
     write-fault (Demo c.args.client) (g.S.Source.held c.args.source.now) (g.S.Source.held c.read_script.new.source) (g.S.Source.faults c.args.source.now) (g.S.Source.faults c.read_script.new.source) e.taken (e.cause.spared (λ h. absurd cc)) text (demo-made c.args.client (seen (g.S.Source.held c.args.source.now) (g.S.Source.held c.read_script.new.source) (g.S.Source.faults c.args.source.now) (g.S.Source.faults c.read_script.new.source)) c.in-Ok.script e.ok)
-    w w' (g.K.Sink.faults c.args.sink.now) (g.K.Sink.faults c.flush.new.self) (omega (arith, r.cause.later, f.caus(e.cause.spared (λ h. absurd cc)))) (whole_front w w' text adds)
+    w w' (g.K.Sink.faults c.args.sink.now) (g.K.Sink.faults c.flush.new.self) (omega (arith, r.cause.later, f.cause.later)) (whole_front w w' text adds)
     (rose-later (g.K.Sink.faults c.args.sink.now) (g.K.Sink.faults c.write_demo_of.new.sink) (g.K.Sink.faults c.flush.new.self) r.cause.later f.cause.failed)

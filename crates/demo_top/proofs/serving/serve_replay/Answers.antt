@@ -19,7 +19,7 @@ returns-in-Ok-flush-clause-outcome g c =
     let adds : Adds w (g.K.Sink.written c.flush.new.self) told.0 = subst (λ (x : Option (List ℕ)). Adds w x told.0) (sym f.bytes) told.2 in
     done (replaying c.args.count) (g.S.Source.held c.args.source.now) (g.S.Source.held c.read_demo.new.source) (g.S.Source.faults c.args.source.now) (g.S.Source.faults c.read_demo.new.source) (taken-few c.args.count held held' e.taken) (e.cause.spared (λ h. absurd cc)) told.0
     (made-of c.args.count (seen (g.S.Source.held c.args.source.now) (g.S.Source.held c.read_demo.new.source) (g.S.Source.faults c.args.source.now) (g.S.Source.faults c.read_demo.new.source)) c.as_slice.result.now (Ok told.0) gave told.1)
-    w (g.K.Sink.written c.flush.new.self) (g.K.Sink.faults c.args.sink.now) (g.K.Sink.faults c.flush.new.self) (omega (arith, c.tell.ensures.later, f.caus(e.cause.spared (λ h. absurd cc)))) adds
+    w (g.K.Sink.written c.flush.new.self) (g.K.Sink.faults c.args.sink.now) (g.K.Sink.faults c.flush.new.self) (f.cause.worked ∙ c.in-Ok-tell.ensures.cause.spared (λ h. absurd cc)) adds
 
 pub returns-in-Ok-tell-clause-outcome : goal.returns-in-Ok-tell-clause-outcome
 returns-in-Ok-tell-clause-outcome g c =
@@ -33,7 +33,7 @@ returns-in-Ok-tell-clause-outcome g c =
     let adds : Adds w w' told.0 = subst (λ (x : Option (List ℕ)). Adds w x told.0) (sym f.bytes) told.2 in
     write-fault (replaying c.args.count) (g.S.Source.held c.args.source.now) (g.S.Source.held c.read_demo.new.source) (g.S.Source.faults c.args.source.now) (g.S.Source.faults c.read_demo.new.source) (taken-few c.args.count held held' e.taken) (e.cause.spared (λ h. absurd cc)) told.0
     (made-of c.args.count (seen (g.S.Source.held c.args.source.now) (g.S.Source.held c.read_demo.new.source) (g.S.Source.faults c.args.source.now) (g.S.Source.faults c.read_demo.new.source)) c.as_slice.result.now (Ok told.0) gave told.1)
-    w w' (g.K.Sink.faults c.args.sink.now) (g.K.Sink.faults c.flush.new.self) (omega (arith, c.in-Ok-tell.ensures.cause.later, f.caus(e.cause.spared (λ h. absurd cc)))) (whole_front w w' told.0 adds)
+    w w' (g.K.Sink.faults c.args.sink.now) (g.K.Sink.faults c.flush.new.self) (omega (arith, c.in-Ok-tell.ensures.cause.later, f.cause.later)) (whole_front w w' told.0 adds)
     (rose-later (g.K.Sink.faults c.args.sink.now) (g.K.Sink.faults c.tell.new.sink) (g.K.Sink.faults c.flush.new.self) c.in-Ok-tell.ensures.cause.later f.cause.failed)
 
 pub returns-in-Err-Head-clause-outcome : goal.returns-in-Err-Head-clause-outcome
