@@ -13,8 +13,10 @@ again-requires g c =
     let few : c.args.k ≤ length (records_of c.self.inside.bytes.items) = subst (λ (d : DemoState). c.args.k ≤ length d.records) (sym c.self.view_is) c.requires in
     let read : c.index-key.result.now ≡ get_or c.self.inside.keys.items (c.args.k / 64) c.index-key.result.now =
     c.index-key.ensures ∙ ap (λ (i : ℕ). get_or c.self.inside.keys.items i c.index-key.result.now) c.key_before.ensures in
-    subst (λ (kinds : List Kind). AreCreates kinds 256 c.index-key.result.now.viewer.creates) (sym c.match_kinds.ensures)
-    (key-fits c.self.inside.head c.self.inside.bytes.items c.self.inside.keys.items c.self.inside.count c.args.k c.self.invariant few c.index-key.result.now read)
+    record {
+      fits = subst (λ (kinds : List Kind). AreCreates kinds 256 c.index-key.result.now.viewer.creates) (sym c.match_kinds.ensures)
+          (key-fits c.self.inside.head c.self.inside.bytes.items c.self.inside.keys.items c.self.inside.count c.args.k c.self.invariant few c.index-key.result.now read);
+    }
 
 pub go_on-requires-clause-within : goal.go_on-requires-clause-within
 go_on-requires-clause-within g c =
