@@ -1,10 +1,8 @@
 use Rattle.std.proofs.Common.{◌≡◌, ◌≤◌, ◌∙◌, ◌/◌, ℕ, List, length, get_or, sym, ap, subst, arith}
-use Rattle.world_rules.specs.Kinds.{match_kinds}
 use Rattle.demo_format.specs.Records.{records_of}
 use Rattle.demo_replay.specs.demo_view.Keeping.{AreCreates}
 use Rattle.demo_replay.specs.demo_view.quantised_fields.declared.kind.Kind.{Kind}
-use Rattle.demo_replay.specs.Walking.{DemoState, IsViewerAfter}
-use Rattle.demo_seek.specs.Loaded.{IsKey}
+use Rattle.demo_replay.specs.Walking.{DemoState}
 use Rattle.demo_seek.proofs.Keys.{key-at, key-fits, key-viewer, reached}
 use Rattle.demo_seek.proofs.seeking.Demo.at.Goals as goal
 
