@@ -1,14 +1,14 @@
-//! A seek to each place of a demo beside `replay K`.
+//! A seek to each place of a demo beside a replay of so many records.
 ghost use Rattle.std.specs.Prelude.{◌≡◌, ◌<◌, ◌≤◌, length};
 
 use crate::rows::whole;
-use crate::served::{ALL, asked};
+use crate::served::ALL;
 use copies_told::copies_told;
 use demo_record::write_demo_of;
+use demo_record::demo_format::MAX_DEMO_BYTES;
 use demo_seek::Demo;
-use demo_top::demo_format::MAX_DEMO_BYTES;
+use demo_seek::demo_replay::replay_at;
 use match_report::put_shown;
-use script_input::Status;
 use script_maker::make;
 use std::marker::Brand;
 use std::sync::ledger::{Blank, Ledger};
@@ -16,23 +16,39 @@ use std::test::Fail;
 use tn_outside::MemSink;
 use tn_types::Steps;
 
-/// The demo of client 0 of a made match.
-fn made(rt: &HostRuntime) -> Result<Vec<u8>, Fail> {
-    let script = make(rt.alloc(), 7, 8, 5000)?;
-    let mut sink = MemSink {
+/// A sink that takes all.
+fn sink(rt: &HostRuntime) -> MemSink<'static> {
+    MemSink {
         bytes: Vec::new(rt.alloc()),
         most: ALL,
         failing: &[],
         calls: 0,
         faults: 0,
-    };
+    }
+}
+
+/// The demo of client 0 of a made match.
+fn made(rt: &HostRuntime) -> Result<Vec<u8>, Fail> {
+    let script = make(rt.alloc(), 7, 8, 5000)?;
+    let mut sink = sink(rt);
     match write_demo_of(rt.alloc(), &script, 0, &mut sink) {
         Ok(()) => Ok(sink.bytes),
         Err(_) => Err("a match that can't be recorded".into()),
     }
 }
 
-/// What the viewer shows behind the first `k` records, in the words of `replay K`.
+/// What a replay of the first `k` records tells.
+fn replayed(rt: &HostRuntime, bytes: &[u8], k: u32) -> Result<Vec<u8>, Fail>
+    requires { length bytes.now ≤ MAX_DEMO_BYTES }
+{
+    let mut sink = sink(rt);
+    match replay_at(rt.alloc(), bytes, k, &mut sink) {
+        Ok(()) => Ok(sink.bytes),
+        Err(_) => Err("a demo that can't be replayed".into()),
+    }
+}
+
+/// What the viewer shows behind the first `k` records, in a replay's words.
 fn shown<L: Ledger>(
     rt: &HostRuntime,
     demo: &Demo,
@@ -67,10 +83,9 @@ fn seeks(rt: &HostRuntime, bytes: &[u8]) -> Result<u32, Fail> {
         return Err("a demo that can't be loaded".into());
     };
     for k in 0..=demo.count() {
-        let word = format!(in rt.alloc(); "{k}")?;
-        let (status, text) = asked(rt, &["replay", word.as_str()], bytes)?;
+        let text = replayed(rt, bytes, k)?;
         let same = shown::<Brand>(rt, &demo, k, Blank::new(1))?;
-        if status != Status::Done || same.as_slice() != text.as_slice() {
+        if same.as_slice() != text.as_slice() {
             return Err("a seek that does not show what a replay shows".into());
         }
     }
