@@ -13,7 +13,7 @@ use Rattle.relay_script.specs.declared.types.PlacedLine.{PlacedLine}
 use Rattle.relay_script.specs.declared.entries.Entry.{Entry}
 use Rattle.relay_script.specs.declared.entries.Entry.TheVariants.{OfMatch, OfRelay}
 use Rattle.relay_script.specs.Lines.{relay_line_at}
-use Rattle.relay_script.specs.Whole.{entry_at, entries_of, match_lines, relay_lines, parts_of}
+use Rattle.relay_script.specs.Whole.{entry_at, entries_of, match_lines, relay_lines}
 use Rattle.relay_script.specs.Ranges.{RelayLineFits, PlacedFits, InOrderFrom}
 use Rattle.relay_script.proofs.Cutting.{no_line}
 

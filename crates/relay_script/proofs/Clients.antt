@@ -6,7 +6,7 @@ use Rattle.match_script.specs.Text.{words_of, is_text}
 use Rattle.match_script.specs.Header.{version_line, match_line}
 use Rattle.match_script.specs.Script.{Fault, ◌>>=◌, text_line, header_words, stands, blocks_of, objects_of, opening, header}
 use Rattle.relay_script.specs.declared.asked.Asked.{Asked}
-use Rattle.relay_script.specs.Asked.{match_in, clients_named, relay_named}
+use Rattle.relay_script.specs.Asked.{clients_named, relay_named}
 use Rattle.relay_script.specs.Whole.{asked_in, one_later}
 use Rattle.relay_script.proofs.Alike.{Alike, match_alike}
 

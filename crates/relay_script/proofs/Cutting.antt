@@ -1,7 +1,6 @@
 -- The first line of a text.
 use Rattle.std.specs.List.{position_or_len}
-use Rattle.std.proofs.Common.{◌≡◌, ℕ, suc, ◌+◌, ◌<◌, ◌≤◌, Bool, true, false, List, [], ◌∷◌, length, get_or, take, nat_eq, arith, refl}
-use Rattle.std.specs.Prelude.{codes}
+use Rattle.std.proofs.Common.{◌≡◌, ℕ, suc, ◌+◌, ◌<◌, ◌≤◌, Bool, true, false, List, [], ◌∷◌, length, get_or, nat_eq, arith, refl}
 use Rattle.match_script.specs.Text.{lines_of}
 use Rattle.match_script.specs.Shape.{first_line}
 use Rattle.match_script.proofs.Cutting.{no_lines}

@@ -4,11 +4,11 @@ use Rattle.std.specs.Option.{option_map_or}
 use Rattle.std.proofs.lemmas.List.{length-append}
 use Rattle.world_rules.specs.declared.setup.Spawn.{Spawn}
 use Rattle.match_script.specs.declared.types.ScriptFault.{ScriptFault}
-use Rattle.match_script.specs.declared.types.ScriptFault.TheVariants.{NotText, BadHeader}
+use Rattle.match_script.specs.declared.types.ScriptFault.TheVariants.{NotText}
 use Rattle.match_script.specs.declared.types.Head.{Head}
 use Rattle.match_script.specs.Text.{words_of, is_text}
 use Rattle.match_script.specs.Header.{version_line, match_line, block_line, is_go, named, if_placed, object_line}
-use Rattle.match_script.specs.Script.{Fault, ◌>>=◌, text_line, header_words, stands, block_in, with_block, blocks_of, objects_of, with_objects, opening, header}
+use Rattle.match_script.specs.Script.{Fault, ◌>>=◌, text_line, header_words, stands, block_in, with_block, blocks_of, objects_of, opening, header}
 
 -- a fault, if there is one, stands so early
 abbrev Early : {A : Type 0} → ℕ → Result A Fault → Type 0

@@ -3,3 +3,4 @@ pub mod Headers
 pub mod Bodies
 pub mod Alike
 pub mod Clients
+pub mod Left

@@ -1,11 +1,11 @@
 -- What a line says that is the relay's: `r`, what is asked, and of which spectator, with the number of a packet where one is delivered.
 -- As in a script, a line is known by its words up to the first number and by how many words it has; then its numbers are read
 -- from left to right.
-use Rattle.std.specs.Prelude.{ℕ, ◌≡◌, ◌^◌, take, List, [], ◌∷◌, Bool, true, false, not, nat_le, if◌then◌else◌, codes, Result, Ok, Err, refl}
+use Rattle.std.specs.Prelude.{ℕ, ◌≡◌, ◌^◌, take, List, [], ◌∷◌, Bool, false, not, nat_le, if◌then◌else◌, codes, Result, Ok, Err, refl}
 use Rattle.std.specs.Str.{bytes_eq}
 use Rattle.tn_types.specs.declared.limits.TheConstants.{MAX_BODY_LINES}
 use Rattle.match_script.specs.declared.types.ScriptFault.{ScriptFault}
-use Rattle.match_script.specs.declared.types.ScriptFault.TheVariants.{NotText, TooManyLines, UnknownWord, BadNumber, OutOfRange}
+use Rattle.match_script.specs.declared.types.ScriptFault.TheVariants.{NotText, TooManyLines, UnknownWord, OutOfRange}
 use Rattle.match_script.specs.Text.{words_of, is_text}
 use Rattle.match_script.specs.Words.{◌>>=◌, number}
 use Rattle.match_script.specs.Lines.{is}

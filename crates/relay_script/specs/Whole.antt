@@ -1,7 +1,7 @@
 -- The relay script of a text. Behind the first line stand the lines of a script, and behind their `go` the relay's lines anywhere between
 -- them: what is left without these and the first line is the match. Where a text has no relay script, it has a least line that can't
 -- stand where it stands, and that line's first fault, as a text without a script has; lines are numbered from 1 in the whole text.
-use Rattle.std.specs.Prelude.{ℕ, ◌≡◌, suc, ◌+◌, List, [], ◌∷◌, if◌then◌else◌, codes, Result, Ok, Err, refl}
+use Rattle.std.specs.Prelude.{ℕ, ◌≡◌, suc, ◌+◌, List, [], ◌∷◌, filter, not, if◌then◌else◌, codes, None, Result, Ok, Err, refl}
 use Rattle.match_script.specs.declared.types.ScriptFault.{ScriptFault}
 use Rattle.match_script.specs.declared.types.ScriptFault.TheVariants.{UnknownWord}
 use Rattle.match_script.specs.declared.line.LineFault.{LineFault}
@@ -11,8 +11,7 @@ use Rattle.match_script.specs.declared.types.BodyLine.TheVariants.{Tick, World}
 use Rattle.match_script.specs.Text.{lines_of, words_of}
 use Rattle.match_script.specs.Words.{number}
 use Rattle.match_script.specs.Lines.{body_line}
-use Rattle.match_script.specs.Script.{Fault, ◌>>=◌, header_words, stands, header, header_length, line_at, body_fault}
-use Rattle.relay_script.specs.declared.types.RelayLine.{RelayLine}
+use Rattle.match_script.specs.Script.{Fault, ◌>>=◌, header_words, stands, header, header_length, line_at, body_fault, script_in}
 use Rattle.relay_script.specs.declared.types.RelayLine.TheVariants.{Pack, Show}
 use Rattle.relay_script.specs.declared.types.PlacedLine.{PlacedLine}
 use Rattle.relay_script.specs.declared.types.RelayScript.{RelayScript}
@@ -20,7 +19,7 @@ use Rattle.relay_script.specs.declared.asked.Asked.{Asked}
 use Rattle.relay_script.specs.declared.entries.Entry.{Entry}
 use Rattle.relay_script.specs.declared.entries.Entry.TheVariants.{OfMatch, OfRelay}
 use Rattle.relay_script.specs.Asked.{clients_named, relay_named}
-use Rattle.relay_script.specs.Lines.{is_relay, scan_line, pack_line, show_line, relay_line, relay_line_at}
+use Rattle.relay_script.specs.Lines.{is_relay, pack_line, show_line, relay_line, relay_line_at}
 
 -- ---- the whole body
 
@@ -95,6 +94,15 @@ relay_script_in lines = do
 -- the relay script of a text
 abbrev pub relay_script_of : List ℕ → Result RelayScript Fault
 relay_script_of text = relay_script_in (lines_of text)
+
+-- what is left of a text without its first line and the relay's lines
+abbrev pub left_of : List (List ℕ) → List (List ℕ)
+left_of [] = []
+left_of (first ∷ lines) = filter (λ line. not (is_relay line)) lines
+
+-- it is a script, and the relay script has it as its match
+abbrev pub LeavesItsMatch : List ℕ → RelayScript → Type 0
+LeavesItsMatch text relay = script_in None (left_of (lines_of text)) ≡ Ok relay.script
 
 -- ---- examples
 

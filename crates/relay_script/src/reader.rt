@@ -3,7 +3,7 @@ ghost use Rattle.std.specs.Prelude.{◌≡◌, IfOk};
 ghost use Rattle.match_script.specs.Text.{lines_of};
 ghost use Rattle.match_script.specs.Script.{Gives, header};
 ghost use Rattle.match_script.specs.Ranges.{HeadFits};
-ghost use Rattle.relay_script.specs.Whole.{one_later, relay_script_in, relay_script_of};
+ghost use Rattle.relay_script.specs.Whole.{one_later, relay_script_in, relay_script_of, LeavesItsMatch};
 ghost use Rattle.relay_script.specs.Ranges.{HasRelayRanges};
 
 use crate::asked::asked_in;
@@ -34,6 +34,8 @@ fn header_behind(alloc: Global, text: &[u8]) -> Result<(Head, &[u8]), ParseFault
 pub fn parse_relay(alloc: Global, bytes: &[u8]) -> Result<RelayScript, ParseFault>
     ensures grammar { Gives (λ script. script) result (relay_script_of bytes.now) }
     ensures ranges { IfOk result HasRelayRanges }
+    // What is left without the first line and the relay's lines is a script, the match of the relay script.
+    ensures left { IfOk result (LeavesItsMatch bytes.now) }
 {
     let (asked, rest) = asked_in(alloc, bytes)?;
     let (head, rest) = header_behind(alloc, rest)?;

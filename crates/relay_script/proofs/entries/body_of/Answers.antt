@@ -1,14 +1,9 @@
-use Rattle.std.proofs.Common.{rules, ◌≡◌, ◌∙◌, ◌+◌, ◌≤◌, List, [], ◌∷◌, ◌++◌, length, arith, Ok, refl, subst, sym, cond}
-use Rattle.std.proofs.lemmas.List.{length-append}
-use Rattle.std.specs.List.{All}
-use Rattle.match_script.specs.Text.{lines_of}
+use Rattle.std.proofs.Common.{rules, ◌≡◌, ◌∙◌, length, arith, Ok}
 use Rattle.match_script.specs.Shape.{first_line}
-use Rattle.match_script.specs.Ranges.{LineFits}
-use Rattle.relay_script.specs.declared.types.PlacedLine.{PlacedLine}
 use Rattle.relay_script.specs.declared.entries.Entry.TheVariants.{OfRelay}
-use Rattle.relay_script.specs.Whole.{entry_at, entries_of, parts_of}
-use Rattle.relay_script.specs.Ranges.{RelayLineFits, PlacedFits, InOrderFrom}
-use Rattle.relay_script.proofs.Bodies.{Kept, kept}
+use Rattle.relay_script.specs.Whole.{entry_at}
+use Rattle.relay_script.specs.Ranges.{RelayLineFits}
+use Rattle.relay_script.proofs.Bodies.{kept}
 use Rattle.relay_script.proofs.entries.body_of.Goals as goal
 
 pub lines-preserved : goal.lines-preserved
