@@ -1,7 +1,8 @@
-use Rattle.std.proofs.Common.{◌≡◌, ◌∙◌, [], List, map, sym, subst, arith}
+use Rattle.std.proofs.Common.{◌≡◌, ◌∙◌, [], List, Some, length, map, sym, subst, arith}
 use Rattle.std.proofs.lemmas.List.{length-map}
 use Rattle.own_items.specs.client_seat.Stands.{StandsFor as SeatStandsFor}
 use Rattle.own_lists.specs.declared.showing.Showing.{Showing}
+use Rattle.match_report.specs.declared.told.Told.TheVariants as told_as
 use Rattle.own_lists.specs.Own.{OwnShow as Told}
 use Rattle.own_lists.specs.Conditions.{MeetEach}
 use Rattle.own_lists.specs.Course.{scan_steps, with_steps}
@@ -51,4 +52,5 @@ returns-clause-goes c = λ t items s may.
     (subst (λ n. Holds (record { shows = n; periods = c.show_all.new.periods.items }) (after_scan hides nears shows k)) (sym c.in-Ok.ensures.count) held)
 
 pub returns-clause-told : goal.returns-clause-told
-returns-clause-told c = λ t items s for. ap (λ told. Some told) (tells c t items s)
+returns-clause-told c = λ t items s named.
+    λ j. Some (told_as.Scan (sym s.client j) (length c.args.hides.now) (length c.args.nears.now) (sym (length-map c.args.shows.now show_of) j))
