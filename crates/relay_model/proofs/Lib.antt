@@ -5,3 +5,4 @@ pub mod Shown
 pub mod Following
 pub mod Taken
 pub mod Copies
+pub mod Posting

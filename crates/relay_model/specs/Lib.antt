@@ -1,3 +1,4 @@
 pub mod Watching
 pub mod Items
 pub mod Laws
+pub mod Posts

@@ -3,4 +3,4 @@
 
 mod laws;
 
-pub use laws::{relay_items_may_follow, taken_packets_keep_copies};
+pub use laws::{relay_items_may_follow, relay_posts_what_came, taken_packets_keep_copies};
