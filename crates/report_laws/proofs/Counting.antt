@@ -1,10 +1,8 @@
 -- The numbers of a `show` line.
-use Rattle.std.proofs.Common.{◌≡◌, ℕ, List, ◌++◌, length, take, refl, sym, ap, ◌∙◌}
-use Rattle.std.specs.List.{flat_map}
+use Rattle.std.proofs.Common.{ℕ, List, length, take, sym, ap, ◌∙◌}
 use Rattle.pair_core.specs.stream_manager.Client.{control_at}
 use Rattle.pair_core.specs.History.{history}
 use Rattle.pair_core.specs.Answers.{client_run, sampled_in, accepted_in}
-use Rattle.match_script.specs.declared.types.Script.{Script}
 use Rattle.match_script.specs.Text.{words_of}
 use Rattle.own_lists.specs.Kept.{Kept, undrained}
 use Rattle.own_lists.specs.Past.{client_terms}
@@ -12,7 +10,6 @@ use Rattle.match_laws.specs.client_seat.Told.{copies_told}
 use Rattle.match_laws.specs.Laws.{first}
 use Rattle.match_laws.specs.Values.{moment_of, kept_then}
 use Rattle.match_laws.proofs.Applied.{taken}
-use Rattle.report_laws.specs.Shown.{IsShow}
 use Rattle.report_laws.specs.Moves.{show_begins, PrintedCounts}
 use Rattle.report_laws.proofs.Cutting.{words_are}
 use Rattle.report_laws.proofs.Showing.{text_is}

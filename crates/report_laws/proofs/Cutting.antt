@@ -1,15 +1,15 @@
 -- A `show` line, cut at its spaces and then at its bars: how it begins, and the words of each copy.
-use Rattle.std.proofs.Common.{◌≡◌, ℕ, ◌==◌, Bool, true, false, not, ◌&&◌, List, [], ◌∷◌, ◌++◌, map, length, if◌then◌else◌, Option, refl, sym, ap, ◌∙◌, append-nil, append_assoc}
+use Rattle.std.proofs.Common.{◌≡◌, ℕ, ◌==◌, Bool, true, false, not, List, [], ◌∷◌, ◌++◌, map, length, Option, refl, sym, ap, ◌∙◌, append-nil, append_assoc}
 use Rattle.std.specs.Prelude.{codes}
 use Rattle.std.specs.List.{AllByRecursion, list_all, flat_map}
 use Rattle.std.specs.Fmt.{decimal}
 use Rattle.std.proofs.lemmas.Bool.{and_parts}
 use Rattle.world_rules.specs.Kinds.{kind_word}
-use Rattle.match_script.specs.Text.{words_of, with_first}
+use Rattle.match_script.specs.Text.{words_of}
 use Rattle.match_report.specs.declared.copies.FieldTold.{FieldTold}
 use Rattle.match_report.specs.declared.copies.CopyTold.{CopyTold}
 use Rattle.match_report.specs.declared.told.Told.TheVariants.{Show}
-use Rattle.match_report.specs.Text.{control_word, field_text, copy_text, copies_text, told_text}
+use Rattle.match_report.specs.Text.{control_word, field_text, copy_text, told_text}
 use Rattle.match_laws.proofs.WordsCut.{word_cut}
 use Rattle.report_laws.specs.Shown.{is_bar, upto_bar, behind_bars, copies_printed, field_word}
 use Rattle.report_laws.proofs.WordBytes.{is_inner, Inner, inner_number, inner_field, inner_kind, inner_control, no_bar}
@@ -196,14 +196,43 @@ behind-each (c ∷ cs) =
 
 front-no-bars : (c events sampled accepted taken : ℕ) (control : Option ℕ) (copies : List CopyTold)
     → NoBars (front_words c events sampled accepted taken control copies)
-front-no-bars c events sampled accepted taken control copies =
-    (refl, (no_bar (decimal c) (inner_number c),
-    (refl, (no_bar (decimal events) (inner_number events),
-    (refl, (no_bar (decimal sampled) (inner_number sampled),
-    (refl, (no_bar (decimal accepted) (inner_number accepted),
-    (refl, (no_bar (decimal taken) (inner_number taken),
-    (refl, (no_bar (control_word control) (inner_control control),
-    (refl, (no_bar (decimal (length copies)) (inner_number (length copies)), tt))))))))))))))
+front-no-bars c events sampled accepted taken control copies = (
+  refl,
+  (
+    no_bar (decimal c) (inner_number c),
+    (
+      refl,
+      (
+        no_bar (decimal events) (inner_number events),
+        (
+          refl,
+          (
+            no_bar (decimal sampled) (inner_number sampled),
+            (
+              refl,
+              (
+                no_bar (decimal accepted) (inner_number accepted),
+                (
+                  refl,
+                  (
+                    no_bar (decimal taken) (inner_number taken),
+                    (
+                      refl,
+                      (
+                        no_bar (control_word control) (inner_control control),
+                        (refl, (no_bar (decimal (length copies)) (inner_number (length copies)), tt)),
+                      ),
+                    ),
+                  ),
+                ),
+              ),
+            ),
+          ),
+        ),
+      ),
+    ),
+  ),
+)
 
 -- the words of the copies that a line tells
 pub copies_are : (c events sampled accepted taken : ℕ) (control : Option ℕ) (copies : List CopyTold)

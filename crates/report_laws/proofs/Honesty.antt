@@ -1,5 +1,5 @@
 -- An honest client, over lines and over steps; and no two periods of a client hold one slot.
-use Rattle.std.proofs.Common.{◌≡◌, ℕ, ◌<◌, ◌==◌, Bool, true, false, List, [], ◌∷◌, take, reverse, refl, sym, ap, subst, ◌∙◌}
+use Rattle.std.proofs.Common.{◌≡◌, ℕ, ◌==◌, Bool, true, false, List, [], ◌∷◌, take, refl, sym, subst}
 use Rattle.std.proofs.lemmas.Bool.{eqb-true}
 use Rattle.std.proofs.lemmas.List.{reverse-reverse}
 use Rattle.pair_core.specs.Conditions.{IsHonest}
@@ -7,7 +7,6 @@ use Rattle.match_script.specs.declared.types.BodyLine.{BodyLine}
 use Rattle.match_script.specs.declared.types.BodyLine.TheVariants as script
 use Rattle.match_script.specs.declared.types.Head.{Head}
 use Rattle.match_script.specs.declared.types.Script.{Script}
-use Rattle.ghost_model.specs.Ghosts.{scope_log}
 use Rattle.pair_core.specs.ghost_masks.Plan.{sizes}
 use Rattle.ghost_model.proofs.Holders.{apart}
 use Rattle.own_lists.specs.Kept.{journal}

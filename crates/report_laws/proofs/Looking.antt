@@ -18,11 +18,11 @@ use Rattle.pair_core.specs.History.{PairStep, history}
 use Rattle.match_script.specs.declared.types.BodyLine.{BodyLine}
 use Rattle.match_script.specs.declared.types.BodyLine.TheVariants as script
 use Rattle.client_scope.specs.declared.period.Near.{Near as NearPeriod}
-use Rattle.own_lists.specs.pair_steps.Steps.{shows_in, traits_in}
+use Rattle.own_lists.specs.pair_steps.Steps.{shows_in}
 use Rattle.own_lists.specs.declared.showing.Showing.{Showing}
 use Rattle.own_lists.specs.Own.{OwnShow, OwnWrite, OwnItem, Line, Scan, Tick}
 use Rattle.own_lists.specs.Course.{onto, near_step, show_step, hide_step, scan_steps, with_steps}
-use Rattle.own_lists.specs.Kept.{Kept, left, packs, after_line, with_course, begins, all_begin, wrote, wrote_all, follows, kept, journal}
+use Rattle.own_lists.specs.Kept.{Kept, left, after_line, with_course, begins, all_begin, wrote, wrote_all, follows, kept, journal}
 use Rattle.own_lists.specs.Conditions.{AreOwn, IsOwnWrite}
 use Rattle.own_lists.proofs.Meeting.{scan_journal}
 use Rattle.own_lists.proofs.KeptValues.{IsKept, own_fields, is_kept, wrote_course}

@@ -18,11 +18,9 @@ use Rattle.match_script.specs.declared.types.Script.{Script}
 use Rattle.match_script.specs.Ranges.{HasRanges}
 use Rattle.match_report.specs.declared.copies.FieldTold.{FieldTold}
 use Rattle.match_report.specs.Text.{settled_mark}
-use Rattle.own_lists.specs.Past.{after}
-use Rattle.match_laws.specs.Laws.{first, journal_of}
-use Rattle.match_laws.specs.Words.{HasNoRaw}
-use Rattle.match_laws.specs.Values.{ClientMoment, moment_of, copy_at, shown_at, ShowsHad, ShowsNewest, CopiesShowValues, SettledIsNewest}
-use Rattle.report_laws.specs.Shown.{IsShow, copies_printed, fields_printed, is_marked, field_word, copy_words, slot_words, SaysValue, SaysCopy, PrintedValues}
+use Rattle.match_laws.specs.Laws.{journal_of}
+use Rattle.match_laws.specs.Values.{ClientMoment, moment_of, copy_at, shown_at, IsShownField, CopiesShowValues, SettledIsNewest}
+use Rattle.report_laws.specs.Shown.{is_marked, field_word, copy_words, slot_words, SaysValue, SaysCopy, PrintedValues}
 use Rattle.report_laws.proofs.WordBytes.{marked}
 use Rattle.report_laws.proofs.Showing.{printed_as_shown}
 use Rattle.report_laws.proofs.Honesty.{no_raw_is_honest}
@@ -149,7 +147,7 @@ module _ (had : CopiesShowValues) (settled : SettledIsNewest) (s : Script) (c n 
       → (word : List ℕ) → word ≡ field_word told → SaysValue m at copy.kind f word
   says-value at copy here f told shown word is =
       let mark : is_marked word ≡ told.settled = ap is_marked is ∙ marked told.value told.settled in
-      let field = record { here = here; shown = shown } in
+      let field : IsShownField m at f copy told = record { here = here; shown = shown } in
       record {
         number = told.value;
         spelled = is ∙ ap (λ b. signed_decimal told.value ++ settled_mark b) (sym mark);

@@ -2,7 +2,7 @@
 use Rattle.std.proofs.Common.{◌≡◌, ℕ, ℤ, ◌<◌, ◌==◌, ◌&&◌, ◌||◌, Bool, true, false, not, cond, nat_lt, List, [], ◌∷◌, Option, Some, None, length, refl, sym, ap, subst, ◌∙◌, arith, inl, inr}
 use Rattle.std.specs.Prelude.{◌⊎◌, find, map, slice_get, option_map}
 use Rattle.std.specs.Option.{option_map_or, option_and_then}
-use Rattle.std.specs.List.{All, AllByRecursion, list_any}
+use Rattle.std.specs.List.{AllByRecursion, list_any}
 use Rattle.std.proofs.lemmas.Bool.{and_parts, and_from, eqb-true, eq-eqb}
 use Rattle.std.proofs.lemmas.Bool.Decides.{nat_tests}
 use Rattle.std.proofs.lemmas.List.Elements.{recursion_from_All}
@@ -20,8 +20,8 @@ use Rattle.match_script.specs.declared.types.Script.{Script}
 use Rattle.match_script.specs.Ranges.{HasRanges}
 use Rattle.match_report.specs.declared.copies.FieldTold.{FieldTold}
 use Rattle.client_scope.specs.declared.period.ShownPeriod.{ShownPeriod}
-use Rattle.client_scope.specs.Scans.{periods, shown}
-use Rattle.own_lists.specs.pair_steps.Steps.{shows_in, is_hidden_in, up_in}
+use Rattle.client_scope.specs.Scans.{shown}
+use Rattle.own_lists.specs.pair_steps.Steps.{up_in}
 use Rattle.own_lists.specs.Kept.{Kept, undrained}
 use Rattle.own_lists.specs.Past.{client_terms, after}
 use Rattle.own_lists.specs.Agreement.{OwnListsHold}
@@ -34,7 +34,6 @@ use Rattle.match_laws.proofs.InOrder.{are_lines}
 use Rattle.match_laws.proofs.ValuesTold.{up_has}
 use Rattle.match_laws.proofs.ValuesRead.{up_at}
 use Rattle.match_laws.proofs.ValuesHad.{listed, agreed}
-use Rattle.report_laws.specs.Looking.{newest_value}
 use Rattle.report_laws.specs.Settled.{own_then, IsUpThen, is_written_then, IsSettledAt, MarkedWhereSettled, HasLast, SettledIsLast, Catches, ChangesAreCaught}
 use Rattle.report_laws.proofs.Honesty.{one_holder}
 use Rattle.report_laws.proofs.Looking.{written, newest}

@@ -1,6 +1,6 @@
 -- A `show` line prints the client's copies as they are after the lines before it.
 use Rattle.std.proofs.Common.{◌≡◌, ℕ, List, [], ◌∷◌, map, length, Option, Some, None, refl, sym, ap, ◌∙◌}
-use Rattle.std.specs.Prelude.{slice_get, option_map, filter_map}
+use Rattle.std.specs.Prelude.{option_map, filter_map}
 use Rattle.std.specs.List.{cons_option}
 use Rattle.tn_types.specs.declared.choices.Drain.{Drain}
 use Rattle.tn_types.specs.declared.limits.TheConstants.{MAX_SLOTS}
@@ -12,7 +12,6 @@ use Rattle.pair_core.specs.History.{PairStep, history}
 use Rattle.pair_core.specs.Answers.{client_run, sampled_in, accepted_in}
 use Rattle.match_script.specs.declared.types.BodyLine.TheVariants.{Show}
 use Rattle.match_script.specs.declared.types.Script.{Script}
-use Rattle.match_report.specs.declared.copies.CopyTold.{CopyTold}
 use Rattle.match_report.specs.Text.{told_text}
 use Rattle.own_lists.specs.Kept.{Kept, undrained}
 use Rattle.own_lists.specs.Past.{client_terms}
@@ -22,7 +21,7 @@ use Rattle.match_laws.specs.Laws.{first}
 use Rattle.match_laws.specs.Values.{ClientMoment, moment_of, kept_then, copy_at}
 use Rattle.match_laws.proofs.WordsLines.{line_told}
 use Rattle.report_laws.specs.Shown.{IsShow, copies_printed, copy_words, slot_words, PrintedAsShown}
-use Rattle.report_laws.proofs.Cutting.{told_words, line, copies_are}
+use Rattle.report_laws.proofs.Cutting.{told_words, copies_are}
 
 -- the text of the line
 pub text_is : (s : Script) (c n : ℕ) (text : List ℕ) → IsShow s c n text
