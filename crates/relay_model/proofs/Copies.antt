@@ -1,5 +1,5 @@
 -- The packets that a client of a connection takes: each was read, and no ghost of it has a fault by the copies before it.
-use Rattle.std.proofs.Common.{◌≡◌, ◌∙◌, ℕ, ◌<◌, ◌≤◌, Bool, true, false, List, [], ◌∷◌, ◌++◌, length, Option, Some, None, Result, Ok, Err, if◌then◌else◌, refl, sym, ap, subst, arith}
+use Rattle.std.proofs.Common.{◌≡◌, ◌∙◌, ℕ, ◌≤◌, Bool, true, false, List, [], ◌∷◌, ◌++◌, length, Option, Some, None, Result, Ok, Err, if◌then◌else◌, refl, sym, ap, subst, arith}
 use Rattle.std.specs.Prelude.{IfSome, slice_get, reverse}
 use Rattle.std.specs.Result.{is_ok}
 use Rattle.std.specs.List.{AllByRecursion}
@@ -18,12 +18,11 @@ use Rattle.quantised_fields.specs.declared.kind.Kind.{Kind}
 use Rattle.quantised_fields.specs.Kinds.{table_fault}
 use Rattle.wire_format.specs.declared.fault.BitsFault.{BitsFault}
 use Rattle.wire_format.specs.declared.ghosts.GhostItem.{GhostItem}
-use Rattle.wire_format.specs.declared.server.ServerBody.{ServerBody}
 use Rattle.wire_format.specs.declared.server.ServerPacket.{ServerPacket}
 use Rattle.wire_format.specs.declared.server.ServerPacket.TheVariants.{Ping, Body}
 use Rattle.wire_format.specs.Ghosts.{IsKind, IsGhost}
 use Rattle.wire_format.specs.Reading.{padding_as_fault}
-use Rattle.wire_format.specs.Server.{spell_server, server_at, read_server, IsServer}
+use Rattle.wire_format.specs.Server.{server_at, read_server, IsServer}
 use Rattle.wire_format.proofs.Formats.{bind_ok}
 use Rattle.wire_format.proofs.ServerFormat.{a_server}
 use Rattle.ghost_client.specs.declared.copy.GhostCopy.{GhostCopy}
@@ -41,7 +40,7 @@ use Rattle.stream_manager.specs.Wire.{map_ok, whole_down}
 use Rattle.stream_manager.specs.Server.{server_datagrams, seen_body}
 use Rattle.stream_manager.specs.Client as client
 use Rattle.stream_manager.specs.Client.{ClientEvent, client_end, ghosts_came, ghosts_in, kind_at, held_word, blocks_came, control_fault, ghosts_refused, ghosts_check, body_check, packet_check, packet_answer, whole_answer, client_answer, took_at_client, posted_at_client, sampled_answer, client_state}
-use Rattle.stream_manager.specs.Packets.{packets_at, ghosts_seen}
+use Rattle.stream_manager.specs.Packets.{packets_at}
 use Rattle.stream_manager.proofs.Packets.{shows-alike}
 use Rattle.pair_core.specs.History.{PairStep, Show, Hide, Near, Post, ClientPost, Sample, Pack, ClientPack, Down, Up, Raw, history, client_posts, client_samples, client_gets}
 use Rattle.relay_model.specs.Laws.{IsCopy, IsChange, AreChanges, TakenAreChanges}

@@ -1,5 +1,5 @@
 -- What a relay tells a spectator's server is an own list: each item may follow on those before it.
-use Rattle.std.proofs.Common.{◌≡◌, ◌∙◌, ℕ, zero, suc, ◌+◌, ◌*◌, ◌<◌, ◌≤◌, ◌==◌, ◌&&◌, Bool, true, false, not, List, [], ◌∷◌, ◌++◌, length, map, Option, Some, None, if◌then◌else◌, is_some, refl, sym, ap, subst, arith, append-nil}
+use Rattle.std.proofs.Common.{◌≡◌, ◌∙◌, ℕ, ◌+◌, ◌*◌, ◌<◌, ◌≤◌, Bool, true, false, List, [], ◌∷◌, length, map, Option, Some, None, if◌then◌else◌, is_some, refl, sym, ap, subst, arith, append-nil}
 use Rattle.std.specs.Prelude.{slice_get}
 use Rattle.std.specs.List.{AllByRecursion, filter_map, flat_map}
 use Rattle.std.specs.Option.{option_map}
@@ -8,7 +8,6 @@ use Rattle.tn_types.specs.declared.choices.Class.TheVariants.{Guaranteed}
 use Rattle.tn_types.specs.declared.limits.TheConstants.{MAX_SLOTS, MAX_SHOWS}
 use Rattle.quantised_fields.specs.declared.kind.Kind.{Kind}
 use Rattle.quantised_fields.specs.Kinds.{table_fault}
-use Rattle.wire_format.specs.declared.server.ServerPacket.{ServerPacket}
 use Rattle.ghost_model.specs.Words.{upto}
 use Rattle.ghost_masks.specs.Plan.{fields_of}
 use Rattle.ghost_client.specs.declared.copy.GhostCopy.{GhostCopy}
@@ -20,15 +19,15 @@ use Rattle.match_script.specs.declared.types.BodyLine.TheVariants as script
 use Rattle.own_lists.specs.Own.{OwnShow, OwnWrite, OwnItem, Line, Scan, Tick}
 use Rattle.own_lists.specs.Course.{Course, onto, hide_step}
 use Rattle.own_lists.specs.Kept.{kept, journal}
-use Rattle.own_lists.specs.Conditions.{MeetEach, HasValues, IsOwnWrite, MayFollow, AreOwn}
+use Rattle.own_lists.specs.Conditions.{MeetEach, HasValues, IsOwnWrite, AreOwn}
 use Rattle.own_lists.proofs.KeptValues.{wrote_course}
 use Rattle.own_lists.proofs.Meeting.{scan_journal}
 use Rattle.own_lists.proofs.ScanFacts.{all_on}
 use Rattle.relay_model.specs.Watching.{WatchEvent, Took, Scans, Own, Watched, copy_at, is_unwatched, all_watched, watched, left_watched}
-use Rattle.relay_model.specs.Items.{show_of, shown_of, hidden_of, is_changed, shown_at, write_of, writes_between, writes_of, news_by, is_stopped, posting, hide_item, write_item, show_item, items_of}
+use Rattle.relay_model.specs.Items.{show_of, shown_of, hidden_of, is_changed, shown_at, write_of, writes_between, writes_of, news_by, is_stopped, posting, hide_item, write_item, items_of}
 use Rattle.relay_model.specs.Laws.{IsCopy, IsChange, AreCopies, IsSpectators, AreSpectators, ItemsMayFollow}
 use Rattle.relay_model.proofs.Mapped.{all_mapped, below_upto}
-use Rattle.relay_model.proofs.Stretches.{IsWatched, Watches, same_steps, meet_hides, hides_apart, hides_shown, leaves}
+use Rattle.relay_model.proofs.Stretches.{Watches, same_steps, meet_hides, hides_apart, hides_shown, leaves}
 use Rattle.relay_model.proofs.Shown.{length-upto, all_met, all_shown}
 use Rattle.relay_model.proofs.Written.{shows_field, shows_values}
 

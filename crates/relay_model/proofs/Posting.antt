@@ -13,7 +13,7 @@ use Rattle.stream_manager.specs.Limits.{Terms}
 use Rattle.stream_manager.specs.Client.{seen_down}
 use Rattle.match_script.specs.declared.types.BodyLine.{BodyLine}
 use Rattle.match_script.specs.declared.types.BodyLine.TheVariants as script
-use Rattle.own_lists.specs.Own.{OwnItem, Line, Scan, Tick}
+use Rattle.own_lists.specs.Own.{OwnItem, Line}
 use Rattle.stream_manager.specs.Packets.{events_seen, delivered_to}
 use Rattle.relay_model.specs.Watching.{WatchEvent, Took, Scans, Own, packets_in}
 use Rattle.relay_model.specs.Items.{posting, is_refused_post, is_stopped, items_of, news_by, write_item, hide_item, show_item}

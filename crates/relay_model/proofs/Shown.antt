@@ -1,6 +1,6 @@
 -- What a scan shows: a period for each copy that none watches, in the order of the slots.
-use Rattle.std.proofs.Common.{◌≡◌, ◌≢◌, ◌∙◌, ℕ, zero, suc, ◌+◌, ◌<◌, ◌≤◌, ◌==◌, ◌&&◌, Bool, true, false, not, cond, nat_lt, List, [], ◌∷◌, ◌++◌, length, map, Option, Some, None, if◌then◌else◌, is_some, count_by, refl, sym, ap, subst, arith, append-nil, length-append}
-use Rattle.std.specs.List.{filter_map, cons_option, sum_by}
+use Rattle.std.proofs.Common.{◌≡◌, ◌∙◌, ℕ, zero, suc, ◌+◌, ◌<◌, ◌≤◌, ◌==◌, ◌&&◌, Bool, true, false, not, cond, nat_lt, List, [], ◌∷◌, ◌++◌, length, map, Option, Some, None, if◌then◌else◌, is_some, count_by, refl, sym, ap, subst, arith, append-nil, length-append}
+use Rattle.std.specs.List.{filter_map, cons_option}
 use Rattle.std.specs.Option.{option_map}
 use Rattle.std.proofs.lemmas.Bool.{eqb-true}
 use Rattle.std.proofs.lemmas.Bool.Decides.{nat_tests}
@@ -13,14 +13,14 @@ use Rattle.ghost_client.specs.declared.copy.GhostCopy.{GhostCopy}
 use Rattle.stream_manager.specs.Limits.{Terms}
 use Rattle.pair_core.specs.History.{PairStep, Show}
 use Rattle.pair_core.specs.Conditions.{IsMet}
-use Rattle.pair_steps.specs.Steps.{shows_in, is_hidden_in, up_in, traits_in}
+use Rattle.pair_steps.specs.Steps.{shows_in, is_hidden_in, traits_in}
 use Rattle.pair_steps.proofs.Journals.{up_count_told, shows_told}
 use Rattle.own_lists.specs.Own.{OwnShow}
 use Rattle.own_lists.specs.Course.{onto, show_step}
 use Rattle.own_lists.specs.Conditions.{MeetEach}
 use Rattle.own_lists.proofs.Standing.{onto_on, meet_on}
 use Rattle.relay_model.specs.Watching.{Watched, is_unwatched, begun_below, all_watched}
-use Rattle.relay_model.specs.Items.{show_of, shown_of}
+use Rattle.relay_model.specs.Items.{show_of}
 use Rattle.relay_model.specs.Laws.{IsCopy}
 use Rattle.relay_model.proofs.Mapped.{some_is}
 use Rattle.relay_model.proofs.Stretches.{IsWatched, HasSlot, Watches, same_watch, few_up}
@@ -235,11 +235,11 @@ module _ (t : Terms) (steps : List PairStep) (w : Watched) (copies : ℕ → Opt
             ranges = record { kind = copy.range.kind; block = copy.block; level = omega arith };
             few = (let told = up_count_told t (after m) in let few = few_up (after m) (mid m) copies h in omega (arith, told, few));
             numbers = (let told = shows_told t (after m) in
-              let same = h.shows in
-              let mine = shows_mid m in
-              let some = count_by-le-length (is_unwatched copies w) (upto m) in
-              let long = length-upto m in
-              omega (arith, told, same, mine, some, long, room, in_slots));
+                let same = h.shows in
+                let mine = shows_mid m in
+                let some = count_by-le-length (is_unwatched copies w) (upto m) in
+                let long = length-upto m in
+                omega (arith, told, same, mine, some, long, room, in_slots));
             alone = λ controls. absurd (cc);
           }
 

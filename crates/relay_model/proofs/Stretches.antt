@@ -1,7 +1,7 @@
 -- The periods of a spectator's connection are the stretches in which slots are watched: one to one, each of the kind of its copy.
-use Rattle.std.proofs.Common.{◌≡◌, ◌≢◌, ◌∙◌, ℕ, zero, suc, ◌+◌, ◌<◌, ◌≤◌, ◌==◌, ◌||◌, Bool, true, false, not, cond, List, [], ◌∷◌, ◌++◌, length, map, Option, Some, None, if◌then◌else◌, is_some, refl, sym, ap, subst, arith, append-nil}
+use Rattle.std.proofs.Common.{◌≡◌, ◌∙◌, ℕ, suc, ◌<◌, ◌≤◌, ◌||◌, Bool, true, false, not, List, [], ◌∷◌, length, map, Option, Some, None, if◌then◌else◌, is_some, refl, sym, ap, arith}
 use Rattle.std.specs.Prelude.{nat_eq}
-use Rattle.std.specs.List.{AllByRecursion, filter_map}
+use Rattle.std.specs.List.{AllByRecursion}
 use Rattle.std.proofs.lemmas.Bool.{ne_eqb}
 use Rattle.tn_types.specs.declared.limits.TheConstants.{MAX_SLOTS}
 use Rattle.quantised_fields.specs.declared.kind.Kind.{Kind}
@@ -198,10 +198,10 @@ module _ (kinds : List Kind) (steps : List PairStep) (w : Watched) (old new : �
   -- a period whose copy is there is not hidden
   not_hidden : (slot n : ℕ) → Stays slot n → has n hides ≡ false
   not_hidden slot n o = false_of (has n hides) (λ e.
-    let from = has_from ends n (upto MAX_SLOTS) e in
-    let gone = ended from.0 n from.1 in
-    let same : from.0 ≡ slot = h.apart from.0 slot n gone.watched o.watched in
-    clash (is_some (new slot)) o.still (ap (λ (s : ℕ). is_some (new s)) (sym same) ∙ gone.gone))
+      let from = has_from ends n (upto MAX_SLOTS) e in
+      let gone = ended from.0 n from.1 in
+      let same : from.0 ≡ slot = h.apart from.0 slot n gone.watched o.watched in
+      clash (is_some (new slot)) o.still (ap (λ (s : ℕ). is_some (new s)) (sym same) ∙ gone.gone))
 
   pub leaves : Watches hidden (left_watched new w) new
   leaves = record {
@@ -244,8 +244,8 @@ module _ (kinds : List Kind) (steps : List PairStep) (w : Watched) (old new : �
       none_later : (n : ℕ) → shows_in steps ≤ n → (has n hides || is_hidden_in steps n) ≡ false
       none_later n le =
           let none : has n hides ≡ false = false_of (has n hides) (λ e.
-            let from = has_from ends n (upto MAX_SLOTS) e in
-            let o = h.each from.0 n (ended from.0 n from.1).watched in
-            let lt = o.shown in
-            omega (arith, lt, le)) in
+          let from = has_from ends n (upto MAX_SLOTS) e in
+          let o = h.each from.0 n (ended from.0 n from.1).watched in
+          let lt = o.shown in
+          omega (arith, lt, le)) in
           ap (λ b. b || is_hidden_in steps n) none ∙ h.later n le

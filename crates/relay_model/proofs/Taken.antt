@@ -1,24 +1,22 @@
 -- What a packet that a client takes makes of its copies: they stay in range, and a copy that stays in its slot stays of its kind.
-use Rattle.std.proofs.Common.{◌≡◌, ◌∙◌, ℕ, ◌<◌, ◌≤◌, ◌==◌, ◌^◌, ◌/◌, Bool, true, false, cond, ◌||◌, List, [], ◌∷◌, ◌++◌, length, Option, Some, None, Result, Ok, Err, if◌then◌else◌, reverse, refl, sym, ap, subst, arith, append-nil, append_assoc}
-use Rattle.std.specs.Prelude.{IfSome}
+use Rattle.std.proofs.Common.{◌≡◌, ◌∙◌, ℕ, ◌<◌, ◌≤◌, ◌==◌, ◌^◌, ◌/◌, Bool, true, false, ◌||◌, List, [], ◌∷◌, ◌++◌, Option, Some, None, if◌then◌else◌, refl, sym, ap, subst, arith, append-nil, append_assoc}
 use Rattle.std.specs.List.{AllByRecursion, list_any}
 use Rattle.std.specs.Option.{option_or}
 use Rattle.std.proofs.lemmas.Bool.{eqb-true}
 use Rattle.std.proofs.lemmas.Bool.Decides.{nat_tests}
 use Rattle.std.proofs.lemmas.List.{reverse-append}
 use Rattle.std.proofs.lemmas.List.Folds.{list_any-append}
-use Rattle.tn_types.specs.Checks.{Checked, first_fault, then_check}
-use Rattle.tn_types.specs.declared.limits.TheConstants.{MAX_SLOTS, MAX_BLOCKS}
+use Rattle.tn_types.specs.Checks.{first_fault}
+use Rattle.tn_types.specs.declared.limits.TheConstants.{MAX_SLOTS}
 use Rattle.quantised_fields.specs.declared.kind.Kind.{Kind}
 use Rattle.wire_format.specs.declared.ghosts.GhostItem.{GhostItem}
 use Rattle.wire_format.specs.declared.ghosts.GhostItem.TheVariants.{Kill, Create, Update}
 use Rattle.wire_format.specs.Ghosts.{AreLevels, chosen, widths, slot_named, IsGhost}
 use Rattle.ghost_client.specs.declared.copy.GhostCopy.{GhostCopy}
-use Rattle.ghost_client.specs.declared.fault.GhostFault.{GhostFault}
 use Rattle.ghost_client.specs.declared.fault.GhostFault.TheVariants.{Twice, KindDiffers}
 use Rattle.ghost_client.specs.Fields.{names}
 use Rattle.ghost_client.specs.Copies.{copy_of}
-use Rattle.ghost_client.specs.State.{after, merged}
+use Rattle.ghost_client.specs.State.{merged}
 use Rattle.ghost_client.specs.Faults.{fault_of, item_fault}
 use Rattle.ghost_client.specs.StandsFor.{taken}
 use Rattle.ghost_client.proofs.After.{named_slot, other_slot}

@@ -1,5 +1,5 @@
 -- What a relay shows and writes is in the ranges of its fields: the copies are in range, and a level shows a value in the field's range.
-use Rattle.std.proofs.Common.{◌≡◌, ◌∙◌, ℕ, zero, suc, ◌+◌, ◌<◌, ◌≤◌, ◌^◌, List, [], ◌∷◌, length, map, Option, Some, None, refl, sym, ap, subst, arith}
+use Rattle.std.proofs.Common.{◌≡◌, ◌∙◌, ℕ, zero, suc, ◌+◌, ◌<◌, ◌^◌, List, [], ◌∷◌, length, map, Option, Some, None, refl, sym, ap, subst, arith}
 use Rattle.std.specs.Prelude.{ℤ, pos, negsuc, ◌≤ℤ◌, IsTrue, slice_get, option_map, option_and_then, unwrap_or}
 use Rattle.std.specs.Int.{int_gap}
 use Rattle.std.specs.List.{All, AllByRecursion, range_with_len}
@@ -16,7 +16,7 @@ use Rattle.wire_format.specs.Ghosts.{AreLevels, field_widths}
 use Rattle.ghost_masks.specs.Plan.{fields_of, fields_in}
 use Rattle.ghost_masks.specs.Carried.{AreValues}
 use Rattle.ghost_client.specs.declared.copy.GhostCopy.{GhostCopy}
-use Rattle.ghost_client.specs.State.{IsInRange, field_value}
+use Rattle.ghost_client.specs.State.{IsInRange}
 use Rattle.relay_model.specs.Items.{shown_at, values_of}
 
 -- ---- the value that a level shows
@@ -133,11 +133,11 @@ module _ (kinds : List Kind) (table : table_fault kinds ≡ None) (copy : GhostC
   shows_values =
       subst (λ (fs : List FieldSpec). AreValues fs (values_of kinds copy)) (sym fields_are)
       (values_from kind_there.0.fields copy.levels (shown_at kinds copy) 0 levels_are (λ f s e lt.
-        let o = level_there f lt in
-        let none : f ≡ 0 + f = omega arith in
-        subst (λ k. IsIn s (shown_at kinds copy k)) none
-        (subst (λ (r : FieldSpec). IsIn r (shown_at kinds copy f)) (same o.spec s (sym o.field ∙ e))
-        (subst (IsIn o.spec) (sym (value_is f o)) (shown_is_in o.spec o.level o.whole o.fits)))))
+      let o = level_there f lt in
+      let none : f ≡ 0 + f = omega arith in
+      subst (λ k. IsIn s (shown_at kinds copy k)) none
+      (subst (λ (r : FieldSpec). IsIn r (shown_at kinds copy f)) (same o.spec s (sym o.field ∙ e))
+      (subst (IsIn o.spec) (sym (value_is f o)) (shown_is_in o.spec o.level o.whole o.fits)))))
     where
       same : (r s : FieldSpec) → ◌≡◌ {A = Option FieldSpec} (Some r) (Some s) → r ≡ s
       same r s e = cc (e)
