@@ -1,5 +1,6 @@
 -- What a server that serves one client alone writes of what it is told: the report's line of a pack, and of nothing else.
-use Rattle.std.proofs.Common.{◌≡◌, ◌∙◌, ℕ, Bool, true, false, List, [], Option, Some, None, if◌then◌else◌, refl, sym, ap, subst, arith}
+use Rattle.std.proofs.Common.{◌≡◌, ◌∙◌, ℕ, Bool, true, false, List, [], Option, Some, None, Result, Ok, Err, if◌then◌else◌, refl, sym, ap, subst, arith}
+use Rattle.std.specs.Prelude.{OnErr}
 use Rattle.tn_outside.specs.Totals.{Adds, AddsFront}
 use Rattle.tn_outside.proofs.Totals.{adds_nothing}
 use Rattle.match_script.specs.declared.types.BodyLine.TheVariants as script
@@ -82,3 +83,9 @@ module _ (a : Alone) (item : OwnItem) where
   -- nor of any where nothing was done
   pub nothing_yet : (w : Option (List ℕ)) → Tells AddsFront a item w w
   nothing_yet w t items s = (0, omega arith, adds_nothing w)
+
+-- ---- after an error
+
+pub map_err : {T E P Q : Type 0} (r : Result T E) → (P → Q) → OnErr r P → OnErr r Q
+map_err (Ok x) more h = h
+map_err (Err e) more h = more h
