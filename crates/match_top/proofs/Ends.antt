@@ -1,5 +1,5 @@
 -- Each end of a command has its outcome.
-use Rattle.std.proofs.Common.{◌≡◌, ℕ, ◌+◌, ◌≤◌, inl, inr, List, Option, Ok, arith, sym, subst}
+use Rattle.std.proofs.Common.{ℕ, ◌≤◌, inl, inr, Ok, arith, sym, subst}
 use Rattle.tn_outside.specs.Causes.{Rose}
 use Rattle.tn_outside.specs.Totals.{Adds, AddsFront}
 use Rattle.tn_outside.proofs.Totals.{whole_front}
@@ -9,7 +9,7 @@ use Rattle.match_top.specs.declared.command.Command.{Command}
 use Rattle.match_top.specs.declared.command.Command.TheVariants.{Run, Alone, Big}
 use Rattle.script_input.specs.declared.status.Status.{Status}
 use Rattle.script_input.specs.declared.status.Status.TheVariants.{Done, Usage, Script, TooLong, ReadFault, WriteFault, NoMemory, LinkFault, ClockFault, Demo}
-use Rattle.script_input.specs.Reading.{Seen, seen, GaveAtMost, HasFailed, IsSpared, IsUntouched, NotRead}
+use Rattle.script_input.specs.Reading.{Seen, GaveAtMost, HasFailed, IsSpared, IsUntouched, NotRead}
 use Rattle.match_top.specs.Outcome.{HasScript, NoScript, LeavesSource, Reads, AnswerTo, Outcome, text_of}
 
 -- a fault that comes later in a call is one of the call

@@ -1,6 +1,6 @@
 -- The command line: its words, without the name of the program. A command is a name and, behind it, its numbers, each in
 -- its range and written in decimal digits, as in a script.
-use Rattle.std.specs.Prelude.{ℕ, ◌≡◌, ◌+◌, ◌-◌, ◌^◌, ◌<◌, ◌≤◌, ◌==◌, ◌&&◌, max, take, List, [], ◌∷◌, ◌++◌, length, Bool, if◌then◌else◌, is_some, Option, codes, Result, Ok, Err, refl, slice_index_or}
+use Rattle.std.specs.Prelude.{ℕ, ◌≡◌, ◌+◌, ◌-◌, ◌^◌, ◌<◌, ◌≤◌, max, take, List, [], ◌∷◌, ◌++◌, length, Bool, if◌then◌else◌, codes, Result, Ok, Err, refl}
 use Rattle.std.specs.Fmt.{decimal}
 use Rattle.tn_types.specs.declared.limits.TheConstants.{MAX_CLIENTS, MAX_BODY_LINES}
 use Rattle.match_script.specs.Words.{number, number_from}
