@@ -1,8 +1,11 @@
 -- The text of a server that serves one client alone is that of the whole own list.
-use Rattle.std.proofs.Common.{◌≡◌, ◌∙◌, ℕ, ◌<◌, ◌≤◌, Bool, true, false, nat_lt, List, [], if◌then◌else◌, sym, ap, subst, arith, Option}
+use Rattle.std.proofs.Common.{◌≡◌, ◌∙◌, ℕ, ◌<◌, ◌≤◌, Bool, true, false, nat_lt, List, [], if◌then◌else◌, sym, ap, subst, arith, Option, Err}
+use Rattle.std.specs.Prelude.{Result}
 use Rattle.std.specs.List.{flat_map}
 use Rattle.std.proofs.lemmas.Bool.Decides.{nat_tests}
-use Rattle.tn_outside.specs.Causes.{Rose}
+use Rattle.tn_outside.specs.Causes.{HandsOn}
+use Rattle.alone_server.specs.own_items.match_engine.declared.running.RunFault.{RunFault}
+use Rattle.alone_server.specs.own_items.match_engine.declared.running.RunFault.TheVariants.{WriteFault}
 use Rattle.tn_outside.specs.Totals.{Adds, AddsFront}
 use Rattle.tn_outside.proofs.Totals.{adds_nothing}
 use Rattle.match_script.specs.declared.types.Script.{Script}
@@ -45,6 +48,16 @@ module _ (s : SourceState) (t : Script) (c : ℕ) (stands : Stands s) (script : 
   pub front_written : (first written : Option (List ℕ)) → AddsFront first written (whole_text s) → AddsFront first written (alone_text t c)
   front_written first written front = subst (AddsFront first written) text_there front
 
--- a count that rose later rose
-pub rose_later : (a b n : ℕ) → a ≤ b → Rose b n → Rose a n
-rose_later a b n le rose = omega (arith, le, rose)
+-- an error that is handed on was one of the callee
+of_err : {T : Type 0} (x y : RunFault) → x ≡ y → ◌≡◌ {A = Result T RunFault} (Err x) (Err y)
+of_err {T} x y e = ap (λ (z : RunFault). Err z) e
+
+same_err : {T : Type 0} (x y : RunFault) → ◌≡◌ {A = Result T RunFault} (Err x) (Err y) → x ≡ y
+same_err {T} x y e = cc (e)
+
+pub handed_on : {T U : Type 0} (before now : ℕ) (x y : RunFault) → x ≡ y → HandsOn before now (◌≡◌ {A = Result T RunFault} (Err x) (Err WriteFault)) → HandsOn before now (◌≡◌ {A = Result U RunFault} (Err y) (Err WriteFault))
+handed_on before now x y e h = record {
+  later = h.later;
+  failed = λ k. h.failed (of_err x WriteFault (e ∙ same_err y WriteFault k));
+  spared = λ k. h.spared (λ j. k (of_err y WriteFault (sym e ∙ same_err x WriteFault j)));
+}

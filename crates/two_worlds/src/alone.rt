@@ -1,6 +1,6 @@
 //! The server of one client that is fed the client's own list, and writes what the report has of its packs.
-ghost use Rattle.std.specs.Prelude.{◌≡◌, ◌≤◌, [], IfOk, OnOk, OnErr};
-ghost use Rattle.tn_outside.specs.Causes.{Rose};
+ghost use Rattle.std.specs.Prelude.{◌≡◌, [], IfOk, OnOk, OnErr};
+ghost use Rattle.tn_outside.specs.Causes.{HandsOn};
 ghost use Rattle.tn_outside.specs.Totals.{Adds, AddsFront};
 ghost use Rattle.alone_server.specs.own_items.Items.{item_of};
 ghost use Rattle.alone_server.specs.own_items.match_laws.Laws.{is_own_pack};
@@ -59,8 +59,7 @@ impl Alone {
         ensures stands { OnOk result (Feeds self.old (item_of item.now) self.new) }
         ensures lines { OnOk result (Tells Adds self.old (item_of item.now) (K.written sink.old) (K.written sink.new)) }
         ensures front { OnErr result (Tells AddsFront self.old (item_of item.now) (K.written sink.old) (K.written sink.new)) }
-        ensures cause { result ≡ Err RunFault.WriteFault → Rose (K.faults sink.old) (K.faults sink.new) }
-        ensures later { K.faults sink.old ≤ K.faults sink.new }
+        ensures cause { HandsOn (K.faults sink.old) (K.faults sink.new) (result ≡ Err RunFault.WriteFault) }
     {
         let Ok(told) = self.server.feed(alloc, item) else {
             return Err(RunFault::NoMemory);

@@ -1,6 +1,6 @@
 //! A client's server over a script, fed with the client's own list alone.
-ghost use Rattle.std.specs.Prelude.{◌≡◌, ◌≤◌, ◌<◌, OnOk, OnErr, Ok, Err, true, false};
-ghost use Rattle.tn_outside.specs.Causes.{Rose};
+ghost use Rattle.std.specs.Prelude.{◌≡◌, ◌<◌, OnOk, OnErr, Ok, Err, true, false};
+ghost use Rattle.tn_outside.specs.Causes.{HandsOn};
 ghost use Rattle.tn_outside.specs.Totals.{Adds, AddsFront};
 ghost use Rattle.match_script.specs.Ranges.{HasRanges};
 ghost use Rattle.alone_server.specs.own_items.Source.{made, whole_own};
@@ -30,8 +30,7 @@ fn feed_next<K: Sink>(
         × (K.written sink.new ≡ K.written sink.old) }
     ensures fed { result ≡ Ok true → Moves source.old source.new server.new (K.written sink.old) (K.written sink.new) }
     ensures front { OnErr result (Breaks source.old (K.written sink.old) (K.written sink.new)) }
-    ensures cause { result ≡ Err RunFault.WriteFault → Rose (K.faults sink.old) (K.faults sink.new) }
-    ensures later { K.faults sink.old ≤ K.faults sink.new }
+    ensures cause { HandsOn (K.faults sink.old) (K.faults sink.new) (result ≡ Err RunFault.WriteFault) }
 {
     match source.next(alloc, item) {
         Ok(true) => {}
@@ -53,8 +52,7 @@ fn feed_rest<K: Sink>(
     requires first { source.old.place ≡ 0 }
     ensures lines { OnOk result (Adds (K.written sink.old) (K.written sink.new) (alone_text source.old.script source.old.client)) }
     ensures front { OnErr result (AddsFront (K.written sink.old) (K.written sink.new) (alone_text source.old.script source.old.client)) }
-    ensures cause { result ≡ Err RunFault.WriteFault → Rose (K.faults sink.old) (K.faults sink.new) }
-    ensures later { K.faults sink.old ≤ K.faults sink.new }
+    ensures cause { HandsOn (K.faults sink.old) (K.faults sink.new) (result ≡ Err RunFault.WriteFault) }
 {
     let mut item = OwnItem::Tick {
         writes: OwnWrites::from_vec(Vec::new(alloc)),
@@ -75,8 +73,7 @@ fn feed_all<K: Sink>(
     requires client { client < script.now.head.clients }
     ensures lines { OnOk result (Adds (K.written sink.old) (K.written sink.new) (alone_text script.now client)) }
     ensures front { OnErr result (AddsFront (K.written sink.old) (K.written sink.new) (alone_text script.now client)) }
-    ensures cause { result ≡ Err RunFault.WriteFault → Rose (K.faults sink.old) (K.faults sink.new) }
-    ensures later { K.faults sink.old ≤ K.faults sink.new }
+    ensures cause { HandsOn (K.faults sink.old) (K.faults sink.new) (result ≡ Err RunFault.WriteFault) }
 {
     let Ok(blocks) = script.head.blocks.copy(alloc) else {
         return Err(RunFault::NoMemory);
@@ -110,8 +107,7 @@ pub fn run_alone<K: Sink>(
     requires { HasRanges script.now }
     ensures lines { OnOk result (Adds (K.written sink.old) (K.written sink.new) (alone_text script.now client)) }
     ensures front { OnErr result (AddsFront (K.written sink.old) (K.written sink.new) (alone_text script.now client)) }
-    ensures cause { result ≡ Err RunFault.WriteFault → Rose (K.faults sink.old) (K.faults sink.new) }
-    ensures later { K.faults sink.old ≤ K.faults sink.new }
+    ensures cause { HandsOn (K.faults sink.old) (K.faults sink.new) (result ≡ Err RunFault.WriteFault) }
     // These are the report's lines of the client's packs.
     ensures packs { WritesThePacks }
     // And the same in any match that tells the client the same.

@@ -1,4 +1,4 @@
-use Rattle.std.proofs.Common.{◌≡◌, List, ℕ, subst, arith}
+use Rattle.std.proofs.Common.{◌≡◌, List, ℕ, refl, subst, arith}
 use Rattle.std.specs.Prelude.{OnOk, OnErr}
 use Rattle.tn_outside.specs.Totals.{Adds, AddsFront}
 use Rattle.tn_outside.proofs.Totals.{adds_nothing}
@@ -9,24 +9,21 @@ pub returns-in_default : goal.returns-in_default
 returns-in_default g c = record {
   lines = tt;
   front = (0, omega arith, adds_nothing (g.K.Sink.written c.args.sink.now));
-  cause = λ e. absurd (cc);
-  later = omega arith;
+  cause = record { later = omega arith; failed = λ e. absurd (cc); spared = λ e. refl };
 }
 
 pub returns-in_default-new : goal.returns-in_default-new
 returns-in_default-new g c = record {
   lines = tt;
   front = (0, omega arith, adds_nothing (g.K.Sink.written c.args.sink.now));
-  cause = λ e. absurd (cc);
-  later = omega arith;
+  cause = record { later = omega arith; failed = λ e. absurd (cc); spared = λ e. refl };
 }
 
 pub returns-in_default-new-2 : goal.returns-in_default-new-2
 returns-in_default-new-2 g c = record {
   lines = tt;
   front = (0, omega arith, adds_nothing (g.K.Sink.written c.args.sink.now));
-  cause = λ e. absurd (cc);
-  later = omega arith;
+  cause = record { later = omega arith; failed = λ e. absurd (cc); spared = λ e. refl };
 }
 
 pub returns : goal.returns
@@ -40,5 +37,4 @@ returns g c =
       lines = subst (λ (text : List ℕ). OnOk c.feed_rest.result (Adds w x text)) same c.feed_rest.ensures.lines;
       front = subst (λ (text : List ℕ). OnErr c.feed_rest.result (AddsFront w x text)) same c.feed_rest.ensures.front;
       cause = c.feed_rest.ensures.cause;
-      later = c.feed_rest.ensures.later;
     }

@@ -1,20 +1,16 @@
 use Rattle.std.proofs.Common.{◌≡◌, ◌∙◌, Ok, Err, Bool, false, List, Option, ℕ, sym, ap, subst, arith}
 use Rattle.std.specs.Prelude.{Result}
 use Rattle.std.proofs.lemmas.Result.{err_from_is_err_and}
+use Rattle.tn_outside.specs.Causes.{HandsOn}
 use Rattle.tn_outside.specs.Totals.{Adds}
 use Rattle.alone_server.specs.own_items.match_engine.declared.running.RunFault.{RunFault}
+use Rattle.alone_server.specs.own_items.match_engine.declared.running.RunFault.TheVariants.{WriteFault}
 use Rattle.two_worlds.specs.Text.{alone_text}
-use Rattle.two_worlds.proofs.WholeText.{all_written, front_written, rose_later}
+use Rattle.two_worlds.proofs.WholeText.{all_written, front_written, handed_on}
 use Rattle.two_worlds.proofs.both.feed_rest.Goals as goal
 
 of_false : (b : Bool) → b ≡ false → ◌≡◌ {A = Result Bool RunFault} (Ok b) (Ok false)
 of_false b e = ap (λ (x : Bool). Ok x) e
-
-of_err : (x y : RunFault) → x ≡ y → ◌≡◌ {A = Result Bool RunFault} (Err x) (Err y)
-of_err x y e = ap (λ (z : RunFault). Err z) e
-
-same_err : {T : Type 0} (x y : RunFault) → ◌≡◌ {A = Result T RunFault} (Err x) (Err y) → x ≡ y
-same_err {T} x y e = cc (e)
 
 pub returns-in_err-feed_next : goal.returns-in_err-feed_next
 returns-in_err-feed_next g c =
@@ -23,8 +19,8 @@ returns-in_err-feed_next g c =
     rw (p.1) (record {
       lines = tt;
       front = front_written c.items.source c.args.source.now.script c.args.source.now.client c.items.invariant.fed.source c.items.invariant.script c.items.invariant.client first (g.K.Sink.written c.feed_next.new.sink) (c.in_err-feed_next.ensures.front first c.items.invariant.written);
-      cause = λ e. rose_later (g.K.Sink.faults c.args.sink.now) (g.K.Sink.faults c.items.sink) (g.K.Sink.faults c.feed_next.new.sink) c.items.invariant.later (c.in_err-feed_next.ensures.cause (of_err c.in_err-feed_next.field-0.0 RunFault.WriteFault (sym p.2 ∙ same_err p.0 RunFault.WriteFault e)));
-      later = omega (arith, c.items.invariant.later, c.feed_next.ensures.later);
+      cause = subst (λ (n : ℕ). HandsOn n (g.K.Sink.faults c.feed_next.new.sink) (◌≡◌ {A = Result (Unit {0}) RunFault} (Err p.0) (Err WriteFault))) c.items.invariant.spared
+          (handed_on (g.K.Sink.faults c.items.sink) (g.K.Sink.faults c.feed_next.new.sink) c.in_err-feed_next.field-0.0 p.0 (sym p.2) c.in_err-feed_next.ensures.cause);
     })
 
 pub returns : goal.returns
@@ -35,6 +31,9 @@ returns g c =
       lines = subst (λ (w : Option (List ℕ)). Adds first w (alone_text c.args.source.now.script c.args.source.now.client)) (sym end.1)
           (all_written c.items.source c.args.source.now.script c.args.source.now.client c.items.invariant.fed.source c.items.invariant.script c.items.invariant.client first (g.K.Sink.written c.items.sink) end.0 c.items.invariant.written);
       front = tt;
-      cause = λ e. absurd (cc);
-      later = omega (arith, c.items.invariant.later, c.feed_next.ensures.later);
+      cause = record {
+        later = omega (arith, c.items.invariant.spared, c.in_ok-feed_next.ensures.cause.later);
+        failed = λ e. absurd (cc);
+        spared = λ e. c.in_ok-feed_next.ensures.cause.spared (λ h. absurd (cc)) ∙ c.items.invariant.spared;
+      };
     }

@@ -1,4 +1,4 @@
-use Rattle.std.proofs.Common.{◌≡◌, ◌≤◌, ◌-◌, length}
+use Rattle.std.proofs.Common.{◌≡◌, ◌-◌, length}
 use Rattle.tn_outside.specs.Totals.{Adds}
 use Rattle.two_worlds.specs.Fed.{IsFed, text_made}
 use Rattle.two_worlds.proofs.both.feed_rest.Given as goal
@@ -9,7 +9,7 @@ invariant-items g l = record {
   script : l.source.script ≡ l.fn.source.script;
   client : l.source.client ≡ l.fn.source.client;
   written : Adds (g.K.Sink.written l.fn.sink) (g.K.Sink.written l.sink) (text_made l.source);
-  later : g.K.Sink.faults l.fn.sink ≤ g.K.Sink.faults l.sink;
+  spared : g.K.Sink.faults l.sink ≡ g.K.Sink.faults l.fn.sink;
 }
 
 abbrev pub decreases-items : goal.decreases-items
