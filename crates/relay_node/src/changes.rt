@@ -61,7 +61,8 @@ fn note_field(
         slot,
         field,
         value: value_at(after, slot, field),
-    })
+    })?;
+    Ok(())
 }
 
 // The fields of the copy in a slot that have other levels than before.
@@ -103,7 +104,10 @@ impl Changes {
         };
         match after.get(slot) {
             Some(new) => note_fields(after, slot, old, new, &mut self.written),
-            None => self.killed.push(slot),
+            None => {
+                self.killed.push(slot)?;
+                Ok(())
+            }
         }
     }
 

@@ -9,4 +9,5 @@ mod telling;
 mod watching;
 
 pub use laws::{relay_isolation, same_met_same_lines};
+pub use alone_server::own_items::match_engine::RunFault;
 pub use running::relay;

@@ -20,7 +20,7 @@ use tn_outside::{Sink, write_all};
 use tn_types::NoMemory;
 
 /// A relay: a client of a match, and its spectators.
-struct Relay<'a> {
+struct Relaying<'a> {
     client: u8,
     game: Match<'a>,
     spectators: Vec<Spectator>,
@@ -28,9 +28,9 @@ struct Relay<'a> {
     changes: Changes,
 }
 
-impl Drop for Relay<'_> {
+impl Drop for Relaying<'_> {
     fn drop(self) {
-        let Relay {
+        let Relaying {
             client: _client,
             game: _game,
             spectators: _spectators,
@@ -172,10 +172,10 @@ fn spectator_of(line: &RelayLine) -> u8 {
     }
 }
 
-impl<'a> Relay<'a> {
+impl<'a> Relaying<'a> {
     // A relay of which nothing happened.
-    fn new(alloc: Global, script: &'a RelayScript) -> Result<Relay<'a>, NoMemory> {
-        Ok(Relay {
+    fn new(alloc: Global, script: &'a RelayScript) -> Result<Relaying<'a>, NoMemory> {
+        Ok(Relaying {
             client: script.client,
             game: Match::new(alloc, &script.script)?,
             spectators: spectators_of(alloc, script)?,
@@ -240,7 +240,7 @@ impl<'a> Relay<'a> {
 // Does the lines of the relay, and before each of them those of the match that it stands behind.
 fn answer_all<K: Sink>(
     alloc: Global,
-    relay: &mut Relay<'_>,
+    relay: &mut Relaying<'_>,
     body: &[BodyLine],
     lines: &[PlacedLine],
     sink: &mut K,
@@ -277,7 +277,7 @@ pub fn relay<K: Sink>(
 {
     relay_isolation();
     same_met_same_lines();
-    let Ok(mut run) = Relay::new(alloc, script) else {
+    let Ok(mut run) = Relaying::new(alloc, script) else {
         return Err(RunFault::NoMemory);
     };
     answer_all(

@@ -23,7 +23,8 @@ pub(crate) fn put_scan(text: &mut Vec<u8>, spectator: u8, shows: usize) -> Resul
 {
     put(text, b"r scan ", u64::from(spectator))?;
     put(text, b" show ", shows as u64)?;
-    text.push(b'\n')
+    text.push(b'\n')?;
+    Ok(())
 }
 
 /// Appends what is told of another line, behind `r `.
