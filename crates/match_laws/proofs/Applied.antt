@@ -28,15 +28,15 @@ use Rattle.stream_manager.specs.Server as server
 use Rattle.stream_manager.specs.Server.{ServerEvent, server_state, server_answer, took_at_server, posted_at_server, accepted_at}
 use Rattle.stream_manager.specs.Client.{client_datagrams}
 use Rattle.conn_packing.specs.Packs.{absorbing, values_of}
-use Rattle.pair_core.specs.History.{PairStep, Post, Pack, Up, Raw, history, server_posts, server_gets}
-use Rattle.pair_core.specs.Answers.{accepted_in, sampled_in}
-use Rattle.own_lists.specs.Own.{OwnShow, OwnItem, Line}
-use Rattle.own_lists.specs.Course.{Course, onto, with_step, with_steps, scan_steps}
-use Rattle.own_lists.specs.Kept.{Kept, put, after_line, with_course, begins, all_begin, after_scan, follows, kept}
-use Rattle.own_lists.specs.Past.{client_terms, kept_by, own_show, scan_item, own_writes, move_of, moves_of, taken_from, after}
-use Rattle.own_lists.specs.Agreement.{OwnListsHold}
-use Rattle.own_lists.proofs.KeptValues.{wrote_course}
-use Rattle.own_lists.proofs.Meeting.{scan_journal}
+use Rattle.client_seat.specs.pair_core.History.{PairStep, Post, Pack, Up, Raw, history, server_posts, server_gets}
+use Rattle.client_seat.specs.pair_core.Answers.{accepted_in, sampled_in}
+use Rattle.client_seat.specs.own_lists.Own.{OwnShow, OwnItem, Line}
+use Rattle.client_seat.specs.own_lists.Course.{Course, onto, with_step, with_steps, scan_steps}
+use Rattle.client_seat.specs.own_lists.Kept.{Kept, put, after_line, with_course, begins, all_begin, after_scan, follows, kept}
+use Rattle.client_seat.specs.own_lists.Past.{client_terms, kept_by, own_show, scan_item, own_writes, move_of, moves_of, taken_from, after}
+use Rattle.client_seat.specs.own_lists.Agreement.{OwnListsHold}
+use Rattle.client_seat.proofs.Below.own_lists.KeptValues.{wrote_course}
+use Rattle.client_seat.proofs.Below.own_lists.Meeting.{scan_journal}
 use Rattle.match_laws.specs.Laws.{first, journal_of}
 use Rattle.match_laws.specs.Applied.{one_move, applied, AppliedAreAccepted, AppliedInOrder}
 use Rattle.match_laws.proofs.Grown.{put_own}

@@ -7,9 +7,9 @@ use Rattle.match_script.specs.declared.types.Head.{Head}
 use Rattle.world_scope.specs.Scope.{visible_list}
 use Rattle.client_scope.specs.Scans.{shown}
 use Rattle.world_sim.specs.Worlds.{next}
-use Rattle.own_lists.specs.Own.{OwnItem, Line, Tick}
-use Rattle.own_lists.specs.Kept.{put}
-use Rattle.own_lists.specs.Past.{Past, happens, scan_item, own_writes, taken_from, moves_of}
+use Rattle.client_seat.specs.own_lists.Own.{OwnItem, Line, Tick}
+use Rattle.client_seat.specs.own_lists.Kept.{put}
+use Rattle.client_seat.specs.own_lists.Past.{Past, happens, scan_item, own_writes, taken_from, moves_of}
 
 -- a line stands as it is in the item that it makes
 abbrev pub IsMadeBy : BodyLine → OwnItem → Type 0

@@ -13,23 +13,23 @@ use Rattle.match_script.specs.declared.types.Script.{Script}
 use Rattle.match_script.specs.Ranges.{LineFits, BlockFits, HeadFits, HasRanges}
 use Rattle.client_scope.specs.declared.period.Near.{Near as NearPeriod}
 use Rattle.stream_manager.specs.Limits.{Terms, IsBlockBytes, AreTerms}
-use Rattle.pair_core.specs.History.{PairStep}
-use Rattle.pair_core.specs.Conditions.{IsHonest}
-use Rattle.pair_core.specs.Laws.{StepFits}
-use Rattle.pair_core.proofs.Good.{AreGood}
-use Rattle.pair_core.proofs.Delivered.{good}
+use Rattle.client_seat.specs.pair_core.History.{PairStep}
+use Rattle.client_seat.specs.pair_core.Conditions.{IsHonest}
+use Rattle.client_seat.specs.pair_core.Laws.{StepFits}
+use Rattle.client_seat.proofs.Below.pair_core.Good.{AreGood}
+use Rattle.client_seat.proofs.Below.pair_core.Delivered.{good}
 use Rattle.conn_packing.proofs.Lists.{all-append}
-use Rattle.pair_core.proofs.InOrder.{delivers_down, delivers_up, accepts}
-use Rattle.pair_core.proofs.LooseEvents.{loose_down, loose_up}
-use Rattle.own_lists.specs.declared.showing.Showing.{Showing}
-use Rattle.own_lists.specs.Own.{OwnItem, Line, Scan, Tick}
-use Rattle.own_lists.specs.Course.{onto, near_step, show_step, scan_steps}
-use Rattle.own_lists.specs.Kept.{Kept, after_line, follows, kept, journal}
-use Rattle.own_lists.specs.Past.{client_terms, after}
-use Rattle.own_lists.specs.Agreement.{AreLines, OwnListsHold}
-use Rattle.own_lists.proofs.Counting.{counted_few}
-use Rattle.own_lists.proofs.KeptValues.{wrote_course}
-use Rattle.own_lists.proofs.Meeting.{scan_journal, are_met}
+use Rattle.client_seat.proofs.Below.pair_core.InOrder.{delivers_down, delivers_up, accepts}
+use Rattle.client_seat.proofs.Below.pair_core.LooseEvents.{loose_down, loose_up}
+use Rattle.client_seat.specs.own_lists.declared.showing.Showing.{Showing}
+use Rattle.client_seat.specs.own_lists.Own.{OwnItem, Line, Scan, Tick}
+use Rattle.client_seat.specs.own_lists.Course.{onto, near_step, show_step, scan_steps}
+use Rattle.client_seat.specs.own_lists.Kept.{Kept, after_line, follows, kept, journal}
+use Rattle.client_seat.specs.own_lists.Past.{client_terms, after}
+use Rattle.client_seat.specs.own_lists.Agreement.{AreLines, OwnListsHold}
+use Rattle.client_seat.proofs.Below.own_lists.Counting.{counted_few}
+use Rattle.client_seat.proofs.Below.own_lists.KeptValues.{wrote_course}
+use Rattle.client_seat.proofs.Below.own_lists.Meeting.{scan_journal, are_met}
 use Rattle.match_laws.specs.Laws.{first, journal_of, EventsInOrder, MovesInOrder, LooseInOrder}
 use Rattle.match_laws.proofs.Grown.{IsMadeBy, grows}
 

@@ -9,9 +9,9 @@ use Rattle.match_script.specs.declared.types.BodyLine.TheVariants as script
 use Rattle.match_script.specs.declared.types.Head.{Head}
 use Rattle.stream_manager.specs.Limits.{Terms}
 use Rattle.world_scope.specs.Scope.{visible_list}
-use Rattle.own_lists.specs.Own.{OwnItem, Line}
-use Rattle.own_lists.specs.Kept.{put}
-use Rattle.own_lists.specs.Past.{client_terms, happens, after, scan_item}
+use Rattle.client_seat.specs.own_lists.Own.{OwnItem, Line}
+use Rattle.client_seat.specs.own_lists.Kept.{put}
+use Rattle.client_seat.specs.own_lists.Past.{client_terms, happens, after, scan_item}
 use Rattle.match_laws.specs.Report.{line_text, told_lines}
 use Rattle.match_laws.specs.Laws.{is_pack, packs_in, is_own_pack, pack_lines, Isolation}
 use Rattle.match_laws.proofs.Grown.{put_own}

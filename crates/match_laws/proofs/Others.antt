@@ -7,9 +7,9 @@ use Rattle.match_script.specs.declared.types.BodyLine.{BodyLine}
 use Rattle.match_script.specs.declared.types.BodyLine.TheVariants as script
 use Rattle.match_script.specs.declared.types.Head.{Head}
 use Rattle.world_scope.specs.Scope.{visible_list}
-use Rattle.own_lists.specs.Own.{OwnItem, Line, Scan, Tick, client_named}
-use Rattle.own_lists.specs.Kept.{put}
-use Rattle.own_lists.specs.Past.{Past, happens, after, scan_item}
+use Rattle.client_seat.specs.own_lists.Own.{OwnItem, Line, Scan, Tick, client_named}
+use Rattle.client_seat.specs.own_lists.Kept.{put}
+use Rattle.client_seat.specs.own_lists.Past.{Past, happens, after, scan_item}
 use Rattle.match_laws.specs.Others.{IsLeft, NamesClient, NonInterference}
 
 -- another value at another place

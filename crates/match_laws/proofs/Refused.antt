@@ -18,21 +18,21 @@ use Rattle.match_report.specs.declared.told.Way.TheVariants as way
 use Rattle.stream_manager.specs.Limits.{Terms, AreTerms}
 use Rattle.stream_manager.specs.Server.{server_state}
 use Rattle.stream_manager.specs.Client.{client_state}
-use Rattle.pair_core.specs.declared.step.Answer.{Answer}
-use Rattle.pair_core.specs.declared.step.Answer.TheVariants as says
-use Rattle.pair_core.specs.History.{PairStep, Down, Up, history}
-use Rattle.pair_core.specs.Conditions.{IsHonest}
-use Rattle.pair_core.specs.Answers.{answer}
-use Rattle.pair_core.specs.Refusals.{RefusesLittle}
-use Rattle.pair_core.proofs.Good.{AreGood}
-use Rattle.pair_core.proofs.RefusalLaw.{little}
-use Rattle.own_lists.specs.Own.{OwnItem, Line, Scan, Tick}
-use Rattle.own_lists.specs.Course.{Course, onto, room_in, scan_steps}
-use Rattle.own_lists.specs.Kept.{Kept, put, after_line, follows, kept, journal, drains_of, reads_of}
-use Rattle.own_lists.specs.Past.{Past, client_terms, kept_by, after}
-use Rattle.own_lists.specs.Agreement.{OwnListsHold}
-use Rattle.own_lists.proofs.KeptValues.{wrote_course}
-use Rattle.own_lists.proofs.Meeting.{scan_journal}
+use Rattle.client_seat.specs.pair_core.declared.step.Answer.{Answer}
+use Rattle.client_seat.specs.pair_core.declared.step.Answer.TheVariants as says
+use Rattle.client_seat.specs.pair_core.History.{PairStep, Down, Up, history}
+use Rattle.client_seat.specs.pair_core.Conditions.{IsHonest}
+use Rattle.client_seat.specs.pair_core.Answers.{answer}
+use Rattle.client_seat.specs.pair_core.Refusals.{RefusesLittle}
+use Rattle.client_seat.proofs.Below.pair_core.Good.{AreGood}
+use Rattle.client_seat.proofs.Below.pair_core.RefusalLaw.{little}
+use Rattle.client_seat.specs.own_lists.Own.{OwnItem, Line, Scan, Tick}
+use Rattle.client_seat.specs.own_lists.Course.{Course, onto, room_in, scan_steps}
+use Rattle.client_seat.specs.own_lists.Kept.{Kept, put, after_line, follows, kept, journal, drains_of, reads_of}
+use Rattle.client_seat.specs.own_lists.Past.{Past, client_terms, kept_by, after}
+use Rattle.client_seat.specs.own_lists.Agreement.{OwnListsHold}
+use Rattle.client_seat.proofs.Below.own_lists.KeptValues.{wrote_course}
+use Rattle.client_seat.proofs.Below.own_lists.Meeting.{scan_journal}
 use Rattle.client_seat.specs.Told.{post_told, client_post_told, made_told, packed_told, client_made_told, client_pack_told}
 use Rattle.client_seat.specs.Told.{handed_down, handed_up, brought_told, brought_up_told}
 use Rattle.match_laws.specs.Report.{told}
@@ -61,10 +61,10 @@ module _ (t : Terms) where
       onto-honest steps k.course.steps (subst IsHonest (scan_journal hides nears shows k) h)
   item-honest (Tick writes taken) k h = subst (λ c. IsHonest c.steps) (wrote_course t writes k) h
 
-honest-before : (head : Head) (past : List BodyLine) (line : BodyLine) (c : ℕ)
+pub honest_before : (head : Head) (past : List BodyLine) (line : BodyLine) (c : ℕ)
     → IsHonest (journal (client_terms head c) ((after head (line ∷ past)).own c))
     → IsHonest (journal (client_terms head c) ((after head past).own c))
-honest-before head past line c =
+honest_before head past line c =
     let t = client_terms head c in
     grows (λ old new. IsHonest (journal t new) → IsHonest (journal t old)) (λ items h. h) head (after head past) c line
     (λ item made. item-honest t item (kept t ((after head past).own c)))
@@ -74,9 +74,9 @@ own-line : (own : ℕ → List OwnItem) (item : OwnItem) (c : ℕ) → put own c
 own-line own item c = grind arith
 
 -- so an honest client's line is no foreign datagram
-not-raw : (head : Head) (past : List BodyLine) (c : ℕ) (bytes : List ℕ)
+pub not_raw : (head : Head) (past : List BodyLine) (c : ℕ) (bytes : List ℕ)
     → IsHonest (journal (client_terms head c) ((after head (script.Raw c bytes ∷ past)).own c)) → ⊥
-not-raw head past c bytes h =
+not_raw head past c bytes h =
     (subst (λ items. IsHonest (journal (client_terms head c) items)) (own-line (after head past).own (Line (script.Raw c bytes)) c) h).0
 
 -- ---- what is told
@@ -138,13 +138,13 @@ module _ (own : OwnListsHold) (s : Script) (n : ℕ) (h : HasRanges s) where
   line-little (script.ClientPack c) fits honest = client_pack-little (client_terms s.head c) (steps c) c
   line-little (script.Down c place) fits honest =
       let t = client_terms s.head c in
-      let fit = are_good own s c n h fits.0 (honest-before s.head (first n s) (script.Down c place) c (honest c refl)) in
+      let fit = are_good own s c n h fits.0 (honest_before s.head (first n s) (script.Down c place) c (honest c refl)) in
       brought-little way.Down c place (handed_down t (steps c) place) (answer t (steps c) (Down place))
       (little t (steps c) (Down place) (terms_fit s.head c h.head fits.0) fit tt)
   line-little (script.Up c place) fits honest =
-      let fit = are_good own s c n h fits.0 (honest-before s.head (first n s) (script.Up c place) c (honest c refl)) in
+      let fit = are_good own s c n h fits.0 (honest_before s.head (first n s) (script.Up c place) c (honest c refl)) in
       up-little (client_terms s.head c) (kept_by s.head before c).course c place (terms_fit s.head c h.head fits.0) fit
-  line-little (script.Raw c bytes) fits honest = absurd (not-raw s.head (first n s) c bytes (honest c refl))
+  line-little (script.Raw c bytes) fits honest = absurd (not_raw s.head (first n s) c bytes (honest c refl))
   line-little (script.Move c m) fits honest = tt
   line-little (script.Show c) fits honest = tt
   line-little script.World fits honest = tt

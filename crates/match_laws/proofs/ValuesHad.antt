@@ -13,18 +13,18 @@ use Rattle.match_script.specs.declared.types.BodyLine.{BodyLine}
 use Rattle.match_script.specs.declared.types.BodyLine.TheVariants as script
 use Rattle.match_script.specs.declared.types.Head.{Head}
 use Rattle.match_script.specs.Ranges.{LineFits}
-use Rattle.pair_core.specs.History.{PairStep, Show, Near}
+use Rattle.client_seat.specs.pair_core.History.{PairStep, Show, Near}
 use Rattle.pair_copies.specs.Reads.{HasRead, WasRead}
-use Rattle.own_lists.specs.pair_steps.Steps.{shows_in, traits_in}
-use Rattle.own_lists.specs.Own.{OwnItem, Line, Scan, Tick}
-use Rattle.own_lists.specs.Course.{onto, scan_steps}
-use Rattle.own_lists.specs.Kept.{Kept, reads_of, after_line, follows, kept, journal}
-use Rattle.own_lists.specs.Past.{client_terms, kept_by, after}
-use Rattle.own_lists.specs.Conditions.{AreOwn}
-use Rattle.own_lists.specs.Agreement.{Agrees, AreLines, OwnListsHold}
-use Rattle.own_lists.proofs.Meeting.{are_met, scan_journal}
-use Rattle.own_lists.proofs.KeptValues.{own_fields, is_kept, wrote_course}
-use Rattle.own_lists.proofs.Standing.{IsShownIn}
+use Rattle.client_seat.specs.own_lists.pair_steps.Steps.{shows_in, traits_in}
+use Rattle.client_seat.specs.own_lists.Own.{OwnItem, Line, Scan, Tick}
+use Rattle.client_seat.specs.own_lists.Course.{onto, scan_steps}
+use Rattle.client_seat.specs.own_lists.Kept.{Kept, reads_of, after_line, follows, kept, journal}
+use Rattle.client_seat.specs.own_lists.Past.{client_terms, kept_by, after}
+use Rattle.client_seat.specs.own_lists.Conditions.{AreOwn}
+use Rattle.client_seat.specs.own_lists.Agreement.{Agrees, AreLines, OwnListsHold}
+use Rattle.client_seat.proofs.Below.own_lists.Meeting.{are_met, scan_journal}
+use Rattle.client_seat.proofs.Below.own_lists.KeptValues.{own_fields, is_kept, wrote_course}
+use Rattle.client_seat.proofs.Below.own_lists.Standing.{IsShownIn}
 use Rattle.match_laws.specs.Values.{ClientMoment, Spot, HasValue, HadValue}
 use Rattle.match_laws.proofs.Grown.{grows}
 use Rattle.match_laws.proofs.ValuesNewest.{newest_of}

@@ -16,8 +16,8 @@ use Rattle.ghost_model.specs.Legal.{IsItsMask}
 use Rattle.ghost_masks.specs.Plan.{sizes, kind_of, fields_of}
 use Rattle.conn_packing.specs.Reads.{fields_in, asked_by, asked_by_all}
 use Rattle.pair_copies.specs.Reads.{newest_in}
-use Rattle.own_lists.proofs.Below.pair_steps.Carriers.{is-it}
-use Rattle.own_lists.specs.Kept.{read_of}
+use Rattle.client_seat.proofs.Below.own_lists.Below.pair_steps.Carriers.{is-it}
+use Rattle.client_seat.specs.own_lists.Kept.{read_of}
 
 -- the newest value that the own list has
 abbrev pub newest_of : (ℕ → List ℤ) → ℕ → ℕ → ℤ

@@ -26,9 +26,9 @@ use Rattle.ghost_masks.specs.Plan.{kind_of, fields_of, IsItem}
 use Rattle.stream_manager.specs.Limits.{Terms}
 use Rattle.stream_manager.specs.Server.{ServerEvent, server_state, ghost_log, choices_at}
 use Rattle.conn_packing.specs.Packs.{absorbing}
-use Rattle.pair_core.specs.History.{PairStep, Pack, history}
+use Rattle.client_seat.specs.pair_core.History.{PairStep, Pack, history}
 use Rattle.conn_packing.specs.Reads.{HasRanges, asked_by, asked_by_all}
-use Rattle.pair_core.specs.Conditions.{AreMet}
+use Rattle.client_seat.specs.pair_core.Conditions.{AreMet}
 use Rattle.conn_packing.proofs.Lists.{all-append}
 use Rattle.conn_packing.proofs.ReadValues.{supplies, all-may-be-asked}
 use Rattle.conn_packing.proofs.Scoped.{absorbed-ranges}
@@ -39,19 +39,19 @@ use Rattle.world_rules.specs.declared.object.Object.{Object}
 use Rattle.world_sim.specs.Rows.{values_of}
 use Rattle.world_sim.specs.Worlds.{Worlds, kind_at, values_at}
 use Rattle.world_scope.specs.declared.viewer.Seen.{Seen}
-use Rattle.own_lists.specs.declared.showing.Showing.{Showing}
-use Rattle.own_lists.specs.pair_steps.Steps.{traits_in}
-use Rattle.own_lists.specs.Own.{OwnItem, Line, Scan, Tick}
-use Rattle.own_lists.specs.Course.{onto, near_step, show_step, scan_steps}
-use Rattle.own_lists.specs.Kept.{Kept, undrained, drained, drains_of, read_of, reads_for, reads_of, after_line, follows}
-use Rattle.own_lists.specs.Agreement.{IsPeriodOf, Agrees}
-use Rattle.own_lists.proofs.Below.pair_steps.Journals.{up_from, kind_told}
-use Rattle.own_lists.proofs.Meeting.{scan_journal}
-use Rattle.own_lists.proofs.KeptValues.{own_fields, wrote_course}
-use Rattle.own_lists.proofs.ScanFacts.{numbers}
-use Rattle.own_lists.proofs.ScanChanges.{has, held_at}
-use Rattle.own_lists.proofs.Standing.{IsShownIn}
-use Rattle.own_lists.specs.pair_steps.Steps.{IsNoPack}
+use Rattle.client_seat.specs.own_lists.declared.showing.Showing.{Showing}
+use Rattle.client_seat.specs.own_lists.pair_steps.Steps.{traits_in}
+use Rattle.client_seat.specs.own_lists.Own.{OwnItem, Line, Scan, Tick}
+use Rattle.client_seat.specs.own_lists.Course.{onto, near_step, show_step, scan_steps}
+use Rattle.client_seat.specs.own_lists.Kept.{Kept, undrained, drained, drains_of, read_of, reads_for, reads_of, after_line, follows}
+use Rattle.client_seat.specs.own_lists.Agreement.{IsPeriodOf, Agrees}
+use Rattle.client_seat.proofs.Below.own_lists.Below.pair_steps.Journals.{up_from, kind_told}
+use Rattle.client_seat.proofs.Below.own_lists.Meeting.{scan_journal}
+use Rattle.client_seat.proofs.Below.own_lists.KeptValues.{own_fields, wrote_course}
+use Rattle.client_seat.proofs.Below.own_lists.ScanFacts.{numbers}
+use Rattle.client_seat.proofs.Below.own_lists.ScanChanges.{has, held_at}
+use Rattle.client_seat.proofs.Below.own_lists.Standing.{IsShownIn}
+use Rattle.client_seat.specs.own_lists.pair_steps.Steps.{IsNoPack}
 use Rattle.match_laws.proofs.ValuesNewest.{newest_of}
 use Rattle.match_laws.proofs.ValuesTold.{up_has, pack_items}
 

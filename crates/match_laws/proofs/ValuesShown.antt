@@ -21,10 +21,10 @@ use Rattle.ghost_client.specs.State.{field_value}
 use Rattle.stream_manager.specs.Limits.{Terms}
 use Rattle.stream_manager.specs.Server.{ghost_log}
 use Rattle.stream_manager.specs.Client.{ghosts_came}
-use Rattle.pair_core.specs.History.{PairStep, history}
-use Rattle.pair_core.specs.Conditions.{IsHonest}
-use Rattle.pair_core.specs.Laws.{StepFits, Always}
-use Rattle.pair_core.proofs.Good.{AreGood}
+use Rattle.client_seat.specs.pair_core.History.{PairStep, history}
+use Rattle.client_seat.specs.pair_core.Conditions.{IsHonest}
+use Rattle.client_seat.specs.pair_core.Laws.{StepFits, Always}
+use Rattle.client_seat.proofs.Below.pair_core.Good.{AreGood}
 use Rattle.pair_copies.specs.Reads.{AllShowReads, ShowNewest, IsNewest, last_read}
 use Rattle.match_script.specs.declared.types.BodyLine.{BodyLine}
 use Rattle.match_script.specs.declared.types.Head.{Head}
@@ -34,14 +34,14 @@ use Rattle.match_report.specs.declared.copies.FieldTold.{FieldTold}
 use Rattle.world_rules.specs.Kinds.{match_kinds}
 use Rattle.client_scope.specs.declared.period.ShownPeriod.{ShownPeriod}
 use Rattle.client_scope.specs.Scans.{shown}
-use Rattle.own_lists.specs.pair_steps.Steps.{up_in, traits_in}
-use Rattle.own_lists.specs.Kept.{Kept, undrained}
-use Rattle.own_lists.specs.Past.{client_terms, kept_by, after}
-use Rattle.own_lists.specs.Agreement.{AreLines, OwnListsHold}
-use Rattle.own_lists.proofs.Below.pair_steps.Journals.{up_to, kind_told}
-use Rattle.own_lists.proofs.Meeting.{are_met}
-use Rattle.own_lists.proofs.KeptValues.{own_fields}
-use Rattle.own_lists.proofs.Standing.{IsShownIn, up_are_shown, mapped_all}
+use Rattle.client_seat.specs.own_lists.pair_steps.Steps.{up_in, traits_in}
+use Rattle.client_seat.specs.own_lists.Kept.{Kept, undrained}
+use Rattle.client_seat.specs.own_lists.Past.{client_terms, kept_by, after}
+use Rattle.client_seat.specs.own_lists.Agreement.{AreLines, OwnListsHold}
+use Rattle.client_seat.proofs.Below.own_lists.Below.pair_steps.Journals.{up_to, kind_told}
+use Rattle.client_seat.proofs.Below.own_lists.Meeting.{are_met}
+use Rattle.client_seat.proofs.Below.own_lists.KeptValues.{own_fields}
+use Rattle.client_seat.proofs.Below.own_lists.Standing.{IsShownIn, up_are_shown, mapped_all}
 use Rattle.client_seat.specs.Told.{holder_at, is_newest}
 use Rattle.match_laws.specs.Laws.{first, journal_of}
 use Rattle.match_laws.specs.Values.{ClientMoment, HasValue, HadValue, IsShownField, IsShownFor, ShowsHad, ShowsNewest, IsRecovered, FieldsRecover, AllRecover, HasLevel, CopiesShowValues, SettledIsNewest, ChangesRecover}

@@ -18,23 +18,23 @@ use Rattle.stream_manager.specs.Limits.{Terms}
 use Rattle.stream_manager.specs.End.{delivered_at}
 use Rattle.stream_manager.specs.Server.{server_end}
 use Rattle.stream_manager.specs.Client.{client_end}
-use Rattle.pair_core.specs.History.{PairStep, Post, ClientPost, Sample, Pack, ClientPack, Down, Up, Raw, history}
-use Rattle.pair_core.specs.Conditions.{IsHonest}
-use Rattle.pair_core.specs.Answers.{client_delivered, server_delivered}
-use Rattle.pair_core.specs.Laws.{posted_at}
+use Rattle.client_seat.specs.pair_core.History.{PairStep, Post, ClientPost, Sample, Pack, ClientPack, Down, Up, Raw, history}
+use Rattle.client_seat.specs.pair_core.Conditions.{IsHonest}
+use Rattle.client_seat.specs.pair_core.Answers.{client_delivered, server_delivered}
+use Rattle.client_seat.specs.pair_core.Laws.{posted_at}
 use Rattle.conn_packing.proofs.Lists.{all-append}
 use Rattle.client_scope.specs.declared.period.Near.{Near as NearPeriod}
-use Rattle.own_lists.specs.declared.showing.Showing.{Showing}
-use Rattle.own_lists.specs.Own.{OwnShow, OwnItem, Line}
-use Rattle.own_lists.specs.Course.{Course, room_in, onto, hide_step, near_step, show_step, scan_steps}
-use Rattle.own_lists.specs.Kept.{put, drains_of, reads_of, kept, journal}
-use Rattle.own_lists.specs.Past.{client_terms, own_show, scan_item, own_writes, moves_of, after}
+use Rattle.client_seat.specs.own_lists.declared.showing.Showing.{Showing}
+use Rattle.client_seat.specs.own_lists.Own.{OwnShow, OwnItem, Line}
+use Rattle.client_seat.specs.own_lists.Course.{Course, room_in, onto, hide_step, near_step, show_step, scan_steps}
+use Rattle.client_seat.specs.own_lists.Kept.{put, drains_of, reads_of, kept, journal}
+use Rattle.client_seat.specs.own_lists.Past.{client_terms, own_show, scan_item, own_writes, moves_of, after}
 use Rattle.world_sim.specs.Worlds.{next}
 use Rattle.client_scope.specs.Scans.{shown}
 use Rattle.client_scope.specs.Changes.{hides, nears, shows}
-use Rattle.own_lists.specs.Agreement.{OwnListsHold}
-use Rattle.own_lists.proofs.KeptValues.{wrote_course}
-use Rattle.own_lists.proofs.Meeting.{scan_journal}
+use Rattle.client_seat.specs.own_lists.Agreement.{OwnListsHold}
+use Rattle.client_seat.proofs.Below.own_lists.KeptValues.{wrote_course}
+use Rattle.client_seat.proofs.Below.own_lists.Meeting.{scan_journal}
 use Rattle.match_laws.specs.Report.{told_after}
 use Rattle.match_laws.specs.Laws.{first, journal_of}
 use Rattle.match_laws.specs.Words.{ToldLine, is_down, is_up, is_post, is_client_post, is_raw, HasNoRaw, events_told, told_by, delivered_words, is_numbered, posted_by, posted_words, PrintedInOrder}
@@ -291,16 +291,16 @@ prefix-printed xs ys p =
 joined-prefix : (ws vs xs ys : List (List ℕ)) → ws ≡ xs → vs ≡ ys → IsPrefixOf xs ys → IsPrefixOf ws vs
 joined-prefix ws vs xs ys e f p = (p.0, ap (λ l. l ++ p.0) e ∙ p.1 ∙ sym f)
 
-no-raw-reversed : (c : ℕ) (lines : List BodyLine) → HasNoRaw c lines → HasNoRaw c (reverse lines)
-no-raw-reversed c [] h = tt
-no-raw-reversed c (line ∷ lines) h =
+pub no_raw_reversed : (c : ℕ) (lines : List BodyLine) → HasNoRaw c lines → HasNoRaw c (reverse lines)
+no_raw_reversed c [] h = tt
+no_raw_reversed c (line ∷ lines) h =
     subst (HasNoRaw c) (sym (reverse_onto lines line []))
-    (all-append (λ l. is_raw c l ≡ false) (reverse lines) (line ∷ []) (no-raw-reversed c lines h.1) (h.0, tt))
+    (all-append (λ l. is_raw c l ≡ false) (reverse lines) (line ∷ []) (no_raw_reversed c lines h.1) (h.0, tt))
 
 pub printed_in_order : OwnListsHold → PrintedInOrder
 printed_in_order own s c n h l quiet =
     let past = first n s in
-    let none : HasNoRaw c past = no-raw-reversed c (take n s.body) quiet in
+    let none : HasNoRaw c past = no_raw_reversed c (take n s.body) quiet in
     let law = in_order own s c n h l (honest s.head c past none) in
     let t = client_terms s.head c in
     let ends = history t (journal_of s c n) in

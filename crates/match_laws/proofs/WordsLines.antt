@@ -1,6 +1,6 @@
 -- The lines of a report are those that were told, in the order of the script.
-use Rattle.std.proofs.Common.{◌≡◌, ℕ, zero, suc, List, [], ◌∷◌, ◌++◌, map, take, reverse, refl, sym, ap, ◌∙◌, append-nil, append_assoc}
-use Rattle.std.specs.Prelude.{zip}
+use Rattle.std.proofs.Common.{◌≡◌, ℕ, zero, suc, List, [], ◌∷◌, ◌++◌, map, take, reverse, Option, Some, refl, sym, ap, ◌∙◌, append-nil, append_assoc}
+use Rattle.std.specs.Prelude.{zip, slice_get}
 use Rattle.std.proofs.lemmas.List.{map-append}
 use Rattle.std.proofs.lemmas.Grind.{reverse_onto, flat_map-append}
 use Rattle.match_script.specs.declared.types.BodyLine.{BodyLine}
@@ -80,3 +80,22 @@ pub told_side_by_side : (s : Script) (n : ℕ) → side_by_side (take n s.body) 
 told_side_by_side s n =
     ap (zip (take n s.body)) (whole-report s ∙ ap (map text_in) (all-forward s.head s.body))
     ∙ zip-front s.head n s.body [] ∙ sym (all-forward s.head (take n s.body))
+
+-- ---- one line
+
+-- the text of line n is what it tells after those before it
+line-at : (head : Head) (n : ℕ) (lines past : List BodyLine) (line : BodyLine) → slice_get lines n ≡ Some line
+    → slice_get (map text_in (plain_lines_on head past lines)) n ≡ Some (told_text (told_after head (reverse (take n lines) ++ past) line))
+line-at head n [] past line e = absurd cc
+line-at head zero (l ∷ lines) past line e =
+    let same : l ≡ line = cc in ap (λ (x : BodyLine). Some (told_text (told_after head past x))) same
+line-at head (suc n) (l ∷ lines) past line e =
+    line-at head n lines (l ∷ past) line e
+    ∙ ap (λ (before : List BodyLine). Some (told_text (told_after head before line)))
+    (sym (append_assoc (reverse (take n lines)) (l ∷ []) past) ∙ ap (λ before. before ++ past) (sym (reverse_onto (take n lines) l [])))
+
+pub line_told : (s : Script) (n : ℕ) (line : BodyLine) → slice_get s.body n ≡ Some line
+    → slice_get (lines_of (report s)) n ≡ Some (told_text (told_after s.head (first n s) line))
+line_told s n line e =
+    ap (λ lines. slice_get lines n) (whole-report s ∙ ap (map text_in) (all-forward s.head s.body)) ∙ line-at s.head n s.body [] line e
+    ∙ ap (λ (before : List BodyLine). Some (told_text (told_after s.head before line))) (append-nil (first n s))

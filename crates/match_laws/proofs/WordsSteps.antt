@@ -21,12 +21,12 @@ use Rattle.stream_manager.specs.Server.{ServerEvent, server_end, server_state, s
 use Rattle.stream_manager.specs.Client as client
 use Rattle.stream_manager.specs.Client.{ClientEvent, client_end, client_state, client_answer, took_at_client, posted_at_client, sampled_answer, client_datagrams, seen_down}
 use Rattle.conn_packing.specs.Packs.{absorbing, values_of}
-use Rattle.pair_core.specs.History.{PairStep, Post, ClientPost, Sample, Pack, ClientPack, Down, Up, Raw, history, server_posts, client_posts, client_gets, server_gets}
-use Rattle.pair_core.specs.Answers.{client_delivered, server_delivered}
-use Rattle.pair_core.specs.Laws.{posted_at}
+use Rattle.client_seat.specs.pair_core.History.{PairStep, Post, ClientPost, Sample, Pack, ClientPack, Down, Up, Raw, history, server_posts, client_posts, client_gets, server_gets}
+use Rattle.client_seat.specs.pair_core.Answers.{client_delivered, server_delivered}
+use Rattle.client_seat.specs.pair_core.Laws.{posted_at}
 use Rattle.conn_packing.proofs.Absorbed.{absorbed-end}
-use Rattle.own_lists.specs.declared.showing.Showing.{Showing}
-use Rattle.own_lists.specs.Course.{onto, hide_step, near_step, show_step, scan_steps}
+use Rattle.client_seat.specs.own_lists.declared.showing.Showing.{Showing}
+use Rattle.client_seat.specs.own_lists.Course.{onto, hide_step, near_step, show_step, scan_steps}
 
 -- ---- the events of an end
 

@@ -29,9 +29,9 @@ use Rattle.stream_manager.specs.Server as server
 use Rattle.stream_manager.specs.Server.{ServerEvent, server_end, server_answer, took_at_server, taken_of, posted_at_server, server_datagrams, seen_up}
 use Rattle.stream_manager.specs.Client as client
 use Rattle.stream_manager.specs.Client.{ClientEvent, client_end, client_answer, took_at_client, posted_at_client, client_datagrams, seen_down}
-use Rattle.pair_core.specs.History.{PairStep, History, Down, Up, history, server_posts, client_posts, client_gets, server_gets}
-use Rattle.pair_core.specs.Answers.{client_delivered, server_delivered, brought_down, brought_up, came_down, came_up}
-use Rattle.pair_core.specs.Laws.{posted_at}
+use Rattle.client_seat.specs.pair_core.History.{PairStep, History, Down, Up, history, server_posts, client_posts, client_gets, server_gets}
+use Rattle.client_seat.specs.pair_core.Answers.{client_delivered, server_delivered, brought_down, brought_up, came_down, came_up}
+use Rattle.client_seat.specs.pair_core.Laws.{posted_at}
 use Rattle.match_laws.specs.Laws.{first}
 use Rattle.match_laws.specs.Words.{events_told, is_numbered}
 use Rattle.match_laws.proofs.WordsBytes.{Quiet, solid_decimal, ◌&◌, say, number, arrival_quiet, server_refusal_quiet, client_refusal_quiet}

@@ -7,10 +7,10 @@ use Rattle.match_script.specs.declared.types.BodyLine.TheVariants.{Tick}
 use Rattle.match_script.specs.declared.types.Head.{Head}
 use Rattle.match_script.specs.declared.types.Script.{Script}
 use Rattle.match_script.specs.Ranges.{HasRanges}
-use Rattle.pair_core.specs.Conditions.{IsHonest}
-use Rattle.pair_core.specs.Answers.{accepted_in, sampled_in}
-use Rattle.own_lists.specs.Kept.{journal}
-use Rattle.own_lists.specs.Past.{client_terms, move_of, after}
+use Rattle.client_seat.specs.pair_core.Conditions.{IsHonest}
+use Rattle.client_seat.specs.pair_core.Answers.{accepted_in, sampled_in}
+use Rattle.client_seat.specs.own_lists.Kept.{journal}
+use Rattle.client_seat.specs.own_lists.Past.{client_terms, move_of, after}
 use Rattle.match_laws.specs.Laws.{first, journal_of}
 
 -- a tick takes one move of a client, or none

@@ -7,16 +7,16 @@ use Rattle.match_script.specs.declared.types.Script.{Script}
 use Rattle.match_script.specs.Ranges.{LineFits, HasRanges}
 use Rattle.match_report.specs.Text.{report_line}
 use Rattle.stream_manager.specs.Limits.{Terms}
-use Rattle.pair_core.specs.History.{PairStep}
-use Rattle.pair_core.specs.Conditions.{IsHonest}
-use Rattle.pair_core.specs.Laws.{DeliversDown, DeliversUp, AcceptsInOrder}
-use Rattle.pair_core.specs.LooseEvents.{LooseDown, LooseUp}
-use Rattle.pair_core.specs.Refusals.{IsOldAtClient, IsOldAtServer}
+use Rattle.client_seat.specs.pair_core.History.{PairStep}
+use Rattle.client_seat.specs.pair_core.Conditions.{IsHonest}
+use Rattle.client_seat.specs.pair_core.Laws.{DeliversDown, DeliversUp, AcceptsInOrder}
+use Rattle.client_seat.specs.pair_core.LooseEvents.{LooseDown, LooseUp}
+use Rattle.client_seat.specs.pair_core.Refusals.{IsOldAtClient, IsOldAtServer}
 use Rattle.match_report.specs.declared.told.Told.{Told}
 use Rattle.match_report.specs.declared.told.Told.TheVariants.{ServerRefused, ClientRefused}
-use Rattle.own_lists.specs.Own.{OwnItem, Line, client_named}
-use Rattle.own_lists.specs.Kept.{kept, journal}
-use Rattle.own_lists.specs.Past.{client_terms, after}
+use Rattle.client_seat.specs.own_lists.Own.{OwnItem, Line, client_named}
+use Rattle.client_seat.specs.own_lists.Kept.{kept, journal}
+use Rattle.client_seat.specs.own_lists.Past.{client_terms, after}
 use Rattle.client_seat.specs.Told.{pack_told}
 use Rattle.match_laws.specs.Report.{told_after, told_lines}
 

@@ -5,8 +5,8 @@ use Rattle.std.specs.Prelude.{◌≡◌, ◌≢◌, ℕ, List, ◌∷◌, Some}
 use Rattle.std.specs.List.{AllByRecursion}
 use Rattle.match_script.specs.declared.types.BodyLine.{BodyLine}
 use Rattle.match_script.specs.declared.types.Head.{Head}
-use Rattle.own_lists.specs.Own.{OwnItem, Line, Scan, Tick, client_named}
-use Rattle.own_lists.specs.Past.{Past, after}
+use Rattle.client_seat.specs.own_lists.Own.{OwnItem, Line, Scan, Tick, client_named}
+use Rattle.client_seat.specs.own_lists.Past.{Past, after}
 
 -- what a match knows of a client is as it was
 pub record IsLeft (before after : Past) (c : ℕ) : Type 0 where

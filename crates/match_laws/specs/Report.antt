@@ -12,8 +12,8 @@ use Rattle.match_report.specs.Text.{report_line}
 use Rattle.world_sim.specs.Worlds.{Worlds}
 use Rattle.world_scope.specs.declared.viewer.Seen.{Seen}
 use Rattle.client_scope.specs.Changes.{hides, nears, shows}
-use Rattle.own_lists.specs.Kept.{undrained}
-use Rattle.own_lists.specs.Past.{Past, client_terms, kept_by, after}
+use Rattle.client_seat.specs.own_lists.Kept.{undrained}
+use Rattle.client_seat.specs.own_lists.Past.{Past, client_terms, kept_by, after}
 use Rattle.client_seat.specs.Told.{post_told, client_post_told, move_told, pack_told, client_pack_told, brought_down_told, brought_up_told, raw_told, show_told}
 use Rattle.match_laws.specs.World.{living}
 

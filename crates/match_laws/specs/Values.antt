@@ -12,8 +12,8 @@ use Rattle.ghost_client.specs.declared.copy.GhostCopy.{GhostCopy}
 use Rattle.ghost_client.specs.Copies.{copy_of}
 use Rattle.stream_manager.specs.Server.{ghost_log}
 use Rattle.stream_manager.specs.Client.{ghosts_came}
-use Rattle.pair_core.specs.History.{PairStep, History, history}
-use Rattle.pair_core.specs.Conditions.{IsHonest}
+use Rattle.client_seat.specs.pair_core.History.{PairStep, History, history}
+use Rattle.client_seat.specs.pair_core.Conditions.{IsHonest}
 use Rattle.match_script.specs.declared.types.BodyLine.{BodyLine}
 use Rattle.match_script.specs.declared.types.BodyLine.TheVariants.{Tick, Scan}
 use Rattle.match_script.specs.declared.types.Head.{Head}
@@ -26,8 +26,8 @@ use Rattle.world_sim.specs.Worlds.{next, kind_at, value_at}
 use Rattle.world_scope.specs.Scope.{visible_list}
 use Rattle.client_scope.specs.declared.period.ShownPeriod.{ShownPeriod}
 use Rattle.client_scope.specs.Scans.{periods, shown}
-use Rattle.own_lists.specs.Kept.{Kept, undrained}
-use Rattle.own_lists.specs.Past.{client_terms, kept_by, after}
+use Rattle.client_seat.specs.own_lists.Kept.{Kept, undrained}
+use Rattle.client_seat.specs.own_lists.Past.{client_terms, kept_by, after}
 use Rattle.client_seat.specs.Told.{holder_at, field_told}
 use Rattle.match_laws.specs.Laws.{first, journal_of}
 

@@ -1,7 +1,7 @@
 //! What honest clients are shown of the world.
 ghost use Rattle.match_laws.specs.Values.{CopiesShowValues, SettledIsNewest, ChangesRecover};
 
-use own_lists::own_lists_hold;
+use client_seat::own_lists::own_lists_hold;
 use pair_copies::copies_show_reads;
 
 /// At every line, each field of each copy that an honest client has shows a value that the object had at or after the show of

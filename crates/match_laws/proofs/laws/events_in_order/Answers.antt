@@ -1,4 +1,4 @@
-use Rattle.own_lists.proofs.Agreeing.{own_lists_agree}
+use Rattle.client_seat.proofs.Below.own_lists.Agreeing.{own_lists_agree}
 use Rattle.match_laws.proofs.InOrder.{in_order}
 use Rattle.match_laws.proofs.laws.events_in_order.Goals as goal
 

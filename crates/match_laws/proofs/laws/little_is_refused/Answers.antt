@@ -1,4 +1,4 @@
-use Rattle.own_lists.proofs.Agreeing.{own_lists_agree}
+use Rattle.client_seat.proofs.Below.own_lists.Agreeing.{own_lists_agree}
 use Rattle.match_laws.proofs.Refused.{little_refused}
 use Rattle.match_laws.proofs.laws.little_is_refused.Goals as goal
 
