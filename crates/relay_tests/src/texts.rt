@@ -1,0 +1,181 @@
+//! Texts and their relay scripts or first faults, by the tables of docs/relay.md.
+use match_script::{ParseFault, ScriptFault, parse, print};
+use relay_script::{RelayLine, parse_relay};
+use std::alloc::Global;
+use std::test::Fail;
+use tn_types::MAX_BODY_LINES;
+
+// A header of two clients, behind a first line.
+const HEADER: &str = "tribes 1\nmatch 1 2 100 128 1000\nblock 61\nplayer 0 0 0 5 5\ngo\n";
+
+fn first_fault(alloc: Global, text: &[u8]) -> Option<(u32, ScriptFault)> {
+    match parse_relay(alloc, text) {
+        Err(ParseFault::Bad { line, fault }) => Some((line, fault)),
+        _ => None,
+    }
+}
+
+#[test]
+fn first_lines(rt: HostRuntime) -> Result<(), Fail> {
+    for (line, fault) in [
+        ("relay 0 1", None),
+        ("relay 1 16", None),
+        ("relay 2 1", Some(ScriptFault::BadHeader)),
+        ("relay 0 0", Some(ScriptFault::BadHeader)),
+        ("relay 0 17", Some(ScriptFault::BadHeader)),
+        ("relay 00 1", Some(ScriptFault::BadHeader)),
+        ("relay 0", Some(ScriptFault::BadHeader)),
+        ("relay 0 1 ", Some(ScriptFault::BadHeader)),
+        ("relays 0 1", Some(ScriptFault::BadHeader)),
+        ("r scan 0", Some(ScriptFault::BadHeader)),
+        ("relay\t0 1", Some(ScriptFault::NotText)),
+    ] {
+        let text = format!(in rt.alloc(); "{line}\n{HEADER}")?;
+        let want = fault.map(|f: ScriptFault| (1, f));
+        assert_eq!(rt; first_fault(rt.alloc(), text.as_bytes()), want, "at {line}");
+    }
+    Ok(())
+}
+
+#[test]
+fn headers(rt: HostRuntime) {
+    for (text, line) in [
+        ("", 1),
+        ("relay 0 1", 2),
+        ("relay 0 1\ntribes 3\n", 2),
+        // the third line says how many clients there are, also where the second one is at fault
+        ("relay 1 1\ntribes 1\nmatch 1 1 100 128 1000\ngo\n", 1),
+        ("relay 1 1\ntribes 3\nmatch 1 1 100 128 1000\ngo\n", 1),
+        ("relay 0 1\ntribes 3\nmatch 1 1 100 128 1000\ngo\n", 2),
+        // a third line that is no `match` line says nothing of it
+        ("relay 15 1\ntribes 1\nmatch 1 1 100 127 1000\ngo\n", 3),
+        ("relay 16 1\ntribes 1\nmatch 1 1 100 127 1000\ngo\n", 1),
+        ("relay 15 1\ntribes 1\n", 3),
+        // no relay line stands before `go`
+        (
+            "relay 0 1\nr scan 0\ntribes 1\nmatch 1 1 100 128 1000\ngo\n",
+            2,
+        ),
+        (
+            "relay 0 1\ntribes 1\nr scan 0\nmatch 1 1 100 128 1000\ngo\n",
+            3,
+        ),
+        (
+            "relay 0 1\ntribes 1\nmatch 1 1 100 128 1000\nr scan 0\ngo\n",
+            4,
+        ),
+        (
+            "relay 0 1\ntribes 1\nmatch 1 1 100 128 1000\nblock -\nr scan 0\ngo\n",
+            5,
+        ),
+        ("relay 0 1\ntribes 1\nmatch 1 1 100 128 1000\nblock -\n", 5),
+    ] {
+        let want = Some((line, ScriptFault::BadHeader));
+        assert_eq!(rt;
+            first_fault(rt.alloc(), text.as_bytes()),
+            want,
+            "at {text:?}"
+        );
+    }
+}
+
+#[test]
+fn lines_of_the_body(rt: HostRuntime) -> Result<(), Fail> {
+    for (line, fault) in [
+        ("r scan 1", None),
+        ("r pack 0", None),
+        ("r cpack 0", None),
+        ("r down 0 4294967295", None),
+        ("r up 1 0", None),
+        ("r show 1", None),
+        ("r scan 2", Some(ScriptFault::OutOfRange)),
+        ("r scan x", Some(ScriptFault::BadNumber)),
+        ("r scan 01", Some(ScriptFault::BadNumber)),
+        ("r down 0 4294967296", Some(ScriptFault::OutOfRange)),
+        ("r down 2 x", Some(ScriptFault::OutOfRange)),
+        ("r up x 4294967296", Some(ScriptFault::BadNumber)),
+        ("r scan", Some(ScriptFault::UnknownWord)),
+        ("r scan 0 0", Some(ScriptFault::UnknownWord)),
+        ("r down 0", Some(ScriptFault::UnknownWord)),
+        ("r tick", Some(ScriptFault::UnknownWord)),
+        ("r post 9 g zz", Some(ScriptFault::UnknownWord)),
+        ("r move 0 0 0 0 0", Some(ScriptFault::UnknownWord)),
+        ("r raw 0 -", Some(ScriptFault::UnknownWord)),
+        ("r world", Some(ScriptFault::UnknownWord)),
+        ("r ", Some(ScriptFault::UnknownWord)),
+        ("r", Some(ScriptFault::UnknownWord)),
+        ("r  scan 0", Some(ScriptFault::UnknownWord)),
+        (" r scan 0", Some(ScriptFault::UnknownWord)),
+        ("R scan 0", Some(ScriptFault::UnknownWord)),
+        ("r scan\t0", Some(ScriptFault::NotText)),
+        ("show 1", None),
+        ("show 2", Some(ScriptFault::OutOfRange)),
+    ] {
+        let text = format!(in rt.alloc(); "relay 0 2\n{HEADER}tick\nr show 0\n{line}\nbad\n")?;
+        let want = match fault {
+            Some(fault) => Some((9, fault)),
+            None => Some((10, ScriptFault::UnknownWord)),
+        };
+        assert_eq!(rt; first_fault(rt.alloc(), text.as_bytes()), want, "at {line}");
+    }
+    Ok(())
+}
+
+// So many lines behind `go`, every second one the relay's.
+fn long_text(alloc: Global, lines: u32) -> Result<Vec<u8>, Fail> {
+    let mut text = Vec::new(alloc);
+    text.extend_from_slice(b"relay 0 1\n")?;
+    text.extend_from_slice(HEADER.as_bytes())?;
+    for k in 0..lines {
+        let line = if k % 2 == 0 { "tick\n" } else { "r show 0\n" };
+        text.extend_from_slice(line.as_bytes())?;
+    }
+    Ok(text)
+}
+
+#[test]
+fn lines_of_both_count(rt: HostRuntime) -> Result<(), Fail> {
+    let full = long_text(rt.alloc(), MAX_BODY_LINES)?;
+    let script = parse_relay(rt.alloc(), full.as_slice())
+        .ok()
+        .ok_or("no script")?;
+    assert_eq!(rt; script.script.body.len(), 50_000);
+    assert_eq!(rt; script.lines.len(), 50_000);
+    let long = long_text(rt.alloc(), MAX_BODY_LINES + 2)?;
+    let want = Some((100_007, ScriptFault::TooManyLines));
+    assert_eq!(rt; first_fault(rt.alloc(), long.as_slice()), want);
+    Ok(())
+}
+
+#[test]
+fn what_is_left_is_the_match(rt: HostRuntime) -> Result<(), Fail> {
+    let plain = format!(in rt.alloc(); "{HEADER}scan 0\npack 0\ndown 0 0\nworld\n")?;
+    let mixed = format!(in rt.alloc();
+        "relay 1 3\n{HEADER}r show 2\nscan 0\npack 0\nr scan 0\nr pack 1\ndown 0 0\nworld\nr up 2 7"
+    )?;
+    let script = parse_relay(rt.alloc(), mixed.as_bytes())
+        .ok()
+        .ok_or("no relay script")?;
+    let alone = parse(rt.alloc(), plain.as_bytes()).ok().ok_or("no script")?;
+    let left = print(rt.alloc(), &script.script)?;
+    let same = print(rt.alloc(), &alone)?;
+    assert_eq!(rt; left.as_slice(), same.as_slice());
+    assert_eq!(rt; (script.client, script.spectators), (1, 3));
+    let want = [
+        (0, RelayLine::Show { spectator: 2 }),
+        (2, RelayLine::Scan { spectator: 0 }),
+        (2, RelayLine::Pack { spectator: 1 }),
+        (
+            4,
+            RelayLine::Up {
+                spectator: 2,
+                packet: 7,
+            },
+        ),
+    ];
+    assert_eq!(rt; script.lines.len(), want.len());
+    for (placed, (behind, line)) in script.lines.as_slice().iter().zip(want) {
+        assert_eq!(rt; (placed.behind, placed.line), (behind, line));
+    }
+    Ok(())
+}
