@@ -4,8 +4,8 @@ ghost use Rattle.std.specs.Prelude.{◌≡◌, ◌<◌, ◌≤◌, length};
 use crate::rows::whole;
 use crate::served::ALL;
 use copies_told::copies_told;
-use demo_record::write_demo_of;
 use demo_record::demo_format::MAX_DEMO_BYTES;
+use demo_record::write_demo_of;
 use demo_seek::Demo;
 use demo_seek::demo_replay::replay_at;
 use match_report::put_shown;
@@ -49,12 +49,7 @@ fn replayed(rt: &HostRuntime, bytes: &[u8], k: u32) -> Result<Vec<u8>, Fail>
 }
 
 /// What the viewer shows behind the first `k` records, in a replay's words.
-fn shown<L: Ledger>(
-    rt: &HostRuntime,
-    demo: &Demo,
-    k: u32,
-    blank: Blank,
-) -> Result<Vec<u8>, Fail>
+fn shown<L: Ledger>(rt: &HostRuntime, demo: &Demo, k: u32, blank: Blank) -> Result<Vec<u8>, Fail>
     requires few { k ≤ length demo.now.records }
     requires name { blank.name ≡ L.name }
     requires parts { blank.parts ≡ L.parts }

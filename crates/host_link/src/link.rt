@@ -5,11 +5,10 @@ use crate::counters::Counters;
 use host_guests::{Address, Guests};
 use net_rules::{WELCOME, WELCOME_BYTES};
 use std::alloc::Global;
-use std::io;
 use std::io::ErrorKind;
 use std::net::{Ipv4Addr, Net, SocketAddr, SocketAddrV4, UdpSocket};
-use std::thread;
 use std::time::{Clock as SystemTimes, Duration};
+use std::{io, thread};
 use tn_outside::{Failed, Link, Peer};
 
 /// As many addresses have a place at a time.
