@@ -4,4 +4,5 @@ pub mod Moves
 pub mod Honest
 pub mod Looking
 pub mod Settled
+pub mod Examples
 pub mod Promises
