@@ -69,6 +69,13 @@ fn shown<L: Ledger>(rt: &HostRuntime, demo: &Demo, k: u32, blank: Blank) -> Resu
     Ok(text)
 }
 
+/// The same with a counter of its own.
+fn seen(rt: &HostRuntime, demo: &Demo, k: u32) -> Result<Vec<u8>, Fail>
+    requires { k ≤ length demo.now.records }
+{
+    shown::<Brand>(rt, demo, k, Blank::new(1))
+}
+
 /// Holds that each place of a demo shows what a replay of so many records shows, and gives how many records there are.
 fn seeks(rt: &HostRuntime, bytes: &[u8]) -> Result<u32, Fail> {
     if bytes.len() > MAX_DEMO_BYTES {
@@ -79,7 +86,7 @@ fn seeks(rt: &HostRuntime, bytes: &[u8]) -> Result<u32, Fail> {
     };
     for k in 0..=demo.count() {
         let text = replayed(rt, bytes, k)?;
-        let same = shown::<Brand>(rt, &demo, k, Blank::new(1))?;
+        let same = seen(rt, &demo, k)?;
         if same.as_slice() != text.as_slice() {
             return Err("a seek that does not show what a replay shows".into());
         }
