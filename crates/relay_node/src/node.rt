@@ -4,7 +4,8 @@ use match_report::{EventTold, Told, Way};
 use match_script::{BodyLine, Head};
 use relay_script::{RelayLine, RelayScript};
 use relay_spectator::alone_server::AloneHeader;
-use relay_spectator::{Board, Spectator};
+use relay_spectator::Spectator;
+use relay_spectator::relay_board::Board;
 use std::alloc::Global;
 use tn_types::NoMemory;
 

@@ -1,17 +1,16 @@
 //! Which period of a spectator watches each slot of the relay's copies.
-ghost use Rattle.std.specs.Prelude.{◌≡◌, ◌<◌, ◌≤◌, ◌+◌, ◌*◌, ◌^◌, ℕ, List, [], None, Some, OnOk, IfOk, length, map, slice_index_or, filter_map};
-ghost use Rattle.ghost_client.specs.declared.copy.GhostCopy.{GhostCopy as Ghost};
+ghost use Rattle.std.specs.Prelude.{◌≡◌, ◌<◌, ◌+◌, ◌^◌, ℕ, None, Some, OnOk, IfOk, length, map, filter_map, if◌then◌else◌};
 ghost use Rattle.ghost_client.specs.State.{copy_in};
-ghost use Rattle.own_lists.specs.Own as own;
 ghost use Rattle.alone_server.specs.own_items.Items.{show_of as show_told, write_of as write_told};
-ghost use Rattle.relay_model.specs.Watching.{Watched, all_watched, is_unwatched, begun_below};
-ghost use Rattle.relay_model.specs.Items.{show_of, shown_of, values_of};
-ghost use Rattle.relay_spectator.specs.Watches.{period_at, write_at, IsWatch, is_among};
+ghost use Rattle.relay_model.specs.Watching.{Watched, all_watched};
+ghost use Rattle.relay_model.specs.Items.{shown_of, values_of};
+ghost use Rattle.alone_server.specs.Periods.{is_among};
+ghost use Rattle.relay_spectator.specs.Watches.{period_at, write_at, IsWatch};
 
-use crate::board::Change;
 use alone_server::own_items::{Hides, OwnShow, OwnWrite, OwnWrites, Shows};
 use ghost_client::{Copies, GhostCopy};
 use match_report::ValueList;
+use relay_board::Change;
 use std::alloc::{AllocError, Global};
 use std::marker::Model;
 use tn_types::{MAX_SLOTS, NoMemory};

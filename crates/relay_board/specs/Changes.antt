@@ -7,7 +7,7 @@ use Rattle.quantised_fields.specs.declared.kind.Kind.{Kind}
 use Rattle.ghost_model.specs.Words.{upto}
 use Rattle.ghost_client.specs.declared.copy.GhostCopy.{GhostCopy}
 use Rattle.relay_model.specs.Items.{shown_at, is_changed}
-use Rattle.relay_spectator.specs.declared.board.Change.{Change}
+use Rattle.relay_board.specs.declared.board.Change.{Change}
 
 pub record BoardState : Type 0 where
   pub slots : List (Option GhostCopy)

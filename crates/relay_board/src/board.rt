@@ -1,17 +1,20 @@
 //! What a packet changed of the copies of the relay's client, found once for all spectators.
-ghost use Rattle.std.specs.Prelude.{◌≡◌, ◌<◌, ◌≤◌, ◌++◌, ℕ, List, [], None, Some, OnOk, IfOk, length, slice_index_or, option_copied};
+ghost use Rattle.std.specs.Prelude.{◌≡◌, ◌≤◌, ◌++◌, ◌&&◌, not, ℕ, is_some, None, Some, OnOk, IfOk, length, slice_index_or};
 ghost use Rattle.std.specs.List.{filter_map};
 ghost use Rattle.ghost_model.specs.Words.{upto};
 ghost use Rattle.ghost_client.specs.declared.copy.GhostCopy.{GhostCopy as Ghost};
 ghost use Rattle.ghost_client.specs.State.{copy_in};
-ghost use Rattle.relay_model.specs.Items.{shown_at};
-ghost use Rattle.relay_spectator.specs.Changes.{killed_between, changed_between, change_of};
+ghost use Rattle.relay_model.specs.Items.{shown_at, is_changed};
+ghost use Rattle.relay_board.specs.Changes.{killed_between, changed_between, change_of, changes_in};
 
 use ghost_client::{Copies, GhostCopy};
 use std::alloc::{AllocError, Global};
 use std::marker::Model;
 use tn_types::{MAX_SLOTS, NoMemory};
 use wire_format::Levels;
+
+// The greatest slot.
+const LAST_SLOT: u8 = 255;
 
 /// A field of a copy that shows another level than before, with the value that it shows now.
 #[derive(Clone, Copy, Debug, PartialEq, Eq)]
@@ -37,7 +40,7 @@ pub struct Board {
 impl Model for Board {
     ghost use Rattle.std.specs.Prelude.{◌≡◌, length};
     ghost use Rattle.tn_types.specs.declared.limits.TheConstants.{MAX_SLOTS};
-    ghost use Rattle.relay_spectator.specs.Changes.{BoardState};
+    ghost use Rattle.relay_board.specs.Changes.{BoardState};
 
     ghost Value = { BoardState };
 
@@ -69,11 +72,11 @@ fn levels_again(levels: &Levels) -> Levels
     list
 }
 
-// The same copy again, where there is one.
-fn copy_again(copy: Option<&GhostCopy>) -> Option<GhostCopy>
-    ensures { result ≡ option_copied copy }
+// The copy in a slot once more, where there is one.
+fn copy_again(copies: &Copies, slot: u8) -> Option<GhostCopy>
+    ensures { result ≡ copy_in copies.now.slots slot }
 {
-    match copy {
+    match copies.get(slot) {
         Some(copy) => Some(GhostCopy {
             kind: copy.kind,
             block: copy.block,
@@ -100,6 +103,14 @@ fn value_of(copies: &Copies, slot: u8, field: u8) -> i64
     copies.value(slot, field).unwrap_or(0)
 }
 
+// Whether a slot's copy isn't there any more.
+fn is_killed(old: &[Option<GhostCopy>], copies: &Copies, slot: u8) -> bool
+    requires { length old.now ≡ MAX_SLOTS }
+    ensures { result ≡ (is_some (copy_in old.now slot) && not (is_some (copy_in copies.now.slots slot))) }
+{
+    old[slot as usize].is_some() && copies.get(slot).is_none()
+}
+
 // The slots whose copies aren't there any more.
 fn find_killed(
     old: &[Option<GhostCopy>],
@@ -111,11 +122,18 @@ fn find_killed(
 {
     killed.clear();
     for slot in 0..MAX_SLOTS {
-        if old[slot].is_some() && copies.get(slot as u8).is_none() {
+        if is_killed(old, copies, slot as u8) {
             killed.push(slot as u8)?;
         }
     }
     Ok(())
+}
+
+// Whether a field has another level than before.
+fn is_changed(old: &GhostCopy, new: &GhostCopy, field: usize) -> bool
+    ensures { result ≡ is_changed old.now new.now field }
+{
+    level_of(old, field) != level_of(new, field)
 }
 
 // The fields of a copy that have another level than before, put behind the others.
@@ -131,7 +149,7 @@ fn put_changed(
         ≡ changed.old.items ++ filter_map (change_of copies.now.kinds slot old.now new.now) (upto (length new.now.levels))) }
 {
     for field in 0..new.levels.as_slice().len() {
-        if level_of(old, field) != level_of(new, field) {
+        if is_changed(old, new, field) {
             changed.push(Change {
                 slot,
                 field: field as u8,
@@ -140,6 +158,25 @@ fn put_changed(
         }
     }
     Ok(())
+}
+
+// The same for a slot, where it has a copy still.
+fn put_slot(
+    copies: &Copies,
+    slot: u8,
+    old: &Option<GhostCopy>,
+    changed: &mut Vec<Change>,
+) -> Result<(), AllocError>
+    ensures { OnOk result (changed.new.items
+        ≡ changed.old.items ++ changes_in copies.now.kinds slot old.now (copy_in copies.now.slots slot)) }
+{
+    match old {
+        None => Ok(()),
+        Some(was) => match copies.get(slot) {
+            None => Ok(()),
+            Some(is) => put_changed(copies, slot, was, is, changed),
+        },
+    }
 }
 
 // The fields of all copies that have another level than before.
@@ -153,20 +190,26 @@ fn find_changed(
 {
     changed.clear();
     for slot in 0..MAX_SLOTS {
-        if let (Some(was), Some(is)) = (&old[slot], copies.get(slot as u8)) {
-            put_changed(copies, slot as u8, was, is, changed)?;
-        }
+        put_slot(copies, slot as u8, &old[slot], changed)?;
     }
     Ok(())
+}
+
+/// No slot beyond the last one has a copy.
+pub fn none_beyond(copies: &Copies)
+    ensures { (slot : ℕ) → MAX_SLOTS ≤ slot → copy_in copies.now.slots slot ≡ None }
+{
+    let _none = copies.next_full(Some(LAST_SLOT));
 }
 
 // Keeps the copies as they are now.
 fn keep(slots: &mut [Option<GhostCopy>], copies: &Copies)
     requires { length slots.old ≡ MAX_SLOTS }
-    ensures { (slot : ℕ) → slot < MAX_SLOTS → copy_in slots.new slot ≡ copy_in copies.now.slots slot }
+    ensures { (slot : ℕ) → copy_in slots.new slot ≡ copy_in copies.now.slots slot }
 {
+    none_beyond(copies);
     for slot in 0..MAX_SLOTS {
-        slots[slot] = copy_again(copies.get(slot as u8));
+        slots[slot] = copy_again(copies, slot as u8);
     }
 }
 
@@ -190,7 +233,7 @@ impl Board {
         ensures killed { OnOk result (self.new.killed ≡ killed_between (copy_in self.old.slots) (copy_in copies.now.slots)) }
         ensures changed { OnOk result
             (self.new.changed ≡ changed_between copies.now.kinds (copy_in self.old.slots) (copy_in copies.now.slots)) }
-        ensures slots { OnOk result ((slot : ℕ) → slot < MAX_SLOTS → copy_in self.new.slots slot ≡ copy_in copies.now.slots slot) }
+        ensures slots { OnOk result ((slot : ℕ) → copy_in self.new.slots slot ≡ copy_in copies.now.slots slot) }
     {
         let Ok(()) = find_killed(&self.slots, copies, &mut self.killed) else {
             return Err(NoMemory);
