@@ -1,3 +1,0 @@
-pub mod Met
-pub mod Report
-pub mod Laws

@@ -3,7 +3,7 @@
 
 mod node;
 mod running;
-mod text;
 
+pub use relay_report;
 pub use relay_script;
 pub use running::run_relay;

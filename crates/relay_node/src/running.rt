@@ -2,8 +2,8 @@
 ghost use Rattle.std.specs.Prelude.{◌≡◌, OnOk, OnErr, Err};
 
 use crate::node::Node;
-use crate::text::put_relayed;
 use match_engine::RunFault;
+use relay_report::put_relayed;
 use relay_script::{PlacedLine, RelayScript};
 use std::alloc::Global;
 use tn_outside::{Sink, write_all};

@@ -1,10 +1,10 @@
 -- The report of a relay script: a line for each line of the relay, and none for those of the match. What a line tells is what the server
 -- that serves the spectator alone tells of it, by what the spectator met before.
-use Rattle.std.specs.Prelude.{ℕ, List, [], ◌∷◌, ◌++◌, length, reverse, codes}
+use Rattle.std.specs.Prelude.{ℕ, List, [], ◌∷◌, ◌++◌, reverse, codes}
 use Rattle.std.specs.Fmt.{decimal}
-use Rattle.match_script.specs.declared.types.BodyLine.TheVariants as script
 use Rattle.match_script.specs.declared.types.Head.{Head}
-use Rattle.match_report.specs.Text.{copies_text, report_line}
+use Rattle.match_report.specs.Text.{report_line}
+use Rattle.match_report.specs.Replays.{shown_line}
 use Rattle.match_report.specs.declared.told.Told.{Told}
 use Rattle.match_report.specs.declared.told.Told.TheVariants as told_as
 use Rattle.own_lists.specs.pair_core.stream_manager.Limits.{Terms}
@@ -17,7 +17,7 @@ use Rattle.relay_script.specs.declared.types.RelayScript.{RelayScript}
 use Rattle.relay_model.specs.Watching.{WatchEvent, watched, copy_at}
 use Rattle.relay_model.specs.Items.{shown_of, items_of}
 use Rattle.match_engine.specs.client_seat.Told.{scan_told, pack_told, client_pack_told, brought_down_told, brought_up_told, show_told}
-use Rattle.relay_node.specs.Met.{past_of, spectator_terms, met}
+use Rattle.relay_report.specs.Met.{past_of, spectator_terms, met}
 
 -- ---- what is told
 
@@ -41,11 +41,16 @@ told_of t events (Show s) = show_told t (kept t (items_of t events)).course s (u
 
 -- ---- the text
 
+abbrev pub scan_words : ℕ → ℕ → List ℕ
+scan_words s shows = codes "r scan " ++ decimal s ++ codes " show " ++ decimal shows ++ codes "\n"
+
+abbrev pub show_words : ℕ → List ℕ
+show_words s = codes "r show " ++ decimal s
+
 -- a line as a match's report has it, behind `r `; of a scan and of what a spectator has less is said
 abbrev pub relay_text : Told → List ℕ
-relay_text (told_as.Scan s hides nears shows) = codes "r scan " ++ decimal s ++ codes " show " ++ decimal shows ++ codes "\n"
-relay_text (told_as.Show s events sampled accepted taken control copies) =
-    codes "r show " ++ decimal s ++ codes " events " ++ decimal events ++ copies_text copies ++ codes "\n"
+relay_text (told_as.Scan s hides nears shows) = scan_words s shows
+relay_text (told_as.Show s events sampled accepted taken control copies) = shown_line (show_words s) events copies
 relay_text told = codes "r " ++ report_line told
 
 -- what a line of the relay prints after these lines, where client c is the relay

@@ -17,8 +17,8 @@ use Rattle.relay_script.specs.declared.types.RelayLine.TheVariants.{Pack}
 use Rattle.relay_script.specs.declared.types.RelayScript.{RelayScript}
 use Rattle.relay_model.specs.Watching.{WatchEvent, Own}
 use Rattle.relay_model.specs.Items.{items_of}
-use Rattle.relay_node.specs.Met.{past_of, match_past, spectator_terms, met}
-use Rattle.relay_node.specs.Report.{named, relay_text, line_text}
+use Rattle.relay_report.specs.Met.{past_of, match_past, spectator_terms, met}
+use Rattle.relay_report.specs.Report.{named, relay_text, line_text}
 
 -- ---- the lines `r pack S`
 

@@ -1,5 +1,5 @@
 //! The laws of what a relay reports.
-ghost use Rattle.relay_node.specs.Laws.{PacksAreOfWhatWasMet, SameMetSamePacks, SameListsSamePacks};
+ghost use Rattle.relay_report.specs.Laws.{PacksAreOfWhatWasMet, SameMetSamePacks, SameListsSamePacks};
 
 /// What the packs of a spectator print is a function of the header's numbers and blocks, the packets that the relay's client took, the
 /// spectator's lines, and their order.
