@@ -96,8 +96,8 @@ fn level_of(copy: &GhostCopy, field: usize) -> u32
     }
 }
 
-// The value that a field of the copy in a slot shows.
-fn value_of(copies: &Copies, slot: u8, field: u8) -> i64
+/// The value that a field of the copy in a slot shows.
+pub fn value_of(copies: &Copies, slot: u8, field: u8) -> i64
     ensures { (copy : Ghost) → copy_in copies.now.slots slot ≡ Some copy → result ≡ shown_at copies.now.kinds copy field }
 {
     copies.value(slot, field).unwrap_or(0)

@@ -3,4 +3,4 @@
 
 mod board;
 
-pub use board::{Board, Change, none_beyond};
+pub use board::{Board, Change, none_beyond, value_of};

@@ -1,15 +1,27 @@
 //! A relay: its match, and its spectators.
+ghost use Rattle.std.specs.Prelude.{◌≡◌, ◌<◌, ◌≤◌, [], IfOk, OnOk, length};
+ghost use Rattle.std.specs.Option.{option_copied};
+ghost use Rattle.match_script.specs.Ranges.{HeadFits};
+ghost use Rattle.relay_script.specs.Ranges.{HasRelayRanges};
+ghost use Rattle.relay_spectator.specs.Spectators.{Follows};
+ghost use Rattle.relay_report.specs.Met.{spectator_terms};
+ghost use Rattle.relay_report.specs.Report.{named};
+ghost use Rattle.relay_node.specs.Node.{came_with, events_taken, MayTakeAll, TakeAll, AreNew, plain_of};
+
 use match_engine::Match;
-use match_report::{EventTold, Told, Way};
+use match_report::{EventTold, Told};
 use match_script::{BodyLine, Head};
 use relay_script::{RelayLine, RelayScript};
-use relay_spectator::alone_server::AloneHeader;
 use relay_spectator::Spectator;
-use relay_spectator::relay_board::Board;
+use relay_spectator::alone_server::AloneHeader;
+use relay_spectator::relay_board::{Board, none_beyond};
 use std::alloc::Global;
+use std::marker::Model;
 use tn_types::NoMemory;
 
-/// The match of a relay, what its client's copies were, and its spectators.
+/// The match of a relay, what its client's copies were, and its spectators. After an error it has ended: no other line may be done.
+///
+/// A clause sees `NodeState`, and what it means by the lines that were done.
 pub(crate) struct Node<'a> {
     // the client that is the relay
     relay: u8,
@@ -30,8 +42,19 @@ impl Drop for Node<'_> {
     }
 }
 
+impl<'a> Model for Node<'a> {
+    ghost use Rattle.relay_node.specs.Node.{NodeState};
+
+    ghost Value = { NodeState };
+
+    ghost view = { λ n. record { relay = n.relay; game = n.game; board = n.board; spectators = n.spectators.items } };
+}
+
 // A spectator by the header of the match.
 fn new_spectator(alloc: Global, head: &Head, number: u8) -> Result<Spectator, NoMemory>
+    requires fits { HeadFits head.now }
+    requires number { number < 16 }
+    ensures { IfOk result (λ s. Follows s (spectator_terms head.now number) []) }
 {
     let header = AloneHeader {
         client: number,
@@ -45,27 +68,42 @@ fn new_spectator(alloc: Global, head: &Head, number: u8) -> Result<Spectator, No
 
 // So many spectators.
 fn new_spectators(alloc: Global, head: &Head, count: u8) -> Result<Vec<Spectator>, NoMemory>
+    requires fits { HeadFits head.now }
+    requires few { count ≤ 16 }
+    ensures { IfOk result (λ spectators. AreNew spectators.items head.now count) }
 {
     let mut spectators = Vec::new(alloc);
     for number in 0..count {
-        let Ok(()) = spectators.push(new_spectator(alloc, head, number)?) else {
+        let spectator = new_spectator(alloc, head, number)?;
+        let Ok(()) = spectators.push(spectator) else {
             return Err(NoMemory);
         };
     }
     Ok(spectators)
 }
 
-// The events that the client of a relay was delivered by a line, if the line brought it a packet that it took.
-fn events_taken(told: Option<&Told>, relay: u8) -> Option<&[EventTold]>
+// The events that a line hands out, if it brings a datagram that is taken.
+fn came_with(told: &Told) -> Option<&[EventTold]>
+    ensures { option_copied result ≡ came_with told.now }
 {
     match told {
-        Some(Told::Came {
-            way: Way::Down,
-            client,
+        Told::Came {
+            way: _,
+            client: _,
             k: _,
             moves: _,
             events,
-        }) => { if *client == relay { Some(events.as_slice()) } else { None } }
+        } => Some(events.as_slice()),
+        _ => None,
+    }
+}
+
+// The events that the client of a relay was delivered by a line, if the line brought it a datagram that it took.
+fn events_taken<'t>(relay: u8, line: &BodyLine, told: &'t Told) -> Option<&'t [EventTold]>
+    ensures { option_copied result ≡ events_taken relay line.now told.now }
+{
+    match line {
+        BodyLine::Down { client, k: _ } => { if *client == relay { came_with(told) } else { None } }
         _ => None,
     }
 }
@@ -77,6 +115,10 @@ fn take_all(
     board: &Board,
     events: &[EventTold],
 ) -> Result<(), NoMemory>
+    requires { MayTakeAll spectators.old.items board.now.killed board.now.changed events.now }
+    ensures count { length spectators.new.items ≡ length spectators.old.items }
+    ensures takes { OnOk result
+        (TakeAll spectators.old.items board.now.killed board.now.changed events.now spectators.new.items) }
 {
     for i in 0..spectators.len() {
         spectators[i].take(alloc, board.killed(), board.changed(), events)?;
@@ -86,6 +128,7 @@ fn take_all(
 
 // The plain form of a line that a spectator's connection does by itself.
 fn plain_line(line: &RelayLine) -> Option<BodyLine>
+    ensures { result ≡ plain_of line.now }
 {
     match line {
         RelayLine::Pack { spectator } => Some(BodyLine::Pack { client: *spectator }),
@@ -103,7 +146,8 @@ fn plain_line(line: &RelayLine) -> Option<BodyLine>
 }
 
 // The spectator that a line names.
-fn named(line: &RelayLine) -> u8
+fn spectator_named(line: &RelayLine) -> u8
+    ensures { result ≡ named line.now }
 {
     match line {
         RelayLine::Scan { spectator } => *spectator,
@@ -122,8 +166,15 @@ fn named(line: &RelayLine) -> u8
 }
 
 impl<'a> Node<'a> {
+    ghost use Rattle.relay_node.specs.Node.{Stands, MayPlay, Plays, MayRelay, Relays, TellsRelayed, Stays, Keeps};
+
     /// A relay of which no line was done.
     pub(crate) fn new(alloc: Global, script: &'a RelayScript) -> Result<Node<'a>, NoMemory>
+        requires { HasRelayRanges script.now }
+        ensures stands { IfOk result (λ n. Stands n []) }
+        ensures relay { IfOk result (λ n. n.relay ≡ script.now.client) }
+        ensures script { IfOk result (λ n. n.game.script ≡ script.now.script) }
+        ensures count { IfOk result (λ n. length n.spectators ≡ script.now.spectators) }
     {
         let game = Match::new(alloc, &script.script)?;
         let board = Board::new(alloc)?;
@@ -137,34 +188,48 @@ impl<'a> Node<'a> {
     }
 
     /// Does a line of the match.
-    pub(crate) fn match_line(&mut self, alloc: Global, line: &BodyLine) -> Result<(), NoMemory>
+    pub(crate) fn play(&mut self, alloc: Global, line: &BodyLine) -> Result<(), NoMemory>
+        requires { MayPlay self.old line.now }
+        ensures plays { OnOk result (Plays self.old line.now self.new) }
+        ensures keeps { Keeps self.old self.new }
     {
         self.game.feed(alloc, line)?;
-        let Some(events) = events_taken(self.game.told(), self.relay) else {
+        let Some(told) = self.game.told() else {
+            unreachable!()
+        };
+        let Some(events) = events_taken(self.relay, line, told) else {
             return Ok(());
         };
-        self.board
-            .follow(self.game.pair(self.relay).client().copies())?;
+        let copies = self.game.pair(self.relay).client().copies();
+        self.board.follow(copies)?;
         take_all(alloc, &mut self.spectators, &self.board, events)
     }
 
     /// Does a line of the relay, and tells what it did.
-    pub(crate) fn relay_line(&mut self, alloc: Global, line: &RelayLine) -> Result<Told, NoMemory>
+    pub(crate) fn relay(&mut self, alloc: Global, line: &RelayLine) -> Result<Told, NoMemory>
+        requires { MayRelay self.old line.now }
+        ensures relays { OnOk result (Relays self.old line.now self.new) }
+        ensures told { IfOk result (TellsRelayed self.old line.now) }
+        ensures keeps { Keeps self.old self.new }
     {
-        let spectator = &mut self.spectators[named(line) as usize];
+        let at = spectator_named(line) as usize;
         match plain_line(line) {
-            Some(line) => spectator.line(alloc, line),
+            Some(line) => self.spectators[at].line(alloc, line),
             None => match line {
                 RelayLine::Scan { spectator: _ } => {
-                    spectator.scan(alloc, self.game.pair(self.relay).client().copies())
+                    let copies = self.game.pair(self.relay).client().copies();
+                    none_beyond(copies);
+                    self.spectators[at].scan(alloc, copies)
                 }
-                _ => spectator.show(alloc),
+                _ => self.spectators[at].show(alloc),
             },
         }
     }
 
     /// Gives back the bytes of a datagram that is told no more, so that the next one needs no memory.
     pub(crate) fn let_go(&mut self, told: Told)
+        ensures stays { Stays self.old self.new }
+        ensures keeps { Keeps self.old self.new }
     {
         if let Told::Packed {
             up: _,
@@ -174,7 +239,9 @@ impl<'a> Node<'a> {
             bytes,
         } = told
         {
-            self.spectators[client as usize].give_back(bytes);
+            if (client as usize) < self.spectators.len() {
+                self.spectators[client as usize].give_back(bytes);
+            }
         }
     }
 }

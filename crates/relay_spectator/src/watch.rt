@@ -1,16 +1,17 @@
 //! Which period of a spectator watches each slot of the relay's copies.
-ghost use Rattle.std.specs.Prelude.{◌≡◌, ◌<◌, ◌+◌, ◌^◌, ℕ, None, Some, OnOk, IfOk, length, map, filter_map, if◌then◌else◌};
+ghost use Rattle.std.specs.Prelude.{◌≡◌, ◌<◌, ◌≤◌, ◌+◌, ◌^◌, ℕ, None, Some, OnOk, IfOk, length, map, filter_map, if◌then◌else◌};
 ghost use Rattle.ghost_client.specs.State.{copy_in};
 ghost use Rattle.alone_server.specs.own_items.Items.{show_of as show_told, write_of as write_told};
 ghost use Rattle.relay_model.specs.Watching.{Watched, all_watched};
 ghost use Rattle.relay_model.specs.Items.{shown_of, values_of};
 ghost use Rattle.alone_server.specs.Periods.{is_among};
 ghost use Rattle.relay_spectator.specs.Watches.{period_at, write_at, IsWatch};
+ghost use Rattle.relay_spectator.specs.Beginning.{BeginsAt, ShowsAt};
 
 use alone_server::own_items::{Hides, OwnShow, OwnWrite, OwnWrites, Shows};
 use ghost_client::{Copies, GhostCopy};
 use match_report::ValueList;
-use relay_board::Change;
+use relay_board::{Change, none_beyond, value_of};
 use std::alloc::{AllocError, Global};
 use std::marker::Model;
 use tn_types::{MAX_SLOTS, NoMemory};
@@ -55,7 +56,7 @@ fn values_of(copies: &Copies, slot: u8, copy: &GhostCopy) -> ValueList
 {
     let mut values = ValueList::new();
     for field in 0..copy.levels.as_slice().len() {
-        values.push(copies.value(slot, field as u8).unwrap_or(0));
+        values.push(value_of(copies, slot, field as u8));
     }
     values
 }
@@ -72,13 +73,20 @@ impl Watch {
         }
     }
 
+    // The period that watches a slot.
+    fn period(&self, slot: u8) -> Option<u32>
+        ensures { result ≡ period_at self.now.periods slot }
+    {
+        self.periods[slot as usize]
+    }
+
     /// The periods that watch these slots.
     pub(crate) fn hides(&self, alloc: Global, killed: &[u8]) -> Result<Hides, AllocError>
         ensures { IfOk result (λ hides. hides ≡ filter_map (period_at self.now.periods) killed.now) }
     {
         let mut hides = Vec::new(alloc);
         for slot in killed {
-            if let Some(n) = self.periods[*slot as usize] {
+            if let Some(n) = self.period(*slot) {
                 hides.push(n)?;
             }
         }
@@ -91,7 +99,7 @@ impl Watch {
     {
         let mut writes = Vec::new(alloc);
         for change in changed {
-            if let Some(n) = self.periods[change.slot as usize] {
+            if let Some(n) = self.period(change.slot) {
                 writes.push(OwnWrite {
                     n,
                     field: change.field,
@@ -113,6 +121,36 @@ impl Watch {
         }
     }
 
+    // A period begins for the copy in a slot, where none watches it.
+    fn begin_at(
+        &mut self,
+        copies: &Copies,
+        slot: u8,
+        shows: &mut Vec<OwnShow>,
+    ) -> Result<(), AllocError>
+        requires { self.old.shows + 1 < 2 ^ 32 }
+        ensures watched { OnOk result (BeginsAt self.old copies.now slot self.new) }
+        ensures shows { OnOk result (ShowsAt self.old copies.now slot shows.old.items shows.new.items) }
+        ensures few { self.new.shows ≤ self.old.shows + 1 }
+    {
+        if self.period(slot).is_some() {
+            return Ok(());
+        }
+        let Some(copy) = copies.get(slot) else {
+            return Ok(());
+        };
+        shows.push(OwnShow {
+            kind: copy.kind,
+            block: copy.block,
+            level: 0,
+            control: false,
+            values: values_of(copies, slot, copy),
+        })?;
+        self.periods[slot as usize] = Some(self.shows);
+        self.shows += 1;
+        Ok(())
+    }
+
     /// A period begins for each copy that none watches, by rising slot.
     pub(crate) fn begin(&mut self, alloc: Global, copies: &Copies) -> Result<Shows, AllocError>
         requires { self.old.shows + MAX_SLOTS < 2 ^ 32 }
@@ -121,24 +159,11 @@ impl Watch {
         ensures watched { OnOk result ((w : Watched) → IsWatch self.old w
             → IsWatch self.new (all_watched (copy_in copies.now.slots) w)) }
     {
+        none_beyond(copies);
         let mut shows = Vec::new(alloc);
-        let mut n = self.shows;
         for slot in 0..MAX_SLOTS {
-            if self.periods[slot].is_none() {
-                if let Some(copy) = copies.get(slot as u8) {
-                    shows.push(OwnShow {
-                        kind: copy.kind,
-                        block: copy.block,
-                        level: 0,
-                        control: false,
-                        values: values_of(copies, slot as u8, copy),
-                    })?;
-                    self.periods[slot] = Some(n);
-                    n += 1;
-                }
-            }
+            self.begin_at(copies, slot as u8, &mut shows)?;
         }
-        self.shows = n;
         Ok(Shows::from_vec(shows))
     }
 }
