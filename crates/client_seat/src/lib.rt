@@ -11,3 +11,4 @@ mod showing;
 pub use own_lists;
 pub use own_lists::pair_core;
 pub use seat::Seat;
+pub use showing::copies_of;

@@ -2,9 +2,8 @@
 ghost use Rattle.std.specs.Prelude.{◌≡◌, ◌<◌, ℕ, List, false, Option, IfOk, OnOk, length, option_map, slice_index_or, None, Some};
 ghost use Rattle.std.specs.Option.{option_map_or};
 ghost use Rattle.std.specs.List.{AllByRecursion};
-ghost use Rattle.ghost_model.specs.Legal.{IsUp};
+ghost use Rattle.ghost_scope.specs.Shown.{IsUp};
 ghost use Rattle.stream_manager.specs.Limits.{Terms};
-ghost use Rattle.stream_manager.specs.Server.{ghost_log};
 ghost use Rattle.own_lists.specs.pair_core.History.{PairStep as Step, history};
 ghost use Rattle.own_lists.specs.pair_core.Stands.{StandsFor};
 ghost use Rattle.tn_types.specs.declared.choices.Drain.{Drain as Written};
@@ -21,9 +20,7 @@ use tn_types::{Drain, MAX_FIELDS, MAX_SLOTS, NoMemory};
 
 /// The period that holds each slot, of these.
 fn holders(pair: &Pair, written: &[Drain]) -> [Option<Drain>; MAX_SLOTS]
-    requires up { (t : Terms) (steps : List Step) → StandsFor pair.now t steps
-        → AllByRecursion (λ d. IsUp (ghost_log (history t steps).server) d.n) written.now }
-    requires stands { (t : Terms) × (steps : List Step) × StandsFor pair.now t steps }
+    requires up { AllByRecursion (λ d. IsUp pair.now.conn.masks.periods d.n) written.now }
     ensures { (t : Terms) (steps : List Step) → StandsFor pair.now t steps → (at : ℕ) → at < MAX_SLOTS
         → slice_index_or result at None ≡ holder_at t steps written.now at }
 {
@@ -41,8 +38,7 @@ fn holders(pair: &Pair, written: &[Drain]) -> [Option<Drain>; MAX_SLOTS]
 /// Whether the client has the newest value of the field of the period, if there is one.
 fn is_settled(pair: &Pair, holder: &Option<Drain>, field: u8) -> bool
     requires field { field < MAX_FIELDS }
-    requires up { (t : Terms) × (steps : List Step) × StandsFor pair.now t steps
-        × ((d : Written) → holder.now ≡ Some d → IsUp (ghost_log (history t steps).server) d.n) }
+    requires up { (d : Written) → holder.now ≡ Some d → IsUp pair.now.conn.masks.periods d.n }
     ensures { (t : Terms) (steps : List Step) → StandsFor pair.now t steps
         → result ≡ option_map_or (is_newest t steps field) holder.now false }
 {
@@ -57,8 +53,7 @@ fn is_settled(pair: &Pair, holder: &Option<Drain>, field: u8) -> bool
 
 /// What is told of the fields of the copy in a slot, whose period is this one, if one holds it.
 fn fields_of(pair: &Pair, slot: u8, holder: &Option<Drain>) -> FieldList
-    requires up { (t : Terms) × (steps : List Step) × StandsFor pair.now t steps
-        × ((d : Written) → holder.now ≡ Some d → IsUp (ghost_log (history t steps).server) d.n) }
+    requires up { (d : Written) → holder.now ≡ Some d → IsUp pair.now.conn.masks.periods d.n }
     ensures { (t : Terms) (steps : List Step) → StandsFor pair.now t steps → (copy : Ghost)
         → copy_of (ghosts_came (history t steps).client) slot ≡ Some copy → result ≡ fields_told t steps holder.now copy }
 {
@@ -74,11 +69,11 @@ fn fields_of(pair: &Pair, slot: u8, holder: &Option<Drain>) -> FieldList
     fields
 }
 
-/// What is told of the client's copies, by rising slot.
-fn copies_of(alloc: Global, pair: &Pair, written: &[Drain]) -> Result<CopyList, NoMemory>
+/// What is told of a client's copies, by rising slot, where these are its periods that are up, each with its fields that were
+/// written and not drained.
+pub fn copies_of(alloc: Global, pair: &Pair, written: &[Drain]) -> Result<CopyList, NoMemory>
     requires stands { (t : Terms) × (steps : List Step) × StandsFor pair.now t steps }
-    requires up { (t : Terms) (steps : List Step) → StandsFor pair.now t steps
-        → AllByRecursion (λ d. IsUp (ghost_log (history t steps).server) d.n) written.now }
+    requires up { AllByRecursion (λ d. IsUp pair.now.conn.masks.periods d.n) written.now }
     ensures { IfOk result (λ copies. (t : Terms) (steps : List Step) → StandsFor pair.now t steps
         → copies ≡ copies_told t steps written.now) }
 {

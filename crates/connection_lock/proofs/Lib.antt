@@ -1,5 +1,4 @@
 pub mod Keeping
-pub mod Showing
 pub mod Drained
 pub mod Lines
 pub mod Holding

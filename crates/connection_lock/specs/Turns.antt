@@ -95,6 +95,31 @@ pub record PackTurn (objects : ℕ) (old new : LockedState) (result : Result Ans
   pub emptied : OnOk result (length messages < MAX_TAKEN_MESSAGES → new.known ≡ [])
   pub fault : FaultAt (length mid.past) result
   pub terms : terms_of new ≡ terms_of old
+  pub client : new.seat.client ≡ old.seat.client
+  pub sent : new.sent ≡ old.sent
+
+-- ---- what is left when the activities have ended
+
+-- messages are taken from the ring as before a pack, and none is made
+pub record RestTurn (objects : ℕ) (old new : LockedState) (result : Result (Unit {0}) KeepFault) : Type 0 where
+  pub messages : List Message
+  pub received : new.received ≡ old.received ++ messages
+  pub few : length messages ≤ MAX_TAKEN_MESSAGES
+  pub takes : TakesAll (terms_of old) objects (progress_in old) messages (progress_in new)
+  pub emptied : OnOk result (length messages < MAX_TAKEN_MESSAGES → new.known ≡ [])
+  pub fault : FaultAt (length new.kept.steps) result
+  pub terms : terms_of new ≡ terms_of old
+  pub client : new.seat.client ≡ old.seat.client
+  pub sent : new.sent ≡ old.sent
+
+-- one message is taken, which is none of the ring's
+pub record MessageTurn (objects : ℕ) (old : LockedState) (message : Message) (new : LockedState) (result : Result (Unit {0}) KeepFault) : Type 0 where
+  pub takes : OnOk result (Takes (terms_of old) objects (progress_in old) message (progress_in new))
+  pub unchanged : OnErr result (progress_in new ≡ progress_in old)
+  pub fault : FaultAt (length old.kept.steps) result
+  pub terms : terms_of new ≡ terms_of old
+  pub client : new.seat.client ≡ old.seat.client
+  pub received : new.received ≡ old.received
   pub sent : new.sent ≡ old.sent
 
 -- ---- a client line

@@ -5,7 +5,7 @@ ghost use Rattle.rtrb.specs.Ring.{received, sent};
 use crate::line::make;
 use crate::message::{Message, NetLine};
 use crate::packing::{make_room, pack};
-use crate::taking::take_messages;
+use crate::taking::{take_messages, take_one};
 use dirty_lanes::{LaneName, Lanes, PackSeat};
 use kept_pair::pair_core::Answer;
 use kept_pair::{KeepFault, KeptPair};
@@ -62,7 +62,7 @@ pub struct Ended<N: LaneName> {
 impl<N: LaneName> Locked<N> {
     ghost use Rattle.rtrb.specs.Ring.{known_items, known_free};
     ghost use Rattle.connection_lock.specs.Rule.{LockHolds};
-    ghost use Rattle.connection_lock.specs.Turns.{PackTurn, NetTurn};
+    ghost use Rattle.connection_lock.specs.Turns.{PackTurn, NetTurn, RestTurn, MessageTurn};
 
     /// A connection with no kept step, at its start. For want of memory all that was handed in is dropped.
     pub fn new(
@@ -128,6 +128,65 @@ impl<N: LaneName> Locked<N> {
         let result = self.make_line(alloc, line);
         let _holds = self.pair();
         result
+    }
+
+    /// Takes what the ring still has, as a pack does before it is made, when the activities have ended. Where a message finds no
+    /// room, it stays in the ring, and so does what is behind it.
+    pub fn take_rest(&mut self, alloc: Global, lanes: &Lanes<N>) -> Result<(), KeepFault>
+        ensures turn { RestTurn N.objects self.old self.new result }
+        ensures holds { LockHolds self.new }
+    {
+        let result = self.empty_ring(alloc, lanes);
+        let _holds = self.pair();
+        result
+    }
+
+    /// Takes one message more, for which the ring had no place. Where it finds no room it is dropped, and no step was made.
+    pub fn take_one(
+        &mut self,
+        alloc: Global,
+        lanes: &Lanes<N>,
+        message: Message,
+    ) -> Result<(), KeepFault>
+        ensures turn { MessageTurn N.objects self.old message self.new result }
+        ensures holds { LockHolds self.new }
+    {
+        let result = self.make_step(alloc, lanes, message);
+        let _holds = self.pair();
+        result
+    }
+
+    // What the ring still has.
+    fn empty_ring(&mut self, alloc: Global, lanes: &Lanes<N>) -> Result<(), KeepFault>
+        ensures { RestTurn N.objects self.old self.new result }
+    {
+        take_messages(
+            alloc,
+            &mut self.pair,
+            &mut self.seat,
+            lanes,
+            &mut self.periods,
+            &mut self.inbox,
+        )
+    }
+
+    // What one message does.
+    fn make_step(
+        &mut self,
+        alloc: Global,
+        lanes: &Lanes<N>,
+        message: Message,
+    ) -> Result<(), KeepFault>
+        ensures { MessageTurn N.objects self.old message self.new result }
+    {
+        take_one(
+            alloc,
+            &mut self.pair,
+            &mut self.seat,
+            lanes,
+            &mut self.periods,
+            message,
+        )
     }
 
     // What a pack does.

@@ -1,8 +1,9 @@
 //! The lock.
 ghost use Rattle.std.specs.Prelude.{◌≡◌, []};
 ghost use Rattle.rtrb.specs.Ring.{received, sent};
+ghost use Rattle.connection_lock.specs.Rule.{LockHolds};
 
-use crate::locked::{Ended, Locked};
+use crate::locked::Locked;
 use crate::message::{Message, NetLine};
 use dirty_lanes::{LaneName, Lanes, PackSeat};
 use kept_pair::pair_core::Answer;
@@ -57,9 +58,13 @@ impl<N: LaneName> SharedPair<N> {
         self.locked.lock(rt).net_turn(alloc, line)
     }
 
-    /// Ends it, once no thread has it any more.
-    pub fn finish(self) -> Ended<N> {
+    /// What lay under the lock, once no thread has it any more. The lock rule held when the lock was last free, so it holds.
+    pub fn open(self) -> Locked<N>
+        ensures { LockHolds result }
+    {
         let SharedPair { locked } = self;
-        locked.into_inner().finish()
+        let locked = locked.into_inner();
+        let _holds = locked.pair();
+        locked
     }
 }

@@ -4,7 +4,7 @@ ghost use Rattle.rtrb.specs.Ring.{received, known_items};
 ghost use Rattle.kept_pair.specs.pair_core.History.{Show, Hide, Near};
 ghost use Rattle.kept_pair.specs.Kept.{MayStep, terms_in};
 ghost use Rattle.connection_lock.specs.declared.message.Message.{Message as OneMessage};
-ghost use Rattle.connection_lock.specs.Taking.{TakesAll};
+ghost use Rattle.connection_lock.specs.Taking.{Takes, TakesAll};
 ghost use Rattle.connection_lock.specs.Rule.{progress_of, AreLocked};
 ghost use Rattle.lane_periods.specs.Periods.{has_object};
 ghost use Rattle.connection_lock.specs.Turns.{FaultAt, TakesLocked};
@@ -16,50 +16,7 @@ use kept_pair::{KeepFault, KeptPair};
 use lane_periods::Periods;
 use rtrb::Consumer;
 use std::alloc::Global;
-use tn_types::{Class, MAX_BLOCKS, MAX_DISTANCE_LEVEL, MAX_SHOWS, MAX_TAKEN_MESSAGES, Payload};
-
-/// Whether a period may begin so.
-fn may_show(pair: &KeptPair, kind: u8, block: u8, level: u8, control: bool) -> bool
-    ensures { IsTrue result ↔ MayStep pair.now (Show kind block level control) }
-{
-    let _steps = pair.steps();
-    let conn = pair.pair().conn();
-    if !conn.has_kind(kind) {
-        return false;
-    }
-    if block as usize >= MAX_BLOCKS {
-        return false;
-    }
-    if level > MAX_DISTANCE_LEVEL {
-        return false;
-    }
-    if conn.is_full() {
-        return false;
-    }
-    if conn.shows() >= MAX_SHOWS {
-        return false;
-    }
-    if !control {
-        return true;
-    }
-    !conn.has_control()
-}
-
-/// Whether the period may end.
-fn may_hide(pair: &KeptPair, n: u32) -> bool
-    ensures { IsTrue result ↔ MayStep pair.now (Hide n) }
-{
-    let _steps = pair.steps();
-    pair.pair().conn().is_up(n)
-}
-
-/// Whether the period's object may be at this level.
-fn may_come_near(pair: &KeptPair, n: u32, level: u8) -> bool
-    ensures { IsTrue result ↔ MayStep pair.now (Near n level) }
-{
-    let _steps = pair.steps();
-    pair.pair().conn().is_up(n) && level <= MAX_DISTANCE_LEVEL
-}
+use tn_types::{Class, MAX_TAKEN_MESSAGES, Payload};
 
 /// Whether a show is taken: a period may begin so, and its object is one of the lanes that no period has which is shown and not
 /// hidden.
@@ -76,7 +33,7 @@ fn may_take_show(
     ensures { IsTrue result ↔ (MayStep pair.now (Show kind block level control) × (object < objects)
         × (has_object periods.now.objects periods.now.up object ≡ false)) }
 {
-    object < objects && !periods.has_object(object) && may_show(pair, kind, block, level, control)
+    object < objects && !periods.has_object(object) && pair.may_show(kind, block, level, control)
 }
 
 /// Takes a show.
@@ -120,7 +77,7 @@ fn take_hide<N: LaneName>(pair: &mut KeptPair, seat: &PackSeat<N>, periods: &mut
     ensures { TakesLocked N.objects pair.old seat.now periods.old (OneMessage.Hide n) pair.new seat.now periods.new }
 {
     let _client = seat.client();
-    let may = may_hide(pair, n);
+    let may = pair.may_hide(n);
     if may {
         let _answer = pair.step(PairStep::Hide { n });
         periods.hide(n);
@@ -141,7 +98,7 @@ fn take_near<N: LaneName>(
 {
     let _client = seat.client();
     let _up = periods.up();
-    let may = may_come_near(pair, n, level);
+    let may = pair.may_come_near(n, level);
     if may {
         let _answer = pair.step(PairStep::Near { n, level });
     }
@@ -235,5 +192,29 @@ pub(crate) fn take_messages<N: LaneName>(
             Err(_) => return Ok(()),
         }
     }
+    Ok(())
+}
+
+/// Takes one message. Where it is refused, there is room for what there was before, and no step was made.
+pub(crate) fn take_one<N: LaneName>(
+    alloc: Global,
+    pair: &mut KeptPair,
+    seat: &mut PackSeat<N>,
+    lanes: &Lanes<N>,
+    periods: &mut Periods,
+    message: Message,
+) -> Result<(), KeepFault>
+    requires locked { AreLocked N.objects pair.old seat.old periods.old }
+    ensures taken { OnOk result (Takes (terms_in pair.old) N.objects (progress_of pair.old seat.old periods.old.objects) message
+        (progress_of pair.new seat.new periods.new.objects)) }
+    ensures left { OnErr result (progress_of pair.new seat.new periods.new.objects
+        ≡ progress_of pair.old seat.old periods.old.objects) }
+    ensures locked { AreLocked N.objects pair.new seat.new periods.new }
+    ensures terms { terms_in pair.new ≡ terms_in pair.old }
+    ensures client { seat.new.client ≡ seat.old.client }
+    ensures fault { FaultAt (length pair.old.steps) result }
+{
+    prepare(alloc, pair, periods)?;
+    take(pair, seat, lanes, periods, message);
     Ok(())
 }

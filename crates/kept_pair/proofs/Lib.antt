@@ -2,3 +2,4 @@ pub mod Below
 mod Cutting
 pub mod Counts
 pub mod Replaying
+pub mod Showing

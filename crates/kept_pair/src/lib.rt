@@ -6,6 +6,7 @@
 mod entry;
 mod fault;
 mod given;
+mod may;
 mod pair;
 mod step_list;
 

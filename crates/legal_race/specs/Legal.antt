@@ -1,7 +1,7 @@
 -- When a race is legal for a script: what its threads kept is what some order of their steps makes of the script.
 use Rattle.std.specs.Prelude.{◌≡◌, ℕ, ◌≤◌, length, slice_get, Some}
 use Rattle.match_script.specs.declared.types.Script.{Script}
-use Rattle.race_record.specs.kept_pair.Kept.{terms_in}
+use Rattle.race_record.specs.kept_pair.Kept.{Replays, terms_in}
 use Rattle.race_course.specs.own_lists.Past.{client_terms}
 use Rattle.race_history.specs.History.{IsHistoryOf}
 use Rattle.race_history.specs.Moves.{MovesFit}
@@ -16,6 +16,8 @@ use Rattle.race_record.specs.declared.race.RaceClient.{RaceClient}
 pub record IsClientLegal (script : Script) (race : Race) (c : ℕ) (client : RaceClient) : Type 0 where
   -- its connection was made with what the header says
   pub terms : terms_in client.pair ≡ client_terms script.head c
+  -- it is what its kept steps make of a new one, and each of them might be made after those before it
+  pub replays : Replays client.pair.pair client.pair.steps
   -- its packs read values that its objects had, at versions that never go down, and the newest one of each field but those that are
   -- still to be sent
   pub reads : AreLegalReads race.values race.words c (terms_in client.pair) client.pair.steps client.objects

@@ -31,6 +31,8 @@ fn client_is_legal(
     requires word_objects { length race.now.values ≤ race.now.words.objects }
     ensures { IfOk result (λ b. Decides b (IsClientLegal script.now race.now c client.now)) }
 {
+    // the pair replays: its kept steps tell so
+    let _steps = client.pair.steps();
     if !terms_are(&client.pair, &script.head, c) {
         return Ok(false);
     }

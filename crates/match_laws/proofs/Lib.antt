@@ -8,6 +8,7 @@ pub mod ValuesNewest
 pub mod ValuesTold
 pub mod ValuesRead
 pub mod ValuesHad
+pub mod FieldsTold
 pub mod ValuesShown
 pub mod Applied
 pub mod WordsBytes

@@ -46,91 +46,14 @@ use Rattle.client_seat.specs.Told.{holder_at, is_newest}
 use Rattle.match_laws.specs.Laws.{first, journal_of}
 use Rattle.match_laws.specs.Values.{ClientMoment, HasValue, HadValue, IsShownField, IsShownFor, ShowsHad, ShowsNewest, IsRecovered, FieldsRecover, AllRecover, HasLevel, CopiesShowValues, SettledIsNewest, ChangesRecover}
 use Rattle.match_laws.proofs.InOrder.{are_lines, terms_fit, are_good}
+use Rattle.match_laws.proofs.FieldsTold.{field-of, shown-for, IsToldAs, told-as, found, slot-is, IsSettledIn, settled-in}
 use Rattle.match_laws.proofs.ValuesNewest.{newest_of}
 use Rattle.match_laws.proofs.ValuesTold.{IsTold, all_told}
 use Rattle.match_laws.proofs.ValuesHad.{moment, spot, listed, agreed, has_newest, was_had}
 
--- ---- what is told of a field
-
--- what a told value is made of
-record IsFieldOf (kinds : List Kind) (f : ℕ) (copy : GhostCopy) (value : ℤ) : Type 0 where
-  pub spec : FieldSpec
-  pub field : slice_get (fields_of kinds copy.kind) f ≡ Some spec
-  pub level : ℕ
-  pub at : slice_get copy.levels f ≡ Some level
-  pub shows : value ≡ shown_of spec level
-
-module _ (kinds : List Kind) (f : ℕ) (copy : GhostCopy) (value : ℤ) where
-  by-level : (spec : FieldSpec) → slice_get (fields_of kinds copy.kind) f ≡ Some spec → (o : Option ℕ) → slice_get copy.levels f ≡ o
-      → option_map (shown_of spec) o ≡ Some value → IsFieldOf kinds f copy value
-  by-level spec field None at e = absurd (cc)
-  by-level spec field (Some level) at e = record { spec = spec; field = field; level = level; at = at; shows = cc }
-
-  by-spec : (fs : List FieldSpec) → fields_of kinds copy.kind ≡ fs → (o : Option FieldSpec) → slice_get fs f ≡ o
-      → option_and_then (λ spec. option_map (shown_of spec) (slice_get copy.levels f)) o ≡ Some value → IsFieldOf kinds f copy value
-  by-spec fs is None at e = absurd (cc)
-  by-spec fs is (Some spec) at e = by-level spec (ap (λ (l : List FieldSpec). slice_get l f) is ∙ at) (slice_get copy.levels f) refl e
-
-  by-kind : (o : Option Kind) → slice_get kinds copy.kind ≡ o
-      → option_and_then (λ (kind : Kind). option_and_then (λ spec. option_map (shown_of spec) (slice_get copy.levels f))
-      (slice_get kind.fields f)) o ≡ Some value
-      → IsFieldOf kinds f copy value
-  by-kind None is e = absurd (cc)
-  by-kind (Some kind) is e = by-spec kind.fields (ap fields_in is) (slice_get kind.fields f) refl e
-
-  field-of : field_value kinds f copy ≡ Some value → IsFieldOf kinds f copy value
-  field-of e = by-kind (slice_get kinds copy.kind) refl e
-
--- the copy has the level of this value
-shown-for : (f : ℕ) (copy : GhostCopy) (told value : ℤ) (spec : FieldSpec) → slice_get (fields_of match_kinds copy.kind) f ≡ Some spec
-    → slice_index_or copy.levels f 0 ≡ level_of spec value → field_value match_kinds f copy ≡ Some told
-    → IsShownFor copy.kind f value told
-shown-for f copy told value spec field level e =
-    let p = field-of match_kinds f copy told e in
-    let same : p.spec ≡ spec = some-same (sym p.field ∙ field) in
-    record {
-      spec = spec;
-      field = field;
-      level = p.shows ∙ (λ j. shown_of (same j) ((sym (get_or_from_slice_get copy.levels f p.level 0 p.at) ∙ level) j));
-    }
-  where
-    some-same : {a b : FieldSpec} → Some a ≡ Some b → a ≡ b
-    some-same {a} {b} e = cc
-
-abbrev a-told : Bool → ℤ → FieldTold
-a-told settled value = record { value = value; settled = settled }
-
-record IsToldAs (o : Option ℤ) (settled : Bool) (told : FieldTold) : Type 0 where
-  pub value : o ≡ Some told.value
-  pub mark : settled ≡ told.settled
-
-told-as : (o : Option ℤ) (settled : Bool) (told : FieldTold) → option_map (a-told settled) o ≡ Some told → IsToldAs o settled told
-told-as None settled told e = absurd (cc)
-told-as (Some v) settled told e =
-    let same : a-told settled v ≡ told = cc in
-    record { value = ap (λ (x : FieldTold). Some x.value) same; mark = ap (λ (x : FieldTold). x.settled) same }
-
--- ---- lists
-
-found : {X : Type 0} (Q : X → Type 0) (p : X → Bool) (xs : List X) (x : X) → AllByRecursion Q xs → find p xs ≡ Some x → Q x × (p x ≡ true)
-found Q p [] x all e = absurd (cc)
-found Q p (y ∷ ys) x all e = go (λ rest. found Q p ys x all.1 rest) (p y) refl e
-  where
-    go : (find p ys ≡ Some x → Q x × (p x ≡ true)) → (b : Bool) → p y ≡ b → cond b (Some y) (find p ys) ≡ Some x → Q x × (p x ≡ true)
-    go later true is e = let same : y ≡ x = cc in (subst Q same all.0, ap p (sym same) ∙ is)
-    go later false is e = later e
-
-not-false : (b : Bool) → not b ≡ true → b ≡ true → ⊥
-not-false true n e = let never : false ≡ true = n in cc
-not-false false n e = let never : false ≡ true = e in cc
-
 good-fits : (t : Terms) (steps : List PairStep) → AreGood t steps → AllByRecursion StepFits steps
 good-fits t [] good = tt
 good-fits t (step ∷ steps) good = (good.0.ranges, good-fits t steps good.1)
-
-slot-is : (at : ℕ) (o : Option ℕ) → is_slot at o ≡ true → o ≡ Some at
-slot-is at None e = absurd (cc)
-slot-is at (Some s) e = ap (λ (x : ℕ). Some x) (eqb-true s at e)
 
 -- ---- one client after some lines
 
@@ -221,30 +144,8 @@ module _ (own : OwnListsHold) (head : Head) (c : ℕ) (below : c < head.clients)
   all-up [] all = tt
   all-up (n ∷ ns) all = ((all.0, refl), all-up ns all.1)
 
-  -- what a mark says
-  record IsSettledIn (d : Drain) (f : ℕ) : Type 0 where
-    pub field : f < length (own_fields t steps d.n)
-    pub due : is_due log d.n f ≡ true → ⊥
-    pub carried : list_any (carries d.n f) (unjudged log) ≡ true → ⊥
-    pub written : has_bit d.bits f ≡ true → ⊥
-
-  settled-in : (d : Drain) (f : ℕ) → is_newest t steps f d ≡ true → IsSettledIn d f
-  settled-in d f e =
-      let w = and_parts (nat_lt f (length (fields_of match_kinds (kind_of log d.n))) && is_settled log d.n f)
-      (not (has_bit d.bits f)) e in
-      let b = and_parts (nat_lt f (length (fields_of match_kinds (kind_of log d.n)))) (is_settled log d.n f) w.0 in
-      let s = and_parts (is_live (phase log d.n) && not (is_due log d.n f)) (not (list_any (carries d.n f) (unjudged log))) b.1 in
-      let u = and_parts (is_live (phase log d.n)) (not (is_due log d.n f)) s.0 in
-      record {
-        field = subst (λ kind. f < length (fields_of match_kinds kind)) (kind_told t steps d.n)
-            (less f (length (fields_of match_kinds (kind_of log d.n))) b.0);
-        due = not-false (is_due log d.n f) u.1;
-        carried = not-false (list_any (carries d.n f) (unjudged log)) s.1;
-        written = not-false (has_bit d.bits f) w.1;
-      }
-    where
-      less : (a b : ℕ) → nat_lt a b ≡ true → a < b
-      less a b e = grind (arith, nat_tests)
+  own-field : (d : Drain) (f : ℕ) → IsSettledIn t steps d f → f < length (own_fields t steps d.n)
+  own-field d f s = subst (λ kind. f < length (fields_of match_kinds kind)) (kind_told t steps d.n) s.field
 
   pub settled : ShowNewest t steps → (at : ℕ) (copy : GhostCopy) (f : ℕ) (told : FieldTold) → IsShownField here_now at f copy told
       → told.settled ≡ true → ShowsNewest here_now at copy.kind f told.value
@@ -254,14 +155,14 @@ module _ (own : OwnListsHold) (head : Head) (c : ℕ) (below : c < head.clients)
       a = told-as (field_value match_kinds f copy) (option_map_or (is_newest t steps f) (holder_at t steps (undrained k) at) false) told is.shown
 
       -- the copy is the one in the slot
-      of-copy : (d : Drain) → IsUpDrain d → slot log d.n ≡ Some at → IsSettledIn d f → (there : IsNewest t steps d.n f)
+      of-copy : (d : Drain) → IsUpDrain d → slot log d.n ≡ Some at → IsSettledIn t steps d f → (there : IsNewest t steps d.n f)
           → last_read steps d.n f ≡ Some (newest_of k.values d.n f)
           → ShowsNewest here_now at copy.kind f told.value
       of-copy d up holds s there last =
           let at_is : there.at ≡ at = slots-same (sym there.holds ∙ holds) in
           let same : there.copy ≡ copy = copies-same (sym there.here ∙ ap (λ x. copy_of (ghosts_came (history t steps).client) x) at_is
           ∙ is.here) in
-          let l = level-is d.n f s.field there last in
+          let l = level-is d.n f (own-field d f s) there last in
           let value : field_value match_kinds f there.copy ≡ Some told.value = ap (field_value match_kinds f) same ∙ a.value in
           record {
             n = d.n;
@@ -269,7 +170,7 @@ module _ (own : OwnListsHold) (head : Head) (c : ℕ) (below : c < head.clients)
             value = newest_of k.values d.n f;
             has = subst (λ kind. HasValue here_now (spot d.n kind f) (newest_of k.values d.n f)) (kind-is there.copy.kind d.n there.kind
                 ∙ ap (λ (x : GhostCopy). x.kind) same)
-                (has_newest own head c below past lines d.n f up.0 s.field);
+                (has_newest own head c below past lines d.n f up.0 (own-field d f s));
             shown_for = subst (λ (x : GhostCopy). IsShownFor x.kind f (newest_of k.values d.n f) told.value) same
                 (shown-for f there.copy told.value (newest_of k.values d.n f) l.spec l.field l.level value);
           }
@@ -280,7 +181,7 @@ module _ (own : OwnListsHold) (head : Head) (c : ℕ) (below : c < head.clients)
           copies-same : {a b : GhostCopy} → Some a ≡ Some b → a ≡ b
           copies-same {a} {b} e = cc
 
-      by-newest : (d : Drain) → IsUpDrain d → slot log d.n ≡ Some at → IsSettledIn d f → IsKnown d.n f
+      by-newest : (d : Drain) → IsUpDrain d → slot log d.n ≡ Some at → IsSettledIn t steps d f → IsKnown d.n f
           → ShowsNewest here_now at copy.kind f told.value
       by-newest d up holds s (inl due) = absurd (s.due due)
       by-newest d up holds s (inr (inl bit)) = absurd (s.written (subst (λ bits. has_bit bits f ≡ true) (sym up.1) bit))
@@ -292,8 +193,8 @@ module _ (own : OwnListsHold) (head : Head) (c : ℕ) (below : c < head.clients)
       by-holder None is e = absurd (cc)
       by-holder (Some d) is e =
           let d_is = found IsUpDrain (λ x. is_slot at (slot log x.n)) (undrained k) d (all-up (up_in steps) (up_are_shown steps)) is in
-          let s = settled-in d f e in
-          by-newest d d_is.0 (slot-is at (slot log d.n) d_is.1) s (newest-level d.n f d_is.0.0 s.field newest)
+          let s = settled-in t steps d f e in
+          by-newest d d_is.0 (slot-is at (slot log d.n) d_is.1) s (newest-level d.n f d_is.0.0 (own-field d f s) newest)
 
   -- ---- recovery
 

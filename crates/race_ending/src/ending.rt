@@ -6,7 +6,7 @@ use crate::left::take_left;
 use dirty_lanes::{FinalWords, LaneName, Lanes, PackSeat, SimSeat, close};
 use race_record::kept_pair::KeepFault;
 use race_record::{Race, RaceClient, RaceClients};
-use race_sim::connection_lock::{Ended, SharedPair};
+use race_sim::connection_lock::{Ended, Locked, SharedPair};
 use race_sim::{Simulated, Waiting};
 use std::alloc::Global;
 use tn_types::NoMemory;
@@ -24,13 +24,13 @@ fn is_full(stopped: Option<KeepFault>) -> Result<bool, NoMemory> {
 fn finish_steps<N: LaneName>(
     alloc: Global,
     lanes: &Lanes<N>,
-    ended: &mut Ended<N>,
+    locked: &mut Locked<N>,
     waiting: &mut Waiting,
     packer: Option<KeepFault>,
     net: Option<KeepFault>,
 ) -> Result<bool, NoMemory> {
     let was_full = is_full(packer)? | is_full(net)?;
-    let is_full = is_full(take_left(alloc, lanes, ended, waiting).err())?;
+    let is_full = is_full(take_left(alloc, lanes, locked, waiting).err())?;
     Ok(is_full || was_full)
 }
 
@@ -83,16 +83,16 @@ fn end_next<N: LaneName>(
     ensures waiting { length waiting.new.items ≡ length waiting.old.items }
 {
     let i = seats.len();
-    let mut ended = pair.finish();
+    let mut locked = pair.open();
     let full = finish_steps(
         alloc,
         lanes,
-        &mut ended,
+        &mut locked,
         &mut waiting[i],
         stopped[2 * i],
         stopped[2 * i + 1],
     )?;
-    keep(alloc, ended, full, clients, seats)?;
+    keep(alloc, locked.finish(), full, clients, seats)?;
     Ok(())
 }
 

@@ -3,7 +3,6 @@
 
 mod ending;
 mod left;
-mod may;
 
 pub use ending::end;
 pub use race_record;

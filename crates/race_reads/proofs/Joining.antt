@@ -11,7 +11,7 @@ use Rattle.race_reads.specs.Reads.{object_of, ReadStands}
 use Rattle.race_reads.specs.Tables.{HasPlace, IsNarrow}
 use Rattle.race_reads.proofs.Deciding.{holds}
 
-in_fields : (fields : List (List ℤ)) (f v : ℕ) (x : ℤ) → slice_get (unwrap_or (slice_get fields f) []) v ≡ Some x → f < length fields
+pub in_fields : (fields : List (List ℤ)) (f v : ℕ) (x : ℤ) → slice_get (unwrap_or (slice_get fields f) []) v ≡ Some x → f < length fields
 in_fields [] f v x e = absurd (cc)
 in_fields (y ∷ ys) zero v x e = omega arith
 in_fields (y ∷ ys) (suc f) v x e = let h = in_fields ys f v x e in omega (arith, h)

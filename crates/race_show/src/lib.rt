@@ -1,7 +1,6 @@
 //! What each client has at the end of a race.
 #![tactic(auto)]
 
-mod copies;
 mod left;
 mod show;
 mod taken;

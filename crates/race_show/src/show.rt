@@ -6,9 +6,9 @@ ghost use Rattle.pair_core.specs.Stands.{StandsFor};
 ghost use Rattle.kept_pair.specs.Kept.{Replays};
 ghost use Rattle.race_show.specs.Showing.{told_at_end, show_line};
 
-use crate::copies::copies_of;
 use crate::left::left_over;
 use crate::taken::taken_from;
+use client_seat::copies_of;
 use dirty_lanes::FinalWords;
 use kept_pair::KeptPair;
 use lane_periods::Objects;
@@ -28,7 +28,8 @@ fn told_of(
     words: &FinalWords,
     taken: u32,
 ) -> Result<Told, NoMemory>
-    requires { client < words.now.clients }
+    requires client { client < words.now.clients }
+    requires stands { (t : Terms) × (steps : List Step) × StandsFor pair.now t steps }
     ensures { IfOk result (λ told. (t : Terms) (steps : List Step) → StandsFor pair.now t steps
         → told ≡ told_at_end t steps client taken objects.now words.now) }
 {

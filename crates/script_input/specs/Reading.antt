@@ -5,7 +5,6 @@ use Rattle.tn_types.specs.declared.limits.TheConstants.{MAX_SCRIPT_BYTES}
 use Rattle.tn_outside.specs.Causes.{Rose}
 use Rattle.tn_outside.specs.Totals.{Drained, GaveFront}
 use Rattle.match_script.specs.Script.{Fault}
-use Rattle.match_script.specs.declared.types.Script.{Script as OneScript}
 use Rattle.script_input.specs.declared.status.Status.{Status}
 use Rattle.script_input.specs.declared.status.Status.TheVariants.{Done, Script, TooLong, ReadFault, NoMemory}
 
@@ -35,12 +34,12 @@ pub record GaveText (old new : Option (List ℕ)) (text : List ℕ) : Type 0 whe
   pub all : Drained old new text
   pub few : length text ≤ MAX_SCRIPT_BYTES
 
--- what a text is read as: a script, or its first fault
-abbrev pub Reading : Type 0
-Reading = List ℕ → Result OneScript Fault
+-- what a text is read as: a script of some kind, or its first fault
+abbrev pub Reading : Type 0 → Type 0
+Reading S = List ℕ → Result S Fault
 
 -- the source gave a whole text, which is read so
-abbrev pub ReadAs : Reading → Option (List ℕ) → Option (List ℕ) → Result OneScript Fault → Type 0
+abbrev pub ReadAs : {S : Type 0} → Reading S → Option (List ℕ) → Option (List ℕ) → Result S Fault → Type 0
 ReadAs reading old new read = (text : List ℕ) × GaveText old new text × (reading text ≡ read)
 
 -- the source gave so many bytes, and keeps the rest
@@ -50,24 +49,28 @@ GaveBytes n old new = (bytes : List ℕ) × (length bytes ≡ n) × GaveFront ol
 abbrev pub GaveAtMost : ℕ → Option (List ℕ) → Option (List ℕ) → Type 0
 GaveAtMost n old new = (k : ℕ) × (k ≤ n) × GaveBytes k old new
 
--- why no script was read: the source failed, or it did not and the text is none, too long, or more than memory holds
-abbrev pub NotRead : Reading → Seen → Status → Type 0
+-- why there is no text: the source failed, or it did not and the text is too long, or more than memory holds
+abbrev pub NoText : Seen → Status → Type 0
+NoText source TooLong = GaveBytes (MAX_SCRIPT_BYTES + 1) source.old source.new × IsSpared source
+NoText source ReadFault = HasFailed source × GaveAtMost MAX_SCRIPT_BYTES source.old source.new
+NoText source NoMemory = IsSpared source
+NoText source s = ⊥
+
+-- why no script was read: there is no text, or it is none
+abbrev pub NotRead : {S : Type 0} → Reading S → Seen → Status → Type 0
 NotRead reading source (Script line fault) = ReadAs reading source.old source.new (Err (line, fault)) × IsSpared source
-NotRead reading source TooLong = GaveBytes (MAX_SCRIPT_BYTES + 1) source.old source.new × IsSpared source
-NotRead reading source ReadFault = HasFailed source × GaveAtMost MAX_SCRIPT_BYTES source.old source.new
-NotRead reading source NoMemory = IsSpared source
-NotRead reading source s = ⊥
+NotRead reading source s = NoText source s
 
 -- ---- which answer it is
 
-abbrev pub answer_to : Result OneScript Fault → Status
+abbrev pub answer_to : {S : Type 0} → Result S Fault → Status
 answer_to (Ok script) = Done
 answer_to (Err (line, fault)) = Script line fault
 
-abbrev pub answer_within : (short : Bool) → Result OneScript Fault → Status
+abbrev pub answer_within : {S : Type 0} → (short : Bool) → Result S Fault → Status
 answer_within true read = answer_to read
 answer_within false read = TooLong
 
 -- the answer that a text asks for, where nothing fails and memory is there
-abbrev pub answer_of : Reading → List ℕ → Status
+abbrev pub answer_of : {S : Type 0} → Reading S → List ℕ → Status
 answer_of reading text = answer_within (nat_le (length text) MAX_SCRIPT_BYTES) (reading text)

@@ -3,7 +3,7 @@ ghost use Rattle.std.specs.Prelude.{◌≡◌, ◌+◌, IfOk, IfErr, Ok, Err};
 ghost use Rattle.tn_outside.specs.Causes.{HandsOn};
 ghost use Rattle.match_script.specs.Ranges.{HasRanges};
 ghost use Rattle.match_script.specs.Script.{script_of, threads_script_of};
-ghost use Rattle.script_input.specs.Reading.{seen, GaveText, GaveAtMost, Reading, ReadAs, NotRead};
+ghost use Rattle.script_input.specs.Reading.{seen, GaveText, GaveAtMost, ReadAs, NoText, NotRead};
 
 use crate::status::Status;
 use match_script::{ParseFault, Script, parse, parse_threads};
@@ -17,8 +17,8 @@ const BUFFER_BYTES: usize = 4096;
 /// All bytes of a source, and never more than one past the limit.
 pub fn read_all<S: Source>(alloc: Global, source: &mut S) -> Result<Vec<u8>, Status>
     ensures ok { IfOk result (λ text. GaveText (S.held source.old) (S.held source.new) text.items) }
-    ensures err { IfErr result (λ status. (reading : Reading)
-        → NotRead reading (seen (S.held source.old) (S.held source.new) (S.faults source.old) (S.faults source.new)) status) }
+    ensures err { IfErr result
+        (NoText (seen (S.held source.old) (S.held source.new) (S.faults source.old) (S.faults source.new))) }
     ensures taken { GaveAtMost (MAX_SCRIPT_BYTES + 1) (S.held source.old) (S.held source.new) }
     ensures cause { HandsOn (S.faults source.old) (S.faults source.new) (result ≡ Err Status.ReadFault) }
 {

@@ -1,10 +1,12 @@
 //! The command `threads`.
 ghost use Rattle.std.specs.Prelude.{◌≡◌, ◌⊎◌, List, [], ℕ, map, string_bytes, Some, Ok};
 ghost use Rattle.script_input.specs.Reading.{seen, HasFailed};
+ghost use Rattle.race_laws.specs.Settled.{SettledShowsNewest};
 ghost use Rattle.threads_top.specs.Outcome.{threads_of, ThreadsOutcome, IsWanted, CanBeDone};
 
 use crate::run::run_threads;
 use match_engine::RunFault;
+use race_laws::settled_shows_newest;
 use race_run::FreeGate;
 use script_input::{Status, read_threads_script};
 use std::alloc::Global;
@@ -81,7 +83,10 @@ pub fn top_threads<R: Threads + Wait + Sync, S: Source, K: Sink>(
         → (HasFailed (seen (S.held source.old) (S.held source.new) (S.faults source.old) (S.faults source.new)) → ⊥)
         → (HasFailed (seen (K.written sink.old) (K.written sink.new) (K.faults sink.old) (K.faults sink.new)) → ⊥)
         → (result ≡ Status.Done) ⊎ (result ≡ Status.NoMemory) }
+    // In every such text a field that is marked settled, of a client without raw bytes, shows the newest value that the text tells.
+    ensures settled { SettledShowsNewest }
 {
+    settled_shows_newest();
     match threads_of(words) {
         Ok(()) => serve(rt, alloc, source, sink),
         Err(place) => Status::Usage(place),

@@ -117,7 +117,9 @@ pub fn store_world<N: LaneName>(
     }
     for object in 0..world.objects() {
         let bits = store_object(kinds, world, lanes, sim, object);
-        changed.push_reserved(Changed { object, bits });
+        if bits != 0 {
+            changed.push_reserved(Changed { object, bits });
+        }
     }
     Ok(())
 }

@@ -1,7 +1,7 @@
 use Rattle.std.proofs.Common.{◌≡◌, ◌∙◌, ap, sym, subst, arith, []}
 use Rattle.std.specs.Prelude.{None, Some}
 use Rattle.ghost_model.specs.Ghosts.{slot}
-use Rattle.ghost_model.specs.Legal.{IsUp}
+use Rattle.ghost_scope.specs.Shown.{IsUp}
 use Rattle.std.specs.Option.{option_copied, option_map}
 use Rattle.ghost_client.specs.declared.copy.GhostCopy.{GhostCopy}
 use Rattle.ghost_client.specs.Copies.{copy_of}
@@ -26,14 +26,9 @@ pub fields_of-requires : goal.fields_of-requires
 fields_of-requires c =
     let r = c.requires.stands in
     record {
-      up = (
-        r.0,
-        r.1,
-        r.2,
-        λ d is.
-            found-of (λ d. is_slot c.loop-slot.slot (slot (ghost_log (history r.0 r.1).server) d.n)) (λ d. IsUp (ghost_log (history r.0 r.1).server) d.n) c.args.written.now d
-            (sym (c.holders-holders.ensures r.0 r.1 r.2 c.loop-slot.slot (omega arith)) ∙ is) (c.requires.up r.0 r.1 r.2),
-      );
+      up = λ d is.
+          found-of (λ d. is_slot c.loop-slot.slot (slot (ghost_log (history r.0 r.1).server) d.n)) (λ d. IsUp c.args.pair.now.conn.masks.periods d.n) c.args.written.now d
+          (sym (c.holders-holders.ensures r.0 r.1 r.2 c.loop-slot.slot (omega arith)) ∙ is) c.requires.up;
     }
 
 pub loop-slot-preserved : goal.loop-slot-preserved

@@ -8,23 +8,21 @@ use Rattle.stream_manager.specs.Stands.{ConnState, ConnStandsFor}
 use Rattle.stream_manager.specs.Server.{ghost_log}
 use Rattle.own_lists.specs.pair_core.History.{history}
 use Rattle.client_seat.specs.Told.{is_newest}
-use Rattle.client_seat.proofs.Copies.{up-here, alive-here, not-of-kind, not-settled, newest-bit}
+use Rattle.conn_packing.proofs.Scoped.{up-alive}
+use Rattle.client_seat.proofs.Copies.{not-of-kind, not-settled, newest-bit}
 use Rattle.client_seat.proofs.showing.is_settled.Goals as goal
 use Rattle.client_seat.proofs.showing.is_settled.Goals.{then-has_fields, else-has_fields}
 
 pub has_fields-requires : goal.has_fields-requires
 has_fields-requires c =
-    let p = c.args.pair.now in
-    let r = c.requires.up in
-    let up : IsUp p.conn.masks.periods c.in-Some.d.n = up-here p r.0 r.1 r.2 c.in-Some.d (r.3 c.in-Some.d c.in-Some.is) in
-    subst (λ (o : ConnState). IsAlive o.masks.periods c.in-Some.d.n) (sym c.conn-conn.ensures) (alive-here p r.0 r.1 r.2 c.in-Some.d up)
+    let up : IsUp c.args.pair.now.conn.masks.periods c.in-Some.d.n = c.requires.up c.in-Some.d c.in-Some.is in
+    subst (λ (o : ConnState). IsAlive o.masks.periods c.in-Some.d.n) (sym c.conn-conn.ensures) (record { shown = up.shown; alive = up-alive _ up.up })
 
 pub returns-then-settled : goal.returns-then-settled
 returns-then-settled c t steps s =
     let p = c.args.pair.now in
-    let r = c.requires.up in
     let d = c.in-Some.d in
-    let up : IsUp p.conn.masks.periods d.n = up-here p r.0 r.1 r.2 d (r.3 d c.in-Some.is) in
+    let up : IsUp p.conn.masks.periods d.n = c.requires.up d c.in-Some.is in
     let of_kind : IsTrue c.has_fields.result ↔ AreOwnFields p.conn.masks d.n (1 * 2 ^ c.args.field % 4294967296) =
     subst (λ (o : ConnState). IsTrue c.has_fields.result ↔ AreOwnFields o.masks d.n (1 * 2 ^ c.args.field % 4294967296)) c.conn-conn.ensures c.has_fields.ensures in
     elim c.if-has_fields.branch [
@@ -38,9 +36,8 @@ returns-then-settled c t steps s =
 pub returns-else-settled : goal.returns-else-settled
 returns-else-settled c t steps s =
     let p = c.args.pair.now in
-    let r = c.requires.up in
     let d = c.in-Some.d in
-    let up : IsUp p.conn.masks.periods d.n = up-here p r.0 r.1 r.2 d (r.3 d c.in-Some.is) in
+    let up : IsUp p.conn.masks.periods d.n = c.requires.up d c.in-Some.is in
     let of_kind : IsTrue c.has_fields.result ↔ AreOwnFields p.conn.masks d.n (1 * 2 ^ c.args.field % 4294967296) =
     subst (λ (o : ConnState). IsTrue c.has_fields.result ↔ AreOwnFields o.masks d.n (1 * 2 ^ c.args.field % 4294967296)) c.conn-conn.ensures c.has_fields.ensures in
     let told : is_newest t steps c.args.field d ≡ false =

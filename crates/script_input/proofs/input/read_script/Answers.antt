@@ -1,8 +1,9 @@
 use Rattle.std.proofs.lemmas.Result.{err_from_is_err_and}
 use Rattle.match_script.specs.Script.{script_of}
+use Rattle.script_input.proofs.NotReading.{not_read}
 use Rattle.script_input.proofs.input.read_script.Goals as goal
 
 pub returns-in_err-text-clause-err : goal.returns-in_err-text-clause-err
 returns-in_err-text-clause-err g c =
     let p = err_from_is_err_and c.from_residual.result c.from_residual.ensures.1 in
-    rw (p.1, p.2) (c.in_err-text.ensures.err script_of)
+    rw (p.1, p.2) (not_read script_of _ _ c.in_err-text.ensures.err)

@@ -8,7 +8,7 @@ use Rattle.world_lanes.proofs.storing.store_world.Given as goal
 
 abbrev pub invariant-loop-object : goal.invariant-loop-object
 invariant-loop-object g l = record {
-  long : length l.changed.items ≡ l.object;
+  long : length l.changed.items ≤ l.object;
   room : length l.world.objects ≤ vec_capacity l.changed;
   told : (o f : ℕ) → is_told l.changed.items o f ≡ (objects_below l.object o f && is_behind l.world l.fn.sim.steps o f);
   there : All (λ c. c.object < l.lanes.objects) l.changed.items;

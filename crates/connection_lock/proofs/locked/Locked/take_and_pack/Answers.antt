@@ -35,5 +35,6 @@ returns-in-Ok-make_room g c =
       emptied = taken.4;
       fault = tt;
       terms = c.pack.ensures.terms ∙ terms;
+      client = c.pack.ensures.client ∙ c.take_messages.ensures.client;
       sent = refl;
     })

@@ -2,9 +2,9 @@
 use Rattle.std.proofs.Common.{◌≡◌, ℕ, ◌<◌, ◌≤◌, Bool, true, false, List, length, sym, ◌∙◌, arith}
 use Rattle.tn_types.specs.declared.limits.TheConstants.{MAX_SHOWN_PERIODS, MAX_SHOWS}
 use Rattle.ghost_scope.specs.Shown.{show_count, up_count, has_control}
-use Rattle.stream_manager.specs.Stands.{ConnState, ConnStandsFor, terms_of}
-use Rattle.stream_manager.specs.Server.{ServerEvent, ghost_log}
-use Rattle.kept_pair.specs.pair_core.Conditions.{MayBeShown}
+use Rattle.pair_core.specs.stream_manager.Stands.{ConnState, ConnStandsFor, terms_of}
+use Rattle.pair_core.specs.stream_manager.Server.{ServerEvent, ghost_log}
+use Rattle.pair_core.specs.Conditions.{MayBeShown}
 use Rattle.kept_pair.proofs.Below.conn_packing.Scoped.{shows-told, ups-told, control-told}
 
 module _ (conn : ConnState) (log : List ServerEvent) (s : ConnStandsFor conn log) (kind block level : ℕ) (control : Bool) where

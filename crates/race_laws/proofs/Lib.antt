@@ -1,0 +1,2 @@
+pub mod LastReads
+pub mod Settling
