@@ -118,7 +118,7 @@ module _ (s : Script) (race : Race) (c : ℕ) (client : RaceClient) (legal : IsL
       r : IsLastRead d.n f value
       r = last-read d.n f value is
 
-      abbrev object : ℕ
+      object : ℕ
       object = object_of client.objects d.n
 
       stands : version_told race.values object f (r.read.version - 1) ≡ Some r.read.value
@@ -181,7 +181,7 @@ module _ (s : Script) (race : Race) (c : ℕ) (client : RaceClient) (legal : IsL
       → told.settled ≡ true → ShowsNewest race.values client at copy.kind f told.value
   shows law at f copy told is mark = by-holder (holder_at t steps left at) refl (a.mark ∙ mark)
     where
-      abbrev left : List Drain
+      left : List Drain
       left = left_over race.words c client.objects steps
 
       a : IsToldAs (field_value t.kinds f copy) (option_map_or (is_newest t steps f) (holder_at t steps left at) false) told
