@@ -17,6 +17,7 @@ use Rattle.demo_taken.specs.pair_core.History.{history}
 use Rattle.client_scope.specs.StandsFor.{Table}
 use Rattle.match_engine.specs.client_seat.Stands.{SeatState}
 use Rattle.own_lists.specs.Past.{client_terms}
+use Rattle.own_lists.proofs.Below.pair_core.Keeping.{all-kept}
 use Rattle.match_engine.specs.match_laws.Report.{told_after}
 use Rattle.match_engine.specs.match_laws.Values.{steps_of}
 use Rattle.demo_taken.specs.pair_core.Stands.{PairState}
@@ -143,7 +144,7 @@ module _ (m : MatchState) (line : BodyLine) (past : List BodyLine) (s : StandsFo
   pub sent-down : (slice_index_or m.game.seats c seat).pair.down ≡ server_datagrams (client_terms m.script.head c) (history (client_terms m.script.head c) (steps_of m.script.head (line ∷ past) c)).server
   sent-down =
       subst (λ (h : Head). (slice_index_or m.game.seats c seat).pair.down ≡ server_datagrams (client_terms h c) (history (client_terms h c) (steps_of h (line ∷ past) c)).server) s.head
-      (s.game.client c seat scope in-game).course.holds.pair.down
+      (all-kept (slice_index_or m.game.seats c seat).pair (client_terms m.game.head c) (steps_of m.game.head (line ∷ past) c) (s.game.client c seat scope in-game).course.holds.pair (s.keeps c seat has-seat))
 
 -- by what is known of the line
 pub noted : (head : Head) (past : List BodyLine) (c : ℕ) (line : BodyLine) (k : ℕ) → Known head past c line → place_taken c (told_after head past line) ≡ Some k → (bytes : List ℕ) × IsNoted head past c line k bytes
