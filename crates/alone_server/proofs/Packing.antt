@@ -1,5 +1,5 @@
 -- What a pack of a server that serves one client alone needs, and what it leaves.
-use Rattle.std.proofs.Common.{◌≡◌, ◌∙◌, ℕ, zero, suc, ◌<◌, ◌==◌, Bool, true, false, cond, T, List, [], ◌∷◌, map, length, get_or, refl, sym, ap, subst, arith, Option, Some, None}
+use Rattle.std.proofs.Common.{◌≡◌, ◌∙◌, ℕ, zero, suc, ◌<◌, ◌==◌, Bool, true, false, cond, T, List, [], ◌∷◌, map, get_or, refl, sym, ap, subst, arith, Option, Some, None}
 use Rattle.std.specs.Prelude.{ℤ, pos, ◌≤ℤ◌, int_le, slice_get, option_and_then, IsSome}
 use Rattle.std.specs.List.{AllByRecursion}
 use Rattle.std.proofs.lemmas.Bool.{eqb-true}
@@ -23,7 +23,7 @@ use Rattle.pair_core.specs.Calls.{MayPack}
 use Rattle.own_lists.specs.Own.{OwnItem, Line}
 use Rattle.pair_steps.specs.Steps.{traits_in}
 use Rattle.own_lists.specs.Course.{with_step}
-use Rattle.own_lists.specs.Kept.{Kept, kept, drained, left, drains_of, read_of, reads_for, reads_of, packs}
+use Rattle.own_lists.specs.Kept.{Kept, kept, drained, left, drains_of, read_of, reads_for, reads_of}
 use Rattle.own_lists.proofs.ScanChanges.{has}
 use Rattle.pair_steps.proofs.Journals.{up_from, kind_told}
 use Rattle.own_lists.proofs.Meeting.{are_met, reads_forced, values_kept}

@@ -1,7 +1,7 @@
 -- What is written of a demo when the script's next line is done.
 use Rattle.std.proofs.Common.{drop, nat_lt, true, false, ◌≡◌, ◌∙◌, ℕ, zero, suc, ◌+◌, ◌<◌, ◌≤◌, List, [], ◌∷◌, ◌++◌, length, get_or, reverse, take, Option, Some, None, refl, sym, ap, subst, arith, inl, inr, append_assoc}
 use Rattle.std.specs.Prelude.{slice_get, slice_index_or, Result, Ok, Err, OnOk, OnErr}
-use Rattle.std.specs.List.{flat_map, AllByRecursion}
+use Rattle.std.specs.List.{AllByRecursion}
 use Rattle.std.proofs.lemmas.List.{take_all, take-append-drop, reverse-append, append-nil}
 use Rattle.std.proofs.lemmas.List.Concat.{flat_map-append}
 use Rattle.std.proofs.lemmas.Option.{slice_get-get_or}
@@ -26,7 +26,7 @@ use Rattle.match_engine.proofs.Written.{reverse_next}
 use Rattle.demo_format.specs.Head.{spell_head}
 use Rattle.demo_format.specs.Records.{spell_record, spell_records, ending, IsRecord}
 use Rattle.demo_record.specs.Recording.{demo_head, demo_text, place_taken, records_text, taken_by, taken_lines}
-use Rattle.demo_record.proofs.Noted.{Known, IsNoted, IsUnnoted, known}
+use Rattle.demo_record.proofs.Noted.{Known, IsNoted, known}
 
 -- ---- lists of lines
 

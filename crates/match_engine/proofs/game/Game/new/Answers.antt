@@ -1,4 +1,4 @@
-use Rattle.std.proofs.Common.{◌≡◌, ◌∙◌, ◌<◌, length, arith}
+use Rattle.std.proofs.Common.{◌∙◌, arith}
 use Rattle.match_engine.proofs.game.Game.new.Goals as goal
 
 pub returns-clause-keeps : goal.returns-clause-keeps
