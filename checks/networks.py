@@ -45,6 +45,14 @@ def resident(process):
     return 0
 
 
+def taken(process):
+    """The kilobytes of memory that a process took and has touched, without pages of files, as those of its program."""
+    for line in open(f"/proc/{process.pid}/status"):
+        if line.startswith("RssAnon:"):
+            return int(line.split()[1])
+    return 0
+
+
 def packets_of(report):
     """The datagrams of the lines `pack` of a report, by client."""
     packs = {}

@@ -117,14 +117,15 @@ module _ (c : ℕ) (seat : SeatState) (x : Table) (t : Terms) (items : List OwnI
         let taken = begin_taken shows (with_course (with_steps (scan_steps hides nears []) k.course) k) in
         ap (λ (z : List PairStep × ℕ). record { steps = z.0; taken = z.1 }) (λ j. (steps j, taken j))
 
-    pub scanned : (new : SeatState) (y : Table) → SeatStandsFor new t (with_steps (scan_steps hides nears hows) k.course)
+    pub scanned : (new : SeatState) (y : Table) → new.pair.keeps_all ≡ seat.pair.keeps_all → SeatStandsFor new t (with_steps (scan_steps hides nears hows) k.course)
         → Holds y (after_scan hides nears shows k) → Serves c new y t (Scan hides nears shows ∷ items)
-    scanned new y course periods = record {
+    scanned new y keeping course periods = record {
       own = (may, s.own);
       config = s.config;
       kinds = s.kinds;
       client = s.client;
       course = subst (SeatStandsFor new t) (sym course_is) course;
+      keeps = keeping ∙ s.keeps;
       periods = periods;
     }
 
@@ -157,13 +158,14 @@ module _ (c : ℕ) (seat : SeatState) (x : Table) (t : Terms) (items : List OwnI
       omega (arith, same, few, life, most)
 
   module _ (ws : List OwnWrite) (taken : ℕ) (may : IsOwnTick t (kept t items) ws taken) where
-    pub tick_serves : (new : SeatState) (y : Table) → SeatStandsFor new t (ticked taken k.course) → Holds y (wrote_all ws k) → Serves c new y t (Tick ws taken ∷ items)
-    tick_serves new y course periods = record {
+    pub tick_serves : (new : SeatState) (y : Table) → new.pair.keeps_all ≡ seat.pair.keeps_all → SeatStandsFor new t (ticked taken k.course) → Holds y (wrote_all ws k) → Serves c new y t (Tick ws taken ∷ items)
+    tick_serves new y keeping course periods = record {
       own = (may, s.own);
       config = s.config;
       kinds = s.kinds;
       client = s.client;
       course = subst (λ (z : Course). SeatStandsFor new t (ticked taken z)) (sym (wrote_course t ws k)) course;
+      keeps = keeping ∙ s.keeps;
       periods = holds_same y (wrote_all ws k) (ticked taken (wrote_all ws k).course) (record { shows = refl; hidden = λ n. refl; up = refl; kinds = λ n. refl }) periods;
     }
 
@@ -215,17 +217,18 @@ module _ (c : ℕ) (seat : SeatState) (x : Table) (t : Terms) (items : List OwnI
   line_holds (script.Raw n bytes) d = holds_same x k _ (record { shows = refl; hidden = λ n. refl; up = refl; kinds = λ n. refl }) s.periods
   line_holds (script.Move n m) d = holds_same x k _ (record { shows = refl; hidden = λ n. refl; up = refl; kinds = λ n. refl }) s.periods
 
-  pub line_serves : (line : BodyLine) → IsDirect line → MayFollow t (kept t items) (Line line) → (new : SeatState)
+  pub line_serves : (line : BodyLine) → IsDirect line → MayFollow t (kept t items) (Line line) → (new : SeatState) → new.pair.keeps_all ≡ seat.pair.keeps_all
       → SeatStandsFor new t (after_line t line k).course → Serves c new x t (Line line ∷ items)
-  line_serves line direct may new course = record {
+  line_serves line direct may new keeping course = record {
     own = (may, s.own);
     config = s.config;
     kinds = s.kinds;
     client = s.client;
     course = course;
+    keeps = keeping ∙ s.keeps;
     periods = line_holds line direct;
   }
 
   -- a line that shows the client changes nothing
   pub show_serves : (n : ℕ) → Serves c seat x t (Line (script.Show n) ∷ items)
-  show_serves n = record { own = (tt, s.own); config = s.config; kinds = s.kinds; client = s.client; course = s.course; periods = s.periods }
+  show_serves n = record { own = (tt, s.own); config = s.config; kinds = s.kinds; client = s.client; course = s.course; keeps = s.keeps; periods = s.periods }

@@ -1,5 +1,5 @@
 -- What a pack of a server that serves one client alone needs, and what it leaves.
-use Rattle.std.proofs.Common.{◌≡◌, ◌∙◌, ℕ, zero, suc, ◌<◌, ◌==◌, Bool, true, false, cond, T, List, [], ◌∷◌, map, length, get_or, refl, sym, ap, subst, arith, Option, Some, None}
+use Rattle.std.proofs.Common.{◌≡◌, ◌∙◌, ℕ, zero, suc, ◌<◌, ◌==◌, Bool, true, false, cond, T, List, [], ◌∷◌, map, get_or, refl, sym, ap, subst, arith, Option, Some, None}
 use Rattle.std.specs.Prelude.{ℤ, pos, ◌≤ℤ◌, int_le, slice_get, option_and_then, IsSome}
 use Rattle.std.specs.List.{AllByRecursion}
 use Rattle.std.proofs.lemmas.Bool.{eqb-true}
@@ -23,7 +23,7 @@ use Rattle.pair_core.specs.Calls.{MayPack}
 use Rattle.own_lists.specs.Own.{OwnItem, Line}
 use Rattle.pair_steps.specs.Steps.{traits_in}
 use Rattle.own_lists.specs.Course.{with_step}
-use Rattle.own_lists.specs.Kept.{Kept, kept, drained, left, drains_of, read_of, reads_for, reads_of, packs}
+use Rattle.own_lists.specs.Kept.{Kept, kept, drained, left, drains_of, read_of, reads_for, reads_of}
 use Rattle.own_lists.proofs.ScanChanges.{has}
 use Rattle.pair_steps.proofs.Journals.{up_from, kind_told}
 use Rattle.own_lists.proofs.Meeting.{are_met, reads_forced, values_kept}
@@ -92,9 +92,9 @@ module _ (client : ℕ) (seat : SeatState) (x : Table) (t : Terms) (items : List
   abbrev state : SendState
   state = server_state t.config log
 
-  pub few_sent : counted_in items < 4000000 → length seat.pair.down < 4294967295
+  pub few_sent : counted_in items < 4000000 → seat.pair.sent < 4294967295
   few_sent few =
-      let down = ap length s.course.holds.pair.down in
+      let down = s.course.holds.pair.sent in
       omega (arith, down, few_down t items, few)
 
   pub drains_is : (st : SendState) → st ≡ state → drained st (map drain_of x.periods) ≡ drains_of t k
@@ -168,14 +168,15 @@ module _ (client : ℕ) (seat : SeatState) (x : Table) (t : Terms) (items : List
         p.told t k.course s.course ∙ ap (λ d. packed_told client t k.course.steps d rs) ds ∙ ap (packed_told client t k.course.steps (drains_of t k)) is
         ∙ ap (pack_told t k) (sym s.client)
 
-    pub packed_serves : (st : SendState) → st ≡ state → (c : ℕ) → Serves client new (left_table st) t (Line (script.Pack c) ∷ items)
-    packed_serves st at c = record {
+    pub packed_serves : (st : SendState) → st ≡ state → (c : ℕ) → new.pair.keeps_all ≡ seat.pair.keeps_all → Serves client new (left_table st) t (Line (script.Pack c) ∷ items)
+    packed_serves st at c keeping = record {
       own = (tt, s.own);
       config = s.config;
       kinds = s.kinds;
       client = s.client;
       course = subst (λ (y : List Read). SeatStandsFor new t (with_step (Pack (drains_of t k) y) k.course)) is
           (subst (λ (y : List Drain). SeatStandsFor new t (with_step (Pack y rs) k.course)) ds (p.stands t k.course s.course));
+      keeps = keeping ∙ s.keeps;
       periods = subst (λ (z : SendState). Holds (left_table st) (record { course = with_step (Pack (drains_of t k) (reads_of t k)) k.course; values = k.values; written = left z k.written })) at
           (holds_same (left_table st) (left_kept st) (with_step (Pack (drains_of t k) (reads_of t k)) k.course)
           (record { shows = refl; hidden = λ n. refl; up = refl; kinds = λ n. refl }) (holds_left st));

@@ -50,6 +50,7 @@ pub record Serves (c : ℕ) (seat : SeatState) (x : Table) (t : Terms) (items : 
   pub kinds : t.kinds ≡ match_kinds
   pub client : t.config.client ≡ c
   pub course : SeatStandsFor seat t (kept t items).course
+  pub keeps : seat.pair.keeps_all ≡ true
   pub periods : Holds x (kept t items)
 
 abbrev pub table_of : AloneServer → Table

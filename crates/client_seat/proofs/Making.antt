@@ -1,5 +1,5 @@
 -- Steps that are made one after the other, of which some are made already.
-use Rattle.std.proofs.Common.{◌≡◌, ℕ, ◌+◌, ◌<◌, refl, sym, subst, List, [], ◌∷◌, ◌++◌, length, map, take, drop, get_or}
+use Rattle.std.proofs.Common.{◌≡◌, ◌∙◌, ℕ, ◌+◌, ◌<◌, refl, sym, subst, List, [], ◌∷◌, ◌++◌, length, map, take, drop, get_or}
 use Rattle.std.proofs.lemmas.List.{map_more, drop_more}
 use Rattle.stream_manager.specs.Limits.{Terms}
 use Rattle.own_lists.specs.pair_core.History.{PairStep}
@@ -26,9 +26,10 @@ meet_rest t (x ∷ xs) ys steps m = meet_rest t xs ys (x ∷ steps) m.1
 pub record Partly (old now : SeatState) (done rest : List PairStep) : Type 0 where
   pub becomes : Becomes old (λ t k. with_steps done k) now
   pub may : MayMake now rest
+  pub keeping : now.pair.keeps_all ≡ old.pair.keeps_all
 
 pub partly_none : (s : SeatState) (steps : List PairStep) → MayMake s steps → Partly s s [] steps
-partly_none s steps may = record { becomes = λ t k h. h; may = may }
+partly_none s steps may = record { becomes = λ t k h. h; may = may; keeping = refl }
 
 abbrev pub with_pair : SeatState → PairState → SeatState
 with_pair s pair = record { pair = pair; waiting = s.waiting; taken = s.taken }
@@ -48,7 +49,7 @@ stands_more now pair step same does keeps t k s = record {
 }
 
 module _ (old now : SeatState) (done rest : List PairStep) (pair : PairState) (step : PairStep) (same : (t : Terms) (steps : List PairStep) → accepted_in t (step ∷ steps) ≡ accepted_in t steps)
-    (does : Does now.pair step pair) (keeps : KeepsAtServer now.pair pair) (before : Partly old now done (step ∷ rest)) where
+    (does : Does now.pair step pair) (keeps : KeepsAtServer now.pair pair) (keeping : pair.keeps_all ≡ now.pair.keeps_all) (before : Partly old now done (step ∷ rest)) where
   pub partly_more : Partly old (with_pair now pair) (done ++ step ∷ []) rest
   partly_more = record {
     becomes = λ t k h.
@@ -60,16 +61,17 @@ module _ (old now : SeatState) (done rest : List PairStep) (pair : PairState) (s
       stands = stands_more now pair step same does keeps before.may.terms before.may.course before.may.stands;
       meet = before.may.meet.1;
     };
+    keeping = keeping ∙ before.keeping;
   }
 
 -- the same where both are of a list that is gone through
 module _ {X : Type 0} (f : X → PairStep) (xs : List X) (i : ℕ) (d : X) (lt : i < length xs) (old now : SeatState) (pair : PairState)
     (same : (t : Terms) (steps : List PairStep) → accepted_in t (f (get_or xs i d) ∷ steps) ≡ accepted_in t steps)
-    (does : Does now.pair (f (get_or xs i d)) pair) (keeps : KeepsAtServer now.pair pair) (before : Partly old now (map f (take i xs)) (map f (drop i xs))) where
+    (does : Does now.pair (f (get_or xs i d)) pair) (keeps : KeepsAtServer now.pair pair) (keeping : pair.keeps_all ≡ now.pair.keeps_all) (before : Partly old now (map f (take i xs)) (map f (drop i xs))) where
   pub partly_next : Partly old (with_pair now pair) (map f (take (i + 1) xs)) (map f (drop (i + 1) xs))
   partly_next =
       subst (λ (done : List PairStep). Partly old (with_pair now pair) done (map f (drop (i + 1) xs))) (sym (map_more f xs i d lt))
-      (partly_more old now (map f (take i xs)) (map f (drop (i + 1) xs)) pair (f (get_or xs i d)) same does keeps
+      (partly_more old now (map f (take i xs)) (map f (drop (i + 1) xs)) pair (f (get_or xs i d)) same does keeps keeping
       (subst (λ (rest : List X). Partly old now (map f (take i xs)) (map f rest)) (drop_more xs i d lt) before))
 
 -- ---- one list after another

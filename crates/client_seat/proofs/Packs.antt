@@ -1,6 +1,6 @@
--- What a pack tells: the datagram that it made stands last of those that were sent.
+-- What a pack tells: the datagram that it made is the newest of those that are kept.
 use Rattle.std.proofs.Common.{◌≡◌, ℕ, Bool, true, false, refl, List, [], ◌∷◌, ◌++◌, length, Some, Result, Ok, Err, ◌∙◌, ap}
-use Rattle.std.specs.Prelude.{slice_get, IfOk}
+use Rattle.std.specs.Prelude.{IfOk}
 use Rattle.tn_types.specs.declared.choices.Drain.{Drain}
 use Rattle.tn_types.specs.declared.choices.NoMemory.{NoMemory}
 use Rattle.tn_types.specs.declared.choices.Read.{Read}
@@ -23,7 +23,8 @@ use Rattle.own_lists.specs.pair_core.Calls.{Stays}
 use Rattle.conn_packing.specs.Reads.{IsReadFor}
 use Rattle.own_lists.specs.pair_core.Stands.{PairState}
 use Rattle.conn_packing.proofs.Absorbed.{absorbed-end, absorbed-state, absorbed-sends}
-use Rattle.conn_packing.proofs.Lists.{slice_get-at}
+use Rattle.own_lists.specs.pair_core.Keeping.{kept, newest}
+use Rattle.own_lists.proofs.Below.pair_core.Keeping.{newest-kept}
 use Rattle.match_report.specs.declared.told.Told.{Told}
 use Rattle.match_report.specs.declared.told.Told.TheVariants as told_as
 use Rattle.own_lists.specs.Course.{Course, with_step}
@@ -31,17 +32,17 @@ use Rattle.client_seat.specs.Told.{made_told, client_made_told, packed_told, cli
 use Rattle.client_seat.specs.Stands.{SeatState, StandsFor, Becomes, Packs}
 use Rattle.client_seat.proofs.Making.{with_pair}
 
-at-end : (ds sent : List (List ℕ)) (bytes : List ℕ) → sent ≡ ds ++ bytes ∷ [] → slice_get sent (length ds) ≡ Some bytes
-at-end ds sent bytes f = ap (λ (l : List (List ℕ)). slice_get l (length ds)) f ∙ slice_get-at ds bytes []
+at-end : (b : Bool) (ds left : List (List ℕ)) (bytes : List ℕ) → left ≡ kept b (ds ++ bytes ∷ []) → newest left ≡ Some bytes
+at-end b ds left bytes f = ap newest f ∙ newest-kept b ds bytes
 
--- what is told where nothing was made, and where a datagram of this list was
+-- what is told where nothing was made, and where the newest datagram of this list was
 abbrev IfWorn : Result Told NoMemory → Answer → Bool → ℕ → Type 0
 IfWorn r a up c = (life : ℕ) → a ≡ says.Worn life → IfOk r (λ told. told ≡ told_as.PackWorn up c life)
 
 abbrev IfMade : Result Told NoMemory → Answer → Bool → ℕ → List (List ℕ) → Type 0
-IfMade r a up c l = (ping : Bool) (place : ℕ) (bytes : List ℕ) → a ≡ says.Packed ping place → slice_get l place ≡ Some bytes → IfOk r (λ told. told ≡ told_as.Packed up c place ping bytes)
+IfMade r a up c l = (ping : Bool) (place : ℕ) (bytes : List ℕ) → a ≡ says.Packed ping place → newest l ≡ Some bytes → IfOk r (λ told. told ≡ told_as.Packed up c place ping bytes)
 
-module _ (t : Terms) (steps : List PairStep) (c : ℕ) (r : Result Told NoMemory) (a : Answer) (l : List (List ℕ)) (drains : List Drain) (reads : List Read) where
+module _ (t : Terms) (steps : List PairStep) (c : ℕ) (r : Result Told NoMemory) (a : Answer) (l : List (List ℕ)) (b : Bool) (drains : List Drain) (reads : List Read) where
   -- what was sent before
   abbrev before : List (List ℕ)
   before = server_datagrams t (history t steps).server
@@ -49,29 +50,29 @@ module _ (t : Terms) (steps : List PairStep) (c : ℕ) (r : Result Told NoMemory
   abbrev absorbed : List ServerEvent
   absorbed = absorbing drains (history t steps).server
 
-  pub server-packs : a ≡ answer t steps (Pack drains []) → l ≡ server_datagrams t (history t (Pack drains reads ∷ steps)).server → IfWorn r a false c → IfMade r a false c l → IfOk r (λ told. told ≡ packed_told c t steps drains reads)
+  pub server-packs : a ≡ answer t steps (Pack drains []) → l ≡ kept b (server_datagrams t (history t (Pack drains reads ∷ steps)).server) → IfWorn r a false c → IfMade r a false c l → IfOk r (λ told. told ≡ packed_told c t steps drains reads)
   server-packs e sent worn there =
-      go (server_state t.config (history t steps).server) e (sent ∙ ap (λ (state : SendState). server_datagrams t (server_log.packed_onto t absorbed (values_of reads) state)) (absorbed-state t.config drains (history t steps).server))
+      go (server_state t.config (history t steps).server) e (sent ∙ ap (λ (state : SendState). kept b (server_datagrams t (server_log.packed_onto t absorbed (values_of reads) state))) (absorbed-state t.config drains (history t steps).server))
     where
-      go : (state : SendState) → a ≡ made state t.config.life (length before) → l ≡ server_datagrams t (server_log.packed_onto t absorbed (values_of reads) state) → IfOk r (λ told. told ≡ made_told t (history t steps).server c drains reads state)
+      go : (state : SendState) → a ≡ made state t.config.life (length before) → l ≡ kept b (server_datagrams t (server_log.packed_onto t absorbed (values_of reads) state)) → IfOk r (λ told. told ≡ made_told t (history t steps).server c drains reads state)
       go Held e sent =
           there true (length before) (server_ping_bytes t (history t steps).server) e
-          (at-end before l (server_ping_bytes t (history t steps).server)
-          (sent ∙ (λ j. absorbed-sends t drains (history t steps).server j ++ bytes_down t (server_packet.Ping (ping_head t.config.client (absorbed-end drains (history t steps).server j))) ∷ [])))
+          (at-end b before l (server_ping_bytes t (history t steps).server)
+          (sent ∙ (λ j. kept b (absorbed-sends t drains (history t steps).server j ++ bytes_down t (server_packet.Ping (ping_head t.config.client (absorbed-end drains (history t steps).server j))) ∷ []))))
       go Worn e sent = worn t.config.life e
       go Room e sent =
           there false (length before) (bytes_down t (server_packet.Body (next_body t absorbed (values_of reads)))) e
-          (at-end before l (bytes_down t (server_packet.Body (next_body t absorbed (values_of reads))))
-          (sent ∙ ap (λ (ds : List (List ℕ)). ds ++ bytes_down t (server_packet.Body (next_body t absorbed (values_of reads))) ∷ []) (absorbed-sends t drains (history t steps).server)))
+          (at-end b before l (bytes_down t (server_packet.Body (next_body t absorbed (values_of reads))))
+          (sent ∙ ap (λ (ds : List (List ℕ)). kept b (ds ++ bytes_down t (server_packet.Body (next_body t absorbed (values_of reads))) ∷ [])) (absorbed-sends t drains (history t steps).server)))
 
 module _ (t : Terms) (steps : List PairStep) (c : ℕ) (r : Result Told NoMemory) (a : Answer) (l : List (List ℕ)) where
   pub client-packs : a ≡ answer t steps ClientPack → l ≡ client_datagrams t.config (history t (ClientPack ∷ steps)).client → IfWorn r a true c → IfMade r a true c l → IfOk r (λ told. told ≡ client_pack_told c t steps)
   client-packs e sent worn there = go (client_state t.config (history t steps).client) e sent
     where
       go : (state : SendState) → a ≡ made state t.config.life (length (client_datagrams t.config (history t steps).client)) → l ≡ client_datagrams t.config (with_event (client_log.pack_event t.config (history t steps).client state) (history t steps).client) → IfOk r (λ told. told ≡ client_made_told t.config (history t steps).client c state)
-      go Held e sent = there true (length (client_datagrams t.config (history t steps).client)) (client_ping_bytes t.config (history t steps).client) e (at-end (client_datagrams t.config (history t steps).client) l (client_ping_bytes t.config (history t steps).client) sent)
+      go Held e sent = there true (length (client_datagrams t.config (history t steps).client)) (client_ping_bytes t.config (history t steps).client) e (at-end true (client_datagrams t.config (history t steps).client) l (client_ping_bytes t.config (history t steps).client) sent)
       go Worn e sent = worn t.config.life e
-      go Room e sent = there false (length (client_datagrams t.config (history t steps).client)) (client_bytes t.config (history t steps).client) e (at-end (client_datagrams t.config (history t steps).client) l (client_bytes t.config (history t steps).client) sent)
+      go Room e sent = there false (length (client_datagrams t.config (history t steps).client)) (client_bytes t.config (history t steps).client) e (at-end true (client_datagrams t.config (history t steps).client) l (client_bytes t.config (history t steps).client) sent)
 
 -- ---- it brings no move
 

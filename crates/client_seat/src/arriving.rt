@@ -1,5 +1,5 @@
 //! Datagrams that come to either end.
-ghost use Rattle.std.specs.Prelude.{◌≡◌, ◌≤◌, ◌<◌, ◌++◌, ◌∷◌, [], List, ℕ, IfOk, OnOk, length, map};
+ghost use Rattle.std.specs.Prelude.{◌≡◌, true, ◌≤◌, ◌<◌, ◌++◌, ◌∷◌, [], List, ℕ, IfOk, OnOk, length, map};
 ghost use Rattle.stream_manager.specs.Limits.{Terms};
 ghost use Rattle.own_lists.specs.pair_core.History.{Down, Up, Raw};
 ghost use Rattle.own_lists.specs.pair_core.Answers.{answer, server_delivered};
@@ -21,6 +21,7 @@ fn client_events(alloc: Global, pair: &mut Pair) -> Result<Events, NoMemory>
     ensures none { OnOk result (pair.new.client.common.receiver.ready ≡ []) }
     ensures stands { Stays pair.old pair.new }
     ensures server { pair.new.conn ≡ pair.old.conn }
+    ensures keeping { pair.new.keeps_all ≡ pair.old.keeps_all }
 {
     let mut events = Events::new(alloc);
     let _waiting = pair.client_waiting();
@@ -36,6 +37,7 @@ fn server_events(alloc: Global, pair: &mut Pair) -> Result<Events, NoMemory>
     ensures none { OnOk result (pair.new.conn.common.receiver.ready ≡ []) }
     ensures stands { Stays pair.old pair.new }
     ensures client { pair.new.client ≡ pair.old.client }
+    ensures keeping { pair.new.keeps_all ≡ pair.old.keeps_all }
 {
     let mut events = Events::new(alloc);
     let _waiting = pair.server_waiting();
@@ -68,6 +70,7 @@ impl Seat {
             ≡ server_delivered t k.steps ++ self.new.pair.conn.common.receiver.ready }
         ensures client { self.new.pair.client ≡ self.old.pair.client }
         ensures unchanged { Unchanged self.old.pair result self.new.pair }
+        ensures keeping { self.new.pair.keeps_all ≡ self.old.pair.keeps_all }
     {
         let answer = self.pair.step(step);
         if let Answer::Came { moves: _ } = answer {
@@ -91,6 +94,7 @@ impl Seat {
         requires room { Answers self.old room_in (room_for step.now) }
         ensures told { IfOk result (Answers self.old (arrived_told way client k (step_of step.now))) }
         ensures stands { OnOk result (Becomes self.old (λ t course. with_step (step_of step.now) course) self.new) }
+        ensures keeping { self.new.pair.keeps_all ≡ self.old.pair.keeps_all }
     {
         match self.bring(step) {
             Answer::Came { moves } => Ok(Told::Came {
@@ -116,11 +120,13 @@ impl Seat {
         }
     }
 
-    /// The client gets the server's datagram of place `k`, and hands out the events that it delivers.
+    /// The client gets the server's datagram of place `k`, and hands out the events that it delivers. All datagrams have to be kept.
     pub fn down(&mut self, alloc: Global, client: u8, k: u32) -> Result<Told, NoMemory>
-        requires { Stands self.old }
+        requires stands { Stands self.old }
+        requires keeps_all { self.old.pair.keeps_all ≡ true }
         ensures told { IfOk result (Answers self.old (λ t course. brought_down_told client k t course.steps)) }
         ensures stands { OnOk result (Becomes self.old (λ t course. with_step (Down k) course) self.new) }
+        ensures keeping { self.new.pair.keeps_all ≡ self.old.pair.keeps_all }
     {
         match self.pair.step(&PairStep::Down { k }) {
             Answer::Came { moves } => Ok(Told::Came {
@@ -147,6 +153,7 @@ impl Seat {
         requires { Stands self.old }
         ensures told { IfOk result (Answers self.old (brought_up_told client k)) }
         ensures stands { OnOk result (Becomes self.old (λ t course. with_step (Up k (room_in t course)) course) self.new) }
+        ensures keeping { self.new.pair.keeps_all ≡ self.old.pair.keeps_all }
     {
         let step = PairStep::Up {
             k,
@@ -160,6 +167,7 @@ impl Seat {
         requires { Stands self.old }
         ensures told { IfOk result (Answers self.old (raw_told client bytes)) }
         ensures stands { OnOk result (Becomes self.old (λ t course. with_step (Raw bytes (room_in t course)) course) self.new) }
+        ensures keeping { self.new.pair.keeps_all ≡ self.old.pair.keeps_all }
     {
         let step = PairStep::Raw {
             bytes,

@@ -1,9 +1,10 @@
 //! The datagrams that both ends make.
-ghost use Rattle.std.specs.Prelude.{◌≡◌, true, ℕ, Bool, ◌<◌, ◌≤◌, List, [], IfOk, IfSome, OnOk, length, slice_get, if◌then◌else◌, Some};
+ghost use Rattle.std.specs.Prelude.{◌≡◌, true, ℕ, Bool, ◌<◌, ◌≤◌, List, [], IfOk, IfSome, OnOk, length, if◌then◌else◌, Some};
 ghost use Rattle.std.specs.Option.{option_copied};
 ghost use Rattle.tn_types.specs.declared.choices.Read.{Read};
 ghost use Rattle.own_lists.specs.pair_core.declared.step.Answer.TheVariants as says;
 ghost use Rattle.own_lists.specs.pair_core.History.{ClientPack};
+ghost use Rattle.own_lists.specs.pair_core.Keeping.{newest};
 ghost use Rattle.match_report.specs.declared.told.Told.TheVariants as told_as;
 ghost use Rattle.client_seat.specs.Answering.{TellsPack};
 
@@ -63,7 +64,7 @@ fn packed_by(
     requires { TellsPack answer }
     ensures worn { (life : ℕ) → answer ≡ says.Worn life → IfOk result (λ told. told ≡ told_as.PackWorn up client life) }
     ensures made { (ping : Bool) (place : ℕ) (bytes : List ℕ) → answer ≡ says.Packed ping place
-        → slice_get (if up then pair.now.up else pair.now.down) place ≡ Some bytes
+        → newest (if up then pair.now.up else pair.now.down) ≡ Some bytes
         → IfOk result (λ told. told ≡ told_as.Packed up client place ping bytes) }
 {
     match answer {
@@ -75,7 +76,7 @@ fn packed_by(
             client,
             place,
             ping,
-            pair.datagram(!up, place),
+            pair.newest(!up),
         ),
         _ => unreachable!(),
     }
@@ -98,10 +99,11 @@ impl Seat {
         values: &mut V,
     ) -> Result<Told, NoMemory>
         requires stands { Stands self.old }
-        requires few { length self.old.pair.down < MAX_DATAGRAMS }
+        requires few { self.old.pair.sent < MAX_DATAGRAMS }
         requires may { MayPack self.old.pair drains.now (V.ranges values.old) }
-        ensures { IfOk result (λ told. (reads : List Read) × Packs self.old drains.now reads client told self.new
+        ensures packs { IfOk result (λ told. (reads : List Read) × Packs self.old drains.now reads client told self.new
             × Asks V.ranges V.stands V.owes V.same values.old values.new reads) }
+        ensures keeping { self.new.pair.keeps_all ≡ self.old.pair.keeps_all }
     {
         self.pair.prepare(alloc)?;
         let answer = self.pair.pack(drains, values);
@@ -114,6 +116,7 @@ impl Seat {
         requires few { length self.old.pair.up < MAX_DATAGRAMS }
         ensures told { IfOk result (Answers self.old (λ t k. client_pack_told client t k.steps)) }
         ensures stands { OnOk result (Becomes self.old (λ t k. with_step ClientPack k) self.new) }
+        ensures keeping { self.new.pair.keeps_all ≡ self.old.pair.keeps_all }
     {
         self.pair.prepare(alloc)?;
         let answer = self.pair.step(&PairStep::ClientPack);

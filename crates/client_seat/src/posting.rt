@@ -67,6 +67,7 @@ impl Seat {
         requires { Stands self.old }
         ensures told { Answers self.old (λ t k. post_told t k.steps client class) result }
         ensures stands { Becomes self.old (λ t k. with_step (Post class payload) k) self.new }
+        ensures keeping { self.new.pair.keeps_all ≡ self.old.pair.keeps_all }
     {
         let answer = self.pair.step(&PairStep::Post { class, payload });
         posted(false, client, answer)
@@ -77,6 +78,7 @@ impl Seat {
         requires { Stands self.old }
         ensures told { Answers self.old (λ t k. client_post_told t k.steps client class) result }
         ensures stands { Becomes self.old (λ t k. with_step (ClientPost class payload) k) self.new }
+        ensures keeping { self.new.pair.keeps_all ≡ self.old.pair.keeps_all }
     {
         let answer = self.pair.step(&PairStep::ClientPost { class, payload });
         posted(true, client, answer)
@@ -87,6 +89,7 @@ impl Seat {
         requires { Stands self.old }
         ensures told { Answers self.old (λ t k. move_told t k.steps client) result }
         ensures stands { Becomes self.old (λ t k. with_step (Sample m) k) self.new }
+        ensures keeping { self.new.pair.keeps_all ≡ self.old.pair.keeps_all }
     {
         let answer = self.pair.step(&PairStep::Sample { m });
         moved(client, answer)

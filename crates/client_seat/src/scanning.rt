@@ -14,7 +14,8 @@ impl Seat {
     // These periods end.
     fn hide_all(&mut self, hides: &[u32])
         requires { MayMake self.old (map hide_step hides.now) }
-        ensures { Becomes self.old (λ t k. with_steps (map hide_step hides.now) k) self.new }
+        ensures stands { Becomes self.old (λ t k. with_steps (map hide_step hides.now) k) self.new }
+        ensures keeping { self.new.pair.keeps_all ≡ self.old.pair.keeps_all }
     {
         for n in hides {
             self.pair.step(&PairStep::Hide { n: *n });
@@ -24,7 +25,8 @@ impl Seat {
     // The objects of these periods are at other levels.
     fn near_all(&mut self, nears: &[Near])
         requires { MayMake self.old (map near_step nears.now) }
-        ensures { Becomes self.old (λ t k. with_steps (map near_step nears.now) k) self.new }
+        ensures stands { Becomes self.old (λ t k. with_steps (map near_step nears.now) k) self.new }
+        ensures keeping { self.new.pair.keeps_all ≡ self.old.pair.keeps_all }
     {
         for near in nears {
             self.pair.step(&PairStep::Near {
@@ -37,7 +39,8 @@ impl Seat {
     // Periods begin.
     fn show_all(&mut self, shows: &[Showing])
         requires { MayMake self.old (map show_step shows.now) }
-        ensures { Becomes self.old (λ t k. with_steps (map show_step shows.now) k) self.new }
+        ensures stands { Becomes self.old (λ t k. with_steps (map show_step shows.now) k) self.new }
+        ensures keeping { self.new.pair.keeps_all ≡ self.old.pair.keeps_all }
     {
         for show in shows {
             self.pair.step(&PairStep::Show {
@@ -53,7 +56,8 @@ impl Seat {
     /// period begins for each of `shows`. Each of these steps has to be one that may be made after those before it.
     pub fn scan(&mut self, hides: &[u32], nears: &[Near], shows: &[Showing])
         requires { MayMake self.old (scan_steps hides.now nears.now shows.now) }
-        ensures { Becomes self.old (λ t k. with_steps (scan_steps hides.now nears.now shows.now) k) self.new }
+        ensures stands { Becomes self.old (λ t k. with_steps (scan_steps hides.now nears.now shows.now) k) self.new }
+        ensures keeping { self.new.pair.keeps_all ≡ self.old.pair.keeps_all }
     {
         self.hide_all(hides);
         self.near_all(nears);

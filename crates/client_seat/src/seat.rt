@@ -1,5 +1,5 @@
 //! A client's connection in a match, with its accepted moves.
-ghost use Rattle.std.specs.Prelude.{◌≡◌, ◌<◌, ◌≤◌, ◌-◌, ◌^◌, [], List, IfOk, length, slice_get};
+ghost use Rattle.std.specs.Prelude.{◌≡◌, true, false, ◌<◌, ◌≤◌, ◌-◌, ◌^◌, [], List, IfOk, length, slice_get};
 ghost use Rattle.notify_window.specs.declared.SendState.{SendState as State};
 ghost use Rattle.stream_manager.specs.Limits.{IsConfig};
 ghost use Rattle.stream_manager.specs.Server.{server_state};
@@ -49,11 +49,23 @@ impl Model for Seat {
     ghost invariant = { λ s. s.waiting.capacity ≡ MAX_WAITING_MOVES };
 }
 
+// Places for the moves that wait.
+fn places(alloc: Global) -> Result<HeapCircularBuffer<Move>, NoMemory>
+    ensures none { IfOk result (λ b. b.items ≡ []) }
+    ensures places { IfOk result (λ b. b.capacity ≡ MAX_WAITING_MOVES) }
+{
+    match HeapCircularBuffer::with_capacity(alloc, MAX_WAITING_MOVES) {
+        Ok(waiting) => Ok(waiting),
+        Err(_) => Err(NoMemory),
+    }
+}
+
 impl Seat {
     ghost use Rattle.own_lists.specs.Course.{beginning};
     ghost use Rattle.client_seat.specs.Stands.{StandsFor, Answers, without_first};
 
-    /// A connection of which nothing happened, in a match of these kinds and blocks, at most 64.
+    /// A connection of which nothing happened, in a match of these kinds and blocks, at most 64. It keeps each datagram that its server
+    /// sends, for `down`.
     pub fn new(
         alloc: Global,
         config: Config,
@@ -62,18 +74,39 @@ impl Seat {
     ) -> Result<Seat, NoMemory>
         requires config { IsConfig config }
         requires few { length blocks.now ≤ MAX_BLOCKS }
-        ensures { IfOk result (λ s. StandsFor s (record { config = config; kinds = kinds.now; blocks = blocks.now }) beginning) }
+        ensures stands { IfOk result (λ s. StandsFor s (record { config = config; kinds = kinds.now; blocks = blocks.now }) beginning) }
+        ensures keeps_all { IfOk result (λ s. s.pair.keeps_all ≡ true) }
     {
         let pair = Pair::new(alloc, config, kinds, blocks)?;
-        match HeapCircularBuffer::with_capacity(alloc, MAX_WAITING_MOVES) {
-            Ok(waiting) => Ok(Seat {
-                pair,
-                waiting,
-                taken: 0,
-                spare: None,
-            }),
-            Err(_) => Err(NoMemory),
-        }
+        let waiting = places(alloc)?;
+        Ok(Seat {
+            pair,
+            waiting,
+            taken: 0,
+            spare: None,
+        })
+    }
+
+    /// The same, but it hands each datagram of its server on, and keeps the newest alone.
+    pub fn passing(
+        alloc: Global,
+        config: Config,
+        kinds: &KindTable,
+        blocks: &[BlockBytes],
+    ) -> Result<Seat, NoMemory>
+        requires config { IsConfig config }
+        requires few { length blocks.now ≤ MAX_BLOCKS }
+        ensures stands { IfOk result (λ s. StandsFor s (record { config = config; kinds = kinds.now; blocks = blocks.now }) beginning) }
+        ensures passes { IfOk result (λ s. s.pair.keeps_all ≡ false) }
+    {
+        let pair = Pair::passing(alloc, config, kinds, blocks)?;
+        let waiting = places(alloc)?;
+        Ok(Seat {
+            pair,
+            waiting,
+            taken: 0,
+            spare: None,
+        })
     }
 
     /// The connection.

@@ -1,7 +1,7 @@
 -- What is written of a demo when the script's next line is done.
 use Rattle.std.proofs.Common.{drop, nat_lt, true, false, ◌≡◌, ◌∙◌, ℕ, zero, suc, ◌+◌, ◌<◌, ◌≤◌, List, [], ◌∷◌, ◌++◌, length, get_or, reverse, take, Option, Some, None, refl, sym, ap, subst, arith, inl, inr, append_assoc}
 use Rattle.std.specs.Prelude.{slice_get, slice_index_or, Result, Ok, Err, OnOk, OnErr}
-use Rattle.std.specs.List.{flat_map, AllByRecursion}
+use Rattle.std.specs.List.{AllByRecursion}
 use Rattle.std.proofs.lemmas.List.{take_all, take-append-drop, reverse-append, append-nil}
 use Rattle.std.proofs.lemmas.List.Concat.{flat_map-append}
 use Rattle.std.proofs.lemmas.Option.{slice_get-get_or}
@@ -17,6 +17,7 @@ use Rattle.demo_taken.specs.pair_core.History.{history}
 use Rattle.client_scope.specs.StandsFor.{Table}
 use Rattle.match_engine.specs.client_seat.Stands.{SeatState}
 use Rattle.own_lists.specs.Past.{client_terms}
+use Rattle.own_lists.proofs.Below.pair_core.Keeping.{all-kept}
 use Rattle.match_engine.specs.match_laws.Report.{told_after}
 use Rattle.match_engine.specs.match_laws.Values.{steps_of}
 use Rattle.demo_taken.specs.pair_core.Stands.{PairState}
@@ -25,7 +26,7 @@ use Rattle.match_engine.proofs.Written.{reverse_next}
 use Rattle.demo_format.specs.Head.{spell_head}
 use Rattle.demo_format.specs.Records.{spell_record, spell_records, ending, IsRecord}
 use Rattle.demo_record.specs.Recording.{demo_head, demo_text, place_taken, records_text, taken_by, taken_lines}
-use Rattle.demo_record.proofs.Noted.{Known, IsNoted, IsUnnoted, known}
+use Rattle.demo_record.proofs.Noted.{Known, IsNoted, known}
 
 -- ---- lists of lines
 
@@ -143,7 +144,7 @@ module _ (m : MatchState) (line : BodyLine) (past : List BodyLine) (s : StandsFo
   pub sent-down : (slice_index_or m.game.seats c seat).pair.down ≡ server_datagrams (client_terms m.script.head c) (history (client_terms m.script.head c) (steps_of m.script.head (line ∷ past) c)).server
   sent-down =
       subst (λ (h : Head). (slice_index_or m.game.seats c seat).pair.down ≡ server_datagrams (client_terms h c) (history (client_terms h c) (steps_of h (line ∷ past) c)).server) s.head
-      (s.game.client c seat scope in-game).course.holds.pair.down
+      (all-kept (slice_index_or m.game.seats c seat).pair (client_terms m.game.head c) (steps_of m.game.head (line ∷ past) c) (s.game.client c seat scope in-game).course.holds.pair (s.keeps c seat has-seat))
 
 -- by what is known of the line
 pub noted : (head : Head) (past : List BodyLine) (c : ℕ) (line : BodyLine) (k : ℕ) → Known head past c line → place_taken c (told_after head past line) ≡ Some k → (bytes : List ℕ) × IsNoted head past c line k bytes

@@ -29,7 +29,8 @@ fresh-kept p fresh =
       each = λ i lt. absurd (omega arith);
       long = refl;
       few_moves = omega arith;
-      few_down = let e = ap (λ (l : List (List ℕ)). length l) stands.down in omega arith;
+      keeps_all = fresh.keeps_all;
+      few_down = let e = stands.sent in omega arith;
       few_up = let e = ap (λ (l : List (List ℕ)). length l) stands.up in omega arith;
     }
 
@@ -38,7 +39,7 @@ fresh-kept p fresh =
 module _ (old new : PairState) (steps : List PairStep) (moves more : List Move) (befores : List ℕ) (step : PairStep) (k : AreKept old steps moves befores)
     (few : length (steps ++ step ∷ []) ≤ 65536) (met : IsMet (terms_of old.conn) (newest_first steps) step) (fits : StepFits step)
     (stands : StandsFor new (terms_of old.conn) (step ∷ newest_first steps))
-    (are : more ≡ accepted_in (terms_of old.conn) (step ∷ newest_first steps)) where
+    (are : more ≡ accepted_in (terms_of old.conn) (step ∷ newest_first steps)) (keeping : new.keeps_all ≡ old.keeps_all) where
   longer : length (steps ++ step ∷ []) ≡ suc (length steps)
   longer = let e = length-append steps (step ∷ []) in omega arith
 
@@ -73,6 +74,7 @@ module _ (old new : PairState) (steps : List PairStep) (moves more : List Move) 
     each = λ i lt. subst (λ t. get_or (befores ++ length moves ∷ []) i 0 ≡ length (accepted_in t (newest_first (take i (steps ++ step ∷ []))))) (sym stands.terms) (each-more i lt);
     long = omega (arith, k.long, longer, length-append befores (length moves ∷ []));
     few_moves = omega (arith, k.few_moves, longer, few-more (terms_of old.conn) (newest_first steps) step, ap (λ (l : List Move). length l) are, ap (λ (l : List Move). length l) k.moves_are);
-    few_down = omega (arith, k.few_down, longer, one-down (terms_of old.conn) (newest_first steps) step, ap (λ (l : List (List ℕ)). length l) stands.down, ap (λ (l : List (List ℕ)). length l) k.replays.stands.down);
+    keeps_all = keeping ∙ k.keeps_all;
+    few_down = omega (arith, k.few_down, longer, one-down (terms_of old.conn) (newest_first steps) step, stands.sent, k.replays.stands.sent);
     few_up = omega (arith, k.few_up, longer, one-up (terms_of old.conn) (newest_first steps) step, ap (λ (l : List (List ℕ)). length l) stands.up, ap (λ (l : List (List ℕ)). length l) k.replays.stands.up);
   }

@@ -34,10 +34,11 @@ terms_in k = terms_of k.pair.conn
 abbrev pub newest_first : List PairStep → List PairStep
 newest_first steps = reverse steps
 
--- no step was made on the pair
+-- no step was made on the pair, and it keeps each datagram
 pub record IsFresh (p : PairState) : Type 0 where
   pub terms : Terms
   pub stands : StandsFor p terms []
+  pub keeps_all : p.keeps_all ≡ true
 
 -- ---- kept steps replay
 
@@ -95,5 +96,6 @@ pub record AreKept (p : PairState) (steps : List PairStep) (moves : List Move) (
   pub each : (i : ℕ) → i < length steps → slice_index befores i ≡ length (accepted_in (terms_of p.conn) (newest_first (take i steps)))
   pub long : length befores ≡ length steps
   pub few_moves : length moves ≤ MAX_PACKET_MOVES * length steps
-  pub few_down : length p.down ≤ length steps
+  pub keeps_all : p.keeps_all ≡ true
+  pub few_down : p.sent ≤ length steps
   pub few_up : length p.up ≤ length steps

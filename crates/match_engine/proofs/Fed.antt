@@ -248,3 +248,7 @@ map_on_ok (Err e) A C f a = tt
 pub both_ok : {T E : Type 0} (r : Result T E) (A B C : Type 0) → (A → B → C) → OnOk r A → OnOk r B → OnOk r C
 both_ok (Ok t) A B C f a b = f a b
 both_ok (Err e) A B C f a b = tt
+
+pub ok_of : {T E : Type 0} (r : Result T E) (A : Type 0) → A → OnOk r A
+ok_of (Ok t) A a = a
+ok_of (Err e) A a = tt

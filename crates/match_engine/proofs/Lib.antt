@@ -1,5 +1,6 @@
 pub mod Below
 pub mod Marks
+pub mod Keeping
 pub mod Fed
 pub mod Scanning
 pub mod Packing

@@ -245,9 +245,9 @@ module _ (seat : SeatState) (scope : Table) (w : Worlds) (lanes : Words) (c : �
     ranged = in_ranges;
   }
 
-  pub few_sent : counted_in past < 4000000 → length seat.pair.down < 4294967295
+  pub few_sent : counted_in past < 4000000 → seat.pair.sent < 4294967295
   few_sent few =
-      let down = ap length s.holds.course.holds.pair.down in
+      let down = s.holds.course.holds.pair.sent in
       omega (arith, down, few_down t ((after head past).own c), own_few head past c, few)
 
   pub packed_tells : (drains : List Drain) (rs : List Read) (told : Told) (new : SeatState) → drains ≡ drains_of t k → rs ≡ reads_of t k → Packs seat drains rs c told new → told ≡ pack_told t k c

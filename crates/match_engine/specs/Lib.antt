@@ -4,4 +4,5 @@ pub mod Stands
 pub mod Values
 pub mod Serving
 pub mod Match
+pub mod Served
 pub mod Telling

@@ -8,7 +8,7 @@ use Rattle.match_script.specs.declared.types.Script.{Script}
 use Rattle.match_report.specs.declared.told.Told.{Told}
 use Rattle.match_laws.specs.Report.{told_after}
 use Rattle.match_engine.specs.Stands as held
-use Rattle.match_engine.specs.Stands.{GameState}
+use Rattle.match_engine.specs.Stands.{GameState, KeepAll}
 
 pub record MatchState : Type 0 where
   pub script : Script
@@ -27,6 +27,7 @@ pub record StandsFor (m : MatchState) (past : List BodyLine) : Type 0 where
   pub game : held.StandsFor m.game past
   pub told : m.told ≡ last_told m.script.head past
   pub within : m.place ≤ length m.script.body
+  pub keeps : KeepAll m.game.seats  -- what its lines `down` bring
 
 -- only lines of the script were done
 abbrev pub IsPlayed : MatchState → Type 0

@@ -1,5 +1,5 @@
 -- The tie between a match and the lines that were done, the newest first.
-use Rattle.std.specs.Prelude.{◌≡◌, ℕ, ◌<◌, ◌^◌, ◌-◌, List, length, slice_index_or}
+use Rattle.std.specs.Prelude.{◌≡◌, true, ℕ, ◌<◌, ◌^◌, ◌-◌, List, length, slice_index_or}
 use Rattle.std.specs.List.{All}
 use Rattle.tn_types.specs.Histories as histories
 use Rattle.tn_types.specs.declared.limits.TheConstants.{MAX_OBJECTS, MAX_CLIENTS}
@@ -65,6 +65,15 @@ IsDirect (script.Pack c) = ⊥
 IsDirect (script.Show c) = ⊥
 IsDirect script.World = ⊥
 IsDirect line = Unit {0}
+
+-- a line that brings a client what its server sent
+abbrev pub IsDown : BodyLine → Type 0
+IsDown (script.Down c k) = Unit {0}
+IsDown line = ⊥
+
+-- each connection keeps every datagram that its server sent
+abbrev pub KeepAll : List SeatState → Type 0
+KeepAll seats = All (λ s. s.pair.keeps_all ≡ true) seats
 
 -- each seat's count of taken moves may grow
 abbrev pub AreFew : List SeatState → Type 0

@@ -1,7 +1,8 @@
 //! What a match holds: its world, and the connection and the scope of each client.
-ghost use Rattle.std.specs.Prelude.{◌≡◌, ℕ, ◌<◌, ◌≤◌, List, [], ◌∷◌, IfOk, OnOk, Some, None, length, nat_le};
+ghost use Rattle.std.specs.Prelude.{◌≡◌, true, ℕ, ◌<◌, ◌≤◌, List, [], ◌∷◌, IfOk, OnOk, Some, None, length, nat_le};
 ghost use Rattle.std.specs.Prelude.{slice_index_or};
 ghost use Rattle.match_script.specs.Ranges.{HeadFits};
+ghost use Rattle.stream_manager.specs.Limits.{IsConfig};
 ghost use Rattle.client_scope.specs.StandsFor.{Table, StandsFor as ScopeStandsFor};
 ghost use Rattle.match_laws.specs.own_lists.Counted.{counted};
 ghost use Rattle.match_laws.specs.own_lists.Own.{client_named};
@@ -20,10 +21,13 @@ use match_laws::client_seat::Seat;
 use match_laws::pair_core::Pair;
 use match_report::Told;
 use match_script::{BodyLine, Head};
+use quantised_fields::KindTable;
 use std::alloc::Global;
 use std::marker::Model;
 use stream_manager::Config;
-use tn_types::{MAX_CLIENTS, MAX_COUNTED_LINES, MAX_OBJECTS, Move, NoMemory, RawBytes};
+use tn_types::{
+    BlockBytes, MAX_BLOCKS, MAX_CLIENTS, MAX_COUNTED_LINES, MAX_OBJECTS, Move, NoMemory, RawBytes,
+};
 use world_rules::match_kinds;
 use world_sim::World;
 
@@ -101,11 +105,34 @@ fn counted(line: &BodyLine) -> u32
     }
 }
 
+// A connection, which keeps each datagram or hands it on.
+fn seat_of(
+    alloc: Global,
+    config: Config,
+    kinds: &KindTable,
+    blocks: &[BlockBytes],
+    keeps_all: bool,
+) -> Result<Seat, NoMemory>
+    requires config { IsConfig config }
+    requires few { length blocks.now ≤ MAX_BLOCKS }
+    ensures stands { IfOk result
+        (λ s. SeatStandsFor s (record { config = config; kinds = kinds.now; blocks = blocks.now }) beginning) }
+    ensures keeps { IfOk result (λ s. s.pair.keeps_all ≡ keeps_all) }
+{
+    if keeps_all {
+        Seat::new(alloc, config, kinds, blocks)
+    } else {
+        Seat::passing(alloc, config, kinds, blocks)
+    }
+}
+
 // The connection of each client.
-fn seats_of(alloc: Global, head: &Head) -> Result<Vec<Seat>, NoMemory>
+fn seats_of(alloc: Global, head: &Head, keeps_all: bool) -> Result<Vec<Seat>, NoMemory>
     requires { HeadFits head.now }
-    ensures { IfOk result (λ seats. (length seats.items ≡ head.now.clients) × ((c : ℕ) (d : SeatState) → c < head.now.clients
+    ensures stands { IfOk result (λ seats. (length seats.items ≡ head.now.clients) × ((c : ℕ) (d : SeatState) → c < head.now.clients
         → SeatStandsFor (slice_index_or seats.items c d) (client_terms head.now c) beginning)) }
+    ensures keeps { IfOk result (λ seats. (c : ℕ) (d : SeatState) → c < head.now.clients
+        → (slice_index_or seats.items c d).pair.keeps_all ≡ keeps_all) }
 {
     let kinds = match_kinds();
     let mut seats = Vec::new(alloc);
@@ -116,7 +143,7 @@ fn seats_of(alloc: Global, head: &Head) -> Result<Vec<Seat>, NoMemory>
             size: head.size,
             version: head.version,
         };
-        let seat = Seat::new(alloc, config, &kinds, head.blocks.as_slice())?;
+        let seat = seat_of(alloc, config, &kinds, head.blocks.as_slice(), keeps_all)?;
         if seats.push(seat).is_err() {
             return Err(NoMemory);
         }
@@ -144,15 +171,16 @@ impl<'a> Game<'a> {
     ghost use Rattle.match_script.specs.declared.types.BodyLine.TheVariants as script;
     ghost use Rattle.match_script.specs.Ranges.{LineFits};
     ghost use Rattle.match_laws.specs.Report.{told_after};
-    ghost use Rattle.match_engine.specs.Stands.{StandsFor, Does, Answers, IsDirect};
+    ghost use Rattle.match_engine.specs.Stands.{StandsFor, Does, Answers, IsDirect, IsDown, KeepAll};
 
-    /// A match of this header, of which no line was done.
-    pub(crate) fn new(alloc: Global, head: &'a Head) -> Result<Game<'a>, NoMemory>
+    /// A match of this header, of which no line was done. Its connections keep each datagram that their servers send, or hand it on.
+    pub(crate) fn new(alloc: Global, head: &'a Head, keeps_all: bool) -> Result<Game<'a>, NoMemory>
         requires { HeadFits head.now }
         ensures stands { IfOk result (λ m. StandsFor m []) }
         ensures head { IfOk result (λ m. m.head ≡ head.now) }
+        ensures keeps { IfOk result (λ m. keeps_all ≡ true → KeepAll m.seats) }
     {
-        let seats = seats_of(alloc, head)?;
+        let seats = seats_of(alloc, head, keeps_all)?;
         let scopes = scopes_of(alloc, head.clients)?;
         let lanes = PlainLanes::new(alloc, MAX_OBJECTS as u32, u32::from(MAX_CLIENTS))?;
         let world = World::new(alloc, head.seed, &head.setup)?;
@@ -220,14 +248,16 @@ impl<'a> Game<'a> {
         &self.world
     }
 
-    /// Does one line, and gives what the report tells of it.
+    /// Does one line, and gives what the report tells of it. A line `down` wants that each datagram is kept.
     pub(crate) fn feed(&mut self, alloc: Global, line: &BodyLine) -> Result<Told, NoMemory>
         requires stands { (past : List OneLine) × StandsFor self.old past }
         requires fits { LineFits self.old.head.clients line.now }
         requires few { self.old.done < MAX_COUNTED_LINES }
+        requires kept { IsDown line.now → KeepAll self.old.seats }
         ensures told { IfOk result (Answers self.old (λ past. told_after self.old.head past line.now)) }
         ensures stands { OnOk result (Does self.old line.now self.new) }
         ensures head { self.new.head ≡ self.old.head }
+        ensures keeps { OnOk result (KeepAll self.old.seats → KeepAll self.new.seats) }
     {
         match client_named(line) {
             Some(client) => self.serve(alloc, client, line),
@@ -241,9 +271,11 @@ impl<'a> Game<'a> {
         requires stands { (past : List OneLine) × StandsFor self.old past }
         requires fits { LineFits self.old.head.clients line.now }
         requires few { self.old.done < MAX_COUNTED_LINES }
+        requires kept { IsDown line.now → KeepAll self.old.seats }
         ensures told { IfOk result (Answers self.old (λ past. told_after self.old.head past line.now)) }
         ensures stands { OnOk result (Does self.old line.now self.new) }
         ensures head { self.new.head ≡ self.old.head }
+        ensures keeps { OnOk result (KeepAll self.old.seats → KeepAll self.new.seats) }
     {
         match line {
             BodyLine::Scan { client: _ } => self.scan(alloc, client),
@@ -260,9 +292,11 @@ impl<'a> Game<'a> {
         requires stands { (past : List OneLine) × StandsFor self.old past }
         requires fits { LineFits self.old.head.clients line.now }
         requires few { self.old.done < MAX_COUNTED_LINES }
+        requires kept { IsDown line.now → KeepAll self.old.seats }
         ensures told { IfOk result (Answers self.old (λ past. told_after self.old.head past line.now)) }
         ensures stands { OnOk result (Does self.old line.now self.new) }
         ensures head { self.new.head ≡ self.old.head }
+        ensures keeps { OnOk result (KeepAll self.old.seats → KeepAll self.new.seats) }
     {
         self.done += counted(line);
         line_on(alloc, &mut self.seats[client as usize], line)
@@ -276,6 +310,7 @@ impl<'a> Game<'a> {
         ensures told { IfOk result (Answers self.old (λ past. told_after self.old.head past (script.Scan client))) }
         ensures stands { OnOk result (Does self.old (script.Scan client) self.new) }
         ensures head { self.new.head ≡ self.old.head }
+        ensures keeps { OnOk result (KeepAll self.old.seats → KeepAll self.new.seats) }
     {
         self.done += 1;
         let place = client as usize;
@@ -298,6 +333,7 @@ impl<'a> Game<'a> {
         ensures told { IfOk result (Answers self.old (λ past. told_after self.old.head past (script.Pack client))) }
         ensures stands { OnOk result (Does self.old (script.Pack client) self.new) }
         ensures head { self.new.head ≡ self.old.head }
+        ensures keeps { OnOk result (KeepAll self.old.seats → KeepAll self.new.seats) }
     {
         self.done += 1;
         let place = client as usize;
@@ -321,6 +357,7 @@ impl<'a> Game<'a> {
         ensures told { IfOk result (Answers self.old (λ past. told_after self.old.head past (script.Show client))) }
         ensures stands { OnOk result (Does self.old (script.Show client) self.new) }
         ensures head { self.new.head ≡ self.old.head }
+        ensures keeps { OnOk result (KeepAll self.old.seats → KeepAll self.new.seats) }
     {
         let place = client as usize;
         show_for(
@@ -341,6 +378,7 @@ impl<'a> Game<'a> {
         ensures told { IfOk result (Answers self.old (λ past. told_after self.old.head past line.now)) }
         ensures stands { OnOk result (Does self.old line.now self.new) }
         ensures head { self.new.head ≡ self.old.head }
+        ensures keeps { OnOk result (KeepAll self.old.seats → KeepAll self.new.seats) }
     {
         match line {
             BodyLine::Tick => self.tick(alloc),
@@ -356,6 +394,7 @@ impl<'a> Game<'a> {
         ensures told { IfOk result (Answers self.old (λ past. told_after self.old.head past script.Tick)) }
         ensures stands { OnOk result (Does self.old script.Tick self.new) }
         ensures head { self.new.head ≡ self.old.head }
+        ensures keeps { OnOk result (KeepAll self.old.seats → KeepAll self.new.seats) }
     {
         let Ok(()) = take_moves(&mut self.seats, &mut self.moves) else {
             return Err(NoMemory);
@@ -375,6 +414,7 @@ impl<'a> Game<'a> {
         ensures told { IfOk result (Answers self.old (λ past. told_after self.old.head past script.World)) }
         ensures stands { OnOk result (Does self.old script.World self.new) }
         ensures head { self.new.head ≡ self.old.head }
+        ensures keeps { OnOk result (KeepAll self.old.seats → KeepAll self.new.seats) }
     {
         let objects = living_of(alloc, &self.world)?;
         Ok(Told::World {

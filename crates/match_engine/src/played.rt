@@ -40,6 +40,27 @@ impl Drop for Match<'_> {
     }
 }
 
+/// Where the last line told of a datagram, it is told no more, and its bytes go back to its connection.
+pub(crate) fn let_go(told: &mut Option<Told>, game: &mut Game)
+    ensures { game.new ≡ game.old }
+{
+    if !is_datagram(told) {
+        return;
+    }
+    if let Some(
+        Told::Packed {
+            up: _,
+            client,
+            place: _,
+            ping: _,
+            bytes,
+        },
+    ) = told.take()
+    {
+        game.give_back(client, bytes);
+    }
+}
+
 // Whether a datagram was told of: where not, nothing is to be given back, and nothing is moved.
 fn is_datagram(told: &Option<Told>) -> bool {
     matches!(told, Some(Told::Packed { .. }))
@@ -62,14 +83,14 @@ impl<'a> Match<'a> {
     ghost use Rattle.match_script.specs.declared.types.BodyLine.{BodyLine as OneLine};
     ghost use Rattle.match_engine.specs.Match.{StandsFor, IsPlayed, Does, last_told};
 
-    /// A match of this script, of which no line was done.
+    /// A match of this script, of which no line was done. It keeps each datagram, for lines `down`.
     pub fn new(alloc: Global, script: &'a Script) -> Result<Match<'a>, NoMemory>
         requires { HeadFits script.now.head }
         ensures stands { IfOk result (λ m. StandsFor m []) }
         ensures script { IfOk result (λ m. m.script ≡ script.now) }
         ensures place { IfOk result (λ m. m.place ≡ 0) }
     {
-        let game = Game::new(alloc, &script.head)?;
+        let game = Game::new(alloc, &script.head, true)?;
         Ok(Match {
             script,
             game,
@@ -118,32 +139,9 @@ impl<'a> Match<'a> {
         ensures place { self.new.place ≡ self.old.place }
         ensures script { self.new.script ≡ self.old.script }
     {
-        self.let_go();
+        let_go(&mut self.told, &mut self.game);
         self.told = Some(self.game.feed(alloc, line)?);
         Ok(())
-    }
-
-    // Where the last line told of a datagram, it is told no more, and its bytes go back to its connection.
-    fn let_go(&mut self)
-        ensures game { self.new.game ≡ self.old.game }
-        ensures place { self.new.place ≡ self.old.place }
-        ensures script { self.new.script ≡ self.old.script }
-    {
-        if !is_datagram(&self.told) {
-            return;
-        }
-        if let Some(
-            Told::Packed {
-                up: _,
-                client,
-                place: _,
-                ping: _,
-                bytes,
-            },
-        ) = self.told.take()
-        {
-            self.game.give_back(client, bytes);
-        }
     }
 
     /// What the last line tells: its line of the report. None exactly before the first one.

@@ -66,6 +66,7 @@ pub(crate) fn pack_for(
     ensures serves { OnOk result ((h : Head) (past : List OneLine) → Serves seat.old scope.now world.now lanes.old client h past
         → counted_in past < MAX_COUNTED_LINES → Serves seat.new scope.now world.now lanes.new client h (script.Pack client ∷ past)) }
     ensures others { OnOk result (OthersStay client lanes.old lanes.new) }
+    ensures keeping { seat.new.pair.keeps_all ≡ seat.old.pair.keeps_all }
 {
     let Ok(()) = drains_for(seat, scope, lanes, client, drains) else {
         return Err(NoMemory);
@@ -139,6 +140,7 @@ pub(crate) fn scan_for(
     ensures serves { OnOk result ((h : Head) (past : List OneLine) → Serves seat.old scope.old world.now lanes.old client h past
         → counted_in past < MAX_COUNTED_LINES → Serves seat.new scope.new world.now lanes.new client h (script.Scan client ∷ past)) }
     ensures others { OnOk result (OthersStay client lanes.old lanes.new) }
+    ensures keeping { seat.new.pair.keeps_all ≡ seat.old.pair.keeps_all }
 {
     visible(alloc, world, client, &mut room.seen)?;
     scope.scan(alloc, &room.seen)?;

@@ -112,6 +112,7 @@ pub record IsSettledIn (t : Terms) (steps : List PairStep) (d : Drain) (f : ℕ)
 
 pub settled-in : (t : Terms) (steps : List PairStep) (d : Drain) (f : ℕ) → is_newest t steps f d ≡ true → IsSettledIn t steps d f
 settled-in t steps d f e =
+    let log : List GhostEvent = ghost_log (history t steps).server in
     let w = and_parts (nat_lt f (length (fields_of t.kinds (kind_of log d.n))) && is_settled log d.n f) (not (has_bit d.bits f)) e in
     let b = and_parts (nat_lt f (length (fields_of t.kinds (kind_of log d.n)))) (is_settled log d.n f) w.0 in
     let s = and_parts (is_live (phase log d.n) && not (is_due log d.n f)) (not (list_any (carries d.n f) (unjudged log))) b.1 in
@@ -123,8 +124,5 @@ settled-in t steps d f e =
       written = not-false (has_bit d.bits f) w.1;
     }
   where
-    abbrev log : List GhostEvent
-    log = ghost_log (history t steps).server
-
     less : (a b : ℕ) → nat_lt a b ≡ true → a < b
     less a b e = grind (arith, nat_tests)

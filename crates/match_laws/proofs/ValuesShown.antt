@@ -1,20 +1,16 @@
 -- What a report tells of a copy's fields: values that the object had, the newest of those that are settled; and what recovers.
-use Rattle.std.proofs.Common.{◌≡◌, ℕ, ℤ, ◌<◌, ◌&&◌, Bool, true, false, cond, not, nat_lt, List, [], ◌∷◌, Option, Some, None, length, refl, sym, ap, ◌∙◌, subst, arith, inl, inr}
-use Rattle.std.specs.Prelude.{◌⊎◌, map, find, slice_get, slice_index_or, option_map}
-use Rattle.std.specs.Option.{option_map_or, option_and_then}
+use Rattle.std.proofs.Common.{◌≡◌, ℕ, ℤ, ◌<◌, true, false, List, [], ◌∷◌, Option, Some, None, length, refl, sym, ap, ◌∙◌, subst, inl, inr}
+use Rattle.std.specs.Prelude.{◌⊎◌, map, slice_get, slice_index_or}
+use Rattle.std.specs.Option.{option_map_or}
 use Rattle.std.specs.List.{AllByRecursion, list_any}
-use Rattle.std.proofs.lemmas.Bool.{and_parts, eqb-true}
-use Rattle.std.proofs.lemmas.Bool.Decides.{nat_tests}
 use Rattle.std.proofs.lemmas.List.Elements.{All-from_recursion}
-use Rattle.std.proofs.lemmas.Option.{slice_get-get_or, get_or_from_slice_get, slice_get_within}
+use Rattle.std.proofs.lemmas.Option.{slice_get-get_or, slice_get_within}
 use Rattle.tn_types.specs.declared.choices.Drain.{Drain}
 use Rattle.tn_types.specs.BitWords.{has_bit}
 use Rattle.quantised_fields.specs.declared.field.FieldSpec.{FieldSpec}
-use Rattle.quantised_fields.specs.declared.kind.Kind.{Kind}
-use Rattle.quantised_fields.specs.Levels.{level_of, shown_of}
-use Rattle.ghost_model.specs.Phases.{is_live}
-use Rattle.ghost_model.specs.Ghosts.{GhostEvent, phase, slot, carries, unjudged, is_due, is_settled}
-use Rattle.ghost_masks.specs.Plan.{kind_of, fields_of, fields_in, is_slot}
+use Rattle.quantised_fields.specs.Levels.{level_of}
+use Rattle.ghost_model.specs.Ghosts.{GhostEvent, slot, carries, unjudged, is_due}
+use Rattle.ghost_masks.specs.Plan.{kind_of, fields_of, is_slot}
 use Rattle.ghost_client.specs.declared.copy.GhostCopy.{GhostCopy}
 use Rattle.ghost_client.specs.Copies.{copy_of}
 use Rattle.ghost_client.specs.State.{field_value}

@@ -7,7 +7,7 @@ use Rattle.tn_outside.specs.Totals.{Adds, AddsFront}
 use Rattle.match_script.specs.declared.types.BodyLine.{BodyLine}
 use Rattle.match_script.specs.declared.types.BodyLine.TheVariants.{Post}
 use Rattle.match_script.specs.declared.types.Script.{Script}
-use Rattle.match_engine.specs.Match.{MatchState, Does}
+use Rattle.match_engine.specs.Served.{ServedState, Does}
 use Rattle.net_serve.specs.Lines.{post_to, post_all, posts, text_so_far}
 use Rattle.net_serve.specs.Outgoing.{Outgoing, datagrams}
 use Rattle.net_serve.specs.Stages.{ServerState, Plays, Same, PlaysOn, Writes, WritesFront, SendsMore, SendsFront}
@@ -49,7 +49,7 @@ module _ (a : ServerState) (f g : Lines) (is : (past : List BodyLine) → f past
 
 -- ---- a line
 
-pub line_plays : (old : ServerState) (line : BodyLine) (game : MatchState) → Does old.game line game → game.script ≡ old.game.script
+pub line_plays : (old : ServerState) (line : BodyLine) (game : ServedState) → Does old.game line game → game.script ≡ old.game.script
     → PlaysOn old (λ past. line ∷ past) (record { script = old.script; game = game; peers = old.peers })
 line_plays old line game does same past p = record {
   game = does past p.game;

@@ -4,7 +4,7 @@ use Rattle.tn_outside.specs.Links.{Datagram}
 use Rattle.tn_outside.specs.Totals.{Adds, AddsFront}
 use Rattle.match_script.specs.declared.types.BodyLine.{BodyLine}
 use Rattle.match_script.specs.declared.types.Script.{Script}
-use Rattle.match_engine.specs.Match.{MatchState, StandsFor}
+use Rattle.match_engine.specs.Served.{ServedState, StandsFor}
 use Rattle.net_rules.specs.declared.hello.Hello.{Hello}
 use Rattle.net_rules.specs.Turns.{Event, Heard}
 use Rattle.net_rules.specs.Hellos.{is_arrival, hello_of, hello_in, joined, client_of}
@@ -24,8 +24,8 @@ stopped_at o s w d d' e past same at =
 
 plays_same : (old new : ServerState) (past : List BodyLine) → new.script ≡ old.script → new.game ≡ old.game → Plays old past → Plays new past
 plays_same old new past script game p = record {
-  game = subst (λ (g : MatchState). StandsFor g past) (sym game) p.game;
-  script = ap (λ (g : MatchState). g.script) game ∙ p.script ∙ sym script;
+  game = subst (λ (g : ServedState). StandsFor g past) (sym game) p.game;
+  script = ap (λ (g : ServedState). g.script) game ∙ p.script ∙ sym script;
 }
 
 -- what a server has become by an event, once its lines are known

@@ -7,7 +7,7 @@ use Rattle.match_script.specs.declared.types.BodyLine.{BodyLine}
 use Rattle.match_script.specs.declared.types.Head.{Head}
 use Rattle.match_script.specs.declared.types.Script.{Script}
 use Rattle.match_script.specs.Ranges.{HeadFits, LineFits}
-use Rattle.match_engine.specs.Match.{MatchState, StandsFor}
+use Rattle.match_engine.specs.Served.{ServedState, StandsFor}
 use Rattle.net_rules.specs.declared.hello.Hello.{Hello}
 use Rattle.net_rules.specs.Hellos.{joined}
 use Rattle.net_rules.specs.Turns.{Event, turned, AreTurns, events}
@@ -17,7 +17,7 @@ use Rattle.net_serve.specs.Outgoing.{Outgoing, sends, datagrams}
 
 pub record ServerState : Type 0 where
   pub script : Script
-  pub game : MatchState
+  pub game : ServedState
   pub peers : List Hello
 
 -- ---- a server

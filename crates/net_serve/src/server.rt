@@ -4,7 +4,7 @@ ghost use Rattle.std.specs.Option.{option_copied};
 
 use crate::fault::fault_of;
 use crate::watch::Watch;
-use match_engine::{Match, RunFault};
+use match_engine::{RunFault, Served};
 use match_report::Told;
 use match_script::{BodyLine, Script, put_line};
 use net_rules::{Hello, NetFault, Peers, WELCOME_BYTES, hello_of, is_arrival, welcome};
@@ -16,7 +16,7 @@ use tn_types::{MAX_CLIENTS, MAX_COUNTED_LINES, NoMemory, are_bytes};
 /// A match that is served, and who has a client.
 pub struct Server<'a> {
     script: &'a Script,
-    game: Match<'a>,
+    game: Served<'a>,
     peers: Peers,
     // a place for the text of a line
     text: String,
@@ -52,6 +52,7 @@ impl<'a> Server<'a> {
     ghost use Rattle.match_script.specs.declared.types.BodyLine.{BodyLine as OneLine};
     ghost use Rattle.match_script.specs.declared.types.BodyLine.TheVariants as script;
     ghost use Rattle.match_script.specs.Ranges.{HeadFits, LineFits};
+    ghost use Rattle.match_engine.specs.Stands.{IsDown};
     ghost use Rattle.net_rules.specs.declared.hello.Hello.{Hello as OneHello};
     ghost use Rattle.net_rules.specs.Turns.{Event, Heard, Turned};
     ghost use Rattle.net_rules.specs.Hellos.{joined, client_of, hello_in, hello_at};
@@ -67,7 +68,7 @@ impl<'a> Server<'a> {
         ensures serves { IfOk result (λ s. Serves s []) }
         ensures script { IfOk result (λ s. s.script ≡ script.now) }
     {
-        let game = Match::new(alloc, script)?;
+        let game = Served::new(alloc, script)?;
         Ok(Server {
             script,
             game,
@@ -98,6 +99,7 @@ impl<'a> Server<'a> {
     fn play(&mut self, alloc: Global, line: &BodyLine) -> Result<(), NoMemory>
         requires stands { (past : List OneLine) × Plays self.old past }
         requires fits { LineFits self.old.script.head.clients line.now }
+        requires no_down { IsDown line.now → ⊥ }
         requires few { self.old.game.game.done < MAX_COUNTED_LINES }
         ensures plays { OnOk result (PlaysOn self.old (λ past. line.now ∷ past) self.new) }
         ensures same { Same self.old self.new }
@@ -114,6 +116,7 @@ impl<'a> Server<'a> {
     ) -> Result<(), RunFault>
         requires stands { (past : List OneLine) × Plays self.old past }
         requires fits { LineFits self.old.script.head.clients line.now }
+        requires no_down { IsDown line.now → ⊥ }
         ensures plays { OnOk result (PlaysOn self.old (λ past. line.now ∷ past) self.new) }
         ensures written { OnOk result (Writes self.old (λ past. line.now ∷ past) (K.written sink.old) (K.written sink.new)) }
         ensures front { OnErr result (WritesFront self.old (λ past. line.now ∷ past) (K.written sink.old) (K.written sink.new)) }
@@ -140,6 +143,7 @@ impl<'a> Server<'a> {
     ) -> Result<(), NetFault>
         requires stands { (past : List OneLine) × Plays self.old past }
         requires fits { LineFits self.old.script.head.clients line.now }
+        requires no_down { IsDown line.now → ⊥ }
         ensures plays { OnOk result (PlaysOn self.old (λ past. line.now ∷ past) self.new) }
         ensures written { OnOk result (Writes self.old (λ past. line.now ∷ past) (K.written sink.old) (K.written sink.new)) }
         ensures front { OnErr result (WritesFront self.old (λ past. line.now ∷ past) (K.written sink.old) (K.written sink.new)) }

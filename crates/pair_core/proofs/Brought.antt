@@ -1,5 +1,5 @@
 -- What a pair stands for after a delivery.
-use Rattle.std.proofs.Common.{◌≡◌, ℕ, List, ◌∷◌, ◌++◌, Some, None, Result, Ok, Err, refl, sym, subst, ap, ◌∙◌}
+use Rattle.std.proofs.Common.{◌≡◌, ℕ, List, ◌∷◌, ◌++◌, Some, None, Result, Ok, Err, refl, sym, subst, ap, ◌∙◌, true, length}
 use Rattle.std.specs.Prelude.{slice_get, Option}
 use Rattle.wire_format.specs.declared.client.ClientPacket.{ClientPacket}
 use Rattle.wire_format.specs.declared.server.ServerPacket.{ServerPacket}
@@ -21,6 +21,8 @@ use Rattle.conn_packing.specs.stream_manager.Client.{ClientEvent, client_end, cl
 use Rattle.pair_core.specs.History.{PairStep, Down, Up, Raw, history, client_gets, server_gets}
 use Rattle.pair_core.specs.Answers.{answer, came_down, brought_down, came_up, brought_up, client_delivered, server_delivered, accepted_in}
 use Rattle.pair_core.specs.Stands.{PairState, StandsFor}
+use Rattle.pair_core.specs.Keeping.{kept}
+use Rattle.pair_core.proofs.Keeping.{all-kept}
 
 -- an arrival sends nothing
 took_sends_up : (c : Config) (log : List ClientEvent) (a : Result ServerPacket ClientFault) → client_datagrams c (took_at_client log a) ≡ client_datagrams c log
@@ -39,11 +41,11 @@ pub gets_sends_down : (t : Terms) (room : ℕ) (o : Option (List ℕ)) (log : Li
 gets_sends_down t room None log = refl
 gets_sends_down t room (Some bytes) log = took_sends_down t log room (server_answer t.config log bytes)
 
-pub down_stands : (p : PairState) (new : ClientState) (t : Terms) (steps : List PairStep) (k : ℕ) (bytes : List ℕ) → slice_get p.down k ≡ Some bytes → KeepsTerms p.client new
+pub down_stands : (p : PairState) (new : ClientState) (t : Terms) (steps : List PairStep) (k : ℕ) (bytes : List ℕ) → p.keeps_all ≡ true → slice_get p.down k ≡ Some bytes → KeepsTerms p.client new
     → ((log : List ClientEvent) → ClientStandsFor p.client log → ClientStandsFor new (took_at_client log (client_answer p.client.common.config p.client.copies.kinds log bytes)))
-    → StandsFor p t steps → StandsFor (record { conn = p.conn; client = new; down = p.down; up = p.up; prepared = p.prepared }) t (Down k ∷ steps)
-down_stands p new t steps k bytes there keeps gets s =
-    let sent : slice_get (server_datagrams t (history t steps).server) k ≡ Some bytes = ap (λ (l : List (List ℕ)). slice_get l k) (sym s.down) ∙ there in
+    → StandsFor p t steps → StandsFor (record { conn = p.conn; client = new; down = p.down; up = p.up; prepared = p.prepared; keeps_all = p.keeps_all; sent = p.sent }) t (Down k ∷ steps)
+down_stands p new t steps k bytes all there keeps gets s =
+    let sent : slice_get (server_datagrams t (history t steps).server) k ≡ Some bytes = ap (λ (l : List (List ℕ)). slice_get l k) (sym (all-kept p t steps s all)) ∙ there in
     let kinds : ClientStandsFor new (took_at_client (history t steps).client (client_answer p.client.common.config t.kinds (history t steps).client bytes)) =
     subst (λ (x : List Kind). ClientStandsFor new (took_at_client (history t steps).client (client_answer p.client.common.config x (history t steps).client bytes))) s.client_kinds (gets (history t steps).client s.client) in
     let now : ClientStandsFor new (client_gets t (Some bytes) (history t steps).client) =
@@ -55,12 +57,13 @@ down_stands p new t steps k bytes there keeps gets s =
       conn = s.conn;
       client = subst (λ (o : Option (List ℕ)). ClientStandsFor new (client_gets t o (history t steps).client)) (sym sent) now;
       down = s.down;
+      sent = s.sent;
       up = s.up ∙ sym (gets_sends_up t (slice_get (server_datagrams t (history t steps).server) k) (history t steps).client);
     }
 
 pub up_stands : (p : PairState) (new : ConnState) (t : Terms) (steps : List PairStep) (k room : ℕ) (bytes : List ℕ) → slice_get p.up k ≡ Some bytes → terms_of new ≡ terms_of p.conn
     → ((log : List ServerEvent) → ConnStandsFor p.conn log → ConnStandsFor new (took_at_server log room (server_answer p.conn.common.config log bytes)))
-    → StandsFor p t steps → StandsFor (record { conn = new; client = p.client; down = p.down; up = p.up; prepared = p.prepared }) t (Up k room ∷ steps)
+    → StandsFor p t steps → StandsFor (record { conn = new; client = p.client; down = p.down; up = p.up; prepared = p.prepared; keeps_all = p.keeps_all; sent = p.sent }) t (Up k room ∷ steps)
 up_stands p new t steps k room bytes there terms gets s =
     let sent : slice_get (client_datagrams t.config (history t steps).client) k ≡ Some bytes = ap (λ (l : List (List ℕ)). slice_get l k) (sym s.up) ∙ there in
     let config : p.conn.common.config ≡ t.config = ap (λ (x : Terms). x.config) s.terms in
@@ -72,13 +75,14 @@ up_stands p new t steps k room bytes there terms gets s =
       client_kinds = s.client_kinds;
       conn = subst (λ (o : Option (List ℕ)). ConnStandsFor new (server_gets t.config room o (history t steps).server)) (sym sent) now;
       client = s.client;
-      down = s.down ∙ sym (gets_sends_down t room (slice_get (client_datagrams t.config (history t steps).client) k) (history t steps).server);
+      down = s.down ∙ ap (kept p.keeps_all) (sym (gets_sends_down t room (slice_get (client_datagrams t.config (history t steps).client) k) (history t steps).server));
+      sent = s.sent ∙ ap (λ (l : List (List ℕ)). length l) (sym (gets_sends_down t room (slice_get (client_datagrams t.config (history t steps).client) k) (history t steps).server));
       up = s.up;
     }
 
 pub raw_stands : (p : PairState) (new : ConnState) (t : Terms) (steps : List PairStep) (bytes : List ℕ) (room : ℕ) → terms_of new ≡ terms_of p.conn
     → ((log : List ServerEvent) → ConnStandsFor p.conn log → ConnStandsFor new (took_at_server log room (server_answer p.conn.common.config log bytes)))
-    → StandsFor p t steps → StandsFor (record { conn = new; client = p.client; down = p.down; up = p.up; prepared = p.prepared }) t (Raw bytes room ∷ steps)
+    → StandsFor p t steps → StandsFor (record { conn = new; client = p.client; down = p.down; up = p.up; prepared = p.prepared; keeps_all = p.keeps_all; sent = p.sent }) t (Raw bytes room ∷ steps)
 raw_stands p new t steps bytes room terms gets s =
     let config : p.conn.common.config ≡ t.config = ap (λ (x : Terms). x.config) s.terms in
     record {
@@ -87,7 +91,8 @@ raw_stands p new t steps bytes room terms gets s =
       client_kinds = s.client_kinds;
       conn = subst (λ (x : Config). ConnStandsFor new (took_at_server (history t steps).server room (server_answer x (history t steps).server bytes))) config (gets (history t steps).server s.conn);
       client = s.client;
-      down = s.down ∙ sym (gets_sends_down t room (Some bytes) (history t steps).server);
+      down = s.down ∙ ap (kept p.keeps_all) (sym (gets_sends_down t room (Some bytes) (history t steps).server));
+      sent = s.sent ∙ ap (λ (l : List (List ℕ)). length l) (sym (gets_sends_down t room (Some bytes) (history t steps).server));
       up = s.up;
     }
 
@@ -97,9 +102,9 @@ module _ (p : PairState) (t : Terms) (steps : List PairStep) (s : StandsFor p t 
   config : p.conn.common.config ≡ t.config
   config = ap (λ (x : Terms). x.config) s.terms
 
-  module _ (k : ℕ) (bytes : List ℕ) (there : slice_get p.down k ≡ Some bytes) where
+  module _ (k : ℕ) (bytes : List ℕ) (all : p.keeps_all ≡ true) (there : slice_get p.down k ≡ Some bytes) where
     sent-down : slice_get (server_datagrams t (history t steps).server) k ≡ Some bytes
-    sent-down = ap (λ (l : List (List ℕ)). slice_get l k) (sym s.down) ∙ there
+    sent-down = ap (λ (l : List (List ℕ)). slice_get l k) (sym (all-kept p t steps s all)) ∙ there
 
     -- what the client's end was made with is what the pair was
     as-made : {A : Type 0} (f : Config → List Kind → A) → f p.client.common.config p.client.copies.kinds ≡ f t.config t.kinds

@@ -1,4 +1,5 @@
 pub mod Below
+pub mod Keeping
 pub mod Brought
 pub mod Fits
 pub mod Posted

@@ -48,11 +48,12 @@ pub record Meets (p : PairState) (step : PairStep) : Type 0 where
   pub stands : StandsFor p terms steps
   pub met : IsMet terms steps step
 
--- what the pair itself has to have for a step: a delivery finds no event that waits at its end, and a datagram room
+-- what the pair itself has to have for a step: a delivery finds no event that waits at its end, and what it brings kept; and a
+-- datagram has room
 abbrev pub IsReady : PairState → GivenStep → Type 0
 IsReady p given.Pack = ⊥
 IsReady p given.ClientPack = (p.prepared ≡ true) × (length p.up < MAX_DATAGRAMS)
-IsReady p (given.Down k) = p.client.common.receiver.ready ≡ []
+IsReady p (given.Down k) = (p.keeps_all ≡ true) × (p.client.common.receiver.ready ≡ [])
 IsReady p (given.Up k room) = p.conn.common.receiver.ready ≡ []
 IsReady p (given.Raw bytes room) = p.conn.common.receiver.ready ≡ []
 IsReady p other = Unit {0}

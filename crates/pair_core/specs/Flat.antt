@@ -1,5 +1,5 @@
 -- Datagrams that lie one behind another in one list of bytes, each up to its end.
-use Rattle.std.specs.Prelude.{◌≡◌, refl, ℕ, ◌-◌, ◌≤◌, Bool, List, [], ◌∷◌, ◌++◌, length, take, drop}
+use Rattle.std.specs.Prelude.{◌≡◌, refl, ℕ, ◌+◌, ◌-◌, ◌≤◌, Bool, List, [], ◌∷◌, ◌++◌, length, take, drop}
 use Rattle.std.specs.List.{AllByRecursion}
 use Rattle.tn_types.specs.declared.limits.TheConstants.{MAX_DATAGRAM_BYTES, MAX_DATAGRAMS}
 use Rattle.conn_packing.specs.declared.made.Made.{Made}
@@ -33,6 +33,12 @@ abbrev pub with_made : {A : Type 0} → Made → A → List A → List A
 with_made (made.Ping len) x xs = xs ++ x ∷ []
 with_made (made.Body len) x xs = xs ++ x ∷ []
 with_made (made.Worn life) x xs = xs
+
+-- and they are one more, if it made anything
+abbrev pub count_with : Made → ℕ → ℕ
+count_with (made.Ping len) n = n + 1
+count_with (made.Body len) n = n + 1
+count_with (made.Worn life) n = n
 
 -- two datagrams, of two bytes and of one
 two : cut 0 (2 ∷ 3 ∷ []) (7 ∷ 8 ∷ 9 ∷ []) ≡ (7 ∷ 8 ∷ []) ∷ (9 ∷ []) ∷ []

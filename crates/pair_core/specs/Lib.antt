@@ -10,6 +10,7 @@ pub mod Laws
 pub mod HeldBlocks
 pub mod LooseEvents
 pub mod Flat
+pub mod Keeping
 pub mod Stands
 pub mod Calls
 pub mod Verdicts

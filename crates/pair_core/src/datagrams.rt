@@ -6,6 +6,7 @@ ghost use Rattle.tn_types.specs.declared.choices.Read.{Read};
 ghost use Rattle.conn_packing.specs.Asking.{Asks};
 ghost use Rattle.conn_packing.specs.Calls.{MayPackEnd, PacksEnd};
 ghost use Rattle.pair_core.specs.Flat.{cut, Rise, with_made};
+ghost use Rattle.pair_core.specs.Keeping.{kept, newest, newest_alone};
 
 use conn_packing::stream_manager::Conn;
 use conn_packing::{MAX_PACKET_VALUES, Made, Packer};
@@ -13,10 +14,11 @@ use std::alloc::Global;
 use std::marker::Model;
 use tn_types::{Drain, MAX_DATAGRAM_BYTES, MAX_DATAGRAMS, NoMemory, Read, Values};
 
-/// The room for datagrams, and for their bytes, that a list begins with.
-const FIRST_DATAGRAMS: usize = 1_024;
+/// The room for datagrams, and for their bytes, that a list of all begins with: those of a short match, so that it seldom moves as it
+/// grows.
+pub(crate) const FIRST_DATAGRAMS: usize = 1_024;
 
-const FIRST_BYTES: usize = 131_072;
+pub(crate) const FIRST_BYTES: usize = 131_072;
 
 /// Datagrams in the order in which they were sent, each kept once: their bytes one behind another, and where each ends.
 ///
@@ -43,14 +45,18 @@ impl Model for Datagrams {
 }
 
 impl Datagrams {
-    /// No datagram. There is room for those of a short match, so that the list seldom moves as it grows.
-    pub(crate) fn new(alloc: Global) -> Result<Datagrams, NoMemory>
+    /// No datagram, with room for so many and for so many bytes of them.
+    pub(crate) fn with_room(
+        alloc: Global,
+        datagrams: usize,
+        bytes: usize,
+    ) -> Result<Datagrams, NoMemory>
         ensures { IfOk result (λ d. d.list ≡ []) }
     {
-        let Ok(bytes) = Vec::with_capacity(alloc, FIRST_BYTES) else {
+        let Ok(bytes) = Vec::with_capacity(alloc, bytes) else {
             return Err(NoMemory);
         };
-        let Ok(ends) = Vec::with_capacity(alloc, FIRST_DATAGRAMS) else {
+        let Ok(ends) = Vec::with_capacity(alloc, datagrams) else {
             return Err(NoMemory);
         };
         Ok(Datagrams { bytes, ends })
@@ -96,6 +102,36 @@ impl Datagrams {
             None => None,
             Some((start, end)) => Some(&self.bytes[start..end]),
         }
+    }
+
+    /// The newest datagram; `None` exactly where there is none.
+    pub(crate) fn newest(&self) -> Option<&[u8]>
+        ensures value { option_copied result ≡ newest self.now.list }
+        ensures fits { IfSome result (λ bytes. length bytes.now ≤ MAX_DATAGRAM_BYTES) }
+    {
+        self.get(self.len().saturating_sub(1))
+    }
+
+    /// Keeps all, or the newest alone, whose bytes move to the front of the room.
+    pub(crate) fn keep(&mut self, all: bool)
+        ensures { self.new.list ≡ kept all self.old.list }
+    {
+        if !all {
+            self.keep_newest();
+        }
+    }
+
+    fn keep_newest(&mut self)
+        ensures { self.new.list ≡ newest_alone self.old.list }
+    {
+        let count = self.ends.len();
+        if count < 2 {
+            return;
+        }
+        let start = self.ends[count - 2];
+        remove_front(&mut self.bytes, start);
+        self.ends.clear();
+        self.ends.push_reserved(self.bytes.len());
     }
 
     /// Adds a datagram, for which there is room.
@@ -158,6 +194,16 @@ impl Datagrams {
         note_end(&made, &mut self.ends, self.bytes.len());
         made
     }
+}
+
+/// Takes so many bytes away at the front.
+fn remove_front(bytes: &mut Vec<u8>, count: usize)
+    requires { count ≤ vec_len bytes.old }
+    ensures { bytes.new.items ≡ drop count bytes.old.items }
+{
+    let len = bytes.len();
+    bytes.as_mut_slice().copy_within(count..len, 0);
+    bytes.truncate(len - count);
 }
 
 /// Notes where the datagram ends that was made, if any was.

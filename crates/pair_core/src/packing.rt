@@ -3,6 +3,7 @@ ghost use Rattle.std.specs.Prelude.{◌≡◌, true, ◌<◌, ◌≤◌, List, [
 ghost use Rattle.tn_types.specs.declared.choices.Read.{Read};
 ghost use Rattle.conn_packing.specs.Asking.{Asks};
 ghost use Rattle.pair_core.specs.Answers.{of_made};
+ghost use Rattle.pair_core.specs.Flat.{count_with};
 
 use crate::pair::Pair;
 use crate::step::Answer;
@@ -20,6 +21,18 @@ fn packed(made: Made, place: u32) -> Answer
     }
 }
 
+/// How many were sent with what a pack made, where so many were sent before.
+fn counted(made: &Made, sent: u32) -> u32
+    requires { sent < MAX_DATAGRAMS }
+    ensures { result ≡ count_with made.now sent }
+{
+    match made {
+        Made::Ping { len: _ } => sent + 1,
+        Made::Body { len: _ } => sent + 1,
+        Made::Worn { life: _ } => sent,
+    }
+}
+
 impl Pair {
     ghost use Rattle.pair_core.specs.History.{Pack};
     ghost use Rattle.pair_core.specs.Answers.{answer};
@@ -31,17 +44,20 @@ impl Pair {
     /// datagram.
     pub fn pack<V: Values>(&mut self, drains: &[Drain], values: &mut V) -> Answer
         requires prepared { self.old.prepared ≡ true }
-        requires few { length self.old.down < MAX_DATAGRAMS }
+        requires few { self.old.sent < MAX_DATAGRAMS }
         requires may { MayPack self.old drains.now (V.ranges values.old) }
         ensures answer { Answers self.old (λ t steps. answer t steps (Pack drains.now [])) result }
         ensures told { (reads : List Read) × Packs self.old drains.now reads self.new
             × Asks V.ranges V.stands V.owes V.same values.old values.new reads }
         ensures keeps { KeepsAtServer self.old self.new }
+        ensures keeping { self.new.keeps_all ≡ self.old.keeps_all }
     {
-        let place = self.down.len();
+        let place = self.sent;
         let made = self
             .down
             .pack(&mut self.packer, &mut self.conn, drains, values);
+        self.sent = counted(&made, place);
+        self.down.keep(self.keeps_all);
         packed(made, place)
     }
 
@@ -54,20 +70,23 @@ impl Pair {
         noted: &mut Vec<Read>,
     ) -> Answer
         requires prepared { self.old.prepared ≡ true }
-        requires few { length self.old.down < MAX_DATAGRAMS }
+        requires few { self.old.sent < MAX_DATAGRAMS }
         requires may { MayPack self.old drains.now (V.ranges values.old) }
         requires room { MAX_PACKET_VALUES ≤ vec_capacity noted.old }
         ensures answer { Answers self.old (λ t steps. answer t steps (Pack drains.now [])) result }
         ensures packs { Packs self.old drains.now noted.new.items self.new }
         ensures asks { Asks V.ranges V.stands V.owes V.same values.old values.new noted.new.items }
         ensures keeps { KeepsAtServer self.old self.new }
+        ensures keeping { self.new.keeps_all ≡ self.old.keeps_all }
         ensures few { length noted.new.items ≤ MAX_PACKET_VALUES }
         ensures room { vec_capacity noted.new ≡ vec_capacity noted.old }
     {
-        let place = self.down.len();
+        let place = self.sent;
         let made = self
             .down
             .pack_noting(&mut self.packer, &mut self.conn, drains, values, noted);
+        self.sent = counted(&made, place);
+        self.down.keep(self.keeps_all);
         packed(made, place)
     }
 }

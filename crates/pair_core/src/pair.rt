@@ -1,8 +1,8 @@
 //! Both ends and the network.
-ghost use Rattle.std.specs.Prelude.{◌≡◌, true, ◌≤◌, [], IfOk, IfSome, OnOk, OnErr, IsTrue, ◌↔◌, if◌then◌else◌, length, slice_get};
+ghost use Rattle.std.specs.Prelude.{◌≡◌, true, false, ◌≤◌, [], IfOk, IfSome, OnOk, OnErr, IsTrue, ◌↔◌, if◌then◌else◌, length, slice_get};
 ghost use Rattle.std.specs.Option.{option_copied};
 
-use crate::datagrams::Datagrams;
+use crate::datagrams::{Datagrams, FIRST_BYTES, FIRST_DATAGRAMS};
 use crate::step::{Answer, PairStep};
 use conn_packing::Packer;
 use conn_packing::stream_manager::{Client, Config, Conn};
@@ -21,6 +21,10 @@ pub struct Pair {
     pub(crate) down: Datagrams,
     pub(crate) up: Datagrams,
     pub(crate) packer: Packer,
+    // whether each datagram of the server is kept, or the newest alone
+    pub(crate) keeps_all: bool,
+    // how many the server sent
+    pub(crate) sent: u32,
 }
 
 // Written out, so that a function above that lets a pair go calls this, and doesn't prove again how its parts are let go.
@@ -32,6 +36,8 @@ impl Drop for Pair {
             down: _down,
             up: _up,
             packer: _packer,
+            keeps_all: _keeps_all,
+            sent: _sent,
         } = self;
     }
 }
@@ -48,17 +54,21 @@ impl Model for Pair {
       down = p.down.list;
       up = p.up.list;
       prepared = p.down.has_room && p.up.has_room;
+      keeps_all = p.keeps_all;
+      sent = p.sent;
     } };
 }
 
 impl Pair {
     ghost use Rattle.conn_packing.specs.stream_manager.Limits.{IsConfig};
     ghost use Rattle.conn_packing.specs.stream_manager.EndCalls.{popped};
+    ghost use Rattle.pair_core.specs.Keeping.{newest};
     ghost use Rattle.pair_core.specs.Stands.{StandsFor};
     ghost use Rattle.pair_core.specs.Answers.{answer};
     ghost use Rattle.pair_core.specs.Calls.{step_of, Meets, IsReady, Does, Answers, Stays, Hands, Accepts, Keeps, Unchanged};
 
-    /// A new connection, in a match of these kinds and blocks, at most 64.
+    /// A new connection, in a match of these kinds and blocks, at most 64. Each datagram is kept, so that the network can bring it
+    /// whenever it likes.
     pub fn new(
         alloc: Global,
         config: Config,
@@ -71,19 +81,62 @@ impl Pair {
         ensures conn_empty { IfOk result (λ p. p.conn.common.receiver.ready ≡ []) }
         ensures client_empty { IfOk result (λ p. p.client.common.receiver.ready ≡ []) }
         ensures none_taken { IfOk result (λ p. p.conn.taken ≡ []) }
+        ensures keeps_all { IfOk result (λ p. p.keeps_all ≡ true) }
     {
         let conn = Conn::new(alloc, config, kinds, blocks)?;
         let client = Client::new(alloc, config, kinds)?;
         let packer = Packer::new(alloc)?;
-        let down = Datagrams::new(alloc)?;
-        let up = Datagrams::new(alloc)?;
+        let down = Datagrams::with_room(alloc, FIRST_DATAGRAMS, FIRST_BYTES)?;
+        let up = Datagrams::with_room(alloc, FIRST_DATAGRAMS, FIRST_BYTES)?;
         Ok(Pair {
             conn,
             client,
             down,
             up,
             packer,
+            keeps_all: true,
+            sent: 0,
         })
+    }
+
+    /// A new connection whose server hands each datagram on: the newest alone is kept, until the next one is made, in room that is
+    /// made here. No step brings the client what the server sent.
+    pub fn passing(
+        alloc: Global,
+        config: Config,
+        kinds: &KindTable,
+        blocks: &[BlockBytes],
+    ) -> Result<Pair, NoMemory>
+        requires config { IsConfig config }
+        requires few { length blocks.now ≤ MAX_BLOCKS }
+        ensures stands { IfOk result (λ p. StandsFor p (record { config = config; kinds = kinds.now; blocks = blocks.now }) []) }
+        ensures conn_empty { IfOk result (λ p. p.conn.common.receiver.ready ≡ []) }
+        ensures client_empty { IfOk result (λ p. p.client.common.receiver.ready ≡ []) }
+        ensures none_taken { IfOk result (λ p. p.conn.taken ≡ []) }
+        ensures passes { IfOk result (λ p. p.keeps_all ≡ false) }
+    {
+        let conn = Conn::new(alloc, config, kinds, blocks)?;
+        let client = Client::new(alloc, config, kinds)?;
+        let packer = Packer::new(alloc)?;
+        // the newest, and the next one behind it
+        let down = Datagrams::with_room(alloc, 2, 2 * MAX_DATAGRAM_BYTES)?;
+        let up = Datagrams::with_room(alloc, FIRST_DATAGRAMS, FIRST_BYTES)?;
+        Ok(Pair {
+            conn,
+            client,
+            down,
+            up,
+            packer,
+            keeps_all: false,
+            sent: 0,
+        })
+    }
+
+    /// Whether each datagram of the server is kept, so that a step can bring it; or else the newest alone.
+    pub fn keeps_all(&self) -> bool
+        ensures { result ≡ self.now.keeps_all }
+    {
+        self.keeps_all
     }
 
     /// Makes room for the datagram of one more step, whatever its size. Where memory is wanting, nothing changed.
@@ -108,8 +161,8 @@ impl Pair {
     }
 
     /// Makes one step, and gives its answer. It takes no memory. A step has the condition of the call of an end that it names;
-    /// a delivery wants that no event waits at its end, and a client's pack that there is room for its datagram. A refusal
-    /// leaves the pair as it was.
+    /// a delivery wants that no event waits at its end, one to the client that all datagrams are kept, and a client's pack that there
+    /// is room for its datagram. A refusal leaves the pair as it was.
     pub fn step(&mut self, step: &PairStep) -> Answer
         requires meets { Meets self.old (step_of step.now) }
         requires ready { IsReady self.old step.now }
@@ -119,6 +172,7 @@ impl Pair {
         ensures moves { Accepts self.old (step_of step.now) result self.new }
         ensures keeps { Keeps self.old (step_of step.now) self.new }
         ensures unchanged { Unchanged self.old result self.new }
+        ensures keeping { self.new.keeps_all ≡ self.old.keeps_all }
     {
         match step {
             PairStep::Show {
@@ -154,8 +208,8 @@ impl Pair {
         &self.client
     }
 
-    /// The datagram of this place, counted from 0, of those that the server sent, or else of those that the client sent;
-    /// `None` exactly where none was sent.
+    /// The datagram of this place, counted from 0, of those that are kept of what the server sent, or else of those that the client
+    /// sent; `None` exactly where there is none.
     pub fn datagram(&self, down: bool, k: u32) -> Option<&[u8]>
         ensures value { option_copied result ≡ slice_get (if down then self.now.down else self.now.up) k }
         ensures fits { IfSome result (λ bytes. length bytes.now ≤ MAX_DATAGRAM_BYTES) }
@@ -164,6 +218,25 @@ impl Pair {
             self.down.get(k)
         } else {
             self.up.get(k)
+        }
+    }
+
+    /// How many datagrams the server sent.
+    pub fn sent(&self) -> u32
+        ensures { result ≡ self.now.sent }
+    {
+        self.sent
+    }
+
+    /// The newest datagram that the server sent, or else that the client sent; `None` exactly where none was sent.
+    pub fn newest(&self, down: bool) -> Option<&[u8]>
+        ensures value { option_copied result ≡ newest (if down then self.now.down else self.now.up) }
+        ensures fits { IfSome result (λ bytes. length bytes.now ≤ MAX_DATAGRAM_BYTES) }
+    {
+        if down {
+            self.down.newest()
+        } else {
+            self.up.newest()
         }
     }
 

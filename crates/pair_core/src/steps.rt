@@ -30,6 +30,7 @@ impl Pair {
         ensures stands { Does self.old (Show kind block level control) self.new }
         ensures keeps { KeepsAtServer self.old self.new }
         ensures unchanged { Unchanged self.old result self.new }
+        ensures keeping { self.new.keeps_all ≡ self.old.keeps_all }
     {
         Answer::Period {
             n: self.conn.show(kind, block, level, control),
@@ -43,6 +44,7 @@ impl Pair {
         ensures stands { Does self.old (Hide n) self.new }
         ensures keeps { KeepsAtServer self.old self.new }
         ensures unchanged { Unchanged self.old result self.new }
+        ensures keeping { self.new.keeps_all ≡ self.old.keeps_all }
     {
         self.conn.hide(n);
         Answer::Done
@@ -55,6 +57,7 @@ impl Pair {
         ensures stands { Does self.old (Near n level) self.new }
         ensures keeps { KeepsAtServer self.old self.new }
         ensures unchanged { Unchanged self.old result self.new }
+        ensures keeping { self.new.keeps_all ≡ self.old.keeps_all }
     {
         self.conn.near(n, level);
         Answer::Done
@@ -66,6 +69,7 @@ impl Pair {
         ensures stands { Does self.old (Post class payload) self.new }
         ensures keeps { KeepsAtServer self.old self.new }
         ensures unchanged { Unchanged self.old result self.new }
+        ensures keeping { self.new.keeps_all ≡ self.old.keeps_all }
     {
         match class {
             Class::Guaranteed => posted(self.conn.post(payload)),
@@ -81,6 +85,7 @@ impl Pair {
         ensures stands { Does self.old (ClientPost class payload) self.new }
         ensures keeps { KeepsAtClient self.old self.new }
         ensures unchanged { Unchanged self.old result self.new }
+        ensures keeping { self.new.keeps_all ≡ self.old.keeps_all }
     {
         match class {
             Class::Guaranteed => posted(self.client.post(payload)),
@@ -96,6 +101,7 @@ impl Pair {
         ensures stands { Does self.old (Sample m) self.new }
         ensures keeps { KeepsAtClient self.old self.new }
         ensures unchanged { Unchanged self.old result self.new }
+        ensures keeping { self.new.keeps_all ≡ self.old.keeps_all }
     {
         match self.client.sample(m) {
             Ok(number) => Answer::Sampled { number },
@@ -111,6 +117,7 @@ impl Pair {
         ensures stands { Does self.old ClientPack self.new }
         ensures keeps { KeepsAtClient self.old self.new }
         ensures unchanged { Unchanged self.old result self.new }
+        ensures keeping { self.new.keeps_all ≡ self.old.keeps_all }
     {
         let place = self.up.len();
         // no datagram is longer than its size, nor that than 1,200
@@ -130,18 +137,17 @@ impl Pair {
 
     /// The client gets the server's datagram of place `k`.
     pub(crate) fn bring_down(&mut self, k: u32) -> Answer
-        requires { self.old.client.common.receiver.ready ≡ [] }
+        requires kept { self.old.keeps_all ≡ true }
+        requires none_waits { self.old.client.common.receiver.ready ≡ [] }
         ensures answer { Answers self.old (λ t steps. answer t steps (Down k)) result }
         ensures stands { Does self.old (Down k) self.new }
         ensures handed { HandsDown self.old (Down k) self.new }
         ensures keeps { self.new.conn ≡ self.old.conn }
         ensures unchanged { Unchanged self.old result self.new }
+        ensures keeping { self.new.keeps_all ≡ self.old.keeps_all }
     {
         let Some(datagram) = self.down.get(k) else {
-            return Answer::NotSent {
-                k,
-                sent: self.down.len(),
-            };
+            return Answer::NotSent { k, sent: self.sent };
         };
         match self.client.arrive(datagram) {
             Ok(()) => Answer::Came { moves: 0 },
@@ -158,6 +164,7 @@ impl Pair {
         ensures moves { Accepts self.old (Up k room) result self.new }
         ensures keeps { self.new.client ≡ self.old.client }
         ensures unchanged { Unchanged self.old result self.new }
+        ensures keeping { self.new.keeps_all ≡ self.old.keeps_all }
     {
         let Some(datagram) = self.up.get(k) else {
             return Answer::NotSent {
@@ -181,6 +188,7 @@ impl Pair {
         ensures moves { Accepts self.old (Raw bytes.now room) result self.new }
         ensures keeps { self.new.client ≡ self.old.client }
         ensures unchanged { Unchanged self.old result self.new }
+        ensures keeping { self.new.keeps_all ≡ self.old.keeps_all }
     {
         match self.conn.arrive(bytes, room) {
             Ok(taken) => Answer::Came { moves: taken.moves },

@@ -1,6 +1,6 @@
 -- A field that the text of a legal race marks as settled shows the newest value.
-use Rattle.std.proofs.Common.{◌≡◌, ℕ, ℤ, suc, ◌+◌, ◌-◌, ◌<◌, ◌≤◌, ◌&&◌, Bool, true, false, List, [], ◌∷◌, Option, Some, None, length, refl, sym, ap, ◌∙◌, subst, arith, inl, inr}
-use Rattle.std.specs.Prelude.{◌⊎◌, map, slice_get, slice_index, slice_index_or, option_map, nat_lt, if◌then◌else◌}
+use Rattle.std.proofs.Common.{◌≡◌, ℕ, ℤ, ◌+◌, ◌-◌, ◌<◌, Bool, true, false, List, [], ◌∷◌, Option, Some, None, length, refl, sym, ap, ◌∙◌, subst, arith, inl, inr}
+use Rattle.std.specs.Prelude.{◌⊎◌, map, slice_get, option_map, nat_lt, if◌then◌else◌}
 use Rattle.std.specs.Option.{option_map_or}
 use Rattle.std.specs.List.{AllByRecursion, list_any}
 use Rattle.std.proofs.lemmas.Bool.{and_parts}
@@ -10,8 +10,6 @@ use Rattle.tn_types.specs.declared.choices.Drain.{Drain}
 use Rattle.tn_types.specs.declared.choices.Read.{Read}
 use Rattle.tn_types.specs.BitWords.{has_bit}
 use Rattle.dirty_lanes.specs.Words.{Words, mask_at}
-use Rattle.quantised_fields.specs.declared.field.FieldSpec.{FieldSpec}
-use Rattle.quantised_fields.specs.Levels.{level_of}
 use Rattle.ghost_model.specs.Ghosts.{GhostEvent, slot, carries, unjudged, is_due}
 use Rattle.ghost_masks.specs.Plan.{kind_of, fields_of, is_slot}
 use Rattle.ghost_client.specs.declared.copy.GhostCopy.{GhostCopy}
@@ -32,11 +30,10 @@ use Rattle.match_script.specs.declared.types.Script.{Script}
 use Rattle.match_report.specs.declared.copies.FieldTold.{FieldTold}
 use Rattle.world_rules.specs.Kinds.{match_kinds}
 use Rattle.match_laws.specs.client_seat.Told.{holder_at, is_newest}
-use Rattle.match_laws.specs.own_lists.Past.{client_terms}
 use Rattle.match_laws.specs.Values.{IsShownFor}
 use Rattle.match_laws.proofs.FieldsTold.{IsToldAs, told-as, found, slot-is, shown-for, IsSettledIn, settled-in}
 use Rattle.match_laws.proofs.InOrder.{terms_fit}
-use Rattle.race_history.specs.History.{Values, version_told, newest, fields_told}
+use Rattle.race_history.specs.History.{version_told, newest, fields_told}
 use Rattle.race_reads.specs.Reads.{object_of, ReadStands, IsCurrent, IsNewest as IsNewestRead, IsMarked, IsDue}
 use Rattle.race_reads.specs.Reads as races
 use Rattle.race_reads.specs.Legal.{reads_of, is_field_due, AreLegalReads}
@@ -46,9 +43,8 @@ use Rattle.legal_race.specs.race_record.kept_pair.Kept.{terms_in}
 use Rattle.legal_race.specs.race_record.declared.race.Race.{Race}
 use Rattle.legal_race.specs.race_record.declared.race.RaceClient.{RaceClient}
 use Rattle.legal_race.specs.Legal.{IsLegal}
-use Rattle.race_laws.specs.Settled.{steps_of, ends_of, IsShownField, HasNewest, ShowsNewest, SettledShowsNewest}
-use Rattle.race_laws.proofs.LastReads.{last_of, version_is, value_is, last_holds, IsOf}
-
+use Rattle.race_laws.specs.Settled.{steps_of, IsShownField, HasNewest, ShowsNewest, SettledShowsNewest}
+use Rattle.race_laws.proofs.LastReads.{last_of, version_is, value_is, last_holds}
 
 -- ---- what is left in the words at the end
 
@@ -118,12 +114,11 @@ module _ (s : Script) (race : Race) (c : ℕ) (client : RaceClient) (legal : IsL
       r : IsLastRead d.n f value
       r = last-read d.n f value is
 
-      abbrev object : ℕ
+      object : ℕ
       object = object_of client.objects d.n
 
       stands : version_told race.values object f (r.read.version - 1) ≡ Some r.read.value
       stands = (λ j. version_told race.values (object_of client.objects (sym r.period j)) (sym r.field j) (r.read.version - 1)) ∙ r.stands.value
-
       up = reads.current d.n (up-listed t steps d.n (up_to t steps d.n left.0.0 left.0.1))
 
       begun : slice_get client.objects d.n ≡ Some object
@@ -181,7 +176,7 @@ module _ (s : Script) (race : Race) (c : ℕ) (client : RaceClient) (legal : IsL
       → told.settled ≡ true → ShowsNewest race.values client at copy.kind f told.value
   shows law at f copy told is mark = by-holder (holder_at t steps left at) refl (a.mark ∙ mark)
     where
-      abbrev left : List Drain
+      left : List Drain
       left = left_over race.words c client.objects steps
 
       a : IsToldAs (field_value t.kinds f copy) (option_map_or (is_newest t steps f) (holder_at t steps left at) false) told

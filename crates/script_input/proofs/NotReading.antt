@@ -1,5 +1,4 @@
 -- Where there is no text, no script of any kind was read.
-use Rattle.match_script.specs.declared.types.ScriptFault.{ScriptFault}
 use Rattle.script_input.specs.declared.status.Status.{Status}
 use Rattle.script_input.specs.declared.status.Status.TheVariants.{Done, Usage, Script, TooLong, ReadFault, WriteFault, NoMemory, LinkFault, ClockFault, Demo}
 use Rattle.script_input.specs.Reading.{Seen, Reading, NoText, NotRead}

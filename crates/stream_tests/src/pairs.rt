@@ -234,9 +234,12 @@ fn may_be_drained(conn: &Conn, drain: Drain) -> bool
 
 /// Whether fewer datagrams than may be were sent that way.
 fn has_place(pair: &Pair, down: bool) -> bool
-    ensures { IsTrue result → length (if down then pair.now.down else pair.now.up) < MAX_DATAGRAMS }
+    ensures { IsTrue result → (if down then pair.now.sent else length pair.now.up) < MAX_DATAGRAMS }
 {
-    pair.datagram(down, MAX_DATAGRAMS - 1).is_none()
+    if down {
+        return pair.sent() < MAX_DATAGRAMS;
+    }
+    pair.datagram(false, MAX_DATAGRAMS - 1).is_none()
 }
 
 /// Whether a data packet with these bytes was made that way.
@@ -299,7 +302,7 @@ fn comes_down(pair: &mut Pair, k: u32) -> bool
     requires { Stands pair.old }
     ensures { Stands pair.new }
 {
-    if pair.client_waiting() > 0 {
+    if pair.client_waiting() > 0 || !pair.keeps_all() {
         return false;
     }
     matches!(pair.step(&PairStep::Down { k }), Answer::Came { .. })
@@ -324,7 +327,7 @@ fn is_old(pair: &mut Pair, k: u32) -> bool
     requires { Stands pair.old }
     ensures { Stands pair.new }
 {
-    if pair.client_waiting() > 0 {
+    if pair.client_waiting() > 0 || !pair.keeps_all() {
         return false;
     }
     matches!(

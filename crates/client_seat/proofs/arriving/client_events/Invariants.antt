@@ -10,6 +10,7 @@ invariant-out l = record {
   few : length l.fn.pair.client.common.receiver.ready ≤ MAX_READY_EVENTS;
   stands : Stays l.fn.pair l.pair;
   other : l.pair.conn ≡ l.fn.pair.conn;
+  keeping : l.pair.keeps_all ≡ l.fn.pair.keeps_all;
 }
 
 abbrev pub decreases-out : goal.decreases-out

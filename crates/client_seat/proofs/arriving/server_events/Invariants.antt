@@ -10,6 +10,7 @@ invariant-out l = record {
   few : length l.fn.pair.conn.common.receiver.ready ≤ MAX_READY_EVENTS;
   stands : Stays l.fn.pair l.pair;
   other : l.pair.client ≡ l.fn.pair.client;
+  keeping : l.pair.keeps_all ≡ l.fn.pair.keeps_all;
 }
 
 abbrev pub decreases-out : goal.decreases-out

@@ -18,9 +18,11 @@ seats-preserved c =
     c.push.ensures.items ∙ ap (λ ok. if ok then seats ++ new ∷ [] else seats) c.if-is_err.ensures.negation in
     let stands : StandsFor new (client_terms head n) beginning =
     subst (λ (z : List Kind × List (List ℕ)). StandsFor new (record { config = record { client = n; life = head.life; size = head.size; version = head.version }; kinds = z.0; blocks = z.1 }) beginning)
-    (λ j. (c.match_kinds-kinds.ensures j, c.as_slice.ensures j)) c.in_ok-seat.ensures in
+    (λ j. (c.match_kinds-kinds.ensures j, c.as_slice.ensures j)) c.in_ok-seat.ensures.stands in
     record {
       count = ap (length {A = SeatState}) grown ∙ length_push seats new ∙ ap (λ (m : ℕ). m + 1) c.seats.invariant.count;
       stands = subst (λ (ss : List SeatState). (k : ℕ) (d : SeatState) → k < n + 1 → StandsFor (slice_index_or ss k d) (client_terms head k) beginning) (sym grown)
           (one_more (λ s k. StandsFor s (client_terms head k) beginning) seats new n c.seats.invariant.count c.seats.invariant.stands stands);
+      keeps = subst (λ (ss : List SeatState). (k : ℕ) (d : SeatState) → k < n + 1 → (slice_index_or ss k d).pair.keeps_all ≡ c.args.keeps_all) (sym grown)
+          (one_more (λ (s : SeatState) (k : ℕ). s.pair.keeps_all ≡ c.args.keeps_all) seats new n c.seats.invariant.count c.seats.invariant.keeps c.in_ok-seat.ensures.keeps);
     }

@@ -8,4 +8,5 @@ abbrev pub invariant-seats : goal.invariant-seats
 invariant-seats l = record {
   count : length l.seats.items ≡ l.client;
   stands : (c : ℕ) (d : SeatState) → c < l.client → StandsFor (slice_index_or l.seats.items c d) (client_terms l.head c) beginning;
+  keeps : (c : ℕ) (d : SeatState) → c < l.client → (slice_index_or l.seats.items c d).pair.keeps_all ≡ l.keeps_all;
 }

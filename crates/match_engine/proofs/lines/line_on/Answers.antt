@@ -1,13 +1,13 @@
-use Rattle.std.proofs.Common.{◌≡◌, ◌∙◌, ℕ, List, Option, Some, Ok, Err, ap, sym, subst, refl}
+use Rattle.std.proofs.Common.{◌≡◌, ◌∙◌, ℕ, List, Some, Ok, Err, ap, sym, subst}
 use Rattle.std.specs.Prelude.{Result, IfOk}
 use Rattle.match_script.specs.declared.types.BodyLine.{BodyLine}
 use Rattle.match_script.specs.declared.types.BodyLine.TheVariants as script
-use Rattle.match_script.specs.declared.types.Head.{Head}
 use Rattle.match_laws.specs.own_lists.Own.{client_named}
-use Rattle.match_laws.specs.own_lists.Past.{Past, client_terms, kept_by}
+use Rattle.match_laws.specs.own_lists.Past.{client_terms, kept_by}
 use Rattle.match_laws.specs.client_seat.Stands.{StandsFor}
 use Rattle.match_laws.specs.client_seat.Told.{raw_told}
 use Rattle.match_laws.specs.Report.{told}
+use Rattle.match_engine.specs.Stands.{IsDown}
 use Rattle.match_engine.proofs.lines.line_on.Goals as goal
 
 if_ok : {T E : Type 0} (r : Result T E) {P Q : T → Type 0} → ((x : T) → P x → Q x) → IfOk r P → IfOk r Q
@@ -32,3 +32,6 @@ returns-in_ok-bytes-in-Raw-clause-told c =
     ∙ ap (λ (b : List ℕ). raw_told client b (client_terms h client) (kept_by h p client).course) same
     ∙ sym (ap (told h p q) c.in-Raw.is))
     c.raw.ensures.told
+
+pub down-requires-clause-keeps_all : goal.down-requires-clause-keeps_all
+down-requires-clause-keeps_all c = c.requires.kept (subst (λ (l : BodyLine). IsDown l) (sym c.in-Down.is) tt)

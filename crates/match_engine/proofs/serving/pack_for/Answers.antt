@@ -43,7 +43,7 @@ returns-clause-told c =
     let reads = reads_are c.args.seat.now c.args.scope.now c.args.world.now c.args.lanes.now c.args.client h past s c.deref.result.now x.0 is
     (x.1.read (client_terms h c.args.client) (kept_by h (after h past) c.args.client).course s.holds.course) newest in
     packed_tells c.args.seat.now c.args.scope.now c.args.world.now c.args.lanes.now c.args.client h past s c.deref.result.now x.0 told c.pack.new.self is reads x.1)
-    c.pack.ensures
+    c.pack.ensures.packs
 
 serves_if : {E : Type 0} (r : Result Told E) (P : Told → Type 0) (C : Type 0) → ((told : Told) → P told → C) → IfOk r P → OnOk r C
 serves_if (Ok told) P C f p = f told p
@@ -59,4 +59,4 @@ returns-clause-serves c =
     (x.1.read (client_terms h c.args.client) (kept_by h (after h past) c.args.client).course s.holds.course) newest in
     packed_serves c.args.seat.now c.args.scope.now c.args.world.now c.args.lanes.now c.args.client h past s c.deref.result.now x.0 told c.pack.new.self c.drains_for.new.lanes is reads x.1
     c.in-Ok.ensures.others (c.in-Ok.ensures.marks c.args.world.now h past s) few)
-    c.pack.ensures
+    c.pack.ensures.packs

@@ -55,5 +55,5 @@ returns-clause-serves c = λ h past s few.
     scanned_serves c.args.seat.now c.args.scope.now c.args.world.now c.args.lanes.now c.args.client h past s few c.deref.result.now c.scan.new.self c.scan-2.new.self c.clear_all.new.lanes is stands
     c.hides.result.now c.hides.ensures c.nears.result.now c.nears.ensures c.deref-2.result.now
     (c.deref-2.ensures.value ∙ c.in-Ok.ensures ∙ ap (map (showing_of c.args.world.now c.args.client)) c.shows.ensures)
-    c.scan-2.ensures c.clear_all.ensures.others
+    c.scan-2.ensures.stands c.clear_all.ensures.others
     (λ o. c.clear_all.ensures.masks o ∙ ap (λ (x : List Seen). if list_any (is_of o) x then 0 else mask_at c.args.lanes.now c.args.client o) c.shows-2.ensures)

@@ -26,11 +26,14 @@ line_on-requires-clause-few c =
     let up = ap length r.serves.course.holds.pair.up in
     omega (arith, up, few_up r.terms r.items, r.few)
 
+pub line_on-requires-clause-kept : goal.line_on-requires-clause-kept
+line_on-requires-clause-kept c down = c.requires.may.serves.keeps
+
 pub returns-clause-goes : goal.returns-clause-goes
 returns-clause-goes c =
     on_ok c.line_on.result _ _ (λ f t items s may.
     let me = c.args.self.now in
-    line_serves me.client me.seat (table_of me) t items s c.args.line.now c.requires.direct may c.line_on.new.seat (f t (kept t items) s.course))
+    line_serves me.client me.seat (table_of me) t items s c.args.line.now c.requires.direct may c.line_on.new.seat c.line_on.ensures.keeping (f t (kept t items) s.course))
     c.line_on.ensures.stands
 
 pub returns-clause-told : goal.returns-clause-told

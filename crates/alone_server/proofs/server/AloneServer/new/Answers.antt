@@ -19,7 +19,8 @@ returns c =
         kinds = refl;
         client = refl;
         course = subst (λ (z : List Kind × List (List ℕ)). SeatStandsFor c.in_ok-seat.seat (record { config = (terms_of h).config; kinds = z.0; blocks = z.1 }) beginning)
-            (λ j. (c.match_kinds.ensures j, c.as_slice.ensures j)) c.in_ok-seat.ensures;
+            (λ j. (c.match_kinds.ensures j, c.as_slice.ensures j)) c.in_ok-seat.ensures.stands;
+        keeps = c.in_ok-seat.ensures.keeps_all;
         periods = subst (λ (ps : List OwnPeriod). Holds (record { shows = 0; periods = ps }) (kept (terms_of h) [])) (sym c.new-2.ensures.items) (holds_none (terms_of h));
       };
       counted = refl;

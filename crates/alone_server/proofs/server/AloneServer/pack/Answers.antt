@@ -66,7 +66,7 @@ returns-clause-told c =
     let newest = subst (λ (ps : List OwnPeriod). AllByRecursion (IsOwnRead ps) x.0) (x.2.alike ∙ left) x.2.stand in
     let reads = reads_are me.client me.seat (table_of me) t items s st c.deref-2.result.now x.0 ds (x.1.read t (kept t items).course s.course) newest in
     ap (λ (y : Told). Some y) (packed_tells me.client me.seat (table_of me) t items s c.deref-2.result.now x.0 told c.pack.new.self ds reads x.1))
-    c.pack.ensures
+    c.pack.ensures.packs
 
 pub returns-clause-goes : goal.returns-clause-goes
 returns-clause-goes c =
@@ -82,5 +82,5 @@ returns-clause-goes c =
     let newest = subst (λ (ps : List OwnPeriod). AllByRecursion (IsOwnRead ps) x.0) (x.2.alike ∙ left) x.2.stand in
     let reads = reads_are me.client me.seat (table_of me) t items s st c.deref-2.result.now x.0 ds (x.1.read t (kept t items).course s.course) newest in
     subst (λ (ps : List OwnPeriod). Serves me.client c.pack.new.self (record { shows = me.shows; periods = ps }) t (Line (script.Pack c.args.client) ∷ items)) (sym kept_periods)
-    (packed_serves me.client me.seat (table_of me) t items s c.deref-2.result.now x.0 told c.pack.new.self ds reads x.1 st at c.args.client))
-    c.pack.ensures
+    (packed_serves me.client me.seat (table_of me) t items s c.deref-2.result.now x.0 told c.pack.new.self ds reads x.1 st at c.args.client c.pack.ensures.keeping))
+    c.pack.ensures.packs

@@ -44,11 +44,11 @@ returns-clause-goes c = λ t items s may.
     let shows : List Told = map show_of c.args.shows.now in
     let k = kept t items in
     let hows : map (λ (y : Told). y.how) shows ≡ c.deref.result.now = how_of c.args.shows.now ∙ sym (c.deref.ensures.value ∙ c.in-Ok-showings.ensures) in
-    let course = subst (λ (ss : List Showing). SeatStandsFor c.scan.new.self t (with_steps (scan_steps hides nears ss) k.course)) (sym hows) (c.scan.ensures t k.course s.course) in
+    let course = subst (λ (ss : List Showing). SeatStandsFor c.scan.new.self t (with_steps (scan_steps hides nears ss) k.course)) (sym hows) (c.scan.ensures.stands t k.course s.course) in
     let hid = holds_changed (table_of me) k s.periods hides nears (hidden_shown me.client me.seat (table_of me) t items s hides nears shows may) in
     let kept_hid = subst (λ (ps : List OwnPeriod). Holds (record { shows = me.shows; periods = ps }) (with_course (with_steps (scan_steps hides nears []) k.course) k)) (sym c.hide_all.ensures) hid in
     let held = c.in-Ok.ensures.holds (with_course (with_steps (scan_steps hides nears []) k.course) k) kept_hid in
-    scanned me.client me.seat (table_of me) t items s hides nears shows may c.scan.new.self _ course
+    scanned me.client me.seat (table_of me) t items s hides nears shows may c.scan.new.self _ c.scan.ensures.keeping course
     (subst (λ n. Holds (record { shows = n; periods = c.show_all.new.periods.items }) (after_scan hides nears shows k)) (sym c.in-Ok.ensures.count) held)
 
 pub returns-clause-told : goal.returns-clause-told

@@ -1,4 +1,4 @@
-use Rattle.std.proofs.Common.{◌∙◌, ◌∷◌, List, length, map, sym, ap, subst}
+use Rattle.std.proofs.Common.{◌∙◌, ◌∷◌, List, length, map, refl, sym, ap, subst}
 use Rattle.own_items.specs.client_seat.Stands.{SeatState, StandsFor as SeatStandsFor}
 use Rattle.own_lists.specs.Course.{ticked}
 use Rattle.own_lists.specs.Own.{Tick}
@@ -36,6 +36,7 @@ returns-then-taken-ne0-clause-goes c = λ t items s may.
     (c.write_each.auto.periods ∙ ap (λ (ps : List OwnPeriod). length ps) c.deref_mut.ensures.value ∙ sym me.periods.ok.0) (sym me.periods.ok.0) in
     subst (λ (ps : List OwnPeriod). Serves me.client c.take_move-move.new.self (record { shows = me.shows; periods = ps }) t (Tick writes c.args.taken ∷ items)) (sym fill)
     (tick_serves me.client me.seat (table_of me) t items s writes c.args.taken may c.take_move-move.new.self (record { shows = me.shows; periods = c.write_each.new.periods })
+    (ap (λ (x : SeatState). x.pair.keeps_all) c.take_move-move.ensures.rest)
     (subst (λ (x : SeatState). SeatStandsFor x t (ticked c.args.taken k.course)) (sym c.take_move-move.ensures.rest)
     (one_taken me.client me.seat (table_of me) t items s writes c.args.taken may c.if-taken-ne0.true))
     (c.write_each.ensures me.shows k before))
@@ -49,6 +50,6 @@ returns-else-taken-ne0-clause-goes c = λ t items s may.
     let fill = refilled me.periods.len c.write_each.new.periods me.periods.items
     (c.write_each.auto.periods ∙ ap (λ (ps : List OwnPeriod). length ps) c.deref_mut.ensures.value ∙ sym me.periods.ok.0) (sym me.periods.ok.0) in
     subst (λ (ps : List OwnPeriod). Serves me.client me.seat (record { shows = me.shows; periods = ps }) t (Tick writes c.args.taken ∷ items)) (sym fill)
-    (tick_serves me.client me.seat (table_of me) t items s writes c.args.taken may me.seat (record { shows = me.shows; periods = c.write_each.new.periods })
+    (tick_serves me.client me.seat (table_of me) t items s writes c.args.taken may me.seat (record { shows = me.shows; periods = c.write_each.new.periods }) refl
     (none_taken me.client me.seat (table_of me) t items s writes c.args.taken may c.if-taken-ne0.false)
     (c.write_each.ensures me.shows k before))

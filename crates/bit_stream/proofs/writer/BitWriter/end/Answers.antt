@@ -1,4 +1,4 @@
-use Rattle.std.proofs.Common.{List, Bool, ap, ◌∙◌, lit<, arith}
+use Rattle.std.proofs.Common.{ap, ◌∙◌, lit<, arith}
 use Rattle.std.proofs.lemmas.List.{append-nil}
 use Rattle.bit_stream.specs.Bits.{Written, number, bits_of, datagram}
 use Rattle.bit_stream.proofs.Writing.{length-written}

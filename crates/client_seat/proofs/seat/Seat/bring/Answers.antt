@@ -37,5 +37,6 @@ returns-in_default c =
       holds = λ t k s. refused-holds old new g c.requires.comes c.step-answer.ensures.stands t k (stood t k s) (λ moves is. c.in_default.not-Came moves (said t k s ∙ is));
       handed = λ t k s. up-hands old.pair new g c.requires.comes c.step-answer.ensures.handed t k.steps (stood t k s).holds.pair;
       client = up-keeps old.pair new g c.requires.comes c.step-answer.ensures.keeps ∙ ap (λ (x : SeatState). x.pair.client) c.self.view_is;
+      keeping = c.step-answer.ensures.keeping ∙ ap (λ (x : SeatState). x.pair.keeps_all) c.self.view_is;
       unchanged = subst (λ (x : SeatState). Unchanged x.pair c.step-answer.result new) c.self.view_is c.step-answer.ensures.unchanged;
     }

@@ -9,7 +9,7 @@ use Rattle.client_seat.proofs.seat.Seat.down.Goals as goal
 
 pub unreachable-requires : goal.unreachable-requires
 unreachable-requires c =
-    let r = c.requires in
+    let r = c.requires.stands in
     let old : SeatState = record { pair = c.self.inside.pair; waiting = c.self.inside.waiting.items; taken = c.self.inside.taken } in
     let stood : StandsFor old r.terms r.course = subst (λ (x : SeatState). StandsFor x r.terms r.course) (sym c.self.view_is) r.stands in
     let tells : TellsDown c.step.result = subst (λ (a : Answer). TellsDown a) (sym (c.step.ensures.answer r.terms r.course.steps stood.holds.pair)) (down-tells r.terms r.course.steps c.args.k) in

@@ -9,6 +9,6 @@ loop-n-preserved c = record {
       let s = c.loop-n.self-inside in
       let lt : c.loop-n.n-index < length c.args.hides.now = omega arith in
       partly_next hide_step c.args.hides.now c.loop-n.n-index 0 lt c.args.self.now (record { pair = s.pair; waiting = s.waiting.items; taken = s.taken }) c.step.new.self
-      (λ t steps. refl) c.step.ensures.stands c.step.ensures.keeps c.loop-n.invariant.partly;
+      (λ t steps. refl) c.step.ensures.stands c.step.ensures.keeps c.step.ensures.keeping c.loop-n.invariant.partly;
   places = c.loop-n.invariant.places;
 }

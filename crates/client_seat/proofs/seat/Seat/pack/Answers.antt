@@ -17,8 +17,8 @@ pack-answer-requires-clause-may g c =
     subst (λ (x : SeatState). MayPack x.pair c.args.drains.now (g.V.Values.ranges c.args.values.now)) (sym c.self.view_is) c.requires.may in
     record { terms = may.terms; steps = may.steps; stands = c.in_ok-prepare.ensures.stands may.terms may.steps may.stands; drained = may.drained; ranged = may.ranged }
 
-pub returns : goal.returns
-returns g c =
+pub returns-clause-packs : goal.returns-clause-packs
+returns-clause-packs g c =
     let old : SeatState = record { pair = c.self.inside.pair; waiting = c.self.inside.waiting.items; taken = c.self.inside.taken } in
     let ready : SeatState = with_pair old c.prepare.new.self in
     let new : SeatState = with_pair old c.pack-answer.new.self in
@@ -32,6 +32,6 @@ returns g c =
     pack-ok c.packed_by.result c.args.self.now new c.args.drains.now reads c.args.client (Asks g.V.Values.ranges g.V.Values.stands g.V.Values.owes g.V.Values.same c.args.values.now c.pack-answer.new.values)
     (λ t k s. does t k (stood t k s))
     (λ t k s.
-    server-packs t k.steps c.args.client c.packed_by.result c.pack-answer.result c.pack-answer.new.self.down c.args.drains.now reads (c.pack-answer.ensures.answer t k.steps (stood t k s).holds.pair)
+    server-packs t k.steps c.args.client c.packed_by.result c.pack-answer.result c.pack-answer.new.self.down c.pack-answer.new.self.keeps_all c.args.drains.now reads (c.pack-answer.ensures.answer t k.steps (stood t k s).holds.pair)
     (packs.stands t k.steps (stood t k s).holds.pair).down c.packed_by.ensures.worn c.packed_by.ensures.made)
     (λ t k s. packs.read t k.steps (stood t k s).holds.pair) c.pack-answer.ensures.told.2

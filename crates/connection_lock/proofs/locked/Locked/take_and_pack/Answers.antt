@@ -2,7 +2,7 @@ use Rattle.std.proofs.Common.{◌≡◌, ◌∙◌, Ok, refl, ap, subst}
 use Rattle.rtrb.specs.Ring.{received, sent, known_items, known_free}
 use Rattle.stream_manager.specs.Limits.{Terms}
 use Rattle.stream_manager.specs.Stands.{terms_of}
-use Rattle.kept_pair.specs.Kept.{KeptState, terms_in}
+use Rattle.kept_pair.specs.Kept.{terms_in}
 use Rattle.connection_lock.specs.Taking.{Progress}
 use Rattle.connection_lock.specs.Rule.{LockedState, progress_of}
 use Rattle.connection_lock.specs.Turns.{PackTurn, Packs}

@@ -24,6 +24,6 @@ invariant_of-self g c =
           (kept-more c.self.inside.pair c.pack_noting-answer.new.self c.self.inside.steps.list c.self.inside.moves.items c.self.inside.moves.items c.self.inside.befores.items (Pack c.args.drains.now c.pack_noting-answer.new.noted.items) c.self.invariant.0
           (subst (λ (l : List PairStep). length l ≤ 65536) list few) (may.drained, packs.read (terms_of c.self.inside.pair.conn) (newest_first c.self.inside.steps.list) c.self.invariant.0.replays.stands) tt
           (packs.stands (terms_of c.self.inside.pair.conn) (newest_first c.self.inside.steps.list) c.self.invariant.0.replays.stands)
-          (c.self.invariant.0.moves_are ∙ sym (none-by-pack (terms_of c.self.inside.pair.conn) (newest_first c.self.inside.steps.list) c.args.drains.now c.pack_noting-answer.new.noted.items))),
+          (c.self.invariant.0.moves_are ∙ sym (none-by-pack (terms_of c.self.inside.pair.conn) (newest_first c.self.inside.steps.list) c.args.drains.now c.pack_noting-answer.new.noted.items)) c.pack_noting-answer.ensures.keeping),
       let room = c.push.ensures.drain_room in let before = c.self.invariant.1 in let asked : length c.args.drains.now ≤ c.self.inside.drains = subst (λ (k : KeptState). length c.args.drains.now ≤ k.drains) (sym c.self.view_is) c.requires.room in omega arith,
     )

@@ -46,7 +46,7 @@ invariant_of-self c =
           (kept-more c.self.inside.pair c.step-answer.new.self c.self.inside.steps.list c.self.inside.moves.items c.add_moves.new.moves.items c.self.inside.befores.items (step_of c.args.step) c.self.invariant.0
           (subst (λ (l : List PairStep). length l ≤ 65536) list few) met c.learn_payload.ensures
           (c.step-answer.ensures.stands (terms_of c.self.inside.pair.conn) (newest_first c.self.inside.steps.list) c.self.invariant.0.replays.stands)
-          (c.add_moves.ensures ∙ ap (λ (ms : List Move). ms ++ c.brought.result.now) c.self.invariant.0.moves_are ∙ sym (accepted here))),
+          (c.add_moves.ensures ∙ ap (λ (ms : List Move). ms ++ c.brought.result.now) c.self.invariant.0.moves_are ∙ sym (accepted here)) c.step-answer.ensures.keeping),
       let room = c.push.ensures.drain_room in let before = c.self.invariant.1 in omega arith,
     )
 

@@ -1,4 +1,4 @@
-use Rattle.std.proofs.Common.{◌≡◌, ◌<◌, ◌+◌, ℕ, List, [], ◌∷◌, length, get_or, set, sym, ap, subst, refl, arith, Some}
+use Rattle.std.proofs.Common.{◌≡◌, ◌∙◌, ◌<◌, ◌+◌, ℕ, List, [], ◌∷◌, length, get_or, set, sym, ap, subst, refl, arith, Some}
 use Rattle.std.specs.Prelude.{IfOk, OnOk}
 use Rattle.match_script.specs.declared.types.BodyLine.{BodyLine}
 use Rattle.match_script.specs.declared.types.Head.{Head}
@@ -13,8 +13,9 @@ use Rattle.match_laws.specs.own_lists.Past.{Past, client_terms, kept_by, after}
 use Rattle.match_laws.proofs.Below.own_lists.Counting.{few_up}
 use Rattle.match_laws.specs.client_seat.Stands.{SeatState, StandsFor as SeatStandsFor}
 use Rattle.match_laws.specs.Report.{told, told_after}
-use Rattle.match_engine.specs.Stands.{GameState, StandsFor, IsDirect}
-use Rattle.match_engine.proofs.Fed.{names_client, fed, after_direct, put_set, put_none, own_few, map_if_ok, map_on_ok}
+use Rattle.match_engine.specs.Stands.{GameState, StandsFor, IsDirect, KeepAll}
+use Rattle.match_engine.proofs.Keeping.{keep-set}
+use Rattle.match_engine.proofs.Fed.{names_client, fed, after_direct, put_set, put_none, own_few, map_if_ok, map_on_ok, ok_of}
 use Rattle.match_engine.proofs.game.Game.direct.Goals as goal
 
 abbrev before : goal.After-index_mut → GameState
@@ -66,6 +67,24 @@ line_on-requires-clause-stands c = record {
 
 pub line_on-requires-clause-few : goal.line_on-requires-clause-few
 line_on-requires-clause-few c = few (before c) c.index_mut.result.now c.args.client c.args.line.now c.requires.stands.0 c.requires.named c.index_mut.ensures.value (stands c) (line_fits c) (is_few c)
+
+pub line_on-requires-clause-kept : goal.line_on-requires-clause-kept
+line_on-requires-clause-kept c down =
+    let m = before c in
+    let s = stands c in
+    let all : KeepAll m.seats = subst (λ (x : GameState). KeepAll x.seats) (sym c.self.view_is) (c.requires.kept down) in
+    let lt = names_client m.head.clients c.args.line.now c.args.client c.requires.named (line_fits c) in
+    ap (λ (x : SeatState). x.pair.keeps_all) c.index_mut.ensures.value ∙ all c.args.client c.index_mut.result.now (omega (arith, lt, s.seat_count))
+
+pub returns-clause-keeps : goal.returns-clause-keeps
+returns-clause-keeps c =
+    let m : GameState = record { head = c.self.inside.head.now; seats = c.self.inside.seats.items; scopes = c.self.inside.scopes.items; world = c.self.inside.world; lanes = c.self.inside.lanes; done = c.self.inside.done } in
+    let s : StandsFor m c.requires.stands.0 = subst (λ (x : GameState). StandsFor x c.requires.stands.0) (sym c.self.view_is) c.requires.stands.1 in
+    let fits : LineFits m.head.clients c.args.line.now = subst (λ (x : GameState). LineFits x.head.clients c.args.line.now) (sym c.self.view_is) c.requires.fits in
+    let lt = names_client m.head.clients c.args.line.now c.args.client c.requires.named fits in
+    ok_of c.line_on.result _ (λ all.
+    keep-set m.seats c.args.client c.index_mut.result.now c.line_on.new.seat (omega (arith, lt, s.seat_count)) c.index_mut.ensures.value c.line_on.ensures.keeping
+    (subst (λ (x : GameState). KeepAll x.seats) (sym c.self.view_is) all))
 
 pub returns-clause-told : goal.returns-clause-told
 returns-clause-told c =

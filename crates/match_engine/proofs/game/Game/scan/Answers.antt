@@ -1,4 +1,4 @@
-use Rattle.std.proofs.Common.{◌≡◌, ◌<◌, ◌+◌, ℕ, List, ◌∷◌, length, get_or, set, sym, subst, refl, arith}
+use Rattle.std.proofs.Common.{◌≡◌, ◌<◌, ◌+◌, ℕ, List, ◌∷◌, get_or, set, sym, subst, refl, arith}
 use Rattle.std.specs.Prelude.{IfOk, OnOk}
 use Rattle.match_script.specs.declared.types.BodyLine.{BodyLine}
 use Rattle.match_script.specs.declared.types.BodyLine.TheVariants as script
@@ -8,9 +8,10 @@ use Rattle.match_laws.specs.own_lists.Counted.{counted_in}
 use Rattle.dirty_lanes.specs.Words.{Words}
 use Rattle.match_laws.specs.client_seat.Stands.{SeatState}
 use Rattle.match_laws.specs.Report.{told_after}
-use Rattle.match_engine.specs.Stands.{GameState, StandsFor}
+use Rattle.match_engine.specs.Stands.{GameState, StandsFor, KeepAll}
+use Rattle.match_engine.proofs.Keeping.{keep-set}
 use Rattle.match_engine.specs.Serving.{Serves, OthersStay}
-use Rattle.match_engine.proofs.Fed.{fed, serves, put_set, map_if_ok, both_ok}
+use Rattle.match_engine.proofs.Fed.{fed, serves, put_set, map_if_ok, both_ok, ok_of}
 use Rattle.match_engine.proofs.game.Game.scan.Goals as goal
 
 module _ (m : GameState) (d : SeatState) (e : Table) (n : ℕ) (past : List BodyLine) (lt : n < m.head.clients) (is : d ≡ get_or m.seats n d) (is_scope : e ≡ get_or m.scopes n e) (s : StandsFor m past) where
@@ -56,3 +57,12 @@ returns-clause-stands c =
     next m c.index_mut.result.now c.index_mut-2.result.now c.args.client past lt c.index_mut.ensures.value c.index_mut-2.ensures.value s done c.scan_for.new.seat c.scan_for.new.scope c.scan_for.new.lanes others
     (f m.head past found (few m c.index_mut.result.now c.index_mut-2.result.now c.args.client past lt c.index_mut.ensures.value c.index_mut-2.ensures.value s done)))
     c.scan_for.ensures.serves c.scan_for.ensures.others)
+
+pub returns-clause-keeps : goal.returns-clause-keeps
+returns-clause-keeps c =
+    let m : GameState = record { head = c.self.inside.head.now; seats = c.self.inside.seats.items; scopes = c.self.inside.scopes.items; world = c.self.inside.world; lanes = c.self.inside.lanes; done = c.self.inside.done } in
+    let s : StandsFor m c.requires.stands.0 = subst (λ (x : GameState). StandsFor x c.requires.stands.0) (sym c.self.view_is) c.requires.stands.1 in
+    let lt : c.args.client < m.head.clients = subst (λ (x : GameState). c.args.client < x.head.clients) (sym c.self.view_is) c.requires.client in
+    ok_of c.scan_for.result _ (λ all.
+    keep-set m.seats c.args.client c.index_mut.result.now c.scan_for.new.seat (omega (arith, lt, s.seat_count)) c.index_mut.ensures.value c.scan_for.ensures.keeping
+    (subst (λ (x : GameState). KeepAll x.seats) (sym c.self.view_is) all))

@@ -1,4 +1,4 @@
-use Rattle.std.proofs.Common.{◌≡◌, ◌<◌, ◌+◌, ℕ, List, ◌∷◌, get_or, sym, subst, arith, refl, add-zero}
+use Rattle.std.proofs.Common.{◌≡◌, ◌<◌, ℕ, List, ◌∷◌, get_or, sym, subst, arith, refl, add-zero}
 use Rattle.std.specs.Prelude.{Result, Ok, Err, IfOk, OnOk}
 use Rattle.match_script.specs.declared.types.BodyLine.{BodyLine}
 use Rattle.match_script.specs.declared.types.BodyLine.TheVariants as script
@@ -9,8 +9,8 @@ use Rattle.match_laws.specs.own_lists.Kept.{kept}
 use Rattle.match_laws.specs.own_lists.Past.{client_terms, after}
 use Rattle.match_laws.specs.client_seat.Stands.{SeatState}
 use Rattle.match_laws.specs.Report.{told_after}
-use Rattle.match_engine.specs.Stands.{GameState, ClientHolds, StandsFor}
-use Rattle.match_engine.proofs.Fed.{fed, serves, put_none, own_line, map_if_ok}
+use Rattle.match_engine.specs.Stands.{GameState, ClientHolds, StandsFor, KeepAll}
+use Rattle.match_engine.proofs.Fed.{fed, serves, put_none, own_line, map_if_ok, ok_of}
 use Rattle.match_engine.proofs.game.Game.show.Goals as goal
 
 -- nothing changes
@@ -55,3 +55,6 @@ returns-clause-stands c =
     subst (λ (x : GameState). OnOk c.show_for.result ((past : List BodyLine) → StandsFor x past → StandsFor new (script.Show c.args.client ∷ past))) c.self.view_is
     (on_ok c.show_for.result ((past : List BodyLine) → StandsFor m past → StandsFor new (script.Show c.args.client ∷ past))
     (λ past s. next m past c.args.client c.index.result.now c.index-2.result.now lt done c.index.ensures c.index-2.ensures s))
+
+pub returns-clause-keeps : goal.returns-clause-keeps
+returns-clause-keeps c = ok_of c.show_for.result _ (λ all. subst (λ (x : GameState). KeepAll x.seats) (sym c.self.view_is) all)

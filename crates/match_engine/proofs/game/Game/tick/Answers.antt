@@ -12,7 +12,8 @@ use Rattle.match_report.specs.declared.told.Told.TheVariants as told_as
 use Rattle.match_laws.specs.client_seat.Stands.{SeatState, without_first}
 use Rattle.match_laws.specs.Report.{told_after, tick_told}
 use Rattle.match_engine.specs.Serving.{raised_by}
-use Rattle.match_engine.specs.Stands.{GameState, StandsFor}
+use Rattle.match_engine.proofs.Keeping.{keep-ticked}
+use Rattle.match_engine.specs.Stands.{KeepAll, GameState, StandsFor}
 use Rattle.match_engine.proofs.Ticked.{few_moves, may_tick, objects_there, fields_there, next_world, ticked_match}
 use Rattle.match_engine.proofs.game.Game.tick.Goals as goal
 
@@ -68,3 +69,7 @@ returns-clause-stands c =
     subst (λ (x : GameState). (past : List BodyLine) → StandsFor x past → StandsFor new (Tick ∷ past)) c.self.view_is
     (after m c.take_moves.new.moves.items c.tick.new.self c.writes.result.now c.take_moves.new.seats.items c.raise_all.new.lanes done c.in-Ok.ensures.moves next_is c.writes.ensures c.in-Ok.ensures.seats
     c.raise_all.ensures.masks c.raise_all.ensures.sizes)
+
+pub returns-clause-keeps : goal.returns-clause-keeps
+returns-clause-keeps c all =
+    subst KeepAll (sym c.in-Ok.ensures.seats) (keep-ticked c.self.inside.seats.items (subst (λ (x : GameState). KeepAll x.seats) (sym c.self.view_is) all))

@@ -1,77 +1,97 @@
-use Rattle.std.proofs.Common.{arith, rules, ◌≡◌, ◌<◌, ◌≤◌, ◌∷◌, [], ◌++◌, ◌∙◌, ℕ, Option, None, List, length, take, sym, ap, subst, refl, length-take}
+use Rattle.std.proofs.Common.{arith, rules, refl, ◌≡◌, ◌≤◌, ◌<◌, ◌+◌, ◌++◌, ◌∷◌, [], ◌∙◌, List, map, length, ap, sym, subst}
 use Rattle.std.proofs.lemmas.Grind.{common_steps}
-use Rattle.std.proofs.lemmas.List.{take_all, length-map}
 use Rattle.std.specs.VecDeque.{deque_capacity}
-use Rattle.tn_types.specs.declared.choices.Choice.{Choice}
 use Rattle.packet_records.specs.declared.pool.Packet.{Packet}
-use Rattle.packet_records.specs.Pool.{Held, held_in, records, record_of, IsSound}
-use Rattle.packet_records.proofs.PacketFacts.{length_same}
-use Rattle.packet_records.proofs.Whole.{IsAdding, whole, adding_start, adding_room, adding_head, adding_last, adding_count, adding_next, adding_end}
+use Rattle.packet_records.specs.Pool.{Held, held_in, records, IsSound}
+use Rattle.packet_records.specs.Ring.{IsRing}
+use Rattle.packet_records.proofs.RingFacts.{place_inside}
+use Rattle.packet_records.proofs.PoolFacts.{entry_for}
+use Rattle.packet_records.proofs.SoundFacts.{count_few, room_for, room_of, adding_start, adding_next, sound_push, records_push}
 use Rattle.packet_records.proofs.chains.Pool.add_record.Goals as goal
 
-few : (cs : List Choice) (i : ℕ) → i < length cs → length cs ≤ 128 → length (take i cs) < 128
-few cs i lt all = omega (arith, length-take i cs)
+pub place_after-at-requires-clause-count : goal.place_after-at-requires-clause-count
+place_after-at-requires-clause-count c =
+    let i = c.self.inside in
+    count_few i.nodes.items i.start i.count i.newest i.packets.items c.self.invariant.1
 
 pub items-init : goal.items-init
 items-init c =
-    let nodes = c.self.inside.nodes in
-    let items = c.self.inside.packets.items in
-    let held = held_in nodes items in
-    let start = adding_start nodes c.self.inside.heads items held c.args.seq (subst (λ (l : List Held). length (records l) < 32) (sym c.self.view_is) c.requires.room) c.self.invariant.1 in
-    let packet : Option ℕ → Option ℕ → Packet = λ first last. record { seq = c.args.seq; first = first; last = last; count = 0 } in (
-      refl,
-      subst (λ o. IsAdding nodes c.self.inside.heads items held (packet o c.none-2.result) c.args.seq []) (sym c.none.ensures)
-          (subst (λ o. IsAdding nodes c.self.inside.heads items held (packet None o) c.args.seq []) (sym c.none-2.ensures) start),
-    )
+    let i = c.self.inside in
+    record {
+      packets = refl;
+      start = refl;
+      count = refl;
+      adding = adding_start i.nodes.items i.start i.count c.args.seq c.place_after-at.result i.newest c.args.choices.now c.self.invariant.1.ring c.place_after-at.ensures.place;
+    }
 
-pub add_node-key-requires-clause-room : goal.add_node-key-requires-clause-room
-add_node-key-requires-clause-room c = adding_room _ _ _ _ _ _ _ c.items.invariant.1 (few _ _ c.items-test.true c.requires.few)
+pub add_node-requires : goal.add_node-requires
+add_node-requires c =
+    let i = c.self.inside in
+    let a = c.items.invariant.adding in
+    let room = room_for i.nodes.items i.start i.count i.newest i.packets.items c.args.self.now c.self.view_is c.requires.room c.self.invariant.1 in
+    let lt = c.items-test.true in
+    let few = c.requires.few in
+    let inside = place_inside i.start (i.count + c.items.choice-index) a.ring.inside (omega (arith, room, lt, few)) in
+    omega (arith, inside, a.place, a.ring.long)
 
-pub add_node-key-requires-clause-head : goal.add_node-key-requires-clause-head
-add_node-key-requires-clause-head c = adding_head _ _ _ _ _ _ _ c.items.invariant.1 _
-
-pub add_node-key-requires-clause-last : goal.add_node-key-requires-clause-last
-add_node-key-requires-clause-last c = adding_last _ _ _ _ _ _ _ c.items.invariant.1 (few _ _ c.items-test.true c.requires.few)
-
-pub grown-packet-requires-clause-count : goal.grown-packet-requires-clause-count
-grown-packet-requires-clause-count c = adding_count _ _ _ _ _ _ _ c.items.invariant.1 (few _ _ c.items-test.true c.requires.few)
+pub place_after-at-requires-in-items-clause-start : goal.place_after-at-requires-in-items-clause-start
+place_after-at-requires-in-items-clause-start c =
+    let i = c.self.inside in
+    let a = c.items.invariant.adding in
+    let room = room_for i.nodes.items i.start i.count i.newest i.packets.items c.args.self.now c.self.view_is c.requires.room c.self.invariant.1 in
+    let lt = c.items-test.true in
+    let few = c.requires.few in
+    let inside = place_inside i.start (i.count + c.items.choice-index) a.ring.inside (omega (arith, room, lt, few)) in
+    omega (arith, inside, a.place)
 
 pub items-preserved : goal.items-preserved
-items-preserved c = (
-  c.items.invariant.0,
-  adding_next _ _ _ _ _ _ _ _ _ _ c.args.choices.now c.items.choice-index c.items-test.true c.requires.few c.requires.once c.add_node-key.ensures.heads c.add_node-key.ensures.slot c.add_node-key.ensures.added c.grown-packet.ensures c.items.invariant.1,
-)
+items-preserved c =
+    let i = c.self.inside in
+    let v = c.items.invariant in
+    let room = room_for i.nodes.items i.start i.count i.newest i.packets.items c.args.self.now c.self.view_is c.requires.room c.self.invariant.1 in
+    let lt = c.items-test.true in
+    let few = c.requires.few in
+    record {
+      packets = v.packets;
+      start = v.start;
+      count = v.count;
+      adding = adding_next i.nodes.items c.items.self-inside.nodes.items c.add_node.new.nodes.items i.start i.count c.args.seq c.items.choice-index c.items.at c.place_after-at-in-items.result c.items.self-inside.newest c.add_node.new.newest c.args.choices.now (omega (arith, room, lt, few)) c.add_node.ensures.slot c.add_node.ensures.nodes c.add_node.ensures.newest c.place_after-at-in-items.ensures.place v.adding;
+    }
 
 pub invariant_of-self : goal.invariant_of-self
 invariant_of-self c =
-    let was = c.self.inside.packets in
-    let now = c.items.self-inside.packets in
-    let same : now ≡ was = c.items.invariant.0 in
-    let ended = adding_end _ _ _ _ _ _ _ c.items.invariant.1 in
-    let held = held_in c.self.inside.nodes was.items in
-    let long = length_same c.self.inside.nodes was.items held c.self.invariant.1.chains in
-    let room : length (records held) < 32 = subst (λ (l : List Held). length (records l) < 32) (sym c.self.view_is) c.requires.room in
-    let few : length held < 32 = omega (arith, room, length-map held record_of) in
-    let short : length now.items < 32 = omega (arith, few, long, ap (λ p. length p.items) same) in
-    let wide : 32 ≤ deque_capacity now = omega (arith, c.self.invariant.0, ap deque_capacity same) in
-    let behind : c.push_back.new.self.items ≡ now.items ++ c.items.packet ∷ [] = search rules in
-    let pushed : c.push_back.new.self.items ≡ was.items ++ c.items.packet ∷ [] = behind ∙ ap (λ p. p.items ++ c.items.packet ∷ []) same in
-    (grind (arith, common_steps, ap length behind), subst (λ (xs : List Packet). IsSound c.items.self-inside.nodes c.items.self-inside.heads xs (held_in c.items.self-inside.nodes xs)) (sym pushed) ended.0)
+    let i = c.self.inside in
+    let l = c.items.self-inside in
+    let v = c.items.invariant in
+    let cs = c.args.choices.now in
+    let p : Packet = record { seq = c.args.seq; count = length cs } in
+    let room = room_of i.nodes.items i.start i.packets.items c.args.self.now c.self.view_is c.requires.room in
+    let all : c.items.choice-index ≡ length cs = (let le = c.items-test.false in let ge = c.items.auto.choice-index-end in omega (arith, le, ge)) in
+    let ring = subst (λ k. IsRing l.nodes.items i.start (i.count + k) l.newest) all v.adding.ring in
+    let short : length l.packets.items < 32 = omega (arith, room, ap (λ q. length q.items) v.packets) in
+    let wide : 32 ≤ deque_capacity l.packets = omega (arith, c.self.invariant.0, ap deque_capacity v.packets) in
+    let behind : c.push_back.new.self.items ≡ l.packets.items ++ p ∷ [] = search rules in
+    let pushed : c.push_back.new.self.items ≡ i.packets.items ++ p ∷ [] = behind ∙ ap (λ q. q.items ++ p ∷ []) v.packets in
+    let sound = sound_push i.nodes.items i.start i.count i.newest i.packets.items p l.nodes.items l.newest room c.requires.few ring c.self.invariant.1 in (
+      grind (arith, common_steps, ap length behind),
+      subst (λ (xs : List Packet). IsSound l.nodes.items l.start (l.count + length cs) l.newest xs) (sym pushed)
+          (subst (λ k. IsSound l.nodes.items l.start (k + length cs) l.newest (i.packets.items ++ p ∷ [])) (sym v.count)
+          (subst (λ k. IsSound l.nodes.items k (i.count + length cs) l.newest (i.packets.items ++ p ∷ [])) (sym v.start) sound)),
+    )
 
 pub returns : goal.returns
 returns c =
-    let was = c.self.inside.packets in
-    let now = c.items.self-inside.packets in
-    let same : now ≡ was = c.items.invariant.0 in
-    let ended = adding_end _ _ _ _ _ _ _ c.items.invariant.1 in
-    let held = held_in c.self.inside.nodes was.items in
-    let long = length_same c.self.inside.nodes was.items held c.self.invariant.1.chains in
-    let room : length (records held) < 32 = subst (λ (l : List Held). length (records l) < 32) (sym c.self.view_is) c.requires.room in
-    let few : length held < 32 = omega (arith, room, length-map held record_of) in
-    let short : length now.items < 32 = omega (arith, few, long, ap (λ p. length p.items) same) in
-    let wide : 32 ≤ deque_capacity now = omega (arith, c.self.invariant.0, ap deque_capacity same) in
-    let behind : c.push_back.new.self.items ≡ now.items ++ c.items.packet ∷ [] = search rules in
-    ap (λ (xs : List Packet). records (held_in c.items.self-inside.nodes xs)) (behind ∙ ap (λ p. p.items ++ c.items.packet ∷ []) same)
-    ∙ ended.1
-    ∙ ap (λ cs. records held ++ whole c.args.seq cs ∷ []) (take_all c.items.choice-index c.args.choices.now c.items-test.false)
-    ∙ ap (λ (l : List Held). records l ++ whole c.args.seq c.args.choices.now ∷ []) c.self.view_is
+    let i = c.self.inside in
+    let l = c.items.self-inside in
+    let v = c.items.invariant in
+    let cs = c.args.choices.now in
+    let p : Packet = record { seq = c.args.seq; count = length cs } in
+    let room = room_of i.nodes.items i.start i.packets.items c.args.self.now c.self.view_is c.requires.room in
+    let short : length l.packets.items < 32 = omega (arith, room, ap (λ q. length q.items) v.packets) in
+    let wide : 32 ≤ deque_capacity l.packets = omega (arith, c.self.invariant.0, ap deque_capacity v.packets) in
+    let all : c.items.choice-index ≡ length cs = (let le = c.items-test.false in let ge = c.items.auto.choice-index-end in omega (arith, le, ge)) in
+    let behind : c.push_back.new.self.items ≡ l.packets.items ++ p ∷ [] = search rules in
+    ap (λ (xs : List Packet). records (held_in l.nodes.items l.start xs)) (behind ∙ ap (λ q. q.items ++ p ∷ []) v.packets)
+    ∙ ap (λ k. records (held_in l.nodes.items k (i.packets.items ++ p ∷ []))) v.start
+    ∙ records_push i.nodes.items l.nodes.items i.start i.count c.args.seq i.packets.items cs c.self.invariant.1.counted v.adding.olds (λ j lt. v.adding.news j (omega (arith, lt, all)))
+    ∙ ap (λ (h : List Held). records h ++ record { seq = c.args.seq; entries = map (entry_for c.args.seq) cs } ∷ []) c.self.view_is

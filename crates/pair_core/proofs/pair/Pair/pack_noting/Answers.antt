@@ -1,32 +1,40 @@
-use Rattle.std.proofs.Common.{◌&&◌, [], ap, sym, subst}
+use Rattle.std.proofs.Common.{◌&&◌, ◌<◌, ◌∙◌, [], ap, sym, subst, refl}
 use Rattle.conn_packing.specs.stream_manager.ConnCalls.{Keeps as KeepsConn}
 use Rattle.pair_core.specs.History.{Pack}
 use Rattle.pair_core.specs.Answers.{answer}
 use Rattle.pair_core.specs.Stands.{PairState}
 use Rattle.pair_core.specs.Calls.{MayPack, Packs, Answers}
-use Rattle.pair_core.proofs.Packed.{may-end, pair-packs, pair-answers}
+use Rattle.pair_core.specs.Keeping.{kept}
+use Rattle.pair_core.proofs.Packed.{may-end, few-end, pair-packs, pair-answers}
 use Rattle.pair_core.proofs.pair.Pair.pack_noting.Goals as goal
 
 pub pack_noting-made-requires-clause-may : goal.pack_noting-made-requires-clause-may
 pack_noting-made-requires-clause-may g c =
-    let p : PairState = (record { conn = c.self.inside.conn; client = c.self.inside.client; down = c.self.inside.down.list; up = c.self.inside.up.list; prepared = c.self.inside.down.has_room && c.self.inside.up.has_room }) in
+    let p : PairState = (record { conn = c.self.inside.conn; client = c.self.inside.client; down = c.self.inside.down.list; up = c.self.inside.up.list; prepared = c.self.inside.down.has_room && c.self.inside.up.has_room; keeps_all = c.self.inside.keeps_all; sent = c.self.inside.sent }) in
     may-end p c.args.drains.now (g.V.Values.ranges c.args.values.now)
     (subst (λ (x : PairState). MayPack x c.args.drains.now (g.V.Values.ranges c.args.values.now)) (sym c.self.view_is) c.requires.may)
 
+pub pack_noting-made-requires-clause-few : goal.pack_noting-made-requires-clause-few
+pack_noting-made-requires-clause-few g c =
+    let p : PairState = (record { conn = c.self.inside.conn; client = c.self.inside.client; down = c.self.inside.down.list; up = c.self.inside.up.list; prepared = c.self.inside.down.has_room && c.self.inside.up.has_room; keeps_all = c.self.inside.keeps_all; sent = c.self.inside.sent }) in
+    few-end p c.args.drains.now (g.V.Values.ranges c.args.values.now)
+    (subst (λ (x : PairState). MayPack x c.args.drains.now (g.V.Values.ranges c.args.values.now)) (sym c.self.view_is) c.requires.may)
+    (subst (λ (x : PairState). x.sent < 4294967295) (sym c.self.view_is) c.requires.few)
+
 pub returns-clause-answer : goal.returns-clause-answer
 returns-clause-answer g c =
-    let p : PairState = (record { conn = c.self.inside.conn; client = c.self.inside.client; down = c.self.inside.down.list; up = c.self.inside.up.list; prepared = c.self.inside.down.has_room && c.self.inside.up.has_room }) in
+    let p : PairState = (record { conn = c.self.inside.conn; client = c.self.inside.client; down = c.self.inside.down.list; up = c.self.inside.up.list; prepared = c.self.inside.down.has_room && c.self.inside.up.has_room; keeps_all = c.self.inside.keeps_all; sent = c.self.inside.sent }) in
     let told = c.pack_noting-made.ensures.told in
     subst (λ (x : PairState). Answers x (λ t steps. answer t steps (Pack c.args.drains.now [])) c.packed.result) c.self.view_is
     (subst (λ r. Answers p (λ t steps. answer t steps (Pack c.args.drains.now [])) r) (sym c.packed.ensures)
-    (pair-answers p c.args.drains.now c.pack_noting-made.new.noted.items c.pack_noting-made.result told.0 c.pack_noting-made.new.conn told.1 c.len-place.result c.len-place.ensures))
+    (pair-answers p c.args.drains.now c.pack_noting-made.new.noted.items c.pack_noting-made.result told.0 c.pack_noting-made.new.conn told.1 c.self.inside.sent refl))
 
 pub returns-clause-packs : goal.returns-clause-packs
 returns-clause-packs g c =
-    let p : PairState = (record { conn = c.self.inside.conn; client = c.self.inside.client; down = c.self.inside.down.list; up = c.self.inside.up.list; prepared = c.self.inside.down.has_room && c.self.inside.up.has_room }) in
+    let p : PairState = (record { conn = c.self.inside.conn; client = c.self.inside.client; down = c.self.inside.down.list; up = c.self.inside.up.list; prepared = c.self.inside.down.has_room && c.self.inside.up.has_room; keeps_all = c.self.inside.keeps_all; sent = c.self.inside.sent }) in
     let told = c.pack_noting-made.ensures.told in
-    subst (λ (x : PairState). Packs x c.args.drains.now c.pack_noting-made.new.noted.items (record { conn = c.pack_noting-made.new.conn; client = c.self.inside.client; down = c.pack_noting-made.new.self.list; up = c.self.inside.up.list; prepared = c.pack_noting-made.new.self.has_room && c.self.inside.up.has_room })) c.self.view_is
-    (pair-packs p c.args.drains.now c.pack_noting-made.new.noted.items c.pack_noting-made.result told.0 c.pack_noting-made.new.conn told.1 (c.pack_noting-made.new.self.has_room && c.self.inside.up.has_room) c.pack_noting-made.new.self.list told.2)
+    subst (λ (x : PairState). Packs x c.args.drains.now c.pack_noting-made.new.noted.items (record { conn = c.pack_noting-made.new.conn; client = c.self.inside.client; down = c.keep.new.self.list; up = c.self.inside.up.list; prepared = c.keep.new.self.has_room && c.self.inside.up.has_room; keeps_all = c.self.inside.keeps_all; sent = c.counted-self-inside.result })) c.self.view_is
+    (pair-packs p c.args.drains.now c.pack_noting-made.new.noted.items c.pack_noting-made.result told.0 c.pack_noting-made.new.conn told.1 (c.keep.new.self.has_room && c.self.inside.up.has_room) c.keep.new.self.list c.counted-self-inside.result (c.keep.ensures ∙ ap (kept c.self.inside.keeps_all) told.2) c.counted-self-inside.ensures)
 
 pub returns-clause-keeps : goal.returns-clause-keeps
 returns-clause-keeps g c = record {
