@@ -85,9 +85,9 @@ pub record AreMet (t : Terms) (events : List WatchEvent) : Type 0 where
 
 -- this is what the packet changed of the copies, and what it delivered
 pub record IsToldOf (t : Terms) (p : ServerPacket) (events : List WatchEvent) (killed : List ℕ) (changed : List Change) (news : List EventTold) : Type 0 where
-  pub killed : killed ≡ killed_between (copy_at events) (copy_at (Took p ∷ events))
-  pub changed : changed ≡ changed_between t.kinds (copy_at events) (copy_at (Took p ∷ events))
-  pub news : payloads_of news ≡ news_by p events
+  pub kills : killed ≡ killed_between (copy_at events) (copy_at (Took p ∷ events))
+  pub changes : changed ≡ changed_between t.kinds (copy_at events) (copy_at (Took p ∷ events))
+  pub delivers : payloads_of news ≡ news_by p events
 
 -- for all that the spectator met, it met the packet too
 abbrev pub Takes : Spectator → List ℕ → List Change → List EventTold → Spectator → Type 0
@@ -152,8 +152,8 @@ pub record MayShow (s : Spectator) : Type 0 where
   pub events : List WatchEvent
   pub follows : Follows s terms events
 
-abbrev pub Shows : Spectator → Told → Type 0
-Shows s told = (t : Terms) (events : List WatchEvent) → Follows s t events → told ≡ show_tells t events
+abbrev pub TellsShow : Spectator → Told → Type 0
+TellsShow s told = (t : Terms) (events : List WatchEvent) → Follows s t events → told ≡ show_tells t events
 
 abbrev pub Stays : Spectator → Spectator → Type 0
 Stays old new = (t : Terms) (events : List WatchEvent) → Follows old t events → Follows new t events

@@ -76,7 +76,7 @@ impl Spectator {
     ghost use Rattle.std.specs.Prelude.{[], ◌∷◌, Some, IfOk, filter_map};
     ghost use Rattle.own_lists.specs.Own.{client_named};
     ghost use Rattle.alone_server.specs.Stands.{terms_of, HeaderFits};
-    ghost use Rattle.relay_spectator.specs.Spectators.{Follows, Takes, MayTake, MayScan, ScansOf, TellsScan, IsAsked, MayDo, Does, TellsLine, MayShow, Shows, Stays, payloads_of};
+    ghost use Rattle.relay_spectator.specs.Spectators.{Follows, Takes, MayTake, MayScan, ScansOf, TellsScan, IsAsked, MayDo, Does, TellsLine, MayShow, TellsShow, Stays, payloads_of};
     ghost use Rattle.relay_spectator.specs.Watches.{period_at, write_at};
     ghost use Rattle.relay_spectator.specs.Feeding.{MayChange, Changes, MayPost, Posts};
 
@@ -209,7 +209,7 @@ impl Spectator {
     /// What the spectator has.
     pub fn show(&self, alloc: Global) -> Result<Told, NoMemory>
         requires { MayShow self.now }
-        ensures { IfOk result (Shows self.now) }
+        ensures { IfOk result (TellsShow self.now) }
     {
         self.server.show(alloc)
     }
