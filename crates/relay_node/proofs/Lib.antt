@@ -4,3 +4,4 @@ pub mod Places
 pub mod Playing
 pub mod Relaying
 pub mod Texts
+pub mod Made

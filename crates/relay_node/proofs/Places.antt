@@ -6,7 +6,7 @@ use Rattle.match_engine.proofs.Written.{reverse_next}
 use Rattle.relay_script.specs.declared.entries.Entry.{Entry}
 use Rattle.relay_script.specs.declared.entries.Entry.TheVariants.{OfMatch, OfRelay}
 use Rattle.relay_script.specs.declared.types.PlacedLine.{PlacedLine}
-use Rattle.relay_report.specs.Met.{past_of}
+use Rattle.relay_report.specs.Met.{past_of, match_past}
 use Rattle.relay_node.specs.Running.{IsBehind}
 
 -- ---- one line of the match more
@@ -53,3 +53,8 @@ few_past body (placed ∷ earlier) place h =
     let front = long_front (place - placed.behind) (drop placed.behind body) in
     let all = length-append (map OfMatch (reverse (take (place - placed.behind) (drop placed.behind body)))) (OfRelay placed.line ∷ past_of body placed.behind earlier) in
     omega (arith, le, rest, front, all)
+
+pub few_lines : (past : List Entry) → length (match_past past) ≤ length past
+few_lines [] = omega arith
+few_lines (OfMatch line ∷ past) = let rest = few_lines past in omega (arith, rest)
+few_lines (OfRelay line ∷ past) = let rest = few_lines past in omega (arith, rest)

@@ -1,6 +1,6 @@
 -- The tie between a spectator and what it met: its server was fed the items that the relay makes of that, its watch is that of the
 -- relay's copies, and it posts no more where a post was refused.
-use Rattle.std.specs.Prelude.{◌≡◌, ℕ, ◌<◌, not, Bool, false, List, [], ◌∷◌, length, filter_map, Option, Some, None}
+use Rattle.std.specs.Prelude.{◌≡◌, ℕ, ◌<◌, not, Bool, true, false, List, [], ◌∷◌, length, filter_map, Option, Some, None}
 use Rattle.std.specs.Result.{is_ok}
 use Rattle.tn_types.specs.declared.choices.Class.{Class}
 use Rattle.tn_types.specs.declared.choices.Class.TheVariants.{Guaranteed, Loose}
@@ -28,6 +28,10 @@ use Rattle.relay_board.specs.Changes.{BoardState, killed_between, changed_betwee
 use Rattle.relay_spectator.specs.Watches.{IsWatch}
 
 -- ---- what is told
+
+abbrev pub is_guaranteed : Class → Bool
+is_guaranteed Guaranteed = true
+is_guaranteed Loose = false
 
 -- the payload of a guaranteed event
 abbrev pub guaranteed_payload : Class → List ℕ → Option (List ℕ)

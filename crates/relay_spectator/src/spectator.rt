@@ -1,7 +1,7 @@
 //! One spectator of a relay: what serves it, and what it is told.
 ghost use Rattle.std.specs.Prelude.{◌≡◌, OnOk, map};
 ghost use Rattle.alone_server.specs.own_items.Items.{write_of};
-ghost use Rattle.relay_spectator.specs.Spectators.{is_refused};
+ghost use Rattle.relay_spectator.specs.Spectators.{is_refused, is_guaranteed};
 ghost use Rattle.relay_spectator.specs.Feeding.{MayEndSome, Ends};
 
 use crate::watch::Watch;
@@ -49,6 +49,15 @@ fn is_refused(told: &Option<Told>) -> bool
             },
         ) => number.is_err(),
         _ => false,
+    }
+}
+
+fn is_guaranteed(class: Class) -> bool
+    ensures { result ≡ is_guaranteed class }
+{
+    match class {
+        Class::Guaranteed => true,
+        Class::Loose => false,
     }
 }
 
@@ -149,7 +158,7 @@ impl Spectator {
         ensures { OnOk result (Posts self.old (payloads_of events.now) self.new) }
     {
         for event in events {
-            if event.class == Class::Guaranteed {
+            if is_guaranteed(event.class) {
                 self.post(alloc, &event.payload)?;
             }
         }

@@ -27,8 +27,8 @@ feed-requires c =
       few = (let few = r.may.few in let counted = r.may.stands.counted in omega (arith, few, counted));
     }
 
-pub feed-2-requires : goal.feed-2-requires
-feed-2-requires c =
+pub feed-requires-2 : goal.feed-requires-2
+feed-requires-2 c =
     let r = c.requires in
     let same = same_ends c.args.hides c.from_vec.result c.from_vec-2.result (c.from_vec.ensures ∙ c.new.ensures.items) (c.from_vec-2.ensures ∙ c.new-2.ensures.items) in
     let hide = Scan c.args.hides [] [] in

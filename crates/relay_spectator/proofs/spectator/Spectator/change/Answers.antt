@@ -1,13 +1,13 @@
 use Rattle.std.proofs.Common.{List, ℕ, map, ◌∷◌}
-use Rattle.std.specs.Prelude.{Result, OnOk}
+use Rattle.std.specs.Prelude.{Result, Ok, Err, OnOk}
 use Rattle.alone_server.specs.own_items.Items.{write_of}
 use Rattle.relay_model.specs.Items.{items_of}
 use Rattle.relay_spectator.proofs.Feeding.{may_end, ended, left}
 use Rattle.relay_spectator.proofs.spectator.Spectator.change.Goals as goal
 
 map-ok : {T E P Q : Type 0} (r : Result T E) → (P → Q) → OnOk r P → OnOk r Q
-map-ok (Rattle.std.specs.Prelude.Ok x) f p = f p
-map-ok (Rattle.std.specs.Prelude.Err e) f p = tt
+map-ok (Ok x) f p = f p
+map-ok (Err e) f p = tt
 
 pub feed_both-requires : goal.feed_both-requires
 feed_both-requires c =

@@ -8,11 +8,11 @@ use Rattle.own_lists.specs.pair_core.stream_manager.Limits.{Terms}
 use Rattle.own_lists.specs.Own.{OwnItem}
 use Rattle.relay_model.specs.Items.{posting}
 use Rattle.relay_spectator.specs.declared.spectator.Spectator.{Spectator}
-use Rattle.relay_spectator.specs.Spectators.{Holds, guaranteed_payload, payloads_of}
+use Rattle.relay_spectator.specs.Spectators.{Holds, is_guaranteed, guaranteed_payload, payloads_of}
 use Rattle.relay_spectator.proofs.Posting.{posting_append, counted_posting}
 use Rattle.relay_spectator.proofs.Watching.{mapped_more}
 use Rattle.relay_spectator.proofs.spectator.Spectator.post_all.Goals as goal
-use Rattle.relay_spectator.proofs.spectator.Spectator.post_all.Goals.{then-eq+in_ok-post, else-eq}
+use Rattle.relay_spectator.proofs.spectator.Spectator.post_all.Goals.{then-is_guaranteed+in_ok-post, else-is_guaranteed}
 
 pub post-requires : goal.post-requires
 post-requires c =
@@ -34,9 +34,13 @@ none_of event e = ap (λ (c : Class). guaranteed_payload c event.payload) e
 one_of : (event : EventTold) → event.class ≡ Guaranteed → guaranteed_payload event.class event.payload ≡ Some event.payload
 one_of event e = ap (λ (c : Class). guaranteed_payload c event.payload) e
 
-not_guaranteed : (c : Class) → (c ≡ Guaranteed → ⊥) → c ≡ Loose
-not_guaranteed Guaranteed f = absurd (f refl)
-not_guaranteed Loose f = refl
+guaranteed : (c : Class) → is_guaranteed c ≡ true → c ≡ Guaranteed
+guaranteed Guaranteed e = refl
+guaranteed Loose e = absurd (cc)
+
+not_guaranteed : (c : Class) → is_guaranteed c ≡ false → c ≡ Loose
+not_guaranteed Guaranteed e = absurd (cc)
+not_guaranteed Loose e = refl
 
 module _ (t : Terms) (items : List OwnItem) (events : List EventTold) (i : ℕ) (event : EventTold) (lt : i < length events) (is : event ≡ get_or events i event) where
   abbrev done : List (List ℕ)
@@ -65,12 +69,12 @@ loop-event-preserved c t items w h =
     let i = c.loop-event.event-index in
     let event = c.event-item.result in
     let before = c.loop-event.invariant t items w h in
-    elim c.if-eq.branch [
-      | then-eq+in_ok-post b ↦ subst (λ (s : Spectator). Holds s t (posting t (payloads_of (take (i + 1) events)) items) w) (sym b.self-is)
-          (subst (λ (l : List OwnItem). Holds b.post.new.self t l w) (posted t items events i event c.loop-event-test.true c.event-item.is ?)
+    elim c.if-is_guaranteed.branch [
+      | then-is_guaranteed+in_ok-post b ↦ subst (λ (s : Spectator). Holds s t (posting t (payloads_of (take (i + 1) events)) items) w) (sym b.self-is)
+          (subst (λ (l : List OwnItem). Holds b.post.new.self t l w) (posted t items events i event c.loop-event-test.true c.event-item.is (guaranteed event.class (sym c.is_guaranteed.ensures ∙ b.if-is_guaranteed.true)))
           (b.in_ok-post.ensures t (posting t (payloads_of (take i events)) items) w before))
-      | else-eq b ↦ subst (λ (s : Spectator). Holds s t (posting t (payloads_of (take (i + 1) events)) items) w) (sym b.self-is)
-          (subst (λ (l : List OwnItem). Holds c.loop-event.self t l w) (passed t items events i event c.loop-event-test.true c.event-item.is (not_guaranteed event.class ?)) before)
+      | else-is_guaranteed b ↦ subst (λ (s : Spectator). Holds s t (posting t (payloads_of (take (i + 1) events)) items) w) (sym b.self-is)
+          (subst (λ (l : List OwnItem). Holds c.loop-event.self t l w) (passed t items events i event c.loop-event-test.true c.event-item.is (not_guaranteed event.class (sym c.is_guaranteed.ensures ∙ b.if-is_guaranteed.false))) before)
     ]
 
 pub returns : goal.returns

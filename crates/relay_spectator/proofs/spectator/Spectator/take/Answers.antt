@@ -1,5 +1,5 @@
 use Rattle.std.proofs.Common.{◌≡◌, ◌∙◌, List, ℕ, sym, ap, subst, arith}
-use Rattle.std.specs.Prelude.{Result, OnOk}
+use Rattle.std.specs.Prelude.{Result, Ok, Err, OnOk}
 use Rattle.std.proofs.Common.{◌∷◌}
 use Rattle.relay_model.specs.Watching.{Took, watched}
 use Rattle.relay_model.specs.Items.{posting}
@@ -33,8 +33,8 @@ post_all-requires c =
     }
 
 map-ok : {T E P Q : Type 0} (r : Result T E) → (P → Q) → OnOk r P → OnOk r Q
-map-ok (Rattle.std.specs.Prelude.Ok x) f p = f p
-map-ok (Rattle.std.specs.Prelude.Err e) f p = tt
+map-ok (Ok x) f p = f p
+map-ok (Err e) f p = tt
 
 pub returns : goal.returns
 returns c = map-ok c.post_all.result (λ posts t p events follows told met.

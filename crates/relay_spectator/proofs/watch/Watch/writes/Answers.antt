@@ -1,4 +1,5 @@
-use Rattle.std.proofs.Common.{◌≡◌, ◌∙◌, ◌++◌, ◌∷◌, ℕ, ℤ, pos, [], List, map, Option, Some, None, get_or, take, sym, ap, append-nil}
+use Rattle.std.proofs.Common.{◌≡◌, ◌∙◌, ◌++◌, ◌∷◌, ℕ, ℤ, pos, [], List, map, Option, Some, None, get_or, take, sym, ap, append-nil, SFits, w64, rules}
+use Rattle.std.proofs.lemmas.Int.{to_z-of_z}
 use Rattle.std.specs.List.{filter_map, cons_option}
 use Rattle.std.specs.Option.{option_map}
 use Rattle.std.proofs.lemmas.List.{map-append}
@@ -25,9 +26,11 @@ loop-change-preserved c =
     let more = mapped_more (write_at periods) changed i nothing c.loop-change-test.true in
     let by : Option ℕ → List Told = λ o. filter_map (write_at periods) (take i changed) ++ cons_option (option_map told o) [] in
     elim c.match-period.branch [
-      | in-Some+in_ok-push w ↦ ap (λ v. map write_of v.items) w.writes-is ∙ ap (λ (l : List OwnWrite). map write_of l) w.in_ok-push.ensures.items
+      | in-Some+in_ok-push w ↦ (let fits : SFits w64 change.value = search rules in
+          ap (λ v. map write_of v.items) w.writes-is ∙ ap (λ (l : List OwnWrite). map write_of l) w.in_ok-push.ensures.items
+          ∙ ap (λ v. map write_of (c.loop-change.writes.items ++ record { n = w.in-Some.n; field = change.field; value = v } ∷ [])) (to_z-of_z w64 change.value fits)
           ∙ map-append write_of c.loop-change.writes.items (record { n = w.in-Some.n; field = change.field; value = change.value } ∷ [])
-          ∙ ap (λ (l : List Told). l ++ told w.in-Some.n ∷ []) c.loop-change.invariant ∙ ap by (sym w.in-Some.is ∙ c.period.ensures) ∙ sym more
+          ∙ ap (λ (l : List Told). l ++ told w.in-Some.n ∷ []) c.loop-change.invariant ∙ ap by (sym w.in-Some.is ∙ c.period.ensures) ∙ sym more)
       | in_default w ↦ ap (λ v. map write_of v.items) w.writes-is ∙ c.loop-change.invariant ∙ sym (append-nil (filter_map (write_at periods) (take i changed)))
           ∙ ap by (sym w.in_default.is ∙ c.period.ensures) ∙ sym more
     ]
