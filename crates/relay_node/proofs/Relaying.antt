@@ -20,7 +20,7 @@ use Rattle.ghost_client.specs.Copies.{copy_of}
 use Rattle.ghost_client.specs.State.{State, copy_in}
 use Rattle.own_lists.specs.pair_core.stream_manager.Packets.{ghosts_seen}
 use Rattle.world_rules.specs.Kinds.{match_kinds}
-use Rattle.relay_spectator.specs.Spectators.{Follows, AreMet, AreShown, IsAsked, line_tells, MayDo, Does, TellsLine, MayScan, ScansOf, TellsScan, MayShow, TellsShow}
+use Rattle.relay_spectator.specs.Spectators.{Follows, AreMet, AreShown, IsAsked, line_tells, MayDo, Does, TellsLine, MayScan, ScansOf, TellsScan, MayShow, TellsShow, Stays as StaysAs}
 use Rattle.relay_report.specs.Met.{match_past, taken_by, spectator_terms, asked_of, met}
 use Rattle.relay_report.specs.Report.{named, told_of}
 use Rattle.relay_node.specs.Node.{NodeState, Stands, plain_of}
@@ -201,3 +201,28 @@ show_done old past stands few s = record {
   spectators = stands.spectators;
   few = omega (arith, few);
 }
+
+-- a spectator that met the same stands in the place of another
+pub given_back : (old : NodeState) (past : List Entry) → Stands old past → (at : ℕ) (d new : Spectator) → d ≡ get_or old.spectators at d → at < length old.spectators
+    → StaysAs d new → Stands (record { relay = old.relay; game = old.game; board = old.board; spectators = set old.spectators at new }) past
+given_back old past stands at d new is lt stays = record {
+  game = stands.game;
+  below = stands.below;
+  board = stands.board;
+  spectators = λ s x below. by s x (let e = length-set old.spectators at new in omega (arith, below, e));
+  few = stands.few;
+}
+  where
+    by : (s : ℕ) (x : Spectator) → s < length old.spectators
+        → Follows (get_or (set old.spectators at new) s x) (spectator_terms old.game.script.head s) (met old.game.script.head old.relay s past)
+    by s x below = elim (cases_eq s at) [
+      | inl same ↦
+          (let here : get_or (set old.spectators at new) s x ≡ new = ap (λ (n : ℕ). get_or (set old.spectators at new) n x) same ∙ get_or-set_same old.spectators at new x lt in
+          let was : get_or old.spectators s d ≡ d = ap (λ (n : ℕ). get_or old.spectators n d) same ∙ sym is in
+          subst (λ (y : Spectator). Follows y (spectator_terms old.game.script.head s) (met old.game.script.head old.relay s past)) (sym here)
+          (stays (spectator_terms old.game.script.head s) (met old.game.script.head old.relay s past)
+          (subst (λ (y : Spectator). Follows y (spectator_terms old.game.script.head s) (met old.game.script.head old.relay s past)) was (stands.spectators s d below))))
+      | inr apart ↦
+          (let here : get_or (set old.spectators at new) s x ≡ get_or old.spectators s x = get_or-set_other old.spectators at s new x apart in
+          subst (λ (y : Spectator). Follows y (spectator_terms old.game.script.head s) (met old.game.script.head old.relay s past)) (sym here) (stands.spectators s x below))
+    ]
