@@ -5,3 +5,4 @@ pub mod Playing
 pub mod Relaying
 pub mod Texts
 pub mod Made
+pub mod Steps

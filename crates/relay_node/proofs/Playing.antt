@@ -94,6 +94,18 @@ all_copies head c past copies below beyond slot = elim (cases_lt slot 256) [
   | inr le ↦ beyond slot le ∙ sym (none_seen head c past slot le)
 ]
 
+-- what a match lends of a relay that stands for these lines
+module _ (n : NodeState) (past : List Entry) (stands : Stands n past) (lent : PairState) (is : (d : SeatState) → lent ≡ (get_or n.game.game.seats n.relay d).pair)
+    (copies : State) (of : copies ≡ lent.client.copies) where
+  pub now_kinds : copies.kinds ≡ match_kinds
+  now_kinds = ap (λ (x : State). x.kinds) of ∙ kinds_are n.game (match_past past) n.relay stands.game stands.below lent is
+
+  pub now_seen : ((slot : ℕ) → 256 ≤ slot → copy_in copies.slots slot ≡ None) → (slot : ℕ)
+      → copy_in copies.slots slot ≡ copy_of (ghosts_seen (taken_by n.game.script.head n.relay (match_past past))) slot
+  now_seen beyond =
+      all_copies n.game.script.head n.relay (match_past past) copies
+      (λ slot lt. ap (λ (x : State). copy_in x.slots slot) of ∙ copies_are n.game (match_past past) n.relay stands.game stands.below lent is slot lt) beyond
+
 -- ---- a line is done
 
 module _ (old : NodeState) (past : List Entry) (stands : Stands old past) (few : length past + 2 < 4000000) (line : BodyLine) where

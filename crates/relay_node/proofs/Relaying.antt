@@ -226,3 +226,12 @@ given_back old past stands at d new is lt stays = record {
           (let here : get_or (set old.spectators at new) s x ≡ get_or old.spectators s x = get_or-set_other old.spectators at s new x apart in
           subst (λ (y : Spectator). Follows y (spectator_terms old.game.script.head s) (met old.game.script.head old.relay s past)) (sym here) (stands.spectators s x below))
     ]
+
+-- a line that has no plain form and is no scan shows
+pub is_show : (line : RelayLine) → plain_of line ≡ None → ((s : ℕ) → line ≡ Scan s → ⊥) → line ≡ Show (named line)
+is_show (Scan s) e f = absurd (f s refl)
+is_show (Show s) e f = refl
+is_show (Pack s) e f = absurd (cc)
+is_show (ClientPack s) e f = absurd (cc)
+is_show (Down s k) e f = absurd (cc)
+is_show (Up s k) e f = absurd (cc)
