@@ -22,7 +22,7 @@ named_below spectators (Down s k) h = h.0
 named_below spectators (Up s k) h = h.0
 named_below spectators (Show s) h = h
 
-pub no_line : PlacedLine
+abbrev pub no_line : PlacedLine
 no_line = record { behind = 0; line = Scan 0 }
 
 module _ (r : RelayScript) (ranges : HasRelayRanges r) (lines : List PlacedLine) (same : lines ≡ r.lines) (i : ℕ) (lt : i < length lines) (placed : PlacedLine)

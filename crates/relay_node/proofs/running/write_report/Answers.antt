@@ -15,7 +15,6 @@ use Rattle.relay_node.proofs.Texts.{next_is, more_written, front_written, all_wr
 use Rattle.relay_node.proofs.running.write_report.Goals as goal
 
 pub catch_up-requires : goal.catch_up-requires
-unfolding no_line
 catch_up-requires g c =
     let r = c.args.script.now in
     let lines = c.as_slice-lines.result.now in
@@ -44,7 +43,6 @@ returns-in_err-catch_up-clause-front g c =
     rw (p.1) (subst (λ (t : List ℕ). AddsFront first now t) (ap (λ (l : List PlacedLine). report_so_far r (reverse l)) c.as_slice-lines.ensures ∙ whole r) front)
 
 pub step-requires : goal.step-requires
-unfolding no_line
 step-requires g c =
     let r = c.args.script.now in
     let lines = c.as_slice-lines.result.now in
@@ -62,7 +60,6 @@ step-requires g c =
     }
 
 pub returns-in_err-step-clause-front : goal.returns-in_err-step-clause-front
-unfolding no_line
 returns-in_err-step-clause-front g c =
     let p = err_from_is_err_and c.from_residual-in_err-step.result c.from_residual-in_err-step.ensures.1 in
     let r = c.args.script.now in
@@ -86,7 +83,6 @@ returns-in_err-step-clause-front g c =
     rw (p.1) (subst (λ (t : List ℕ). AddsFront first new t) (ap (λ (l : List PlacedLine). report_so_far r (reverse l)) c.as_slice-lines.ensures ∙ whole r) front)
 
 pub lines-preserved : goal.lines-preserved
-unfolding no_line
 lines-preserved g c =
     let r = c.args.script.now in
     let lines = c.as_slice-lines.result.now in
