@@ -11,10 +11,10 @@ use Rattle.relay_report.specs.Met.{past_of}
 use Rattle.relay_report.specs.Report.{named, line_text}
 use Rattle.relay_node.specs.Node.{NodeState, Stands}
 
--- the least place at which the lines of the match go on behind these of the relay, the newest first
+-- each of these lines of the relay, the newest first, stands behind no more of the match than the next one, and the last behind so many
 abbrev pub IsBehind : List PlacedLine → ℕ → Type 0
 IsBehind [] place = Unit {0}
-IsBehind (placed ∷ earlier) place = placed.behind ≤ place
+IsBehind (placed ∷ earlier) place = (placed.behind ≤ place) × IsBehind earlier placed.behind
 
 -- a relay that stands for the first lines of the match and these of the relay
 abbrev pub IsAt : NodeState → RelayScript → ℕ → List PlacedLine → Type 0

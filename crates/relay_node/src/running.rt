@@ -85,7 +85,8 @@ fn write_report<K: Sink>(
     };
     let mut text = Vec::new(alloc);
     let mut place = 0;
-    'lines: for placed in script.lines.as_slice() {
+    let lines = script.lines.as_slice();
+    'lines: for placed in lines {
         let behind = placed.behind as usize;
         catch_up(alloc, &mut node, script, place, behind)?;
         place = behind;

@@ -39,8 +39,8 @@ Ends old hides writes new =
 -- ---- a packet without what it delivered
 
 pub record IsChanged (t : Terms) (p : ServerPacket) (events : List WatchEvent) (killed : List ℕ) (changed : List Change) : Type 0 where
-  pub killed : killed ≡ killed_between (copy_at events) (copy_at (Took p ∷ events))
-  pub changed : changed ≡ changed_between t.kinds (copy_at events) (copy_at (Took p ∷ events))
+  pub kills : killed ≡ killed_between (copy_at events) (copy_at (Took p ∷ events))
+  pub changes : changed ≡ changed_between t.kinds (copy_at events) (copy_at (Took p ∷ events))
   pub met : AreMet t (Took p ∷ events)
 
 pub record MayChange (s : Spectator) (killed : List ℕ) (changed : List Change) : Type 0 where

@@ -1,6 +1,6 @@
 -- The tie between a spectator and what it met: its server was fed the items that the relay makes of that, its watch is that of the
 -- relay's copies, and it posts no more where a post was refused.
-use Rattle.std.specs.Prelude.{◌≡◌, ℕ, ◌<◌, not, Bool, false, List, [], ◌∷◌, length, filter_map, Option, Some, None}
+use Rattle.std.specs.Prelude.{◌≡◌, ℕ, ◌<◌, not, Bool, true, false, List, [], ◌∷◌, length, filter_map, Option, Some, None}
 use Rattle.std.specs.Result.{is_ok}
 use Rattle.tn_types.specs.declared.choices.Class.{Class}
 use Rattle.tn_types.specs.declared.choices.Class.TheVariants.{Guaranteed, Loose}
@@ -28,6 +28,10 @@ use Rattle.relay_board.specs.Changes.{BoardState, killed_between, changed_betwee
 use Rattle.relay_spectator.specs.Watches.{IsWatch}
 
 -- ---- what is told
+
+abbrev pub is_guaranteed : Class → Bool
+is_guaranteed Guaranteed = true
+is_guaranteed Loose = false
 
 -- the payload of a guaranteed event
 abbrev pub guaranteed_payload : Class → List ℕ → Option (List ℕ)
@@ -85,9 +89,9 @@ pub record AreMet (t : Terms) (events : List WatchEvent) : Type 0 where
 
 -- this is what the packet changed of the copies, and what it delivered
 pub record IsToldOf (t : Terms) (p : ServerPacket) (events : List WatchEvent) (killed : List ℕ) (changed : List Change) (news : List EventTold) : Type 0 where
-  pub killed : killed ≡ killed_between (copy_at events) (copy_at (Took p ∷ events))
-  pub changed : changed ≡ changed_between t.kinds (copy_at events) (copy_at (Took p ∷ events))
-  pub news : payloads_of news ≡ news_by p events
+  pub kills : killed ≡ killed_between (copy_at events) (copy_at (Took p ∷ events))
+  pub changes : changed ≡ changed_between t.kinds (copy_at events) (copy_at (Took p ∷ events))
+  pub delivers : payloads_of news ≡ news_by p events
 
 -- for all that the spectator met, it met the packet too
 abbrev pub Takes : Spectator → List ℕ → List Change → List EventTold → Spectator → Type 0
@@ -152,8 +156,8 @@ pub record MayShow (s : Spectator) : Type 0 where
   pub events : List WatchEvent
   pub follows : Follows s terms events
 
-abbrev pub Shows : Spectator → Told → Type 0
-Shows s told = (t : Terms) (events : List WatchEvent) → Follows s t events → told ≡ show_tells t events
+abbrev pub TellsShow : Spectator → Told → Type 0
+TellsShow s told = (t : Terms) (events : List WatchEvent) → Follows s t events → told ≡ show_tells t events
 
 abbrev pub Stays : Spectator → Spectator → Type 0
 Stays old new = (t : Terms) (events : List WatchEvent) → Follows old t events → Follows new t events

@@ -1,7 +1,7 @@
 //! One spectator of a relay: what serves it, and what it is told.
 ghost use Rattle.std.specs.Prelude.{◌≡◌, OnOk, map};
 ghost use Rattle.alone_server.specs.own_items.Items.{write_of};
-ghost use Rattle.relay_spectator.specs.Spectators.{is_refused};
+ghost use Rattle.relay_spectator.specs.Spectators.{is_refused, is_guaranteed};
 ghost use Rattle.relay_spectator.specs.Feeding.{MayEndSome, Ends};
 
 use crate::watch::Watch;
@@ -52,6 +52,15 @@ fn is_refused(told: &Option<Told>) -> bool
     }
 }
 
+fn is_guaranteed(class: Class) -> bool
+    ensures { result ≡ is_guaranteed class }
+{
+    match class {
+        Class::Guaranteed => true,
+        Class::Loose => false,
+    }
+}
+
 // Feeds a server what ends, and then what is written.
 fn feed_both(
     alloc: Global,
@@ -76,7 +85,7 @@ impl Spectator {
     ghost use Rattle.std.specs.Prelude.{[], ◌∷◌, Some, IfOk, filter_map};
     ghost use Rattle.own_lists.specs.Own.{client_named};
     ghost use Rattle.alone_server.specs.Stands.{terms_of, HeaderFits};
-    ghost use Rattle.relay_spectator.specs.Spectators.{Follows, Takes, MayTake, MayScan, ScansOf, TellsScan, IsAsked, MayDo, Does, TellsLine, MayShow, Shows, Stays, payloads_of};
+    ghost use Rattle.relay_spectator.specs.Spectators.{Follows, Takes, MayTake, MayScan, ScansOf, TellsScan, IsAsked, MayDo, Does, TellsLine, MayShow, TellsShow, Stays, payloads_of};
     ghost use Rattle.relay_spectator.specs.Watches.{period_at, write_at};
     ghost use Rattle.relay_spectator.specs.Feeding.{MayChange, Changes, MayPost, Posts};
 
@@ -149,7 +158,7 @@ impl Spectator {
         ensures { OnOk result (Posts self.old (payloads_of events.now) self.new) }
     {
         for event in events {
-            if event.class == Class::Guaranteed {
+            if is_guaranteed(event.class) {
                 self.post(alloc, &event.payload)?;
             }
         }
@@ -209,7 +218,7 @@ impl Spectator {
     /// What the spectator has.
     pub fn show(&self, alloc: Global) -> Result<Told, NoMemory>
         requires { MayShow self.now }
-        ensures { IfOk result (Shows self.now) }
+        ensures { IfOk result (TellsShow self.now) }
     {
         self.server.show(alloc)
     }
