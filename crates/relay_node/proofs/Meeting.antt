@@ -126,8 +126,12 @@ module _ (head : Head) (c : ℕ) where
     few_met [] = omega arith
     few_met (OfMatch line ∷ past) =
         let new = newly (taken_by head c (match_past past)) (taken_by head c (line ∷ match_past past)) in
-        omega (arith, length-append new (met head c s past), few_met past,
-        few_new (events_taken c line (told_after head (match_past past) line)) (taken_by head c (match_past past)) (taken_by head c (line ∷ match_past past)) (line_met (match_past past) line))
+        omega (
+          arith,
+          length-append new (met head c s past),
+          few_met past,
+          few_new (events_taken c line (told_after head (match_past past) line)) (taken_by head c (match_past past)) (taken_by head c (line ∷ match_past past)) (line_met (match_past past) line),
+        )
     few_met (OfRelay line ∷ past) = omega (arith, length-append (asked_of s line) (met head c s past), few_met past, few_asked line)
 
     -- ---- whose lines
