@@ -6,3 +6,4 @@ pub mod Relaying
 pub mod Texts
 pub mod Made
 pub mod Steps
+pub mod Order

@@ -1,5 +1,5 @@
 -- What a relay stands for when a line of its match is done.
-use Rattle.std.proofs.Common.{◌≡◌, ◌∙◌, ℕ, ◌+◌, ◌<◌, ◌≤◌, List, [], ◌∷◌, ◌++◌, map, drop, length, get_or, Option, Some, None, refl, sym, ap, subst, arith, inl, inr}
+use Rattle.std.proofs.Common.{◌≡◌, ◌∙◌, ℕ, ◌+◌, ◌<◌, ◌≤◌, List, [], ◌∷◌, ◌++◌, drop, length, get_or, Option, Some, None, sym, ap, subst, arith, inl, inr}
 use Rattle.std.proofs.lemmas.Bool.{cases_lt}
 use Rattle.wire_format.specs.declared.server.ServerPacket.{ServerPacket}
 use Rattle.wire_format.specs.declared.ghosts.GhostItem.{GhostItem}
@@ -13,7 +13,6 @@ use Rattle.match_script.specs.declared.types.Script.{Script}
 use Rattle.match_report.specs.declared.told.EventTold.{EventTold}
 use Rattle.client_scope.specs.StandsFor.{Table}
 use Rattle.match_engine.specs.client_seat.Stands.{SeatState}
-use Rattle.match_engine.specs.client_seat.Told.{event_told}
 use Rattle.match_engine.specs.match_laws.Report.{told_after}
 use Rattle.match_engine.specs.Match.{MatchState, StandsFor as MatchStandsFor}
 use Rattle.own_lists.specs.pair_core.Stands.{PairState, StandsFor as PairStandsFor}
@@ -27,15 +26,13 @@ use Rattle.relay_model.proofs.Copies.{all_kept}
 use Rattle.world_rules.specs.Kinds.{match_kinds}
 use Rattle.stream_manager.proofs.Packets.{shows-alike}
 use Rattle.relay_script.specs.declared.entries.Entry.{Entry}
-use Rattle.relay_script.specs.declared.entries.Entry.TheVariants.{OfMatch, OfRelay}
+use Rattle.relay_script.specs.declared.entries.Entry.TheVariants.{OfMatch}
 use Rattle.relay_model.specs.Watching.{WatchEvent, Took, packets_in, copy_at}
-use Rattle.relay_model.specs.Items.{news_by}
-use Rattle.relay_board.specs.declared.board.Change.{Change}
 use Rattle.relay_board.specs.Changes.{BoardState, killed_between, changed_between}
 use Rattle.relay_spectator.specs.declared.spectator.Spectator.{Spectator}
-use Rattle.relay_spectator.specs.Spectators.{Follows, IsToldOf, AreMet, Takes, payloads_of}
+use Rattle.relay_spectator.specs.Spectators.{Follows, IsToldOf, AreMet, payloads_of}
 use Rattle.relay_spectator.proofs.Posting.{payloads_are}
-use Rattle.relay_report.specs.Met.{match_past, end_of, taken_by, newly, spectator_terms, met}
+use Rattle.relay_report.specs.Met.{match_past, end_of, taken_by, spectator_terms, met}
 use Rattle.relay_node.specs.Node.{NodeState, Stands, events_taken, MayTakeAll, TakeAll}
 use Rattle.relay_node.proofs.Lines.{TakesPacket, LineTakes, line_takes}
 use Rattle.relay_node.proofs.Meeting.{table_none, one_more, IsMet, line_met, met_packets, are_met}

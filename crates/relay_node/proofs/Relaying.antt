@@ -1,5 +1,5 @@
 -- What a relay stands for when a line of the relay is done, and what the line tells.
-use Rattle.std.proofs.Common.{◌≡◌, ◌≢◌, ◌∙◌, ℕ, ◌+◌, ◌<◌, ◌≤◌, ◌==◌, Bool, true, false, List, [], ◌∷◌, ◌++◌, length, get_or, set, Option, Some, None, if◌then◌else◌, refl, sym, ap, subst, arith, inl, inr}
+use Rattle.std.proofs.Common.{◌≡◌, ◌≢◌, ◌∙◌, ℕ, ◌+◌, ◌<◌, ◌==◌, true, false, List, [], ◌∷◌, ◌++◌, length, get_or, set, Option, Some, None, refl, sym, ap, subst, arith, inl, inr}
 use Rattle.std.proofs.lemmas.Bool.{cases_eq}
 use Rattle.std.proofs.lemmas.Bool.Decides.{nat_tests}
 use Rattle.std.proofs.lemmas.List.{get_or-set_same, get_or-set_other, length-set}
@@ -8,12 +8,11 @@ use Rattle.match_script.specs.declared.types.BodyLine.TheVariants as script
 use Rattle.match_script.specs.declared.types.Head.{Head}
 use Rattle.match_report.specs.declared.told.Told.{Told}
 use Rattle.own_lists.specs.Own.{client_named}
-use Rattle.own_lists.specs.pair_core.stream_manager.Limits.{Terms}
 use Rattle.relay_script.specs.declared.entries.Entry.{Entry}
-use Rattle.relay_script.specs.declared.entries.Entry.TheVariants.{OfMatch, OfRelay}
+use Rattle.relay_script.specs.declared.entries.Entry.TheVariants.{OfRelay}
 use Rattle.relay_script.specs.declared.types.RelayLine.{RelayLine}
 use Rattle.relay_script.specs.declared.types.RelayLine.TheVariants.{Scan, Pack, ClientPack, Down, Up, Show}
-use Rattle.relay_model.specs.Watching.{WatchEvent, Took, Scans, Own}
+use Rattle.relay_model.specs.Watching.{WatchEvent, Scans, Own}
 use Rattle.relay_spectator.specs.declared.spectator.Spectator.{Spectator}
 use Rattle.wire_format.specs.declared.server.ServerPacket.{ServerPacket}
 use Rattle.ghost_client.specs.Copies.{copy_of}

@@ -1,10 +1,8 @@
-use Rattle.std.proofs.Common.{◌≡◌, ◌∙◌, ◌+◌, ◌<◌, ◌≤◌, ◌∷◌, ℕ, List, Option, length, get_or, take, drop, reverse, refl, sym, ap, subst, arith}
+use Rattle.std.proofs.Common.{◌∙◌, ◌∷◌, ℕ, List, get_or, take, reverse, refl, sym, ap, subst, arith}
 use Rattle.std.proofs.lemmas.Result.{err_from_is_err_and}
 use Rattle.tn_outside.specs.Totals.{Adds, AddsFront}
-use Rattle.relay_script.specs.Ranges.{InOrderFrom}
 use Rattle.relay_script.specs.declared.entries.Entry.{Entry}
 use Rattle.relay_script.specs.declared.types.PlacedLine.{PlacedLine}
-use Rattle.relay_script.specs.declared.types.RelayLine.TheVariants.{Scan}
 use Rattle.relay_report.specs.Met.{past_of}
 use Rattle.relay_report.specs.Report.{line_text, report_so_far}
 use Rattle.relay_node.specs.Node.{Stands}

@@ -1,12 +1,9 @@
-use Rattle.std.proofs.Common.{◌≡◌, ◌∙◌, ◌+◌, ◌<◌, ◌∷◌, ℕ, List, [], length, get_or, set, Option, Some, None, refl, sym, ap, subst, arith}
+use Rattle.std.proofs.Common.{◌≡◌, ◌∙◌, ◌<◌, ◌∷◌, ℕ, length, get_or, set, Some, refl, sym, ap, subst}
 use Rattle.std.specs.Prelude.{Result, Ok, Err, OnOk, IfOk}
-use Rattle.ghost_client.specs.State.{State}
 use Rattle.own_lists.specs.pair_core.stream_manager.Stands.{ClientState}
-use Rattle.match_report.specs.declared.told.Told.{Told}
 use Rattle.relay_script.specs.declared.entries.Entry.TheVariants.{OfRelay}
 use Rattle.relay_script.specs.declared.types.RelayLine.{RelayLine}
 use Rattle.relay_script.specs.declared.types.RelayLine.TheVariants.{Scan, Show}
-use Rattle.relay_spectator.specs.declared.spectator.Spectator.{Spectator}
 use Rattle.relay_report.specs.Report.{named}
 use Rattle.relay_node.specs.Node.{NodeState, Stands, MayRelay, TellsRelayed, plain_of}
 use Rattle.relay_node.proofs.Playing.{now_kinds, now_seen}
