@@ -1,6 +1,5 @@
 -- What a spectator meets by the lines of a relay script: one event of each line, or none; packets as the relay's client took them.
-use Rattle.std.proofs.Common.{◌≡◌, ◌∙◌, ℕ, ◌+◌, ◌-◌, ◌≤◌, ◌*◌, ◌<◌, ◌==◌, Bool, true, false, List, [], ◌∷◌, ◌++◌, map, take, length, Option, Some, None, if◌then◌else◌, refl, sym, ap, subst, arith, inl, inr, ◌⊎◌}
-use Rattle.tn_types.specs.declared.limits.TheConstants.{MAX_SLOTS, MAX_SHOWS}
+use Rattle.std.proofs.Common.{◌≡◌, ◌∙◌, ℕ, ◌+◌, ◌-◌, ◌≤◌, ◌==◌, Bool, true, false, List, [], ◌∷◌, ◌++◌, map, take, length, None, if◌then◌else◌, refl, sym, ap, subst, arith, inl, inr, ◌⊎◌}
 use Rattle.quantised_fields.specs.declared.kind.Kind.{Kind}
 use Rattle.quantised_fields.specs.Kinds.{table_fault}
 use Rattle.wire_format.specs.declared.server.ServerPacket.{ServerPacket}
@@ -10,7 +9,6 @@ use Rattle.match_script.specs.declared.types.BodyLine.TheVariants as script
 use Rattle.match_script.specs.declared.types.Head.{Head}
 use Rattle.match_laws.specs.Values.{steps_of}
 use Rattle.own_lists.specs.Past.{client_terms}
-use Rattle.own_lists.specs.Conditions.{AreOwn}
 use Rattle.relay_script.specs.declared.entries.Entry.{Entry}
 use Rattle.relay_script.specs.declared.entries.Entry.TheVariants.{OfMatch, OfRelay}
 use Rattle.relay_script.specs.declared.types.RelayLine.{RelayLine}
@@ -110,10 +108,10 @@ module _ (head : Head) (c s : ℕ) where
     where
       by : Adds entry past → AreMetBy (met head c s past) (taken past) (length past)
           → AreMetBy (met head c s (entry ∷ past)) (taken (entry ∷ past)) (length (entry ∷ past))
-      by (inl no) h = record {
-        packets_are = ap packets_in no.event ∙ h.packets_are ∙ sym no.packets;
-        own = subst AreSpectators (sym no.event) h.own;
-        few = (let le = h.few in let e = ap (λ (l : List WatchEvent). length l) no.event in omega (arith, le, e));
+      by (inl none) h = record {
+        packets_are = ap packets_in none.event ∙ h.packets_are ∙ sym none.packets;
+        own = subst AreSpectators (sym none.event) h.own;
+        few = (let le = h.few in let e = ap (λ (l : List WatchEvent). length l) none.event in omega (arith, le, e));
       }
       by (inr one) h =
           let more = more_met one.event (met head c s past) (taken past) (taken (entry ∷ past)) (length past) one.meets h in
@@ -152,7 +150,7 @@ module _ (head : Head) (c s : ℕ) where
     where
       by : Adds entry past → (x ∷ later ++ earlier ≡ met head c s past → Cut past earlier) → (later ++ earlier ≡ met head c s past → Cut past earlier)
           → Cut past earlier
-      by (inl no) same rest = same (e ∙ no.event)
+      by (inl none) same rest = same (e ∙ none.event)
       by (inr one) same rest = rest (rest_same x one.event (later ++ earlier) (met head c s past) (e ∙ one.is))
 
   -- ---- what a spectator's server is told may follow

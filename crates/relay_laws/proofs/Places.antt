@@ -1,8 +1,8 @@
 -- The lines before one of the relay's are lines of its script, and no more than it has.
-use Rattle.std.proofs.Common.{◌≡◌, ◌∙◌, ℕ, ◌+◌, ◌-◌, ◌≤◌, List, [], ◌∷◌, ◌++◌, map, take, drop, length, refl, sym, ap, subst, arith, length-append, length-take, append-nil}
-use Rattle.std.specs.Prelude.{reverse, reverse_aux}
+use Rattle.std.proofs.Common.{◌≡◌, ◌∙◌, ℕ, ◌+◌, ◌-◌, ◌≤◌, List, [], ◌∷◌, ◌++◌, map, take, drop, length, refl, sym, ap, subst, arith, length-append, length-take, append-nil, append_assoc}
+use Rattle.std.specs.Prelude.{reverse}
 use Rattle.std.specs.List.{All, AllByRecursion}
-use Rattle.std.proofs.lemmas.List.{length-reverse, length-map, length-drop}
+use Rattle.std.proofs.lemmas.List.{length-reverse, length-map}
 use Rattle.std.proofs.lemmas.List.Elements.{recursion_from_All, All-take, All-drop}
 use Rattle.std.proofs.lemmas.Grind.{reverse_onto}
 use Rattle.conn_packing.proofs.Lists.{all-append}
@@ -27,12 +27,16 @@ behind_more : (lines : List PlacedLine) (least most : ℕ) → least ≤ most �
 behind_more [] least most le h = tt
 behind_more (placed ∷ earlier) least most le h = (let lt = h.0 in omega (arith, le, lt), h.1)
 
+moved : (b : PlacedLine) (before acc : List PlacedLine) → reverse (b ∷ before) ++ acc ≡ reverse before ++ b ∷ acc
+moved b before acc = ap (λ (l : List PlacedLine). l ++ acc) (reverse_onto before b []) ∙ append_assoc (reverse before) (b ∷ []) acc
+
 module _ (placed : PlacedLine) (later : List PlacedLine) where
   behind_onto : (before acc : List PlacedLine) (least : ℕ) → IsBehind acc least → InOrderFrom least (before ++ placed ∷ later)
-      → IsBehind (reverse_aux before acc) placed.behind
+      → IsBehind (reverse before ++ acc) placed.behind
   behind_onto [] acc least h o = behind_more acc least placed.behind o.0 h
   behind_onto (b ∷ before) acc least h o =
-      behind_onto before (b ∷ acc) b.behind (let e : b.behind ≤ b.behind = omega arith in e, behind_more acc least b.behind o.0 h) o.1
+      subst (λ (l : List PlacedLine). IsBehind l placed.behind) (sym (moved b before acc))
+      (behind_onto before (b ∷ acc) b.behind (let e : b.behind ≤ b.behind = omega arith in e, behind_more acc least b.behind o.0 h) o.1)
 
   at_placed : (P : PlacedLine → Type 0) (before : List PlacedLine) → AllByRecursion P (before ++ placed ∷ later) → P placed
   at_placed P [] h = h.0
@@ -41,13 +45,13 @@ module _ (placed : PlacedLine) (later : List PlacedLine) where
 module _ (body : List BodyLine) where
   long : (lines : List PlacedLine) (place : ℕ) → IsBehind lines place → length (past_of body place lines) ≤ place + length lines
   long [] place h =
-      omega (arith, length-map OfMatch (reverse (take place body)), length-reverse (take place body), length-take place body)
+      omega (arith, length-map (reverse (take place body)) OfMatch, length-reverse (take place body), length-take place body)
   long (placed ∷ earlier) place h =
       let some : List BodyLine = take (place - placed.behind) (drop placed.behind body) in
       let le = h.0 in
       let rest = long earlier placed.behind h.1 in
       let all = length-append (map OfMatch (reverse some)) (OfRelay placed.line ∷ past_of body placed.behind earlier) in
-      let one = length-map OfMatch (reverse some) in
+      let one = length-map (reverse some) OfMatch in
       let two = length-reverse some in
       let three = length-take (place - placed.behind) (drop placed.behind body) in
       omega (arith, le, rest, all, one, two, three)
@@ -88,7 +92,9 @@ pub are_entries : (r : RelayScript) (before : List PlacedLine) (placed : PlacedL
     → AreEntries r.script.head (past_of r.script.body placed.behind (reverse before))
 are_entries r before placed h is =
     let order : InOrderFrom 0 (before ++ placed ∷ is.later) = subst (InOrderFrom 0) (sym is.whole) h.in_order in
-    let most = long r.script.body (reverse before) placed.behind (behind_onto placed is.later before [] 0 tt order) in
+    let behind : IsBehind (reverse before) placed.behind =
+    subst (λ (l : List PlacedLine). IsBehind l placed.behind) (append-nil (reverse before)) (behind_onto placed is.later before [] 0 tt order) in
+    let most = long r.script.body (reverse before) placed.behind behind in
     let fits : AllByRecursion (PlacedFits r.spectators (length r.script.body)) (before ++ placed ∷ is.later) =
     subst (AllByRecursion (PlacedFits r.spectators (length r.script.body))) (sym is.whole) (recursion_from_All (PlacedFits r.spectators (length r.script.body)) r.lines h.lines) in
     let within = (at_placed placed is.later (PlacedFits r.spectators (length r.script.body)) before fits).1 in

@@ -2,6 +2,7 @@
 ghost use Rattle.relay_laws.specs.Shown.{SpectatorsShowWhatWasSo};
 ghost use Rattle.relay_laws.specs.Delivered.{SpectatorsDeliverWhatWasPosted};
 
+use match_laws::own_lists::own_lists_hold;
 use match_laws::{copies_show_values, events_in_order};
 use pair_copies::copies_show_reads;
 
@@ -10,8 +11,10 @@ use pair_copies::copies_show_reads;
 pub fn spectators_show_what_was_so()
     ensures { SpectatorsShowWhatWasSo }
 {
-    copies_show_values();
+    own_lists_hold();
     copies_show_reads();
+    copies_show_values();
+    events_in_order();
 }
 
 /// Where the relay's client is honest, the guaranteed events that were delivered to a spectator, before every line of the relay, are the
@@ -19,5 +22,6 @@ pub fn spectators_show_what_was_so()
 pub fn spectators_deliver_what_was_posted()
     ensures { SpectatorsDeliverWhatWasPosted }
 {
+    own_lists_hold();
     events_in_order();
 }
