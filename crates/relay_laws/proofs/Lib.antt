@@ -10,3 +10,5 @@ pub mod Posted
 pub mod Delivering
 pub mod Fields
 pub mod Seeing
+pub mod Slots
+pub mod Standing

@@ -25,10 +25,10 @@ use Rattle.match_script.specs.Ranges.{LineFits, HasRanges}
 use Rattle.match_report.specs.declared.copies.FieldTold.{FieldTold}
 use Rattle.own_lists.specs.Kept.{journal}
 use Rattle.own_lists.specs.Past.{client_terms, after}
-use Rattle.own_lists.specs.Agreement.{OwnListsHold}
+use Rattle.own_lists.specs.Agreement.{AreLines, OwnListsHold}
 use Rattle.match_laws.specs.Laws.{first, EventsInOrder}
 use Rattle.match_laws.specs.Values.{ClientMoment, IsShownField, ShowsHad, CopiesShowValues}
-use Rattle.match_laws.proofs.InOrder.{terms_fit, are_good}
+use Rattle.match_laws.proofs.InOrder.{are_lines, terms_fit, are_good}
 use Rattle.match_laws.proofs.Refused.{honest_before}
 use Rattle.match_laws.proofs.WordsSteps.{posted_down_same}
 use Rattle.relay_script.specs.declared.entries.Entry.{Entry}
@@ -59,6 +59,11 @@ all_lines_are head past =
     ap (λ (l : List BodyLine). reverse l) (take_all (length (match_past past)) (reverse (match_past past)) (omega (arith, back)))
     ∙ reverse-reverse (match_past past)
 
+-- the lines of a match, of which no more than so many are counted
+pub are_lines_of : (head : Head) (past : List Entry) → AreEntries head past → AreLines head (match_past past)
+are_lines_of head past h =
+    subst (AreLines head) (all_lines_are head past) (are_lines (script_of head past) (length (match_past past)) (has_ranges head past h))
+
 -- ---- an honest client stays so over fewer lines
 
 abbrev pub IsHonestAt : Head → ℕ → List BodyLine → Type 0
@@ -75,14 +80,14 @@ honest_of_fewer head c (OfRelay line ∷ later) past h = honest_of_fewer head c 
 abbrev pub moment_of : Head → List BodyLine → ℕ → ClientMoment
 moment_of head lines c = record { head = head; past = lines; client = c }
 
-abbrev ShowsAt : Head → ℕ → List BodyLine → Type 0
+abbrev pub ShowsAt : Head → ℕ → List BodyLine → Type 0
 ShowsAt head c lines = IsHonestAt head c lines → (at f : ℕ) (copy : GhostCopy) (told : FieldTold) → IsShownField (moment_of head lines c) at f copy told
     → ShowsHad (moment_of head lines c) at copy.kind f told.value
 
-abbrev DeliversAt : Head → ℕ → List BodyLine → Type 0
+abbrev pub DeliversAt : Head → ℕ → List BodyLine → Type 0
 DeliversAt head c lines = IsHonestAt head c lines → DeliversDown (client_terms head c) (journal (client_terms head c) ((after head lines).own c))
 
-abbrev FitsAt : Head → ℕ → List BodyLine → Type 0
+abbrev pub FitsAt : Head → ℕ → List BodyLine → Type 0
 FitsAt head c lines = IsHonestAt head c lines → AllByRecursion StepFits (journal (client_terms head c) ((after head lines).own c))
 
 good_fits : (t : Terms) (steps : List PairStep) → AreGood t steps → AllByRecursion StepFits steps
@@ -100,7 +105,7 @@ module _ (head : Head) (c : ℕ) (below : c < head.clients) (past : List Entry) 
       subst (DeliversAt head c) (all_lines_are head past)
       (λ honest. (law (script_of head past) c (length (match_past past)) (has_ranges head past h) below honest).0)
 
-  fits : OwnListsHold → FitsAt head c (match_past past)
+  pub fits : OwnListsHold → FitsAt head c (match_past past)
   fits own =
       subst (FitsAt head c) (all_lines_are head past)
       (λ honest. good_fits (client_terms head c) _ (are_good own (script_of head past) c (length (match_past past)) (has_ranges head past h) below honest))

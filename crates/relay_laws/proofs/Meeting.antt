@@ -1,8 +1,9 @@
 -- What a spectator meets by the lines of a relay script: one event of each line, or none; packets as the relay's client took them.
-use Rattle.std.proofs.Common.{◌≡◌, ◌∙◌, ℕ, ◌+◌, ◌-◌, ◌≤◌, ◌==◌, Bool, true, false, List, [], ◌∷◌, ◌++◌, map, take, length, None, if◌then◌else◌, refl, sym, ap, subst, arith, inl, inr, ◌⊎◌}
+use Rattle.std.proofs.Common.{◌≡◌, ◌∙◌, ℕ, ◌+◌, ◌-◌, ◌<◌, ◌≤◌, ◌==◌, Bool, true, false, List, [], ◌∷◌, ◌++◌, map, take, length, Option, Some, None, is_some, if◌then◌else◌, refl, sym, ap, subst, arith, inl, inr, ◌⊎◌}
 use Rattle.quantised_fields.specs.declared.kind.Kind.{Kind}
 use Rattle.quantised_fields.specs.Kinds.{table_fault}
 use Rattle.wire_format.specs.declared.server.ServerPacket.{ServerPacket}
+use Rattle.ghost_client.specs.declared.copy.GhostCopy.{GhostCopy}
 use Rattle.world_rules.specs.Kinds.{match_kinds}
 use Rattle.match_script.specs.declared.types.BodyLine.{BodyLine}
 use Rattle.match_script.specs.declared.types.BodyLine.TheVariants as script
@@ -13,7 +14,7 @@ use Rattle.relay_script.specs.declared.entries.Entry.{Entry}
 use Rattle.relay_script.specs.declared.entries.Entry.TheVariants.{OfMatch, OfRelay}
 use Rattle.relay_script.specs.declared.types.RelayLine.{RelayLine}
 use Rattle.relay_script.specs.declared.types.RelayLine.TheVariants.{Scan, Pack, ClientPack, Down, Up, Show}
-use Rattle.relay_model.specs.Watching.{WatchEvent, Took, Scans, Own, packets_in, watched, copy_at}
+use Rattle.relay_model.specs.Watching.{WatchEvent, Took, Scans, Own, packets_in, is_unwatched, begun_below, watched, copy_at}
 use Rattle.relay_model.specs.Items.{items_of}
 use Rattle.relay_model.specs.Laws.{AreCopies, IsSpectators, AreSpectators, AreChanges}
 use Rattle.relay_model.proofs.Copies.{taken_are_changes}
@@ -126,6 +127,50 @@ module _ (head : Head) (c s : ℕ) where
 
   pub met_own : (past : List Entry) → AreSpectators (met head c s past)
   met_own past = (all_met past).own
+
+  -- ---- periods that began
+
+  more_shows : (event : WatchEvent) (events : List WatchEvent) → (watched events).shows ≤ (watched (event ∷ events)).shows
+  more_shows (Took p) events = omega arith
+  more_shows Scans events = omega arith
+  more_shows (Own line) events = omega arith
+
+  pub line_shows : (entry : Entry) (past : List Entry) → (watched (met head c s past)).shows ≤ (watched (met head c s (entry ∷ past))).shows
+  line_shows entry past = by (adds entry past)
+    where
+      by : Adds entry past → (watched (met head c s past)).shows ≤ (watched (met head c s (entry ∷ past))).shows
+      by (inl none) = let e = ap (λ (l : List WatchEvent). (watched l).shows) none.event in omega (arith, e)
+      by (inr one) = let e = ap (λ (l : List WatchEvent). (watched l).shows) one.is in let le = more_shows one.event (met head c s past) in omega (arith, e, le)
+
+  -- a period that watches a slot now, and had begun before, watched it then
+  kept_watch : (event : WatchEvent) (events : List WatchEvent) (at n : ℕ) → n < (watched events).shows
+      → (watched (event ∷ events)).period at ≡ Some n → (watched events).period at ≡ Some n
+  kept_watch (Took p) events at n lt e = by (copy_at (Took p ∷ events) at) e
+    where
+      by : (o : Option GhostCopy) → (if is_some o then (watched events).period at else None) ≡ Some n → (watched events).period at ≡ Some n
+      by None f = absurd (cc)
+      by (Some copy) f = f
+  kept_watch (Own line) events at n lt e = e
+  kept_watch Scans events at n lt e = by (is_unwatched (copy_at events) (watched events) at) e
+    where
+      given : (a b : ℕ) → ◌≡◌ {A = Option ℕ} (Some a) (Some b) → a ≡ b
+      given a b f = cc (f)
+
+      by : (b : Bool) → (if b then Some ((watched events).shows + begun_below (copy_at events) (watched events) at) else (watched events).period at) ≡ Some n
+          → (watched events).period at ≡ Some n
+      by true f =
+          let same = given ((watched events).shows + begun_below (copy_at events) (watched events) at) n f in
+          absurd (omega (arith, lt, same))
+      by false f = f
+
+  pub line_watch : (entry : Entry) (past : List Entry) (at n : ℕ) → n < (watched (met head c s past)).shows
+      → (watched (met head c s (entry ∷ past))).period at ≡ Some n → (watched (met head c s past)).period at ≡ Some n
+  line_watch entry past at n lt e = by (adds entry past)
+    where
+      by : Adds entry past → (watched (met head c s past)).period at ≡ Some n
+      by (inl none) = sym (ap (λ (l : List WatchEvent). (watched l).period at) none.event) ∙ e
+      by (inr one) =
+          kept_watch one.event (met head c s past) at n lt (sym (ap (λ (l : List WatchEvent). (watched l).period at) one.is) ∙ e)
 
   -- ---- some of the older events are what older lines make it meet
 

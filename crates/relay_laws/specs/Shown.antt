@@ -1,7 +1,9 @@
 -- What a spectator shows was so in the match: each field of each of its copies is shown for a value that an object had, at or after the
 -- show of its period at the relay's client. That value went through two connections and was rounded to a level twice, and what is shown is
 -- what it is shown for once.
-use Rattle.std.specs.Prelude.{◌≡◌, ℕ, ℤ, ◌<◌, List, ◌++◌, Option, Some}
+use Rattle.std.specs.Prelude.{◌≡◌, refl, ℕ, ℤ, pos, ◌<◌, List, ◌++◌, Option, Some}
+use Rattle.quantised_fields.specs.declared.field.FieldSpec.{FieldSpec}
+use Rattle.quantised_fields.specs.Levels.{level_of, shown_of}
 use Rattle.ghost_model.specs.Ghosts.{slot}
 use Rattle.ghost_client.specs.declared.copy.GhostCopy.{GhostCopy}
 use Rattle.ghost_client.specs.Copies.{copy_of}
@@ -71,3 +73,23 @@ SpectatorsShowWhatWasSo =
     → IsHonest (relay_journal (moment_at r before placed s))
     → (at f : ℕ) (copy : GhostCopy) (told : FieldTold) → IsShownField (moment_at r before placed s) at f copy told
     → ShowsHad (moment_at r before placed s) at copy.kind f told.value
+
+-- and a period of the spectator never stands for two periods of the relay's client: all that is told of a copy is of one object
+abbrev pub PeriodsStandForOne : Type 0
+PeriodsStandForOne =
+    (r : RelayScript) (before : List PlacedLine) (placed : PlacedLine) (s : ℕ) → HasRelayRanges r → IsLineOf r before placed → s < r.spectators
+    → IsHonest (relay_journal (moment_at r before placed s))
+    → (watch n m : ℕ) → StoodFor (moment_at r before placed s) watch n → StoodFor (moment_at r before placed s) watch m → n ≡ m
+
+-- ---- an example: a place in 12 bits. 1000 is shown as 992 at the relay, and 992 as itself at a spectator
+
+place : FieldSpec
+place = record { lo = pos 0; hi = pos 65535; bits = 12 }
+
+at_the_relay : shown_of place (level_of place (pos 1000)) ≡ pos 992
+unfolding place
+at_the_relay = refl
+
+at_a_spectator : shown_of place (level_of place (pos 992)) ≡ pos 992
+unfolding place
+at_a_spectator = refl

@@ -1,5 +1,5 @@
 //! The laws.
-ghost use Rattle.relay_laws.specs.Shown.{SpectatorsShowWhatWasSo};
+ghost use Rattle.relay_laws.specs.Shown.{SpectatorsShowWhatWasSo, PeriodsStandForOne};
 ghost use Rattle.relay_laws.specs.Delivered.{SpectatorsDeliverWhatWasPosted};
 
 use match_laws::own_lists::own_lists_hold;
@@ -15,6 +15,15 @@ pub fn spectators_show_what_was_so()
     copies_show_reads();
     copies_show_values();
     events_in_order();
+}
+
+/// And there a period of a spectator never stands for two periods of the relay's client, so that all that is told of a copy is of one object
+/// (docs/proofs.md, "What spectators see").
+pub fn spectators_periods_stand_for_one()
+    ensures { PeriodsStandForOne }
+{
+    own_lists_hold();
+    copies_show_reads();
 }
 
 /// Where the relay's client is honest, the guaranteed events that were delivered to a spectator, before every line of the relay, are the

@@ -3,4 +3,7 @@
 
 mod laws;
 
-pub use laws::{spectators_deliver_what_was_posted, spectators_show_what_was_so};
+pub use laws::{
+    spectators_deliver_what_was_posted, spectators_periods_stand_for_one,
+    spectators_show_what_was_so,
+};
