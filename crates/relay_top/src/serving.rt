@@ -2,14 +2,17 @@
 ghost use Rattle.std.specs.Prelude.{◌≡◌, ◌⊎◌, List, [], ℕ, map, string_bytes, Some, Ok};
 ghost use Rattle.script_input.specs.Reading.{seen, HasFailed};
 ghost use Rattle.relay_node.specs.relay_report.Laws.{PacksAreOfWhatWasMet, SameMetSamePacks, SameListsSamePacks};
-ghost use Rattle.relay_laws.specs.Shown.{SpectatorsShowWhatWasSo};
+ghost use Rattle.relay_laws.specs.Shown.{SpectatorsShowWhatWasSo, PeriodsStandForOne};
 ghost use Rattle.relay_laws.specs.Delivered.{SpectatorsDeliverWhatWasPosted};
 ghost use Rattle.relay_top.specs.Command.{relay_of, Says};
 ghost use Rattle.relay_top.specs.Outcome.{RelayOutcome, IsWanted, CanBeDone};
 
 use crate::reading::read_relay_script;
 use match_engine::RunFault;
-use relay_laws::{spectators_deliver_what_was_posted, spectators_show_what_was_so};
+use relay_laws::{
+    spectators_deliver_what_was_posted, spectators_periods_stand_for_one,
+    spectators_show_what_was_so,
+};
 use relay_node::relay_report::{
     packs_are_of_what_was_met, same_lists_same_packs, same_met_same_packs,
 };
@@ -88,14 +91,16 @@ pub fn top_relay<S: Source, K: Sink>(
     ensures same_met_same_packs { SameMetSamePacks }
     ensures same_lists_same_packs { SameListsSamePacks }
     // Of an honest client at the relay, before every line of the relay: what a spectator shows is shown for a value that the object had,
-    // and what it was delivered are the first of the events that were posted to that client.
+    // all of a copy of one object, and what it was delivered are the first of the events that were posted to that client.
     ensures shown { SpectatorsShowWhatWasSo }
+    ensures of_one_object { PeriodsStandForOne }
     ensures delivered { SpectatorsDeliverWhatWasPosted }
 {
     packs_are_of_what_was_met();
     same_met_same_packs();
     same_lists_same_packs();
     spectators_show_what_was_so();
+    spectators_periods_stand_for_one();
     spectators_deliver_what_was_posted();
     match relay_of(words) {
         Ok(()) => serve(alloc, source, sink),
