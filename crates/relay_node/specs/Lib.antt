@@ -1,0 +1,3 @@
+pub use Rattle.relay_report.specs as relay_report
+pub mod Node
+pub mod Running
