@@ -28,7 +28,7 @@ use Rattle.own_lists.specs.declared.showing.Showing.{Showing}
 use Rattle.own_lists.specs.Own.{OwnItem, Line, Scan, Tick, OwnShow, OwnWrite}
 use Rattle.own_lists.specs.Course.{Course, onto, hide_step, near_step, show_step, scan_steps}
 use Rattle.own_lists.specs.Kept.{kept, journal}
-use Rattle.own_lists.specs.Past.{Past, client_terms, after}
+use Rattle.own_lists.specs.Past.{client_terms, after}
 use Rattle.own_lists.proofs.Meeting.{scan_journal}
 use Rattle.own_lists.proofs.KeptValues.{wrote_course}
 use Rattle.own_lists.proofs.Standing.{onto_on}
@@ -110,9 +110,6 @@ module _ (t : Terms) where
   item_quiet items (Line (script.Post c class payload)) q = refl
   item_quiet items (Line (script.ClientPost c class payload)) q = by class
     where
-      log : List ClientEvent
-      log = at_end (journal t items)
-
       by : (class : Class) → Quiet items (Line (script.ClientPost c class payload) ∷ items)
       by Guaranteed = if_posted (is_ok (posted_at_client t.config (at_end (journal t items)))) Guaranteed payload (at_end (journal t items))
       by Loose = refl
@@ -162,44 +159,43 @@ named_case P c d own other = by_same (cases_eq c d)
         let there : (c == d) ≡ false = grind (arith, nat_tests) in
         rw (here, there) (other d)
 
+module _ (head : Head) (past : List BodyLine) (c : ℕ) where
+  abbrev own : List OwnItem
+  own = (after head past).own c
+
+  quiet : (line : BodyLine) → IsQuietLine line → packets_at (end_of head c (line ∷ past)) ≡ packets_at (end_of head c past)
+  quiet line q =
+      grows (Quiet (client_terms head c)) (same_items (client_terms head c)) head (after head past) c line
+      (λ item made. item_quiet (client_terms head c) own item (quiet_made line q item made))
+
+  down : (k : ℕ) → LineTakes (came_with (told_after head past (script.Down c k))) (end_of head c past)
+      (at_end (client_terms head c) (journal (client_terms head c) (Line (script.Down c k) ∷ own)))
+  down k =
+      let t = client_terms head c in
+      let h = history t (journal t own) in
+      let o = slice_get (server_datagrams t h.server) k in
+      let older = (shows-alike h.client).delivered in
+      let newer = (shows-alike (client_gets t o h.client)).delivered in
+      brought_is t c k (handed_down t (journal t own) k) h o (λ j. map event_told (drop (length (sym older j)) (sym newer j)))
+
+  by_line : (line : BodyLine) → LineTakes (events_taken c line (told_after head past line)) (end_of head c past) (end_of head c (line ∷ past))
+  by_line script.Tick = quiet script.Tick tt
+  by_line (script.Scan d) = quiet (script.Scan d) tt
+  by_line (script.Post d class payload) = quiet (script.Post d class payload) tt
+  by_line (script.ClientPost d class payload) = quiet (script.ClientPost d class payload) tt
+  by_line (script.Pack d) = quiet (script.Pack d) tt
+  by_line (script.ClientPack d) = quiet (script.ClientPack d) tt
+  by_line (script.Down d k) =
+      named_case (λ same put_here e.
+      LineTakes (if same then came_with (told_after head past (script.Down e k)) else None) (end_of head c past)
+      (at_end (client_terms head c) (journal (client_terms head c) (cond put_here (Line (script.Down e k) ∷ (after head past).own e) own)))) c d
+      (down k) (λ e. refl)
+  by_line (script.Up d k) = quiet (script.Up d k) tt
+  by_line (script.Raw d bytes) = quiet (script.Raw d bytes) tt
+  by_line (script.Move d m) = quiet (script.Move d m) tt
+  by_line (script.Show d) = quiet (script.Show d) tt
+  by_line script.World = quiet script.World tt
+
 pub line_takes : (head : Head) (past : List BodyLine) (c : ℕ) (line : BodyLine)
     → LineTakes (events_taken c line (told_after head past line)) (end_of head c past) (end_of head c (line ∷ past))
-line_takes head past c line = by_line line
-  where
-    p : Past
-    p = after head past
-
-    abbrev t : Terms
-    t = client_terms head c
-
-    abbrev own : List OwnItem
-    own = (after head past).own c
-
-    quiet : (line : BodyLine) → IsQuietLine line → packets_at (end_of head c (line ∷ past)) ≡ packets_at (end_of head c past)
-    quiet line q = grows (Quiet t) (same_items t) head (after head past) c line (λ item made. item_quiet t own item (quiet_made line q item made))
-
-    down : (k : ℕ) → LineTakes (came_with (told_after head past (script.Down c k))) (at_end t (journal t own)) (at_end t (journal t (Line (script.Down c k) ∷ own)))
-    down k =
-        let h = history t (journal t own) in
-        let o = slice_get (server_datagrams t h.server) k in
-        let older = (shows-alike h.client).delivered in
-        let newer = (shows-alike (client_gets t o h.client)).delivered in
-        brought_is t c k (handed_down t (journal t own) k) h o (λ j. map event_told (drop (length (sym older j)) (sym newer j)))
-
-    by_line : (line : BodyLine) → LineTakes (events_taken c line (told_after head past line)) (end_of head c past) (end_of head c (line ∷ past))
-    by_line script.Tick = quiet script.Tick tt
-    by_line (script.Scan d) = quiet (script.Scan d) tt
-    by_line (script.Post d class payload) = quiet (script.Post d class payload) tt
-    by_line (script.ClientPost d class payload) = quiet (script.ClientPost d class payload) tt
-    by_line (script.Pack d) = quiet (script.Pack d) tt
-    by_line (script.ClientPack d) = quiet (script.ClientPack d) tt
-    by_line (script.Down d k) =
-        named_case (λ same put_here e.
-        LineTakes (if same then came_with (told_after head past (script.Down e k)) else None) (at_end t (journal t own))
-        (at_end t (journal t (cond put_here (Line (script.Down e k) ∷ (after head past).own e) own)))) c d
-        (down k) (λ e. refl)
-    by_line (script.Up d k) = quiet (script.Up d k) tt
-    by_line (script.Raw d bytes) = quiet (script.Raw d bytes) tt
-    by_line (script.Move d m) = quiet (script.Move d m) tt
-    by_line (script.Show d) = quiet (script.Show d) tt
-    by_line script.World = quiet script.World tt
+line_takes head past c line = by_line head past c line

@@ -128,6 +128,23 @@ module _ (old : NodeState) (past : List Entry) (stands : Stands old past) (few :
       few = omega (arith, few);
     }
 
+    below_now : old.relay < game.script.head.clients
+    below_now = subst (λ (x : Script). old.relay < x.head.clients) (sym same) stands.below
+
+    -- the copies that the match lends are those of the packets that the client took
+    module _ (lent : PairState) (is : (d : SeatState) → lent ≡ (get_or game.game.seats old.relay d).pair) (copies : State) (of : copies ≡ lent.client.copies) where
+      pub lent_kinds : copies.kinds ≡ match_kinds
+      lent_kinds = ap (λ (x : State). x.kinds) of ∙ kinds_are game (line ∷ match_past past) old.relay done below_now lent is
+
+      pub lent_seen : ((slot : ℕ) → 256 ≤ slot → copy_in copies.slots slot ≡ None) → AreSeen copies.slots
+      lent_seen beyond = record {
+        each = all_copies old.game.script.head old.relay (line ∷ match_past past) copies
+            (λ slot lt. ap (λ (x : State). copy_in x.slots slot) of
+            ∙ copies_are game (line ∷ match_past past) old.relay done below_now lent is slot lt
+            ∙ ap (λ (x : Script). copy_of (ghosts_seen (taken_by x.head old.relay (line ∷ match_past past))) slot) same)
+            beyond;
+      }
+
     -- nothing was taken
     pub quiet : events_taken old.relay line (told_after head (match_past past) line) ≡ None
         → Stands (record { relay = old.relay; game = game; board = old.board; spectators = old.spectators }) (OfMatch line ∷ past)

@@ -201,6 +201,7 @@ impl<'a> Node<'a> {
             return Ok(());
         };
         let copies = self.game.pair(self.relay).client().copies();
+        none_beyond(copies);
         self.board.follow(copies)?;
         take_all(alloc, &mut self.spectators, &self.board, events)
     }

@@ -33,16 +33,16 @@ one_more {X} x xs = ap (λ (n : ℕ). take n (x ∷ xs)) (let e : length (x ∷ 
 
 -- ---- the items and lines as all that there is
 
-items_in : List Heard → List OwnItem
+pub items_in : List Heard → List OwnItem
 items_in [] = []
 items_in (Item item ∷ hs) = item ∷ items_in hs
 items_in (Asked line ∷ hs) = items_in hs
 
 -- the packets that these items leave
-abbrev packets_of : Terms → List OwnItem → List ServerPacket
+abbrev pub packets_of : Terms → List OwnItem → List ServerPacket
 packets_of t items = packets_at (history t (journal t items)).client
 
-met_from : Terms → ℕ → List Heard → List WatchEvent
+pub met_from : Terms → ℕ → List Heard → List WatchEvent
 met_from t s [] = []
 met_from t s (Item item ∷ hs) = newly (packets_of t (items_in hs)) (packets_of t (item ∷ items_in hs)) ++ met_from t s hs
 met_from t s (Asked line ∷ hs) = asked_of s line ++ met_from t s hs
