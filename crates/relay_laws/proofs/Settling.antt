@@ -1,6 +1,6 @@
 -- What a spectator shows of a field that is marked as settled is what the relay's copy shows of it now.
 use Rattle.std.proofs.Common.{◌≡◌, ◌∙◌, ℕ, ◌<◌, Bool, true, false, List, length, Option, Some, sym, ap, subst, arith}
-use Rattle.std.specs.Prelude.{ℤ, pos, reverse, slice_get, unwrap_or}
+use Rattle.std.specs.Prelude.{ℤ, pos, reverse, slice_get, option_map, unwrap_or}
 use Rattle.std.specs.Option.{option_map_or}
 use Rattle.std.proofs.lemmas.Option.{slice_get_within, get_or_from_slice_get}
 use Rattle.quantised_fields.specs.declared.field.FieldSpec.{FieldSpec}
@@ -35,7 +35,7 @@ use Rattle.relay_laws.specs.Settled.{ShowsTheRelays, SettledShowsTheRelays}
 use Rattle.relay_laws.proofs.Places.{AreEntries, are_entries}
 use Rattle.relay_laws.proofs.Meeting.{table_none, met_packets, met_own, met_few, holds, copies_are, fit_at}
 use Rattle.relay_laws.proofs.Match.{IsHonestAt, moment_of, shows, shows_newest}
-use Rattle.relay_laws.proofs.Fields.{again, is_sound_field, IsFieldOf, field_of, told_value, told_mark, shows_some}
+use Rattle.relay_laws.proofs.Fields.{again, is_sound_field, IsFieldOf, field_of, a_told, told_value, told_mark, shows_some}
 use Rattle.relay_laws.proofs.Newest.{right}
 use Rattle.relay_laws.proofs.Marked.{HasNewest, has_newest}
 use Rattle.relay_laws.proofs.Delivering.{t, limits, meet, clean, fit}
@@ -114,6 +114,20 @@ module _ (values : CopiesShowValues) (settled : SettledIsNewest) (newest : Alway
         told_as ∙ ap (λ (v : ℤ). shown_of has.spec (level_of has.spec v)) (is_so ∙ for_it)
         ∙ ap (shown_of has.spec) (again has.spec so.value (is_sound_field match_kinds table_none copy.kind f has.spec has.field)) ∙ sym for_it
 
+    -- what the relay's copy shows of the field
+    abbrev relay_mark : Bool
+    relay_mark =
+        let m = kept_by head (after head (match_past past)) c in
+        option_map_or (is_newest (client_terms head c) m.course.steps f) (holder_at (client_terms head c) m.course.steps (undrained m) place.slot) false
+
+    relay_value : (v : ℤ) × (field_value match_kinds f there.copy ≡ Some v)
+    relay_value =
+        shows_some match_kinds there.copy
+        (fit_at match_kinds (met head c s past) (copies_are head c s past) place.slot there.copy there.there).range f has.spec field
+
+    relay_shows : IsShownInMatch (moment_of head (match_past past) c) place.slot f there.copy (a_told relay_mark relay_value.0)
+    relay_shows = record { here = here; shown = ap (option_map (a_told relay_mark)) relay_value.1 }
+
     pub shows_the_relays : ShowsTheRelays now at copy.kind f told.value
     shows_the_relays = record {
       watch = has.n;
@@ -121,13 +135,14 @@ module _ (values : CopiesShowValues) (settled : SettledIsNewest) (newest : Alway
       there = place.slot;
       watches = place.watches;
       copy = there.copy;
-      copy_is = here;
       same_kind = kind_is;
-      same = same;
-      newest = λ shown x is_settled.
-          subst (λ (v : ℤ). ShowsNewest (moment_of head (match_past past) c) place.slot copy.kind f v) (sym (same shown x))
-          (subst (λ (n : ℕ). ShowsNewest (moment_of head (match_past past) c) place.slot n f shown.value) kind_is
-          (shows_newest head c below past h settled honest place.slot f there.copy shown x is_settled));
+      shown = a_told relay_mark relay_value.0;
+      is_shown = relay_shows;
+      same = same (a_told relay_mark relay_value.0) relay_shows;
+      newest = λ is_settled.
+          subst (λ (v : ℤ). ShowsNewest (moment_of head (match_past past) c) place.slot copy.kind f v) (sym (same (a_told relay_mark relay_value.0) relay_shows))
+          (subst (λ (n : ℕ). ShowsNewest (moment_of head (match_past past) c) place.slot n f relay_value.0) kind_is
+          (shows_newest head c below past h settled honest place.slot f there.copy (a_told relay_mark relay_value.0) relay_shows is_settled));
     }
 
 pub settled_shows : CopiesShowValues → SettledIsNewest → Always ShowNewest → EventsInOrder → OwnListsHold → SettledShowsTheRelays

@@ -18,8 +18,8 @@ pub fn spectators_show_what_was_so()
     events_in_order();
 }
 
-/// And there a period of a spectator never stands for two periods of the relay's client, so that all that is told of a copy is of one object
-/// (docs/proofs.md, "What spectators see").
+/// And there a period of a spectator never stands for two periods of the relay's client, so that all that is told of a copy is of one
+/// object (docs/proofs.md, "What spectators see").
 pub fn spectators_periods_stand_for_one()
     ensures { PeriodsStandForOne }
 {
@@ -27,8 +27,8 @@ pub fn spectators_periods_stand_for_one()
     copies_show_reads();
 }
 
-/// And there each field that is marked as settled at a spectator shows what the relay's copy of the same object shows now, and the value that
-/// the object has now where that one is marked as settled in the match too (docs/proofs.md, "What spectators see").
+/// And there each field that is marked as settled at a spectator shows what the relay's copy of the same object shows now, and the value
+/// that the object has now where that one is marked as settled in the match too (docs/proofs.md, "What spectators see").
 pub fn settled_shows_the_relays()
     ensures { SettledShowsTheRelays }
 {
