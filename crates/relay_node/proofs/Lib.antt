@@ -5,3 +5,5 @@ pub mod Playing
 pub mod Relaying
 pub mod Texts
 pub mod Made
+pub mod Steps
+pub mod Order

@@ -25,7 +25,7 @@ use Rattle.own_lists.specs.pair_core.stream_manager.Server.{server_datagrams}
 use Rattle.own_lists.specs.pair_core.History.{PairStep, Hide, History, history, client_gets}
 use Rattle.own_lists.specs.pair_core.Answers.{brought_down, came_down}
 use Rattle.own_lists.specs.declared.showing.Showing.{Showing}
-use Rattle.own_lists.specs.Own.{OwnItem, Line, Scan, Tick, OwnShow, OwnWrite}
+use Rattle.own_lists.specs.Own.{OwnItem, Line, Scan, Tick, OwnShow}
 use Rattle.own_lists.specs.Course.{Course, onto, hide_step, near_step, show_step, scan_steps}
 use Rattle.own_lists.specs.Kept.{kept, journal}
 use Rattle.own_lists.specs.Past.{client_terms, after}

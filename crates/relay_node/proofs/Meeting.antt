@@ -1,6 +1,6 @@
 -- What a spectator meets by the lines of a relay script: packets as the relay's client took them, of which each makes such a change of the
 -- copies as may be shown on, and no more of all than there are lines.
-use Rattle.std.proofs.Common.{◌≡◌, ◌∙◌, ℕ, ◌+◌, ◌-◌, ◌<◌, ◌≤◌, ◌==◌, Bool, true, false, List, [], ◌∷◌, ◌++◌, map, take, length, Option, Some, None, if◌then◌else◌, refl, sym, ap, subst, arith, length-append}
+use Rattle.std.proofs.Common.{◌≡◌, ◌∙◌, ℕ, ◌-◌, ◌<◌, ◌≤◌, ◌==◌, Bool, true, false, List, [], ◌∷◌, ◌++◌, map, take, length, Option, Some, None, if◌then◌else◌, refl, sym, ap, subst, arith, length-append}
 use Rattle.quantised_fields.specs.declared.kind.Kind.{Kind}
 use Rattle.quantised_fields.specs.Kinds.{table_fault}
 use Rattle.wire_format.specs.declared.server.ServerPacket.{ServerPacket}
@@ -22,7 +22,7 @@ use Rattle.relay_model.proofs.Copies.{taken_are_changes}
 use Rattle.relay_spectator.specs.Spectators.{AreMet}
 use Rattle.relay_report.specs.Met.{match_past, end_of, taken_by, newly, spectator_terms, asked_of, met}
 use Rattle.relay_node.specs.Node.{events_taken}
-use Rattle.relay_node.proofs.Lines.{TakesPacket, LineTakes, line_takes}
+use Rattle.relay_node.proofs.Lines.{LineTakes, line_takes}
 
 pub table_none : table_fault match_kinds ≡ None
 table_none = refl
@@ -126,8 +126,12 @@ module _ (head : Head) (c : ℕ) where
     few_met [] = omega arith
     few_met (OfMatch line ∷ past) =
         let new = newly (taken_by head c (match_past past)) (taken_by head c (line ∷ match_past past)) in
-        omega (arith, length-append new (met head c s past), few_met past,
-        few_new (events_taken c line (told_after head (match_past past) line)) (taken_by head c (match_past past)) (taken_by head c (line ∷ match_past past)) (line_met (match_past past) line))
+        omega (
+          arith,
+          length-append new (met head c s past),
+          few_met past,
+          few_new (events_taken c line (told_after head (match_past past) line)) (taken_by head c (match_past past)) (taken_by head c (line ∷ match_past past)) (line_met (match_past past) line),
+        )
     few_met (OfRelay line ∷ past) = omega (arith, length-append (asked_of s line) (met head c s past), few_met past, few_asked line)
 
     -- ---- whose lines

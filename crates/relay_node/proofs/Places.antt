@@ -1,6 +1,6 @@
 -- The lines before one of the relay's: one line of the match more, and one of the relay more.
-use Rattle.std.proofs.Common.{◌≡◌, ◌∙◌, ℕ, ◌+◌, ◌-◌, ◌<◌, ◌≤◌, List, [], ◌∷◌, ◌++◌, map, length, get_or, take, drop, reverse, refl, sym, ap, subst, arith, length-append, length-drop}
-use Rattle.std.proofs.lemmas.List.{length-reverse, length-take, length-map, get_or-drop, take_all, reverse-append, take-append-drop}
+use Rattle.std.proofs.Common.{◌≡◌, ◌∙◌, ℕ, ◌+◌, ◌-◌, ◌<◌, ◌≤◌, List, [], ◌∷◌, ◌++◌, map, length, get_or, take, drop, reverse, ap, arith, length-append, length-drop}
+use Rattle.std.proofs.lemmas.List.{length-reverse, length-take, length-map, get_or-drop}
 use Rattle.match_script.specs.declared.types.BodyLine.{BodyLine}
 use Rattle.match_engine.proofs.Written.{reverse_next}
 use Rattle.relay_script.specs.declared.entries.Entry.{Entry}

@@ -1,5 +1,5 @@
 -- What a relay stands for when a line of its match is done.
-use Rattle.std.proofs.Common.{◌≡◌, ◌∙◌, ℕ, ◌+◌, ◌<◌, ◌≤◌, List, [], ◌∷◌, ◌++◌, map, drop, length, get_or, Option, Some, None, refl, sym, ap, subst, arith, inl, inr}
+use Rattle.std.proofs.Common.{◌≡◌, ◌∙◌, ℕ, ◌+◌, ◌<◌, ◌≤◌, List, [], ◌∷◌, ◌++◌, drop, length, get_or, Option, Some, None, sym, ap, subst, arith, inl, inr}
 use Rattle.std.proofs.lemmas.Bool.{cases_lt}
 use Rattle.wire_format.specs.declared.server.ServerPacket.{ServerPacket}
 use Rattle.wire_format.specs.declared.ghosts.GhostItem.{GhostItem}
@@ -13,7 +13,6 @@ use Rattle.match_script.specs.declared.types.Script.{Script}
 use Rattle.match_report.specs.declared.told.EventTold.{EventTold}
 use Rattle.client_scope.specs.StandsFor.{Table}
 use Rattle.match_engine.specs.client_seat.Stands.{SeatState}
-use Rattle.match_engine.specs.client_seat.Told.{event_told}
 use Rattle.match_engine.specs.match_laws.Report.{told_after}
 use Rattle.match_engine.specs.Match.{MatchState, StandsFor as MatchStandsFor}
 use Rattle.own_lists.specs.pair_core.Stands.{PairState, StandsFor as PairStandsFor}
@@ -27,15 +26,13 @@ use Rattle.relay_model.proofs.Copies.{all_kept}
 use Rattle.world_rules.specs.Kinds.{match_kinds}
 use Rattle.stream_manager.proofs.Packets.{shows-alike}
 use Rattle.relay_script.specs.declared.entries.Entry.{Entry}
-use Rattle.relay_script.specs.declared.entries.Entry.TheVariants.{OfMatch, OfRelay}
+use Rattle.relay_script.specs.declared.entries.Entry.TheVariants.{OfMatch}
 use Rattle.relay_model.specs.Watching.{WatchEvent, Took, packets_in, copy_at}
-use Rattle.relay_model.specs.Items.{news_by}
-use Rattle.relay_board.specs.declared.board.Change.{Change}
 use Rattle.relay_board.specs.Changes.{BoardState, killed_between, changed_between}
 use Rattle.relay_spectator.specs.declared.spectator.Spectator.{Spectator}
-use Rattle.relay_spectator.specs.Spectators.{Follows, IsToldOf, AreMet, Takes, payloads_of}
+use Rattle.relay_spectator.specs.Spectators.{Follows, IsToldOf, AreMet, payloads_of}
 use Rattle.relay_spectator.proofs.Posting.{payloads_are}
-use Rattle.relay_report.specs.Met.{match_past, end_of, taken_by, newly, spectator_terms, met}
+use Rattle.relay_report.specs.Met.{match_past, end_of, taken_by, spectator_terms, met}
 use Rattle.relay_node.specs.Node.{NodeState, Stands, events_taken, MayTakeAll, TakeAll}
 use Rattle.relay_node.proofs.Lines.{TakesPacket, LineTakes, line_takes}
 use Rattle.relay_node.proofs.Meeting.{table_none, one_more, IsMet, line_met, met_packets, are_met}
@@ -93,6 +90,18 @@ all_copies head c past copies below beyond slot = elim (cases_lt slot 256) [
   | inl lt ↦ below slot lt
   | inr le ↦ beyond slot le ∙ sym (none_seen head c past slot le)
 ]
+
+-- what a match lends of a relay that stands for these lines
+module _ (n : NodeState) (past : List Entry) (stands : Stands n past) (lent : PairState) (is : (d : SeatState) → lent ≡ (get_or n.game.game.seats n.relay d).pair)
+    (copies : State) (of : copies ≡ lent.client.copies) where
+  pub now_kinds : copies.kinds ≡ match_kinds
+  now_kinds = ap (λ (x : State). x.kinds) of ∙ kinds_are n.game (match_past past) n.relay stands.game stands.below lent is
+
+  pub now_seen : ((slot : ℕ) → 256 ≤ slot → copy_in copies.slots slot ≡ None) → (slot : ℕ)
+      → copy_in copies.slots slot ≡ copy_of (ghosts_seen (taken_by n.game.script.head n.relay (match_past past))) slot
+  now_seen beyond =
+      all_copies n.game.script.head n.relay (match_past past) copies
+      (λ slot lt. ap (λ (x : State). copy_in x.slots slot) of ∙ copies_are n.game (match_past past) n.relay stands.game stands.below lent is slot lt) beyond
 
 -- ---- a line is done
 

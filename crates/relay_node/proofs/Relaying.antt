@@ -1,5 +1,5 @@
 -- What a relay stands for when a line of the relay is done, and what the line tells.
-use Rattle.std.proofs.Common.{◌≡◌, ◌≢◌, ◌∙◌, ℕ, ◌+◌, ◌<◌, ◌≤◌, ◌==◌, Bool, true, false, List, [], ◌∷◌, ◌++◌, length, get_or, set, Option, Some, None, if◌then◌else◌, refl, sym, ap, subst, arith, inl, inr}
+use Rattle.std.proofs.Common.{◌≡◌, ◌≢◌, ◌∙◌, ℕ, ◌+◌, ◌<◌, ◌==◌, true, false, List, [], ◌∷◌, ◌++◌, length, get_or, set, Option, Some, None, refl, sym, ap, subst, arith, inl, inr}
 use Rattle.std.proofs.lemmas.Bool.{cases_eq}
 use Rattle.std.proofs.lemmas.Bool.Decides.{nat_tests}
 use Rattle.std.proofs.lemmas.List.{get_or-set_same, get_or-set_other, length-set}
@@ -8,12 +8,11 @@ use Rattle.match_script.specs.declared.types.BodyLine.TheVariants as script
 use Rattle.match_script.specs.declared.types.Head.{Head}
 use Rattle.match_report.specs.declared.told.Told.{Told}
 use Rattle.own_lists.specs.Own.{client_named}
-use Rattle.own_lists.specs.pair_core.stream_manager.Limits.{Terms}
 use Rattle.relay_script.specs.declared.entries.Entry.{Entry}
-use Rattle.relay_script.specs.declared.entries.Entry.TheVariants.{OfMatch, OfRelay}
+use Rattle.relay_script.specs.declared.entries.Entry.TheVariants.{OfRelay}
 use Rattle.relay_script.specs.declared.types.RelayLine.{RelayLine}
 use Rattle.relay_script.specs.declared.types.RelayLine.TheVariants.{Scan, Pack, ClientPack, Down, Up, Show}
-use Rattle.relay_model.specs.Watching.{WatchEvent, Took, Scans, Own}
+use Rattle.relay_model.specs.Watching.{WatchEvent, Scans, Own}
 use Rattle.relay_spectator.specs.declared.spectator.Spectator.{Spectator}
 use Rattle.wire_format.specs.declared.server.ServerPacket.{ServerPacket}
 use Rattle.ghost_client.specs.Copies.{copy_of}
@@ -226,3 +225,12 @@ given_back old past stands at d new is lt stays = record {
           (let here : get_or (set old.spectators at new) s x ≡ get_or old.spectators s x = get_or-set_other old.spectators at s new x apart in
           subst (λ (y : Spectator). Follows y (spectator_terms old.game.script.head s) (met old.game.script.head old.relay s past)) (sym here) (stands.spectators s x below))
     ]
+
+-- a line that has no plain form and is no scan shows
+pub is_show : (line : RelayLine) → plain_of line ≡ None → ((s : ℕ) → line ≡ Scan s → ⊥) → line ≡ Show (named line)
+is_show (Scan s) e f = absurd (f s refl)
+is_show (Show s) e f = refl
+is_show (Pack s) e f = absurd (cc)
+is_show (ClientPack s) e f = absurd (cc)
+is_show (Down s k) e f = absurd (cc)
+is_show (Up s k) e f = absurd (cc)

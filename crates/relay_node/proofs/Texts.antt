@@ -2,7 +2,7 @@
 use Rattle.std.proofs.Common.{◌≡◌, ◌∙◌, ℕ, ◌+◌, ◌<◌, ◌≤◌, List, [], ◌∷◌, ◌++◌, length, get_or, take, drop, reverse, Option, refl, sym, ap, subst, append_assoc}
 use Rattle.std.proofs.lemmas.List.{append-nil, take_all, reverse-append, take-append-drop}
 use Rattle.tn_outside.specs.Totals.{Adds, AddsFront}
-use Rattle.tn_outside.proofs.Totals.{adds_then, front_more}
+use Rattle.tn_outside.proofs.Totals.{adds_then, front_more, front_longer, whole_front}
 use Rattle.match_engine.proofs.Written.{reverse_next}
 use Rattle.relay_script.specs.declared.types.PlacedLine.{PlacedLine}
 use Rattle.relay_script.specs.declared.types.RelayScript.{RelayScript}
@@ -52,6 +52,16 @@ module _ (r : RelayScript) where
       → Adds first new (report_so_far r (reverse (take i lines))) → Adds first new (report_so_far r (reverse lines))
   all_written lines i first new past so_far =
       subst (λ (l : List PlacedLine). Adds first new (report_so_far r (reverse l))) (take_all i lines past) so_far
+
+  -- what was written so far is a front of all
+  pub so_far_front : (lines : List PlacedLine) (i : ℕ) (first old : Option (List ℕ)) → Adds first old (report_so_far r (reverse (take i lines)))
+      → AddsFront first old (report_so_far r (reverse lines))
+  so_far_front lines i first old adds =
+      let so = report_so_far r (reverse (take i lines)) in
+      let split : reverse lines ≡ reverse (drop i lines) ++ reverse (take i lines) =
+      ap reverse (sym (take-append-drop i lines)) ∙ reverse-append (take i lines) (drop i lines) in
+      let rest = in_front (reverse (drop i lines)) (reverse (take i lines)) in
+      front_longer first old so rest.0 (report_so_far r (reverse lines)) (whole_front first old so adds) (ap (report_so_far r) split ∙ rest.1)
 
   pub whole : report_so_far r (reverse r.lines) ≡ relay_report r
   unfolding relay_report

@@ -103,7 +103,13 @@ fn events_taken<'t>(relay: u8, line: &BodyLine, told: &'t Told) -> Option<&'t [E
     ensures { option_copied result ≡ events_taken relay line.now told.now }
 {
     match line {
-        BodyLine::Down { client, k: _ } => { if *client == relay { came_with(told) } else { None } }
+        BodyLine::Down { client, k: _ } => {
+            if *client == relay {
+                came_with(told)
+            } else {
+                None
+            }
+        }
         _ => None,
     }
 }

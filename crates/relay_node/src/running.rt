@@ -7,8 +7,10 @@ ghost use Rattle.relay_script.specs.declared.types.PlacedLine.{PlacedLine as One
 ghost use Rattle.relay_report.specs.Report.{relay_report};
 ghost use Rattle.relay_report.specs.Laws.{PacksAreOfWhatWasMet, SameMetSamePacks, SameListsSamePacks};
 ghost use Rattle.relay_node.specs.Node.{Keeps};
+ghost use Rattle.relay_node.specs.Order.{StandAsInTheText};
 ghost use Rattle.relay_node.specs.Running.{MayCatchUp, CatchesUp, MayStep, Steps, Writes};
 
+use crate::laws::lines_stand_as_in_the_text;
 use crate::node::Node;
 use match_engine::RunFault;
 use relay_report::{
@@ -70,11 +72,7 @@ fn step<K: Sink>(
 }
 
 // Runs a relay script. `text` is only a place for a line.
-fn write_report<K: Sink>(
-    alloc: Global,
-    script: &RelayScript,
-    sink: &mut K,
-) -> Result<(), RunFault>
+fn write_report<K: Sink>(alloc: Global, script: &RelayScript, sink: &mut K) -> Result<(), RunFault>
     requires { HasRelayRanges script.now }
     ensures report { OnOk result (Adds (K.written sink.old) (K.written sink.new) (relay_report script.now)) }
     ensures front { OnErr result (AddsFront (K.written sink.old) (K.written sink.new) (relay_report script.now)) }
@@ -97,11 +95,7 @@ fn write_report<K: Sink>(
 
 /// Runs a relay script, and writes the line of the report of each line of the relay (docs/relay.md), one line a write. After an error a
 /// front of the report was written. Lines of the match behind the relay's last line are not done, since nothing is told of them.
-pub fn run_relay<K: Sink>(
-    alloc: Global,
-    script: &RelayScript,
-    sink: &mut K,
-) -> Result<(), RunFault>
+pub fn run_relay<K: Sink>(alloc: Global, script: &RelayScript, sink: &mut K) -> Result<(), RunFault>
     requires { HasRelayRanges script.now }
     ensures report { OnOk result (Adds (K.written sink.old) (K.written sink.new) (relay_report script.now)) }
     ensures front { OnErr result (AddsFront (K.written sink.old) (K.written sink.new) (relay_report script.now)) }
@@ -112,7 +106,10 @@ pub fn run_relay<K: Sink>(
     // So two relay scripts that agree in these have the same such lines, and so have two whose matches tell the relay's client the same.
     ensures same_met_same_packs { SameMetSamePacks }
     ensures same_lists_same_packs { SameListsSamePacks }
+    // What the report goes over are the lines of the text, in its order.
+    ensures as_in_the_text { StandAsInTheText }
 {
+    lines_stand_as_in_the_text();
     packs_are_of_what_was_met();
     same_met_same_packs();
     same_lists_same_packs();

@@ -1,10 +1,9 @@
 -- What a spectator meets is made of the own list of the relay's client, and of the spectator's lines.
-use Rattle.std.proofs.Common.{◌≡◌, ◌∙◌, ℕ, ◌-◌, ◌==◌, Bool, true, false, List, [], ◌∷◌, ◌++◌, map, take, length, if◌then◌else◌, refl, sym, ap, subst, arith}
+use Rattle.std.proofs.Common.{◌≡◌, ◌∙◌, ℕ, ◌-◌, ◌==◌, Bool, true, false, List, [], ◌∷◌, ◌++◌, map, take, length, if◌then◌else◌, refl, sym, ap, arith}
 use Rattle.wire_format.specs.declared.server.ServerPacket.{ServerPacket}
 use Rattle.world_rules.specs.Kinds.{match_kinds}
 use Rattle.match_script.specs.declared.types.BodyLine.{BodyLine}
 use Rattle.match_script.specs.declared.types.Head.{Head}
-use Rattle.match_engine.specs.match_laws.own_lists.Past.{Past}
 use Rattle.own_lists.specs.pair_core.stream_manager.Limits.{Terms}
 use Rattle.own_lists.specs.pair_core.stream_manager.Packets.{packets_at}
 use Rattle.own_lists.specs.pair_core.History.{history}
@@ -16,11 +15,10 @@ use Rattle.relay_script.specs.declared.entries.Entry.{Entry}
 use Rattle.relay_script.specs.declared.entries.Entry.TheVariants.{OfMatch, OfRelay}
 use Rattle.relay_script.specs.declared.types.RelayLine.{RelayLine}
 use Rattle.relay_script.specs.declared.types.RelayLine.TheVariants.{Scan, Pack, ClientPack, Down, Up, Show}
-use Rattle.relay_script.specs.declared.types.RelayScript.{RelayScript}
 use Rattle.relay_model.specs.Watching.{WatchEvent, Took}
-use Rattle.relay_report.specs.Met.{match_past, taken_by, newly, asked_of, met}
+use Rattle.relay_report.specs.Met.{match_past, newly, asked_of, met}
 use Rattle.relay_report.specs.Report.{named}
-use Rattle.relay_report.specs.Laws.{Heard, Item, Asked, added, heard, all_lines, met_in, heard_in, SameTerms, SameListsSamePacks}
+use Rattle.relay_report.specs.Laws.{Heard, Item, Asked, added, heard, all_lines, SameListsSamePacks}
 use Rattle.relay_report.proofs.Packs.{same_met}
 
 -- ---- what is new of a list

@@ -15,9 +15,9 @@ use Rattle.relay_script.specs.declared.types.RelayLine.{RelayLine}
 use Rattle.relay_script.specs.declared.types.RelayLine.TheVariants.{Scan, Pack, ClientPack, Down, Up, Show}
 use Rattle.relay_script.specs.declared.types.RelayScript.{RelayScript}
 use Rattle.relay_model.specs.Watching.{WatchEvent, Took, Scans, Own}
-use Rattle.relay_report.specs.Met.{past_of, match_past, taken_by, newly, spectator_terms, asked_of, met}
-use Rattle.relay_report.specs.Report.{named, line_text}
-use Rattle.relay_report.specs.Laws.{is_pack_of, pack_lines, packs_in, met_in, packs_of, SameTerms, PacksAreOfWhatWasMet, SameMetSamePacks}
+use Rattle.relay_report.specs.Met.{past_of, match_past, taken_by, spectator_terms, asked_of, met}
+use Rattle.relay_report.specs.Report.{line_text}
+use Rattle.relay_report.specs.Laws.{is_pack_of, pack_lines, packs_of, PacksAreOfWhatWasMet, SameMetSamePacks}
 
 packets_quiet : (t : Terms) (packets : List ServerPacket) (events : List WatchEvent) → packs_of t (map Took packets ++ events) ≡ packs_of t events
 packets_quiet t [] events = refl

@@ -1,5 +1,5 @@
 -- What a relay finds of a packet's changes once is what each spectator is told of them.
-use Rattle.std.proofs.Common.{◌≡◌, ◌∙◌, ℕ, ◌<◌, ◌*◌, ◌&&◌, Bool, true, false, not, List, [], ◌∷◌, ◌++◌, length, Option, Some, None, if◌then◌else◌, is_some, refl, sym, ap, arith}
+use Rattle.std.proofs.Common.{◌≡◌, ◌∙◌, ℕ, ◌<◌, ◌&&◌, Bool, true, false, not, List, [], ◌∷◌, ◌++◌, length, Option, Some, None, if◌then◌else◌, is_some, refl, sym, ap, arith}
 use Rattle.std.specs.List.{filter_map, flat_map, cons_option}
 use Rattle.std.specs.Option.{option_and_then, option_map}
 use Rattle.std.proofs.lemmas.List.Elements.{filter_map-append}
@@ -10,15 +10,12 @@ use Rattle.ghost_model.specs.Words.{upto}
 use Rattle.ghost_client.specs.declared.copy.GhostCopy.{GhostCopy}
 use Rattle.own_lists.specs.pair_core.stream_manager.Limits.{Terms}
 use Rattle.own_lists.specs.Own.{OwnWrite}
-use Rattle.own_lists.specs.Kept.{kept}
-use Rattle.own_lists.specs.Conditions.{MayFollow, AreOwn}
+use Rattle.own_lists.specs.Conditions.{AreOwn}
 use Rattle.own_lists.proofs.ScanChanges.{has}
 use Rattle.relay_model.specs.Watching.{WatchEvent, Took, Watched, left_watched, watched, copy_at}
 use Rattle.relay_model.specs.Items.{shown_at, hidden_of, is_changed, write_of, writes_between, writes_of, hide_item, write_item, items_of}
 use Rattle.relay_model.proofs.Mapped.{some_is, has_from, has_to, has_upto}
-use Rattle.relay_model.proofs.Stretches.{Watches}
 use Rattle.relay_model.proofs.Following.{Holds as HoldsOf, follow, written_holds}
-use Rattle.relay_board.specs.declared.board.Change.{Change}
 use Rattle.relay_board.specs.Changes.{killed_at, killed_between, change_of, changes_in, changed_between}
 use Rattle.relay_spectator.specs.Watches.{period_at, write_at}
 use Rattle.relay_spectator.specs.Spectators.{AreMet}

@@ -1,5 +1,5 @@
 -- What a spectator's server may be fed, and what it stands for then.
-use Rattle.std.proofs.Common.{◌≡◌, ◌∙◌, ℕ, ◌+◌, ◌*◌, ◌<◌, ◌≤◌, ◌||◌, Bool, true, false, not, List, [], ◌∷◌, ◌++◌, length, map, Option, Some, None, if◌then◌else◌, is_some, refl, sym, ap, subst, arith}
+use Rattle.std.proofs.Common.{◌≡◌, ◌∙◌, ℕ, ◌+◌, ◌*◌, ◌<◌, ◌≤◌, List, [], ◌∷◌, length, Option, None, if◌then◌else◌, refl, sym, ap, subst, arith}
 use Rattle.std.specs.List.{filter_map}
 use Rattle.std.proofs.lemmas.List.Sums.{count_by-le-length}
 use Rattle.tn_types.specs.declared.limits.TheConstants.{MAX_SLOTS}
@@ -13,20 +13,19 @@ use Rattle.match_script.specs.declared.types.BodyLine.TheVariants as script
 use Rattle.own_lists.specs.pair_core.stream_manager.Limits.{Terms}
 use Rattle.own_lists.specs.Own.{OwnShow, OwnWrite, OwnItem, Line, Scan, Tick, StandsAlone}
 use Rattle.own_lists.specs.Kept.{kept}
-use Rattle.own_lists.specs.Conditions.{MayFollow, AreOwn}
-use Rattle.relay_model.specs.Watching.{WatchEvent, Took, Scans, Own, Watched, is_unwatched, all_watched, left_watched, watched, copy_at}
-use Rattle.relay_model.specs.Items.{shown_of, hidden_of, writes_of, is_refused_post, is_stopped, hide_item, write_item, show_item, items_of}
+use Rattle.own_lists.specs.Conditions.{MayFollow}
+use Rattle.relay_model.specs.Watching.{WatchEvent, Took, Scans, Own, Watched, is_unwatched, all_watched, watched, copy_at}
+use Rattle.relay_model.specs.Items.{shown_of, hidden_of, writes_of, is_stopped, hide_item, write_item, show_item, items_of}
 use Rattle.relay_model.proofs.Shown.{length-upto}
 use Rattle.relay_model.proofs.Following.{items_may_follow}
 use Rattle.relay_board.specs.declared.board.Change.{Change}
-use Rattle.relay_board.specs.Changes.{killed_between, changed_between}
 use Rattle.alone_server.specs.declared.server.AloneServer.{AloneServer}
 use Rattle.alone_server.specs.Stands.{StandsFor, counted_in}
 use Rattle.alone_server.specs.Periods.{is_among}
 use Rattle.alone_server.proofs.Feeding.{counted_more}
 use Rattle.relay_spectator.specs.declared.spectator.Spectator.{Spectator}
 use Rattle.relay_spectator.specs.Watches.{WatchState, period_at, write_at, IsWatch}
-use Rattle.relay_spectator.specs.Spectators.{Holds, Follows, AreMet, AreShown, IsAsked}
+use Rattle.relay_spectator.specs.Spectators.{Follows, AreMet, AreShown, IsAsked}
 use Rattle.relay_spectator.specs.Feeding.{both_items, MayEnd, IsChanged, changed_items}
 use Rattle.relay_spectator.proofs.Changing.{hides_are, writes_are, left_at, own_both, watched_is_there, watched_below}
 use Rattle.relay_spectator.proofs.Posting.{few_counted}

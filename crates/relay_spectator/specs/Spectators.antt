@@ -14,17 +14,17 @@ use Rattle.match_report.specs.declared.told.Told.{Told}
 use Rattle.match_report.specs.declared.told.Told.TheVariants as told_as
 use Rattle.match_report.specs.declared.told.EventTold.{EventTold}
 use Rattle.own_lists.specs.pair_core.stream_manager.Limits.{Terms}
-use Rattle.own_lists.specs.Own.{OwnItem, client_named}
+use Rattle.own_lists.specs.Own.{OwnItem}
 use Rattle.own_lists.specs.Kept.{kept, undrained}
 use Rattle.relay_model.specs.Watching.{WatchEvent, Took, Scans, Own, Watched, watched, copy_at}
 use Rattle.relay_model.specs.Items.{shown_of, news_by, is_stopped, items_of}
 use Rattle.relay_model.specs.Laws.{AreCopies, AreSpectators}
-use Rattle.alone_server.specs.Stands.{StandsFor, counted_in}
+use Rattle.alone_server.specs.Stands.{StandsFor}
 use Rattle.alone_server.specs.Telling.{line_told}
 use Rattle.alone_server.specs.own_items.client_seat.Told.{scan_told, show_told}
 use Rattle.relay_board.specs.declared.board.Change.{Change}
 use Rattle.relay_spectator.specs.declared.spectator.Spectator.{Spectator}
-use Rattle.relay_board.specs.Changes.{BoardState, killed_between, changed_between}
+use Rattle.relay_board.specs.Changes.{killed_between, changed_between}
 use Rattle.relay_spectator.specs.Watches.{IsWatch}
 
 -- ---- what is told

@@ -1,4 +1,4 @@
-use Rattle.std.proofs.Common.{◌≡◌, ◌∙◌, ◌&&◌, ◌++◌, ◌∷◌, not, ℕ, Bool, List, [], Option, Some, None, is_some, sym, ap, if◌then◌else◌, refl}
+use Rattle.std.proofs.Common.{◌∙◌, ℕ, Bool, [], Option, Some, None, sym, ap, if◌then◌else◌}
 use Rattle.ghost_client.specs.State.{copy_in}
 use Rattle.ghost_masks.proofs.Holders.{built_none, built_some, built_not}
 use Rattle.relay_board.specs.Changes.{killed_at}

@@ -1,7 +1,6 @@
-use Rattle.std.proofs.Common.{◌≡◌, ◌∙◌, ◌<◌, ◌≤◌, ℕ, ◌⊎◌, inl, inr, None, sym, arith}
+use Rattle.std.proofs.Common.{◌∙◌, inl, inr, None, sym, arith}
 use Rattle.std.proofs.lemmas.Bool.{cases_lt}
 use Rattle.std.proofs.Math.ListN.{get_or-eq_default}
-use Rattle.ghost_client.specs.State.{copy_in}
 use Rattle.relay_board.proofs.board.keep.Goals as goal
 
 pub returns : goal.returns

@@ -1,4 +1,4 @@
-use Rattle.std.proofs.Common.{◌≡◌, ◌<◌, ℕ, length}
+use Rattle.std.proofs.Common.{◌≡◌, ◌<◌, ℕ}
 use Rattle.ghost_client.specs.State.{copy_in}
 use Rattle.relay_board.proofs.board.keep.Given as goal
 

@@ -1,4 +1,4 @@
-use Rattle.std.proofs.Common.{◌≡◌, ◌∙◌, ◌++◌, ◌∷◌, ℕ, ℤ, Bool, List, [], Option, Some, None, sym, ap, if◌then◌else◌, refl, SFits, w64, rules}
+use Rattle.std.proofs.Common.{◌≡◌, ◌∙◌, ◌++◌, ◌∷◌, ℤ, Bool, [], Option, Some, None, sym, ap, if◌then◌else◌, SFits, w64, rules}
 use Rattle.std.proofs.lemmas.Int.{to_z-of_z}
 use Rattle.ghost_masks.proofs.Holders.{built_none, built_some, built_not}
 use Rattle.relay_model.specs.Items.{shown_at}

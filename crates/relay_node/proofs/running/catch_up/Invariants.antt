@@ -1,4 +1,4 @@
-use Rattle.std.proofs.Common.{ℕ, ◌<◌, ◌≤◌, ◌+◌, List, length}
+use Rattle.std.proofs.Common.{◌<◌, ◌+◌, List, length}
 use Rattle.relay_script.specs.declared.types.PlacedLine.{PlacedLine}
 use Rattle.relay_node.specs.Node.{Keeps}
 use Rattle.relay_node.specs.Running.{IsAt, IsBehind}

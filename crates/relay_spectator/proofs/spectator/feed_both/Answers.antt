@@ -1,12 +1,10 @@
-use Rattle.std.proofs.Common.{◌≡◌, ◌∙◌, ◌+◌, ◌<◌, ◌∷◌, [], ℕ, List, map, sym, ap, subst, arith}
+use Rattle.std.proofs.Common.{◌≡◌, ◌∙◌, ◌∷◌, [], ℕ, List, map, sym, subst, arith}
 use Rattle.client_scope.specs.declared.period.Near.{Near}
-use Rattle.own_lists.specs.Own.{OwnShow as Shown, OwnItem, Scan, Tick}
+use Rattle.own_lists.specs.Own.{OwnItem, Scan}
 use Rattle.own_lists.specs.Kept.{kept}
 use Rattle.own_lists.specs.Conditions.{MayFollow}
-use Rattle.own_lists.specs.pair_core.stream_manager.Limits.{Terms}
 use Rattle.alone_server.specs.own_items.declared.items.OwnShow.{OwnShow}
-use Rattle.alone_server.specs.own_items.Items.{show_of, write_of}
-use Rattle.alone_server.specs.declared.server.AloneServer.{AloneServer}
+use Rattle.alone_server.specs.own_items.Items.{show_of}
 use Rattle.alone_server.specs.Stands.{StandsFor}
 use Rattle.alone_server.proofs.Feeding.{counted_more}
 use Rattle.relay_spectator.proofs.spectator.feed_both.Goals as goal

@@ -1,4 +1,4 @@
-use Rattle.std.proofs.Common.{◌≡◌, ◌<◌, List, length, sym, subst, arith}
+use Rattle.std.proofs.Common.{◌<◌, length, sym, subst, arith}
 use Rattle.relay_node.specs.Node.{NodeState, Stands}
 use Rattle.relay_node.proofs.Relaying.{given_back}
 use Rattle.relay_node.proofs.node.Node.let_go.Goals as goal

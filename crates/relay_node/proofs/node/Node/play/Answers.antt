@@ -1,9 +1,7 @@
-use Rattle.std.proofs.Common.{◌≡◌, ◌∙◌, ◌+◌, ◌<◌, ◌∷◌, ℕ, List, [], length, Option, Some, None, sym, ap, subst, arith}
+use Rattle.std.proofs.Common.{◌≡◌, ◌∙◌, ◌∷◌, Some, None, sym, ap, subst, arith}
 use Rattle.std.specs.Prelude.{Result, Ok, Err, OnOk}
 use Rattle.std.specs.Option.{option_copied}
-use Rattle.ghost_client.specs.State.{State}
 use Rattle.match_script.specs.declared.types.Script.{Script}
-use Rattle.match_report.specs.declared.told.EventTold.{EventTold}
 use Rattle.match_engine.specs.Match.{last_told}
 use Rattle.match_engine.specs.match_laws.Report.{told_after}
 use Rattle.own_lists.specs.pair_core.stream_manager.Stands.{ClientState}

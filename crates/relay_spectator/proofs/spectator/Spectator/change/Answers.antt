@@ -1,4 +1,4 @@
-use Rattle.std.proofs.Common.{List, ℕ, map, ◌∷◌}
+use Rattle.std.proofs.Common.{map}
 use Rattle.std.specs.Prelude.{Result, Ok, Err, OnOk}
 use Rattle.alone_server.specs.own_items.Items.{write_of}
 use Rattle.relay_model.specs.Items.{items_of}

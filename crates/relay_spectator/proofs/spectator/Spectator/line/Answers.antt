@@ -1,4 +1,4 @@
-use Rattle.std.proofs.Common.{◌≡◌, ◌∙◌, sym, arith}
+use Rattle.std.proofs.Common.{◌∙◌, sym, arith}
 use Rattle.relay_model.specs.Items.{items_of}
 use Rattle.relay_spectator.proofs.Posting.{few_counted}
 use Rattle.relay_spectator.proofs.Feeding.{stands_alone, not_refused}

@@ -1,4 +1,4 @@
-use Rattle.std.proofs.Common.{◌≡◌, ◌∙◌, ◌∷◌, List, map, sym, arith}
+use Rattle.std.proofs.Common.{◌∙◌, map, arith}
 use Rattle.alone_server.specs.own_items.Items.{show_of}
 use Rattle.relay_model.specs.Watching.{watched}
 use Rattle.relay_model.specs.Items.{items_of}

@@ -1,9 +1,9 @@
-use Rattle.std.proofs.Common.{◌≡◌, ◌∙◌, List, ℕ, sym, ap, subst, arith}
+use Rattle.std.proofs.Common.{List, ℕ, subst, arith}
 use Rattle.std.specs.Prelude.{Result, Ok, Err, OnOk}
 use Rattle.std.proofs.Common.{◌∷◌}
 use Rattle.relay_model.specs.Watching.{Took, watched}
 use Rattle.relay_model.specs.Items.{posting}
-use Rattle.relay_spectator.specs.Spectators.{Holds, payloads_of}
+use Rattle.relay_spectator.specs.Spectators.{Holds}
 use Rattle.relay_spectator.specs.Feeding.{changed_items}
 use Rattle.relay_spectator.proofs.Feeding.{few_changed}
 use Rattle.relay_spectator.proofs.spectator.Spectator.take.Goals as goal

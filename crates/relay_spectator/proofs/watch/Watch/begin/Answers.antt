@@ -1,4 +1,4 @@
-use Rattle.std.proofs.Common.{◌≡◌, ◌∙◌, ℕ, suc, ◌+◌, ◌≤◌, ◌++◌, [], List, map, sym, ap, subst, arith}
+use Rattle.std.proofs.Common.{◌≡◌, ◌∙◌, ℕ, suc, ◌+◌, ◌++◌, [], List, map, sym, ap, subst, arith}
 use Rattle.std.specs.List.{cons_option}
 use Rattle.own_lists.specs.Own.{OwnShow as Shown}
 use Rattle.alone_server.specs.own_items.declared.items.OwnShow.{OwnShow}

@@ -1,11 +1,10 @@
-use Rattle.std.proofs.Common.{◌≡◌, ◌∙◌, ◌<◌, ◌++◌, ◌∷◌, Bool, true, false, [], List, map, length, Option, Some, None, if◌then◌else◌, is_some, sym, ap, subst, arith, append-nil}
+use Rattle.std.proofs.Common.{◌≡◌, ◌∙◌, ◌<◌, ◌++◌, ◌∷◌, Bool, false, [], List, map, length, Option, Some, None, if◌then◌else◌, is_some, sym, ap, subst, arith, append-nil}
 use Rattle.std.specs.List.{cons_option}
 use Rattle.std.specs.Option.{option_map, option_copied}
 use Rattle.std.proofs.lemmas.List.{map-append}
 use Rattle.own_lists.specs.Own.{OwnShow as Shown}
 use Rattle.alone_server.specs.own_items.declared.items.OwnShow.{OwnShow}
 use Rattle.alone_server.specs.own_items.Items.{show_of as told_of}
-use Rattle.ghost_client.specs.declared.copy.GhostCopy.{GhostCopy}
 use Rattle.ghost_client.specs.State.{copy_in}
 use Rattle.relay_model.specs.Items.{show_of}
 use Rattle.relay_spectator.specs.Watches.{WatchState, IsWatch}

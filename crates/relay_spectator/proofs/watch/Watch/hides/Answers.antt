@@ -1,4 +1,4 @@
-use Rattle.std.proofs.Common.{◌≡◌, ◌∙◌, ◌++◌, ◌∷◌, ℕ, [], List, Option, Some, None, get_or, take, sym, ap, append-nil}
+use Rattle.std.proofs.Common.{◌∙◌, ◌++◌, ◌∷◌, ℕ, [], List, Option, take, sym, ap, append-nil}
 use Rattle.std.specs.List.{filter_map, cons_option}
 use Rattle.relay_spectator.specs.Watches.{period_at}
 use Rattle.relay_spectator.proofs.Watching.{mapped_more}

@@ -1,4 +1,4 @@
-use Rattle.std.proofs.Common.{◌≡◌, ◌∙◌, ◌++◌, ◌∷◌, ℕ, ℤ, pos, [], List, map, Option, Some, None, get_or, take, sym, ap, append-nil, SFits, w64, rules}
+use Rattle.std.proofs.Common.{◌∙◌, ◌++◌, ◌∷◌, ℕ, pos, [], List, map, Option, get_or, take, sym, ap, append-nil, SFits, w64, rules}
 use Rattle.std.proofs.lemmas.Int.{to_z-of_z}
 use Rattle.std.specs.List.{filter_map, cons_option}
 use Rattle.std.specs.Option.{option_map}
@@ -7,7 +7,7 @@ use Rattle.own_lists.specs.Own.{OwnWrite as Told}
 use Rattle.alone_server.specs.own_items.declared.items.OwnWrite.{OwnWrite}
 use Rattle.alone_server.specs.own_items.Items.{write_of}
 use Rattle.relay_board.specs.declared.board.Change.{Change}
-use Rattle.relay_spectator.specs.Watches.{period_at, write_at}
+use Rattle.relay_spectator.specs.Watches.{write_at}
 use Rattle.relay_spectator.proofs.Watching.{mapped_more}
 use Rattle.relay_spectator.proofs.watch.Watch.writes.Goals as goal
 use Rattle.relay_spectator.proofs.watch.Watch.writes.Goals.{in-Some+in_ok-push, in_default}
