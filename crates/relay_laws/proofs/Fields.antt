@@ -82,6 +82,11 @@ told_value None settled told e = absurd (cc)
 told_value (Some v) settled told e =
     let same : a_told settled v ≡ told = cc in ap (λ (x : FieldTold). Some x.value) same
 
+pub told_mark : (o : Option ℤ) (settled : Bool) (told : FieldTold) → option_map (a_told settled) o ≡ Some told → settled ≡ told.settled
+told_mark None settled told e = absurd (cc)
+told_mark (Some v) settled told e =
+    let same : a_told settled v ≡ told = cc in ap (λ (x : FieldTold). x.settled) same
+
 -- ---- a copy in range shows each of its fields
 
 level_there : (fs : List FieldSpec) (ls : List ℕ) (f : ℕ) (spec : FieldSpec) → AreLevels (map (λ (s : FieldSpec). s.bits) fs) ls → slice_get fs f ≡ Some spec

@@ -12,3 +12,6 @@ pub mod Fields
 pub mod Seeing
 pub mod Slots
 pub mod Standing
+pub mod Newest
+pub mod Marked
+pub mod Settling

@@ -27,7 +27,7 @@ use Rattle.own_lists.specs.Kept.{journal}
 use Rattle.own_lists.specs.Past.{client_terms, after}
 use Rattle.own_lists.specs.Agreement.{AreLines, OwnListsHold}
 use Rattle.match_laws.specs.Laws.{first, EventsInOrder}
-use Rattle.match_laws.specs.Values.{ClientMoment, IsShownField, ShowsHad, CopiesShowValues}
+use Rattle.match_laws.specs.Values.{ClientMoment, IsShownField, ShowsHad, ShowsNewest, CopiesShowValues, SettledIsNewest}
 use Rattle.match_laws.proofs.InOrder.{are_lines, terms_fit, are_good}
 use Rattle.match_laws.proofs.Refused.{honest_before}
 use Rattle.match_laws.proofs.WordsSteps.{posted_down_same}
@@ -84,6 +84,10 @@ abbrev pub ShowsAt : Head → ℕ → List BodyLine → Type 0
 ShowsAt head c lines = IsHonestAt head c lines → (at f : ℕ) (copy : GhostCopy) (told : FieldTold) → IsShownField (moment_of head lines c) at f copy told
     → ShowsHad (moment_of head lines c) at copy.kind f told.value
 
+abbrev pub ShowsNewestAt : Head → ℕ → List BodyLine → Type 0
+ShowsNewestAt head c lines = IsHonestAt head c lines → (at f : ℕ) (copy : GhostCopy) (told : FieldTold) → IsShownField (moment_of head lines c) at f copy told
+    → told.settled ≡ true → ShowsNewest (moment_of head lines c) at copy.kind f told.value
+
 abbrev pub DeliversAt : Head → ℕ → List BodyLine → Type 0
 DeliversAt head c lines = IsHonestAt head c lines → DeliversDown (client_terms head c) (journal (client_terms head c) ((after head lines).own c))
 
@@ -98,6 +102,11 @@ module _ (head : Head) (c : ℕ) (below : c < head.clients) (past : List Entry) 
   pub shows : CopiesShowValues → ShowsAt head c (match_past past)
   shows law =
       subst (ShowsAt head c) (all_lines_are head past)
+      (λ honest. law (script_of head past) c (length (match_past past)) (has_ranges head past h) below honest)
+
+  pub shows_newest : SettledIsNewest → ShowsNewestAt head c (match_past past)
+  shows_newest law =
+      subst (ShowsNewestAt head c) (all_lines_are head past)
       (λ honest. law (script_of head past) c (length (match_past past)) (has_ranges head past h) below honest)
 
   pub delivers : EventsInOrder → DeliversAt head c (match_past past)

@@ -1,5 +1,6 @@
 -- What a spectator meets by the lines of a relay script: one event of each line, or none; packets as the relay's client took them.
-use Rattle.std.proofs.Common.{◌≡◌, ◌∙◌, ℕ, ◌+◌, ◌-◌, ◌<◌, ◌≤◌, ◌==◌, Bool, true, false, List, [], ◌∷◌, ◌++◌, map, take, length, Option, Some, None, is_some, if◌then◌else◌, refl, sym, ap, subst, arith, inl, inr, ◌⊎◌}
+use Rattle.std.proofs.Common.{◌≡◌, ◌∙◌, ℕ, ◌+◌, ◌-◌, ◌*◌, ◌<◌, ◌≤◌, ◌==◌, Bool, true, false, List, [], ◌∷◌, ◌++◌, map, take, length, Option, Some, None, is_some, if◌then◌else◌, refl, sym, ap, subst, arith, inl, inr, ◌⊎◌}
+use Rattle.tn_types.specs.declared.limits.TheConstants.{MAX_SLOTS, MAX_SHOWS}
 use Rattle.quantised_fields.specs.declared.kind.Kind.{Kind}
 use Rattle.quantised_fields.specs.Kinds.{table_fault}
 use Rattle.wire_format.specs.declared.server.ServerPacket.{ServerPacket}
@@ -16,7 +17,7 @@ use Rattle.relay_script.specs.declared.types.RelayLine.{RelayLine}
 use Rattle.relay_script.specs.declared.types.RelayLine.TheVariants.{Scan, Pack, ClientPack, Down, Up, Show}
 use Rattle.relay_model.specs.Watching.{WatchEvent, Took, Scans, Own, packets_in, is_unwatched, begun_below, watched, copy_at}
 use Rattle.relay_model.specs.Items.{items_of}
-use Rattle.relay_model.specs.Laws.{AreCopies, IsSpectators, AreSpectators, AreChanges}
+use Rattle.relay_model.specs.Laws.{IsCopy, AreCopies, IsSpectators, AreSpectators, AreChanges}
 use Rattle.relay_model.proofs.Copies.{taken_are_changes}
 use Rattle.relay_model.proofs.Following.{Holds, follow}
 use Rattle.relay_report.specs.Met.{match_past, taken_by, newly, spectator_terms, asked_of, met}
@@ -35,6 +36,37 @@ no_more older newer e =
 one_more : (p : ServerPacket) (older newer : List ServerPacket) → newer ≡ p ∷ older → newly older newer ≡ Took p ∷ []
 one_more p older newer e =
     ap (λ (l : List ServerPacket). newly older l) e ∙ ap (λ (n : ℕ). map Took (take n (p ∷ older))) (let z : length (p ∷ older) - length older ≡ 1 = omega arith in z)
+
+-- ---- what copies are
+
+pub fit_at : (kinds : List Kind) (events : List WatchEvent) → AreCopies kinds events → (at : ℕ) (copy : GhostCopy) → copy_at events at ≡ Some copy → IsCopy kinds copy
+fit_at kinds [] h at copy e = absurd (cc)
+fit_at kinds (Took p ∷ events) h at copy e = (h.0).fits at copy e
+fit_at kinds (Scans ∷ events) h at copy e = fit_at kinds events h at copy e
+fit_at kinds (Own line ∷ events) h at copy e = fit_at kinds events h at copy e
+
+-- ---- what is watched
+
+-- a period that watches a slot now, and had begun before, watched it then
+pub kept_watch : (event : WatchEvent) (events : List WatchEvent) (at n : ℕ) → n < (watched events).shows
+    → (watched (event ∷ events)).period at ≡ Some n → (watched events).period at ≡ Some n
+kept_watch (Took p) events at n lt e = by (copy_at (Took p ∷ events) at) e
+  where
+    by : (o : Option GhostCopy) → (if is_some o then (watched events).period at else None) ≡ Some n → (watched events).period at ≡ Some n
+    by None f = absurd (cc)
+    by (Some copy) f = f
+kept_watch (Own line) events at n lt e = e
+kept_watch Scans events at n lt e = by (is_unwatched (copy_at events) (watched events) at) e
+  where
+    given : (a b : ℕ) → ◌≡◌ {A = Option ℕ} (Some a) (Some b) → a ≡ b
+    given a b f = cc (f)
+
+    by : (b : Bool) → (if b then Some ((watched events).shows + begun_below (copy_at events) (watched events) at) else (watched events).period at) ≡ Some n
+        → (watched events).period at ≡ Some n
+    by true f =
+        let same = given ((watched events).shows + begun_below (copy_at events) (watched events) at) n f in
+        absurd (omega (arith, lt, same))
+    by false f = f
 
 module _ (head : Head) (c s : ℕ) where
   abbrev taken : List Entry → List ServerPacket
@@ -142,27 +174,6 @@ module _ (head : Head) (c s : ℕ) where
       by (inl none) = let e = ap (λ (l : List WatchEvent). (watched l).shows) none.event in omega (arith, e)
       by (inr one) = let e = ap (λ (l : List WatchEvent). (watched l).shows) one.is in let le = more_shows one.event (met head c s past) in omega (arith, e, le)
 
-  -- a period that watches a slot now, and had begun before, watched it then
-  kept_watch : (event : WatchEvent) (events : List WatchEvent) (at n : ℕ) → n < (watched events).shows
-      → (watched (event ∷ events)).period at ≡ Some n → (watched events).period at ≡ Some n
-  kept_watch (Took p) events at n lt e = by (copy_at (Took p ∷ events) at) e
-    where
-      by : (o : Option GhostCopy) → (if is_some o then (watched events).period at else None) ≡ Some n → (watched events).period at ≡ Some n
-      by None f = absurd (cc)
-      by (Some copy) f = f
-  kept_watch (Own line) events at n lt e = e
-  kept_watch Scans events at n lt e = by (is_unwatched (copy_at events) (watched events) at) e
-    where
-      given : (a b : ℕ) → ◌≡◌ {A = Option ℕ} (Some a) (Some b) → a ≡ b
-      given a b f = cc (f)
-
-      by : (b : Bool) → (if b then Some ((watched events).shows + begun_below (copy_at events) (watched events) at) else (watched events).period at) ≡ Some n
-          → (watched events).period at ≡ Some n
-      by true f =
-          let same = given ((watched events).shows + begun_below (copy_at events) (watched events) at) n f in
-          absurd (omega (arith, lt, same))
-      by false f = f
-
   pub line_watch : (entry : Entry) (past : List Entry) (at n : ℕ) → n < (watched (met head c s past)).shows
       → (watched (met head c s (entry ∷ past))).period at ≡ Some n → (watched (met head c s past)).period at ≡ Some n
   line_watch entry past at n lt e = by (adds entry past)
@@ -210,6 +221,9 @@ module _ (head : Head) (c s : ℕ) where
   copies_are past =
       copies_of match_kinds (met head c s past)
       (subst (AreChanges match_kinds) (sym (met_packets past)) (taken_are_changes (client_terms head c) (steps_of head (match_past past) c) table_none))
+
+  pub met_few : (past : List Entry) → AreEntries head past → MAX_SLOTS * length (met head c s past) < MAX_SHOWS
+  met_few past h = let le = (all_met past).few in let few = h.few in omega (arith, le, few)
 
   pub holds : (past : List Entry) → AreEntries head past
       → Holds (spectator_terms head s) table_none (watched (met head c s past)) (copy_at (met head c s past)) (items_of (spectator_terms head s) (met head c s past))

@@ -1,11 +1,10 @@
 -- What a spectator shows was so: what it shows was read of a value that the relay's copy showed, and that is shown for a value that the
 -- object had.
-use Rattle.std.proofs.Common.{◌≡◌, ◌∙◌, ℕ, ◌<◌, false, List, [], ◌∷◌, ◌++◌, Option, Some, sym, ap, subst, arith, append_assoc}
+use Rattle.std.proofs.Common.{◌≡◌, ◌∙◌, ℕ, ◌<◌, false, List, ◌++◌, Option, Some, sym, ap, subst, arith, append_assoc}
 use Rattle.std.specs.Prelude.{ℤ, pos, reverse, slice_get, slice_index_or, option_map, unwrap_or}
 use Rattle.std.specs.Option.{option_map_or}
 use Rattle.std.proofs.lemmas.Option.{slice_get_within, get_or_from_slice_get}
 use Rattle.quantised_fields.specs.declared.field.FieldSpec.{FieldSpec}
-use Rattle.quantised_fields.specs.declared.kind.Kind.{Kind}
 use Rattle.quantised_fields.specs.Levels.{level_of, shown_of}
 use Rattle.ghost_model.specs.Ghosts.{slot}
 use Rattle.ghost_masks.specs.Plan.{fields_of}
@@ -32,26 +31,19 @@ use Rattle.own_lists.specs.Agreement.{OwnListsHold}
 use Rattle.match_laws.specs.Laws.{EventsInOrder}
 use Rattle.match_laws.specs.Values.{HadValue, CopiesShowValues, ghosts_then}
 use Rattle.relay_script.specs.declared.entries.Entry.{Entry}
-use Rattle.relay_model.specs.Watching.{WatchEvent, Took, Scans, Own, watched, copy_at}
+use Rattle.relay_model.specs.Watching.{WatchEvent, watched, copy_at}
 use Rattle.relay_model.specs.Items.{shown_at, items_of}
-use Rattle.relay_model.specs.Laws.{IsCopy, AreCopies}
 use Rattle.relay_report.specs.Met.{past_of, match_past, end_of, spectator_terms, met}
 use Rattle.relay_laws.specs.Moments.{RelayMoment}
 use Rattle.relay_laws.specs.Shown.{IsShownField, ShowsHad, SpectatorsShowWhatWasSo}
 use Rattle.relay_laws.proofs.Places.{AreEntries, are_entries, fewer_all, match_parts}
-use Rattle.relay_laws.proofs.Meeting.{table_none, met_packets, met_own, holds, copies_are, cut}
+use Rattle.relay_laws.proofs.Meeting.{table_none, met_packets, met_own, holds, copies_are, fit_at, cut}
 use Rattle.relay_laws.proofs.Lasting.{all_go}
 use Rattle.relay_laws.proofs.Told.{WasShown}
 use Rattle.relay_laws.proofs.Ever.{read_shown}
 use Rattle.relay_laws.proofs.Match.{IsHonestAt, moment_of, honest_of_fewer, shows}
 use Rattle.relay_laws.proofs.Fields.{again, is_sound_field, IsFieldOf, field_of, a_told, told_value, shows_some}
 use Rattle.relay_laws.proofs.Delivering.{limits, meet, clean, fit}
-
-fit_at : (kinds : List Kind) (events : List WatchEvent) → AreCopies kinds events → (at : ℕ) (copy : GhostCopy) → copy_at events at ≡ Some copy → IsCopy kinds copy
-fit_at kinds [] h at copy e = absurd (cc)
-fit_at kinds (Took p ∷ events) h at copy e = (h.0).fits at copy e
-fit_at kinds (Scans ∷ events) h at copy e = fit_at kinds events h at copy e
-fit_at kinds (Own line ∷ events) h at copy e = fit_at kinds events h at copy e
 
 one_copy : (a b : GhostCopy) → ◌≡◌ {A = Option GhostCopy} (Some a) (Some b) → a ≡ b
 one_copy a b e = cc (e)

@@ -38,7 +38,7 @@ pub record WasShown (kinds : List Kind) (events : List WatchEvent) (n f : ℕ) (
   pub there : copy_at earlier slot ≡ Some copy
   pub shows : value ≡ shown_at kinds copy f
 
-has_some : {A : Type 0} (o : Option A) → is_some o ≡ true → (a : A) × (o ≡ Some a)
+pub has_some : {A : Type 0} (o : Option A) → is_some o ≡ true → (a : A) × (o ≡ Some a)
 has_some None e = absurd cc
 has_some (Some a) e = (a, refl)
 

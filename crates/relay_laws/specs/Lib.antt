@@ -1,3 +1,4 @@
 pub mod Moments
 pub mod Shown
+pub mod Settled
 pub mod Delivered

@@ -1,8 +1,9 @@
 -- When a law of a relay speaks, and of whom: behind the lines that stand before one of the relay's lines, of one spectator. What that line
 -- tells is told by what the spectator met until then.
-use Rattle.std.specs.Prelude.{◌≡◌, ℕ, List, ◌∷◌, ◌++◌, reverse}
+use Rattle.std.specs.Prelude.{◌≡◌, ℕ, ◌<◌, List, ◌∷◌, ◌++◌, reverse}
 use Rattle.match_script.specs.declared.types.Head.{Head}
 use Rattle.match_laws.specs.Values.{ClientMoment}
+use Rattle.match_laws.specs.pair_core.Conditions.{IsHonest}
 use Rattle.match_laws.specs.pair_core.History.{PairStep, History, history}
 use Rattle.match_laws.specs.pair_core.stream_manager.Limits.{Terms}
 use Rattle.own_lists.specs.Kept.{Kept, kept, journal}
@@ -10,6 +11,7 @@ use Rattle.own_lists.specs.Past.{client_terms, after}
 use Rattle.relay_script.specs.declared.entries.Entry.{Entry}
 use Rattle.relay_script.specs.declared.types.PlacedLine.{PlacedLine}
 use Rattle.relay_script.specs.declared.types.RelayScript.{RelayScript}
+use Rattle.relay_script.specs.Ranges.{HasRelayRanges}
 use Rattle.relay_model.specs.Watching.{WatchEvent}
 use Rattle.relay_model.specs.Items.{items_of}
 use Rattle.relay_report.specs.Met.{past_of, match_past, spectator_terms, met}
@@ -63,3 +65,12 @@ kept_then m = kept (terms_of m) (items_of (terms_of m) (met_then m))
 -- what happened at both ends of its connection
 abbrev pub ends_then : RelayMoment → History
 ends_then m = history (terms_of m) (kept_then m).course.steps
+
+-- ---- always
+
+-- what holds of each spectator before every line of the relay, whatever the relay script, where the relay's client is honest
+abbrev pub AtEachLine : (RelayMoment → Type 0) → Type 0
+AtEachLine law =
+    (r : RelayScript) (before : List PlacedLine) (placed : PlacedLine) (s : ℕ)
+    → HasRelayRanges r → IsLineOf r before placed → s < r.spectators → IsHonest (relay_journal (moment_at r before placed s))
+    → law (moment_at r before placed s)

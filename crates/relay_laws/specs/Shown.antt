@@ -1,7 +1,7 @@
 -- What a spectator shows was so in the match: each field of each of its copies is shown for a value that an object had, at or after the
 -- show of its period at the relay's client. That value went through two connections and was rounded to a level twice, and what is shown is
 -- what it is shown for once.
-use Rattle.std.specs.Prelude.{◌≡◌, refl, ℕ, ℤ, pos, ◌<◌, List, ◌++◌, Option, Some}
+use Rattle.std.specs.Prelude.{◌≡◌, refl, ℕ, ℤ, pos, List, ◌++◌, Option, Some}
 use Rattle.quantised_fields.specs.declared.field.FieldSpec.{FieldSpec}
 use Rattle.quantised_fields.specs.Levels.{level_of, shown_of}
 use Rattle.ghost_model.specs.Ghosts.{slot}
@@ -9,17 +9,13 @@ use Rattle.ghost_client.specs.declared.copy.GhostCopy.{GhostCopy}
 use Rattle.ghost_client.specs.Copies.{copy_of}
 use Rattle.match_report.specs.declared.copies.FieldTold.{FieldTold}
 use Rattle.match_laws.specs.client_seat.Told.{holder_at, field_told}
-use Rattle.match_laws.specs.pair_core.Conditions.{IsHonest}
 use Rattle.match_laws.specs.pair_core.stream_manager.Server.{ghost_log}
 use Rattle.match_laws.specs.pair_core.stream_manager.Client.{ghosts_came}
 use Rattle.match_laws.specs.Values.{HadValue, IsShownFor, ghosts_then}
 use Rattle.own_lists.specs.Kept.{undrained}
 use Rattle.relay_script.specs.declared.entries.Entry.{Entry}
-use Rattle.relay_script.specs.declared.types.PlacedLine.{PlacedLine}
-use Rattle.relay_script.specs.declared.types.RelayScript.{RelayScript}
-use Rattle.relay_script.specs.Ranges.{HasRelayRanges}
 use Rattle.relay_model.specs.Watching.{watched}
-use Rattle.relay_laws.specs.Moments.{RelayMoment, IsLineOf, moment_at, match_then, relay_journal, terms_of, met_then, kept_then, ends_then}
+use Rattle.relay_laws.specs.Moments.{RelayMoment, AtEachLine, match_then, terms_of, met_then, kept_then, ends_then}
 
 -- ---- what a spectator is shown
 
@@ -66,20 +62,15 @@ pub record ShowsHad (m : RelayMoment) (at kind f : ℕ) (told : ℤ) : Type 0 wh
   pub had : HadValue (match_then m) (record { period = n; kind = kind; field = f }) value
   pub shown_for : IsShownFor kind f value told
 
--- so is every field that a spectator shows, before every line of the relay, where the relay's client is honest
+-- so is every field that a spectator shows
 abbrev pub SpectatorsShowWhatWasSo : Type 0
 SpectatorsShowWhatWasSo =
-    (r : RelayScript) (before : List PlacedLine) (placed : PlacedLine) (s : ℕ) → HasRelayRanges r → IsLineOf r before placed → s < r.spectators
-    → IsHonest (relay_journal (moment_at r before placed s))
-    → (at f : ℕ) (copy : GhostCopy) (told : FieldTold) → IsShownField (moment_at r before placed s) at f copy told
-    → ShowsHad (moment_at r before placed s) at copy.kind f told.value
+    AtEachLine (λ m. (at f : ℕ) (copy : GhostCopy) (told : FieldTold) → IsShownField m at f copy told
+    → ShowsHad m at copy.kind f told.value)
 
 -- and a period of the spectator never stands for two periods of the relay's client: all that is told of a copy is of one object
 abbrev pub PeriodsStandForOne : Type 0
-PeriodsStandForOne =
-    (r : RelayScript) (before : List PlacedLine) (placed : PlacedLine) (s : ℕ) → HasRelayRanges r → IsLineOf r before placed → s < r.spectators
-    → IsHonest (relay_journal (moment_at r before placed s))
-    → (watch n m : ℕ) → StoodFor (moment_at r before placed s) watch n → StoodFor (moment_at r before placed s) watch m → n ≡ m
+PeriodsStandForOne = AtEachLine (λ m. (watch n n' : ℕ) → StoodFor m watch n → StoodFor m watch n' → n ≡ n')
 
 -- ---- an example: a place in 12 bits. 1000 is shown as 992 at the relay, and 992 as itself at a spectator
 

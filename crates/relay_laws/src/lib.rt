@@ -4,6 +4,6 @@
 mod laws;
 
 pub use laws::{
-    spectators_deliver_what_was_posted, spectators_periods_stand_for_one,
+    settled_shows_the_relays, spectators_deliver_what_was_posted, spectators_periods_stand_for_one,
     spectators_show_what_was_so,
 };
