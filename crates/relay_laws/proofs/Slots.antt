@@ -33,7 +33,7 @@ use Rattle.stream_manager.specs.Server.{ServerEvent, server_end, server_state, s
 use Rattle.stream_manager.specs.Client.{client_datagrams}
 use Rattle.conn_packing.specs.Packs.{absorbing, values_of}
 use Rattle.pair_core.specs.History as steps_of
-use Rattle.pair_core.specs.History.{PairStep, history, server_gets, server_posts}
+use Rattle.pair_core.specs.History.{PairStep, history, server_gets}
 use Rattle.pair_core.specs.Conditions.{AreMet}
 use Rattle.client_scope.specs.declared.period.Near.{Near as NearPeriod}
 use Rattle.match_script.specs.declared.types.BodyLine.{BodyLine}

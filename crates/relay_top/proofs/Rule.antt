@@ -1,6 +1,6 @@
 -- The definition of the command keeps the rule of the command line.
-use Rattle.std.proofs.Common.{◌≡◌, ℕ, ◌+◌, ◌<◌, Bool, true, false, List, [], ◌∷◌, ◌++◌, length, take, arith, refl, ap, sym, ◌∙◌}
-use Rattle.std.specs.Prelude.{Ok, Err, codes, if◌then◌else◌}
+use Rattle.std.proofs.Common.{◌≡◌, ℕ, Bool, true, false, List, [], ◌∷◌, length, take, arith, refl, ap, sym, ◌∙◌}
+use Rattle.std.specs.Prelude.{Err, codes, if◌then◌else◌}
 use Rattle.std.specs.Str.{bytes_eq}
 use Rattle.command_words.proofs.Words.{name_is}
 use Rattle.relay_top.specs.Command.{spelling, BeginsCommand, Says, relay_with, relay_of}

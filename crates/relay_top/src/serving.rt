@@ -3,6 +3,7 @@ ghost use Rattle.std.specs.Prelude.{◌≡◌, ◌⊎◌, List, [], ℕ, map, st
 ghost use Rattle.script_input.specs.Reading.{seen, HasFailed};
 ghost use Rattle.relay_node.specs.relay_report.Laws.{PacksAreOfWhatWasMet, SameMetSamePacks, SameListsSamePacks};
 ghost use Rattle.relay_laws.specs.Shown.{SpectatorsShowWhatWasSo, PeriodsStandForOne};
+ghost use Rattle.relay_laws.specs.Settled.{SettledShowsTheRelays};
 ghost use Rattle.relay_laws.specs.Delivered.{SpectatorsDeliverWhatWasPosted};
 ghost use Rattle.relay_top.specs.Command.{relay_of, Says};
 ghost use Rattle.relay_top.specs.Outcome.{RelayOutcome, IsWanted, CanBeDone};
@@ -10,7 +11,7 @@ ghost use Rattle.relay_top.specs.Outcome.{RelayOutcome, IsWanted, CanBeDone};
 use crate::reading::read_relay_script;
 use match_engine::RunFault;
 use relay_laws::{
-    spectators_deliver_what_was_posted, spectators_periods_stand_for_one,
+    settled_shows_the_relays, spectators_deliver_what_was_posted, spectators_periods_stand_for_one,
     spectators_show_what_was_so,
 };
 use relay_node::relay_report::{
@@ -91,9 +92,11 @@ pub fn top_relay<S: Source, K: Sink>(
     ensures same_met_same_packs { SameMetSamePacks }
     ensures same_lists_same_packs { SameListsSamePacks }
     // Of an honest client at the relay, before every line of the relay: what a spectator shows is shown for a value that the object had,
-    // all of a copy of one object, and what it was delivered are the first of the events that were posted to that client.
+    // all of a copy of one object; a settled field shows what the relay's copy does, and the newest value where it is settled there too;
+    // and what it was delivered are the first of the events that were posted to that client.
     ensures shown { SpectatorsShowWhatWasSo }
     ensures of_one_object { PeriodsStandForOne }
+    ensures settled { SettledShowsTheRelays }
     ensures delivered { SpectatorsDeliverWhatWasPosted }
 {
     packs_are_of_what_was_met();
@@ -101,6 +104,7 @@ pub fn top_relay<S: Source, K: Sink>(
     same_lists_same_packs();
     spectators_show_what_was_so();
     spectators_periods_stand_for_one();
+    settled_shows_the_relays();
     spectators_deliver_what_was_posted();
     match relay_of(words) {
         Ok(()) => serve(alloc, source, sink),
