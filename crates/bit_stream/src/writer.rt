@@ -58,7 +58,8 @@ fn append(
     requires fits { value < 2 ^ width }
     requires narrow { width ≤ LONG_BITS }
     requires room { 8 * length whole.old.items + (count + width) ≤ 8 * MAX_DATAGRAM_BYTES }
-    ensures bits { bits_of whole.new.items ++ number result.1 result.0 ≡ bits_of whole.old.items ++ (number count pending ++ number width value) }
+    ensures bits { bits_of whole.new.items ++ number result.1 result.0
+        ≡ bits_of whole.old.items ++ (number count pending ++ number width value) }
     ensures below { result.0 < 2 ^ result.1 }
     ensures few { result.1 < LONG_BITS }
     ensures bytes { AreBytes whole.old.items → AreBytes whole.new.items }

@@ -5,6 +5,7 @@ use demo_top::top_demo;
 use match_top::top;
 use net_top::top_net;
 use predict_top::top_predict;
+use relay_top::top_relay;
 use script_input::{Status, exit_of};
 use std::alloc::Global;
 use std::io::BufWriter;
@@ -65,6 +66,7 @@ fn serve<R: Threads + Wait + Net + SystemTimes + Sync, S: Source, K: Sink>(
         Some(name) if name.as_str() == "predict" => top_predict(alloc, words, source, sink),
         Some(name) if name.as_str() == "demo" => top_demo(alloc, words, source, sink),
         Some(name) if name.as_str() == "replay" => top_demo(alloc, words, source, sink),
+        Some(name) if name.as_str() == "relay" => top_relay(alloc, words, source, sink),
         _ => top(alloc, words, source, sink),
     }
 }

@@ -14,11 +14,11 @@ use Rattle.race_reads.specs.Reads.{is_read_of, or_earlier}
 use Rattle.race_reads.specs.Reads as races
 use Rattle.race_reads.specs.Legal.{reads_of}
 
-if-read : Bool → Read → Option Read
+abbrev pub if-read : Bool → Read → Option Read
 if-read b r = if b then Some r else None
 
 -- the last one that is of the field
-pub last_of : List Read → ℕ → ℕ → Option Read
+abbrev pub last_of : List Read → ℕ → ℕ → Option Read
 last_of [] n f = None
 last_of (r ∷ reads) n f = option_or (last_of reads n f) (if-read (is_read_of n f r) r)
 
@@ -127,14 +127,16 @@ pub record IsOf (P : Read → Type 0) (n f : ℕ) (r : Read) : Type 0 where
 -- what holds of all reads holds of the last one
 pub last_holds : (P : Read → Type 0) (reads : List Read) (n f : ℕ) (r : Read) → AllByRecursion P reads → last_of reads n f ≡ Some r → IsOf P n f r
 last_holds P [] n f r all is = absurd (cc)
-last_holds P (x ∷ reads) n f r all is = by (last_of reads n f) refl (is_read_of n f x) refl is
+last_holds P (x ∷ reads) n f r all is =
+    by (λ e. last_holds P reads n f r all.1 e) (last_of reads n f) refl (is_read_of n f x) refl is
   where
     here : is_read_of n f x ≡ true → x ≡ r → IsOf P n f r
     here e same =
         let parts = and_parts (x.n == n) (x.field == f) e in
         subst (IsOf P n f) same (record { holds = all.0; period = eqb-true x.n n parts.0; field = eqb-true x.field f parts.1 })
 
-    by : (o : Option Read) → last_of reads n f ≡ o → (b : Bool) → is_read_of n f x ≡ b → option_or o (if-read b x) ≡ Some r → IsOf P n f r
-    by (Some y) found b e is = last_holds P reads n f r all.1 (found ∙ is)
-    by None found true e is = here e (let same : x ≡ r = cc in same)
-    by None found false e is = absurd (cc)
+    by : (last_of reads n f ≡ Some r → IsOf P n f r) → (o : Option Read) → last_of reads n f ≡ o → (b : Bool) → is_read_of n f x ≡ b
+        → option_or o (if-read b x) ≡ Some r → IsOf P n f r
+    by later (Some y) found b e is = later (found ∙ is)
+    by later None found true e is = here e (let same : x ≡ r = cc in same)
+    by later None found false e is = absurd (cc)

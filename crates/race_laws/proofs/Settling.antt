@@ -36,7 +36,7 @@ use Rattle.match_laws.proofs.InOrder.{terms_fit}
 use Rattle.race_history.specs.History.{version_told, newest, fields_told}
 use Rattle.race_reads.specs.Reads.{object_of, ReadStands, IsCurrent, IsNewest as IsNewestRead, IsMarked, IsDue}
 use Rattle.race_reads.specs.Reads as races
-use Rattle.race_reads.specs.Legal.{reads_of, is_field_due, AreLegalReads}
+use Rattle.race_reads.specs.Legal.{reads_of, is_field_due, AreLegalReads, IsPeriodCurrent}
 use Rattle.race_reads.proofs.Joining.{in_fields, told_object}
 use Rattle.race_show.specs.Showing.{word_of, left_of, left_over}
 use Rattle.legal_race.specs.race_record.kept_pair.Kept.{terms_in}
@@ -49,7 +49,7 @@ use Rattle.race_laws.proofs.LastReads.{last_of, version_is, value_is, last_holds
 -- ---- what is left in the words at the end
 
 -- a period that is up, with the word of its object
-IsLeft : Words → ℕ → List ℕ → List PairStep → Drain → Type 0
+abbrev IsLeft : Words → ℕ → List ℕ → List PairStep → Drain → Type 0
 IsLeft words c objects steps d = IsShownIn steps d.n × (d.bits ≡ word_of words c (slice_get objects d.n))
 
 all-left : (words : Words) (c : ℕ) (objects : List ℕ) (steps : List PairStep) (ns : List ℕ) → AllByRecursion (IsShownIn steps) ns
@@ -119,6 +119,8 @@ module _ (s : Script) (race : Race) (c : ℕ) (client : RaceClient) (legal : IsL
 
       stands : version_told race.values object f (r.read.version - 1) ≡ Some r.read.value
       stands = (λ j. version_told race.values (object_of client.objects (sym r.period j)) (sym r.field j) (r.read.version - 1)) ∙ r.stands.value
+
+      up : IsPeriodCurrent race.values race.words c t client.pair.steps client.objects d.n
       up = reads.current d.n (up-listed t steps d.n (up_to t steps d.n left.0.0 left.0.1))
 
       begun : slice_get client.objects d.n ≡ Some object
@@ -131,7 +133,7 @@ module _ (s : Script) (race : Race) (c : ℕ) (client : RaceClient) (legal : IsL
           let words = legal.word_objects in
           left.1 ∙ ap (word_of race.words c) begun ∙ word-is race.words c object (omega (arith, o-lt, words))
 
-      by : IsCurrent race.values (mask_at race.words c object) (is_field_due t client.pair.steps d.n f) (races.last_read (reads_of client.pair.steps) d.n f) object f
+      by : IsCurrent race.values (mask_at race.words c object) (is_field_due t steps d.n f) (races.last_read (reads_of client.pair.steps) d.n f) object f
           → HasNewest race.values client d.n f value
       by (IsNewestRead e) =
           let same : Some r.read.version ≡ Some (newest race.values object f + 1) = sym r.version_is ∙ e in

@@ -1,0 +1,14 @@
+pub mod Places
+pub mod Taking
+pub mod Meeting
+pub mod Fine
+pub mod Lasting
+pub mod Told
+pub mod Ever
+pub mod Match
+pub mod Posted
+pub mod Delivering
+pub mod Fields
+pub mod Seeing
+pub mod Slots
+pub mod Standing

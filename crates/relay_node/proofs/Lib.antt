@@ -1,0 +1,9 @@
+pub mod Lines
+pub mod Meeting
+pub mod Places
+pub mod Playing
+pub mod Relaying
+pub mod Texts
+pub mod Made
+pub mod Steps
+pub mod Order

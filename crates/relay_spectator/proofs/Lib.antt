@@ -1,0 +1,4 @@
+pub mod Changing
+pub mod Posting
+pub mod Watching
+pub mod Feeding

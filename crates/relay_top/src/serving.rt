@@ -1,0 +1,109 @@
+//! The command `relay`.
+ghost use Rattle.std.specs.Prelude.{◌≡◌, ◌⊎◌, List, [], ℕ, map, string_bytes, Some, Ok};
+ghost use Rattle.script_input.specs.Reading.{seen, HasFailed};
+ghost use Rattle.relay_node.specs.relay_report.Laws.{PacksAreOfWhatWasMet, SameMetSamePacks, SameListsSamePacks};
+ghost use Rattle.relay_laws.specs.Shown.{SpectatorsShowWhatWasSo, PeriodsStandForOne};
+ghost use Rattle.relay_laws.specs.Delivered.{SpectatorsDeliverWhatWasPosted};
+ghost use Rattle.relay_top.specs.Command.{relay_of, Says};
+ghost use Rattle.relay_top.specs.Outcome.{RelayOutcome, IsWanted, CanBeDone};
+
+use crate::reading::read_relay_script;
+use match_engine::RunFault;
+use relay_laws::{
+    spectators_deliver_what_was_posted, spectators_periods_stand_for_one,
+    spectators_show_what_was_so,
+};
+use relay_node::relay_report::{
+    packs_are_of_what_was_met, same_lists_same_packs, same_met_same_packs,
+};
+use relay_node::run_relay;
+use script_input::Status;
+use std::alloc::Global;
+use tn_outside::{Sink, Source};
+
+// Whether the words are `relay`, or where they stop being so.
+fn relay_of(words: &Vec<String>) -> Result<(), u32>
+    ensures { result ≡ relay_of (map string_bytes words.now.items) }
+{
+    match words.as_slice().split_first() {
+        None => Err(0),
+        Some((name, rest)) => {
+            if name.as_str() != "relay" {
+                Err(0)
+            } else if rest.is_empty() {
+                Ok(())
+            } else {
+                Err(1)
+            }
+        }
+    }
+}
+
+// Serves the command.
+fn serve<S: Source, K: Sink>(alloc: Global, source: &mut S, sink: &mut K) -> Status
+    ensures outcome { RelayOutcome (Ok tt)
+        (seen (S.held source.old) (S.held source.new) (S.faults source.old) (S.faults source.new))
+        (seen (K.written sink.old) (K.written sink.new) (K.faults sink.old) (K.faults sink.new)) result }
+    ensures handed { result ≡ Status.Done → K.gathered sink.new ≡ [] }
+{
+    let script = match read_relay_script(alloc, source) {
+        Ok(script) => script,
+        Err(status) => return status,
+    };
+    match run_relay(alloc, &script, sink) {
+        Ok(()) => match sink.flush() {
+            Ok(()) => Status::Done,
+            Err(_) => Status::WriteFault,
+        },
+        Err(RunFault::WriteFault) => Status::WriteFault,
+        Err(RunFault::NoMemory) => Status::NoMemory,
+    }
+}
+
+/// Serves `relay`: reads a relay script from the source, runs it, and writes its report to the sink (docs/relay.md). What the sink
+/// gathers is handed on behind the last line.
+pub fn top_relay<S: Source, K: Sink>(
+    alloc: Global,
+    words: &Vec<String>,
+    source: &mut S,
+    sink: &mut K,
+) -> Status
+    // What each answer says of the source and of the sink, and what holds after every answer: whatever was written is the report of the
+    // relay script that was read, or a front of it.
+    ensures outcome { RelayOutcome (relay_of (map string_bytes words.now.items))
+        (seen (S.held source.old) (S.held source.new) (S.faults source.old) (S.faults source.new))
+        (seen (K.written sink.old) (K.written sink.new) (K.faults sink.old) (K.faults sink.new)) result }
+    // Whether the words are the command, or where they stop being it.
+    ensures words { Says (map string_bytes words.now.items) (relay_of (map string_bytes words.now.items)) }
+    // Where the whole report was written, the sink keeps none of it back.
+    ensures handed { result ≡ Status.Done → K.gathered sink.new ≡ [] }
+    // The answer is the one that the words and the text ask for, where nothing fails and memory is there.
+    ensures exact { (text : List ℕ) → S.held source.old ≡ Some text → IsWanted (relay_of (map string_bytes words.now.items)) text
+        (seen (S.held source.old) (S.held source.new) (S.faults source.old) (S.faults source.new))
+        (seen (K.written sink.old) (K.written sink.new) (K.faults sink.old) (K.faults sink.new)) result }
+    // The command, a text that is a relay script, and no fault: the whole report, or no memory for it.
+    ensures complete { CanBeDone (relay_of (map string_bytes words.now.items)) (S.held source.old)
+        → (HasFailed (seen (S.held source.old) (S.held source.new) (S.faults source.old) (S.faults source.new)) → ⊥)
+        → (HasFailed (seen (K.written sink.old) (K.written sink.new) (K.faults sink.old) (K.faults sink.new)) → ⊥)
+        → (result ≡ Status.Done) ⊎ (result ≡ Status.NoMemory) }
+    // What a spectator is sent is made of the header's numbers and blocks, what the relay's client took, and the spectator's own lines.
+    ensures packs_are_of_what_was_met { PacksAreOfWhatWasMet }
+    ensures same_met_same_packs { SameMetSamePacks }
+    ensures same_lists_same_packs { SameListsSamePacks }
+    // Of an honest client at the relay, before every line of the relay: what a spectator shows is shown for a value that the object had,
+    // all of a copy of one object, and what it was delivered are the first of the events that were posted to that client.
+    ensures shown { SpectatorsShowWhatWasSo }
+    ensures of_one_object { PeriodsStandForOne }
+    ensures delivered { SpectatorsDeliverWhatWasPosted }
+{
+    packs_are_of_what_was_met();
+    same_met_same_packs();
+    same_lists_same_packs();
+    spectators_show_what_was_so();
+    spectators_periods_stand_for_one();
+    spectators_deliver_what_was_posted();
+    match relay_of(words) {
+        Ok(()) => serve(alloc, source, sink),
+        Err(place) => Status::Usage(place),
+    }
+}
