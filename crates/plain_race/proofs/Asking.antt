@@ -220,15 +220,18 @@ module _ (c : ℕ) (lines : List BodyLine) (given : List Message) (k : KeptState
         acts = (acts_asked c h.later, ap (λ (l : List ClientAct). l ++ acts_asked c h.later) acts ∙ sym (filter_map-append (act_asked c) h.done h.later) ∙ ap (acts_asked c) (sym h.lines_are));
         rooms = rooms_are t c h.done h.taken k.steps objects h.is_done;
         moves = (accepted_in t (newest_first k.steps), ap (λ (l : List Move). l ++ accepted_in t (newest_first k.steps)) none);
-        fullness = ((λ e. record {
-          no_room = h.no_room;
-          wanting =
-              let many = long t c h.done h.taken k.steps objects h.is_done in
-              let further = asked_further c h.done h.later h.taken h.left in
-              let all : steps_asked c lines given ≡ steps_asked c (h.done ++ h.later) (h.taken ++ h.left) = λ j. steps_asked c (h.lines_are j) (h.given_are j) in
-              let more = h.wanting in
-              omega (arith, many, further, all, more);
-        }), (λ full. refl));
+        fullness = (
+          (λ e. record {
+            no_room = h.no_room;
+            wanting =
+                let many = long t c h.done h.taken k.steps objects h.is_done in
+                let further = asked_further c h.done h.later h.taken h.left in
+                let all : steps_asked c lines given ≡ steps_asked c (h.done ++ h.later) (h.taken ++ h.left) = λ j. steps_asked c (h.lines_are j) (h.given_are j) in
+                let more = h.wanting in
+                omega (arith, many, further, all, more);
+          }),
+          (λ full. refl),
+        );
       }
 
   pub asked : (full : Bool) → IsEnded full t c lines given k.steps objects → moves_taken c ticks ≡ [] → AreAsked lines c k objects full given ticks

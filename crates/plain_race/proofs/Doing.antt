@@ -224,7 +224,7 @@ nothing_made t c room lines line steps no_pack none h = record {
 pub act_wanting : (c room : ℕ) (line : BodyLine) (g : GivenStep) → IsActOf c room line g → (later : List BodyLine) (ms : List Message) → 1 ≤ steps_asked c (line ∷ later) ms
 act_wanting c room line g a later ms =
     let acts : length (acts_asked c (line ∷ later)) ≡ suc (length (acts_asked c later)) =
-        ap (λ (o : Option ClientAct). length (cons_option o (acts_asked c later))) a.said in
+    ap (λ (o : Option ClientAct). length (cons_option o (acts_asked c later))) a.said in
     omega (arith, acts)
 
 pub pack_wanting : (c : ℕ) (line : BodyLine) → is_pack_line c line ≡ true → (later : List BodyLine) (ms : List Message) → 1 ≤ steps_asked c (line ∷ later) ms
@@ -258,9 +258,9 @@ next_met t own ms m left all met =
     let q = reverse own in
     let shown = steps_of_messages ms in
     let joined : steps_of_messages (ms ++ m ∷ left) ≡ steps_of_messages left ++ step_for m ∷ shown =
-        ap reverse (map-append step_for ms (m ∷ left)) ∙ reverse-append (map step_for ms) (step_for m ∷ map step_for left)
-        ∙ ap (λ (l : List PairStep). l ++ shown) (reverse-append (step_for m ∷ []) (map step_for left))
-        ∙ append_assoc (steps_of_messages left) (step_for m ∷ []) shown in
+    ap reverse (map-append step_for ms (m ∷ left)) ∙ reverse-append (map step_for ms) (step_for m ∷ map step_for left)
+    ∙ ap (λ (l : List PairStep). l ++ shown) (reverse-append (step_for m ∷ []) (map step_for left))
+    ∙ append_assoc (steps_of_messages left) (step_for m ∷ []) shown in
     let alone : IsMet t shown (step_for m) = met_at t (steps_of_messages left) (step_for m) shown (subst (AreMet t) joined met) in
     subst (λ (l : List PairStep). IsMet t l (step_for m)) (sym (newest_are own ms))
     (met_behind q (all-reverse IsQuiet own (own_quiet own all)) t shown (step_for m) (λ q_is. quiet_met t (shown ++ q) m q_is) alone)

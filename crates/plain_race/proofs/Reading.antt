@@ -101,7 +101,7 @@ scan_there w c scans =
     let seen = All-filter (is_new (level_in (last scans))) (λ (s : Seen). s.object < length w.objects) (visible_list w c) (all_there w c) in
     all-append (ShowsThere w) (map hide_message (hides all)) (map near_message (nears all) ++ map (show_message w c) (shows all)) (hides_there w (hides all))
     (all-append (ShowsThere w) (map near_message (nears all)) (map (show_message w c) (shows all)) (nears_there w (nears all))
-        (shows_there w c (shows all) (recursion_from_All (λ (s : Seen). s.object < length w.objects) (shows all) seen)))
+    (shows_there w c (shows all) (recursion_from_All (λ (s : Seen). s.object < length w.objects) (shows all) seen)))
 
 -- ---- it stays there
 
@@ -150,7 +150,7 @@ module _ (head : Head) (fits : HeadFits head) (n c : ℕ) where
           let one = ticks_more past in
           subst (λ (ms : List Message). AllByRecursion (ShowsThere (at (script.Tick ∷ past))) ms) (sym (append-nil (given past)))
           (subst (λ (w : Worlds). AllByRecursion (ShowsThere w) (given past)) (world_next head n past (omega (arith, one, less)))
-              (all_stay (at past) (idle_row head.clients) (is_world past (omega (arith, one, less))) (given past) (rest (omega (arith, one, less)))))
+          (all_stay (at past) (idle_row head.clients) (is_world past (omega (arith, one, less))) (given past) (rest (omega (arith, one, less)))))
       by (script.Scan d) less rest =
           more_there (script.Scan d) past refl (go (d == c)) (rest (before (script.Scan d) refl less))
         where
@@ -187,7 +187,7 @@ module _ (w : Worlds) where
       → ((n : ℕ) → (traits_in (step_for m ∷ map step_for rs) n).kind ≡ (traits_in (map step_for rs) n).kind) → AreOfKinds rs → AreOfKinds (m ∷ rs)
   same_kinds m rs none same kinds h =
       let objects : objects_shown (reverse (m ∷ rs)) ≡ objects_shown (reverse rs) =
-          objects_next m rs ∙ ap (λ (l : List ℕ). objects_shown (reverse rs) ++ l) none ∙ append-nil (objects_shown (reverse rs)) in
+      objects_next m rs ∙ ap (λ (l : List ℕ). objects_shown (reverse rs) ++ l) none ∙ append-nil (objects_shown (reverse rs)) in
       record {
         many = ap (λ (l : List ℕ). length l) objects ∙ h.many ∙ sym same;
         each = λ n less.
@@ -226,7 +226,7 @@ module _ (w : Worlds) where
           let before = h.many in
           let index : slice_index (objects_shown (reverse rs) ++ object ∷ []) n ≡ slice_index (objects_shown (reverse rs)) n = get_or_append_left (objects_shown (reverse rs)) (object ∷ []) 0 n (omega (arith, before, l)) in
           let kinds : (traits_in (Show kind block level control ∷ map step_for rs) n).kind ≡ (traits_in (map step_for rs) n).kind =
-              ap (λ b. (if b then record { kind = kind; block = block; level = level; control = control } else traits_in (map step_for rs) n).kind) (other n (shows_in (map step_for rs)) l) in
+          ap (λ b. (if b then record { kind = kind; block = block; level = level; control = control } else traits_in (map step_for rs) n).kind) (other n (shows_in (map step_for rs)) l) in
           subst (λ k. IsThere w k (traits_in (Show kind block level control ∷ map step_for rs) n).kind) (sym index)
           (subst (λ k. IsThere w (slice_index (objects_shown (reverse rs)) n) k) (sym kinds) (h.each n l))
       go n (inr more) less h =
@@ -234,7 +234,7 @@ module _ (w : Worlds) where
           let same : n ≡ length (objects_shown (reverse rs)) = omega (arith, before, less, more) in
           let index : slice_index (objects_shown (reverse rs) ++ object ∷ []) n ≡ object = ap (slice_index (objects_shown (reverse rs) ++ object ∷ [])) same ∙ get_or-append_seam (objects_shown (reverse rs)) object [] 0 in
           let kinds : (traits_in (Show kind block level control ∷ map step_for rs) n).kind ≡ kind =
-              ap (λ b. (if b then record { kind = kind; block = block; level = level; control = control } else traits_in (map step_for rs) n).kind) (eq-eqb n (shows_in (map step_for rs)) (same ∙ before)) in
+          ap (λ b. (if b then record { kind = kind; block = block; level = level; control = control } else traits_in (map step_for rs) n).kind) (eq-eqb n (shows_in (map step_for rs)) (same ∙ before)) in
           subst (λ k. IsThere w k (traits_in (Show kind block level control ∷ map step_for rs) n).kind) (sym index)
           (subst (λ k. IsThere w object k) (sym kinds) all.0)
 
@@ -252,7 +252,7 @@ fields_are w worlds values object kind h history s =
     let fit = object_values_fit s.found (object_at ObjectFits w.objects object s.found h.fits s.there) in
     let long = fields_long (fields_of match_kinds (kind_of s.found.state)) (values_of s.found) fit in
     let told : option_map (λ (told : List (List ℤ)). length told) (slice_get values object) ≡ Some (length (values_of s.found)) =
-        history.fields object ∙ ap (λ (o : Option Object). option_map (λ (now : List ℤ). length now) (option_map values_of o)) s.there in
+    history.fields object ∙ ap (λ (o : Option Object). option_map (λ (now : List ℤ). length now) (option_map values_of o)) s.there in
     go (slice_get values object) refl told ∙ long ∙ ap (λ k. length (fields_of match_kinds k)) (sym s.kind_is)
   where
     go : (o : Option (List (List ℤ))) → slice_get values object ≡ o → option_map (λ (told : List (List ℤ)). length told) o ≡ Some (length (values_of s.found))
@@ -340,10 +340,10 @@ module _ (t : Terms) (c : ℕ) (w : Worlds) (first : Worlds) (ticks : Ticks) (va
   field_due : (n field : ℕ) → n < shows_in shown → field < length (fields_told values (object_of objects n)) → is_field_due t (newest_first steps) n field ≡ true
   field_due n field less narrow =
       let kind : plan.kind_of (ghost_log (pair.history t (shown ++ quiet)).server) n ≡ (traits_in shown n).kind =
-          kind_told t (shown ++ quiet) n ∙ ap (λ (x : Traits). x.kind) (behind_traits quiet are_quiet shown n) in
+      kind_told t (shown ++ quiet) n ∙ ap (λ (x : Traits). x.kind) (behind_traits quiet are_quiet shown n) in
       let many = fields_are (world_after first ticks) (worlds_from first ticks) values (object_of objects n) (traits_in shown n).kind world history (kind_there n less) in
       let same : length (fields_of t.kinds (plan.kind_of (ghost_log (pair.history t (shown ++ quiet)).server) n)) ≡ length (fields_of match_kinds (traits_in shown n).kind) =
-          λ j. length (fields_of (kinds j) (kind j)) in
+      λ j. length (fields_of (kinds j) (kind j)) in
       let enough : nat_lt field (length (fields_of t.kinds (plan.kind_of (ghost_log (pair.history t (shown ++ quiet)).server) n))) ≡ true = below field _ (omega (arith, narrow, many, same)) in
       let no_pack : AllByRecursion IsNoPack shown = all-reverse IsNoPack (map step_for ms) (no_packs ms) in
       subst (λ (past : List PairStep). is_field_due t past n field ≡ true) (sym past_is)
@@ -355,7 +355,7 @@ module _ (t : Terms) (c : ℕ) (w : Worlds) (first : Worlds) (ticks : Ticks) (va
   current : (n : ℕ) → IsCurrentIfUp values words c t steps objects n
   current n up =
       let less : n < shows_in shown =
-          subst (λ k. n < k) (ap shows_in past_is ∙ behind_shows quiet are_quiet shown) (up_shown (newest_first steps) n up) in
+      subst (λ k. n < k) (ap shows_in past_is ∙ behind_shows quiet are_quiet shown) (up_shown (newest_first steps) n up) in
       record {
         shown = let many = many_objects in omega (arith, many, less);
         each = λ field narrow. IsDue (field_due n field less narrow);

@@ -154,7 +154,7 @@ module _ (head : Head) (n : ℕ) where
       let p = after head (told past) in
       all_none (move_of head p)
       (λ c. first_of_none (kept_by head p c).course.taken (accepted_in (client_terms head c) (kept_by head p c).course.steps)
-          (ap (accepted_in (client_terms head c)) (h.steps c) ∙ no_moves (client_terms head c) (messages first ticks c past)))
+      (ap (accepted_in (client_terms head c)) (h.steps c) ∙ no_moves (client_terms head c) (messages first ticks c past)))
       0 head.clients
 
   world_same : (k m : ℕ) → k ≡ m → world_after first (take k ticks) ≡ world_after first (take m ticks)

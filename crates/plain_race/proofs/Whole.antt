@@ -120,7 +120,7 @@ module _ (script : Script) (ranges : HasRanges script) where
           (reads c client.full client.pair.steps client.objects h.ended);
       asked = asked c script.body (all_messages script race.moves c) client.pair client.objects race.moves client.full
           (subst (λ (ticks : Ticks). IsEnded client.full (terms_in client.pair) c script.body (all_messages script ticks c) client.pair.steps client.objects) (sym moves)
-              (subst (λ (t : Terms). IsEnded client.full t c script.body (all_messages script (idle_in script) c) client.pair.steps client.objects) (sym h.terms) h.ended))
+          (subst (λ (t : Terms). IsEnded client.full t c script.body (all_messages script (idle_in script) c) client.pair.steps client.objects) (sym h.terms) h.ended))
           (ap (moves_taken c) moves ∙ nothing_taken c n script.head.clients);
     }
 

@@ -61,12 +61,7 @@ fn act_of(
 }
 
 // Does a line that is no pack.
-fn do_act(
-    alloc: Global,
-    pair: &mut KeptPair,
-    client: u8,
-    line: &BodyLine,
-) -> Result<bool, NoMemory>
+fn do_act(alloc: Global, pair: &mut KeptPair, client: u8, line: &BodyLine) -> Result<bool, NoMemory>
     requires no_pack { is_pack_line client line.now ≡ false }
     ensures done { IfOk result (λ b. b ≡ true → DoesLine client line.now pair.old pair.new) }
     ensures stopped { IfOk result (λ b. b ≡ false → StopsAtLine client line.now pair.old pair.new) }

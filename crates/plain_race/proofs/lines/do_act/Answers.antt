@@ -24,7 +24,7 @@ returns-in-Some-clause-done c =
     let a = act_is client c.room_in-room.result line g e in
     if_ok (λ b. b ≡ true → new.steps ≡ old.steps ++ step_of g ∷ []) (λ b. b ≡ true → DoesLine client line old new) c.act.result
     (λ b made is lines h. subst (λ (l : List PairStep). AreStepsOf (terms_in old) client (lines ++ line ∷ []) l) (sym (made is))
-        (act_made (terms_in old) client c.room_in-room.result lines line old.steps g a c.room_in-room.ensures h))
+    (act_made (terms_in old) client c.room_in-room.result lines line old.steps g a c.room_in-room.ensures h))
     c.act.ensures.made
 
 pub returns-in-Some-clause-stopped : goal.returns-in-Some-clause-stopped
