@@ -1,16 +1,13 @@
 -- What was done for a client is what the script asks for.
-use Rattle.std.proofs.Common.{◌≡◌, ◌↔◌, ℕ, zero, suc, ◌+◌, ◌<◌, ◌≤◌, Bool, true, false, cond, List, [], ◌∷◌, ◌++◌, length, take, map, reverse, Option, Some, None, refl, sym, ap, subst, ◌∙◌, arith, ◌⊎◌, inl, inr, append-nil, append_assoc, length-append}
+use Rattle.std.proofs.Common.{◌≡◌, ℕ, zero, suc, ◌+◌, ◌<◌, ◌≤◌, Bool, true, false, cond, List, [], ◌∷◌, ◌++◌, length, take, map, Option, Some, None, refl, sym, ap, subst, ◌∙◌, arith, ◌⊎◌, inl, inr, append-nil, append_assoc, length-append}
 use Rattle.std.specs.Prelude.{slice_get}
-use Rattle.std.specs.List.{AllByRecursion, filter_map}
+use Rattle.std.specs.List.{AllByRecursion}
 use Rattle.std.specs.Option.{option_and_then}
 use Rattle.std.proofs.lemmas.Bool.{cases_lt}
 use Rattle.std.proofs.lemmas.List.{take-append-le, length-map, map-append}
 use Rattle.std.proofs.lemmas.List.Elements.{filter_map-append}
 use Rattle.std.proofs.lemmas.List.Sums.{sum_by-append, sum_by-cons}
-use Rattle.std.proofs.lemmas.Option.{slice_get_within}
 use Rattle.std.proofs.Math.Seq.{take-append_seam}
-use Rattle.tn_types.specs.Prefix.{IsPrefixOf}
-use Rattle.tn_types.specs.declared.limits.TheConstants.{MAX_KEPT_STEPS}
 use Rattle.tn_types.specs.declared.moves.Move.{Move}
 use Rattle.match_script.specs.declared.types.BodyLine.{BodyLine}
 use Rattle.pair_core.specs.stream_manager.Limits.{Terms}
@@ -21,8 +18,8 @@ use Rattle.connection_lock.specs.declared.message.Message.{Message}
 use Rattle.connection_lock.specs.declared.message.Message.TheVariants as message
 use Rattle.connection_lock.specs.Taking.{step_for}
 use Rattle.race_history.specs.Moves.{moves_taken}
-use Rattle.race_steps.specs.Asked.{ClientAct, IsRoom, room_found, message_step, messages_taken, object_shown, objects_shown, is_pack_step, is_pack_line, packs_made, packs_asked, act_done, act_asked, acts_done, acts_asked, steps_asked, IsFull, AreAsked}
-use Rattle.plain_race.specs.Done.{IsOwnStep, AreRoomsIn, AreStepsOf, IsDone, IsStopped, IsEnded}
+use Rattle.race_steps.specs.Asked.{ClientAct, IsRoom, room_found, message_step, messages_taken, objects_shown, is_pack_step, is_pack_line, packs_made, packs_asked, act_done, act_asked, acts_done, acts_asked, steps_asked, AreAsked}
+use Rattle.plain_race.specs.Done.{IsOwnStep, AreRoomsIn, IsDone, IsStopped, IsEnded}
 
 -- ---- own steps and steps of messages
 

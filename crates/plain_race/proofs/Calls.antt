@@ -1,12 +1,10 @@
 -- What the calls do, one after another.
-use Rattle.std.proofs.Common.{◌≡◌, ℕ, zero, suc, ◌+◌, ◌<◌, ◌≤◌, Bool, true, false, List, [], ◌∷◌, ◌++◌, length, take, drop, map, reverse, replicate, get_or, Option, Some, None, Result, Ok, Err, refl, sym, ap, subst, ◌∙◌, arith, append-nil, append_assoc, add-one, ◌⊎◌, inl, inr, length-append}
+use Rattle.std.proofs.Common.{◌≡◌, ℕ, zero, suc, ◌+◌, ◌<◌, ◌≤◌, List, [], ◌∷◌, ◌++◌, length, take, drop, map, replicate, get_or, Option, Some, Result, Ok, Err, refl, sym, ap, subst, ◌∙◌, arith, append-nil, append_assoc, add-one, ◌⊎◌, inl, inr, length-append}
 use Rattle.std.specs.Prelude.{ℤ, IfOk, slice_get}
 use Rattle.std.specs.List.{AllByRecursion}
 use Rattle.std.proofs.lemmas.List.{take_more, map-append}
 use Rattle.tn_types.specs.declared.choices.Read.{Read}
 use Rattle.tn_types.specs.declared.moves.Move.{Move}
-use Rattle.quantised_fields.specs.declared.field.FieldSpec.{FieldSpec}
-use Rattle.tn_types.specs.declared.limits.TheConstants.{MAX_KEPT_STEPS}
 use Rattle.match_script.specs.declared.types.BodyLine.{BodyLine}
 use Rattle.match_script.specs.declared.types.Script.{Script}
 use Rattle.race_record.specs.declared.race.RaceClient.{RaceClient}
@@ -14,8 +12,8 @@ use Rattle.world_sim.specs.Worlds.{Worlds, next}
 use Rattle.std.proofs.lemmas.Bool.{cases_lt}
 use Rattle.std.proofs.lemmas.Option.{slice_get_within}
 use Rattle.pair_core.specs.stream_manager.Limits.{Terms}
-use Rattle.pair_core.specs.stream_manager.Server.{ServerEvent, server_state, ghost_log}
-use Rattle.pair_core.specs.History.{PairStep, Pack, history}
+use Rattle.pair_core.specs.stream_manager.Server.{ServerEvent, server_state}
+use Rattle.pair_core.specs.History.{PairStep, history}
 use Rattle.conn_packing.specs.Reads.{MayDrain}
 use Rattle.conn_packing.proofs.Lists.{all-reverse}
 use Rattle.notify_window.specs.declared.SendState.{SendState}
@@ -29,7 +27,7 @@ use Rattle.connection_lock.specs.declared.message.Message.{Message}
 use Rattle.connection_lock.specs.Taking.{step_for, objects_with}
 use Rattle.pair_core.specs.Conditions.{IsMet, AreMet}
 use Rattle.race_steps.specs.Asked.{objects_shown}
-use Rattle.plain_race.specs.Done.{IsOwnStep, AreStepsOf, IsDone, IsStopped, IsEnded, IsRefused, DoesLine, StopsAtLine, Takes, StopsAtMessage, MayTakeAll, IsPlain}
+use Rattle.plain_race.specs.Done.{IsOwnStep, AreStepsOf, IsDone, IsStopped, IsRefused, DoesLine, StopsAtLine, Takes, StopsAtMessage, MayTakeAll, IsPlain}
 use Rattle.plain_race.proofs.Still.{steps_of_messages}
 use Rattle.plain_race.proofs.Quiet.{none_shown}
 use Rattle.plain_race.proofs.Reading.{own_quiet}

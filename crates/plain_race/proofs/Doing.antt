@@ -1,29 +1,28 @@
 -- One line more of a client, and one message more.
-use Rattle.std.proofs.Common.{◌≡◌, ℕ, zero, suc, ◌+◌, ◌-◌, ◌<◌, ◌≤◌, ◌==◌, Bool, true, false, cond, List, [], ◌∷◌, ◌++◌, length, take, drop, map, reverse, get_or, Option, Some, None, refl, sym, ap, subst, ◌∙◌, arith, append-nil, append_assoc, length-append}
-use Rattle.std.specs.Prelude.{slice_get, is_some, if◌then◌else◌}
+use Rattle.std.proofs.Common.{◌≡◌, ℕ, suc, ◌+◌, ◌<◌, ◌≤◌, ◌==◌, Bool, true, false, cond, List, [], ◌∷◌, ◌++◌, length, take, drop, map, reverse, get_or, Option, Some, None, refl, sym, ap, subst, ◌∙◌, arith, append-nil, append_assoc}
+use Rattle.std.specs.Prelude.{if◌then◌else◌}
 use Rattle.std.specs.List.{AllByRecursion, filter_map, cons_option}
 use Rattle.std.proofs.lemmas.List.{reverse-append, take_more, map-append, take-append-drop}
 use Rattle.std.proofs.lemmas.List.Elements.{filter_map-append}
 use Rattle.std.proofs.lemmas.List.Sums.{sum_by-append, sum_by-cons}
-use Rattle.tn_types.specs.declared.limits.TheConstants.{MAX_KEPT_STEPS}
 use Rattle.match_script.specs.declared.types.BodyLine.{BodyLine}
 use Rattle.match_script.specs.declared.types.BodyLine.TheVariants as script
 use Rattle.pair_core.specs.stream_manager.Limits.{Terms}
 use Rattle.pair_core.specs.declared.step.PairStep.{PairStep as GivenStep}
 use Rattle.pair_core.specs.declared.step.PairStep.TheVariants as given
-use Rattle.pair_core.specs.History.{PairStep, Show, Hide, Near, Post, Pack}
+use Rattle.pair_core.specs.History.{PairStep, Pack}
 use Rattle.pair_core.specs.Calls.{step_of}
 use Rattle.pair_core.specs.Answers.{accepted_in}
 use Rattle.pair_core.specs.Conditions.{IsMet, AreMet}
 use Rattle.pair_steps.proofs.Journals.{IsQuiet}
 use Rattle.conn_packing.proofs.Lists.{all-append, all-reverse}
-use Rattle.kept_pair.specs.Kept.{KeptState, newest_first, terms_in}
+use Rattle.kept_pair.specs.Kept.{newest_first}
 use Rattle.connection_lock.specs.declared.message.Message.{Message}
 use Rattle.connection_lock.specs.declared.message.Message.TheVariants as message
 use Rattle.connection_lock.specs.Taking.{step_for, objects_with}
 use Rattle.race_steps.specs.Asked.{ClientAct, IsRoom, room_found, is_pack_step, is_pack_line, packs_made, packs_asked, act_done, act_asked, act_said, acts_done, acts_asked, object_shown, objects_shown, steps_asked}
 use Rattle.plain_race.specs.Asks.{IsAct, asked_of, act_given}
-use Rattle.plain_race.specs.Done.{IsOwnStep, AreRoomsIn, AreStepsOf, IsDone, IsStopped, IsRefused, DoesLine, StopsAtLine, Takes, StopsAtMessage, MayTakeAll}
+use Rattle.plain_race.specs.Done.{IsOwnStep, AreStepsOf}
 use Rattle.plain_race.proofs.Still.{steps_of_messages}
 use Rattle.plain_race.proofs.Quiet.{met_behind}
 use Rattle.plain_race.proofs.Asking.{rooms_more}

@@ -1,6 +1,6 @@
 -- Steps of messages behind steps that show, hide and bring nearer nothing: they meet their conditions as if they stood alone, and each
 -- field of what they show is due.
-use Rattle.std.proofs.Common.{◌≡◌, ℕ, zero, suc, ◌+◌, ◌<◌, ◌≤◌, ◌==◌, Bool, true, false, not, cond, nat_eq, ◌&&◌, ◌||◌, List, [], ◌∷◌, ◌++◌, length, refl, sym, ap, subst, ◌∙◌, arith, ◌⊎◌, inl, inr, if◌then◌else◌}
+use Rattle.std.proofs.Common.{◌≡◌, ℕ, ◌+◌, ◌<◌, ◌≤◌, ◌==◌, true, false, not, cond, ◌||◌, List, [], ◌∷◌, ◌++◌, length, refl, sym, ap, subst, ◌∙◌, arith, ◌⊎◌, inl, inr}
 use Rattle.std.specs.Prelude.{filter}
 use Rattle.std.specs.List.{AllByRecursion, list_any}
 use Rattle.std.proofs.lemmas.Bool.{eq-eqb, cases_lt}
@@ -11,8 +11,8 @@ use Rattle.ghost_model.specs.Ghosts.{scope_log, is_due}
 use Rattle.ghost_model.specs.Legal.{IsUp}
 use Rattle.pair_core.specs.stream_manager.Limits.{Terms}
 use Rattle.pair_core.specs.stream_manager.Server.{ghost_log}
-use Rattle.pair_core.specs.History.{PairStep, Show, Hide, Near, Post, ClientPost, Sample, Pack, ClientPack, Down, Up, Raw, history}
-use Rattle.pair_core.specs.Conditions.{IsMet, AreMet, MayBeShown}
+use Rattle.pair_core.specs.History.{PairStep, Show, Hide, Near, history}
+use Rattle.pair_core.specs.Conditions.{IsMet}
 use Rattle.pair_steps.specs.Steps.{shows_in, is_hidden_in, up_in, traits_in, IsNoPack}
 use Rattle.pair_steps.proofs.Journals.{IsQuiet, shows_told, up_from, up_to, up_count_told, control_told}
 use Rattle.pair_steps.proofs.Due.{shows_due, step_due}

@@ -1,8 +1,8 @@
 -- What messages show is there in the end, with the kind that they say; so each of its fields is due, and where packs read nothing what
 -- was read is legal.
-use Rattle.std.proofs.Common.{◌≡◌, ℕ, zero, suc, ◌+◌, ◌<◌, ◌≤◌, Bool, true, false, ◌&&◌, nat_lt, List, [], ◌∷◌, ◌++◌, ◌==◌, take, cond, length, map, reverse, Option, Some, None, refl, sym, ap, subst, ◌∙◌, arith, ◌⊎◌, inl, inr, append-nil, length-append}
-use Rattle.std.specs.Prelude.{ℤ, slice_get, slice_index, option_map, filter, if◌then◌else◌}
-use Rattle.std.specs.List.{All, AllByRecursion}
+use Rattle.std.proofs.Common.{◌≡◌, ℕ, zero, suc, ◌+◌, ◌<◌, ◌≤◌, Bool, true, false, nat_lt, List, [], ◌∷◌, ◌++◌, ◌==◌, take, length, map, reverse, Option, Some, None, refl, sym, ap, subst, ◌∙◌, arith, ◌⊎◌, inl, inr, append-nil, length-append}
+use Rattle.std.specs.Prelude.{ℤ, slice_get, slice_index, option_map, if◌then◌else◌}
+use Rattle.std.specs.List.{AllByRecursion}
 use Rattle.std.specs.Option.{unwrap_or}
 use Rattle.std.proofs.lemmas.Bool.{cases_lt, eq-eqb, and_from}
 use Rattle.std.proofs.lemmas.Bool.Decides.{nat_tests}
@@ -22,7 +22,7 @@ use Rattle.world_rules.specs.Identity.{Identity}
 use Rattle.world_rules.specs.Kinds.{kind_of, match_kinds}
 use Rattle.world_rules.specs.Ranges.{ObjectFits}
 use Rattle.world_sim.specs.Rows.{values_of}
-use Rattle.world_sim.specs.Worlds.{Worlds, IsWorld, next, first_world, values_at}
+use Rattle.world_sim.specs.Worlds.{Worlds, IsWorld, next, first_world}
 use Rattle.world_scope.specs.declared.viewer.Seen.{Seen}
 use Rattle.world_scope.specs.Scope.{visible_list}
 use Rattle.client_scope.proofs.Below.world_scope.SeenList.{all_there}
@@ -38,20 +38,19 @@ use Rattle.pair_core.specs.stream_manager.Server.{ghost_log}
 use Rattle.pair_core.specs.History as pair
 use Rattle.pair_core.specs.History.{PairStep, Show, Hide, Near, Post, Pack}
 use Rattle.conn_packing.proofs.Lists.{all-append, all-reverse}
-use Rattle.pair_steps.specs.Steps.{shows_in, traits_in, up_in, IsNoPack}
+use Rattle.pair_steps.specs.Steps.{shows_in, traits_in, IsNoPack}
 use Rattle.pair_steps.proofs.Journals.{IsQuiet, kind_told}
-use Rattle.lane_periods.specs.Periods.{has}
 use Rattle.kept_pair.specs.Kept.{newest_first}
 use Rattle.connection_lock.specs.declared.message.Message.{Message}
 use Rattle.connection_lock.specs.declared.message.Message.TheVariants as message
 use Rattle.connection_lock.specs.Taking.{step_for}
-use Rattle.own_lists.specs.Past.{after, showing_of}
+use Rattle.own_lists.specs.Past.{showing_of}
 use Rattle.own_lists.proofs.WorldFacts as facts
 use Rattle.own_lists.proofs.WorldFacts.{object_goes_on, object_values_fit, object_at}
 use Rattle.race_history.specs.History.{Values, fields_told, IsHistory, IsHistoryOf, world_after, worlds_from}
-use Rattle.race_course.specs.Messages.{Ticks, is_tick, ticks_in, world_at, seen_at, scans_of, scan_messages, hide_message, near_message, show_message, line_gives, messages}
+use Rattle.race_course.specs.Messages.{Ticks, is_tick, ticks_in, world_at, scans_of, scan_messages, hide_message, near_message, show_message, line_gives, messages}
 use Rattle.race_reads.specs.Reads.{IsDue, object_of, ReadStands, NeverFalls}
-use Rattle.race_reads.specs.Legal.{reads_of, is_field_due, AreLegalReads, IsPeriodCurrent, IsCurrentIfUp}
+use Rattle.race_reads.specs.Legal.{reads_of, is_field_due, AreLegalReads, IsCurrentIfUp}
 use Rattle.race_reads.proofs.ShownPeriods.{up_shown}
 use Rattle.race_steps.specs.Asked.{object_shown, objects_shown}
 use Rattle.plain_race.specs.Done.{IsOwnStep, IsDone}

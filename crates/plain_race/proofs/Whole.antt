@@ -1,12 +1,11 @@
 -- What was made is a legal race.
-use Rattle.std.proofs.Common.{◌≡◌, ℕ, zero, suc, ◌+◌, ◌<◌, ◌≤◌, Bool, true, false, List, [], ◌∷◌, ◌++◌, length, take, map, reverse, replicate, Option, Some, None, refl, sym, ap, subst, ◌∙◌, arith}
+use Rattle.std.proofs.Common.{◌≡◌, ℕ, zero, suc, ◌<◌, ◌≤◌, Bool, true, false, List, [], length, take, reverse, Some, None, refl, sym, ap, subst, ◌∙◌, arith}
 use Rattle.std.specs.Prelude.{slice_get}
 use Rattle.std.specs.List.{AllByRecursion, cons_option}
 use Rattle.std.specs.Option.{unwrap_or}
 use Rattle.std.proofs.lemmas.List.{length-replicate, length-reverse, take_all}
 use Rattle.std.proofs.lemmas.List.Elements.{recursion_from_All}
 use Rattle.tn_types.specs.declared.limits.TheConstants.{MAX_OBJECTS}
-use Rattle.tn_types.specs.declared.moves.Move.{Move}
 use Rattle.match_script.specs.declared.types.BodyLine.{BodyLine}
 use Rattle.match_script.specs.declared.types.Script.{Script}
 use Rattle.match_script.specs.Ranges.{HasRanges, LineFits}
@@ -19,7 +18,7 @@ use Rattle.kept_pair.specs.Kept.{KeptState, terms_in}
 use Rattle.connection_lock.specs.declared.message.Message.{Message}
 use Rattle.own_lists.specs.Past.{client_terms}
 use Rattle.race_history.specs.History.{IsHistoryOf, world_after}
-use Rattle.race_history.specs.Moves.{HasClients, MovesFit, move_taken, moves_taken}
+use Rattle.race_history.specs.Moves.{HasClients, MovesFit, moves_taken}
 use Rattle.race_record.specs.declared.race.Race.{Race}
 use Rattle.race_record.specs.declared.race.RaceClient.{RaceClient}
 use Rattle.race_course.specs.Messages.{Ticks, ticks_in}
@@ -29,7 +28,7 @@ use Rattle.race_reads.specs.Legal.{AreLegalReads}
 use Rattle.race_reads.proofs.Deciding.{all_append}
 use Rattle.legal_race.specs.Legal.{IsClientLegal, IsLegal}
 use Rattle.plain_race.specs.Idle.{idle_row, idle, idle_in}
-use Rattle.plain_race.specs.Done.{IsDone, IsStopped, IsEnded, AreStepsOf, MayTakeAll, IsPlain}
+use Rattle.plain_race.specs.Done.{IsDone, IsEnded, AreStepsOf, MayTakeAll, IsPlain}
 use Rattle.plain_race.proofs.Still.{steps_of_messages, all_met}
 use Rattle.plain_race.proofs.Asking.{asked}
 use Rattle.plain_race.proofs.Reading.{ShowsThere, is_world, all_shown_there, legal_reads}

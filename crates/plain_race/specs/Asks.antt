@@ -1,7 +1,5 @@
 -- What a line asks of a client's connection, where so many moves have a place: of its own side a step, of the server a pack, or nothing.
-use Rattle.std.specs.Prelude.{◌≡◌, ℕ, ◌==◌, ◌≤◌, Bool, true, false, List, [], ◌∷◌, ◌++◌, length, Option, Some, None, if◌then◌else◌}
-use Rattle.std.specs.List.{AllByRecursion}
-use Rattle.tn_types.specs.declared.limits.TheConstants.{MAX_KEPT_STEPS}
+use Rattle.std.specs.Prelude.{ℕ, ◌==◌, Option, Some, None, if◌then◌else◌}
 use Rattle.match_script.specs.declared.types.BodyLine.{BodyLine}
 use Rattle.match_script.specs.declared.types.BodyLine.TheVariants as script
 use Rattle.pair_core.specs.declared.step.PairStep.{PairStep as GivenStep}

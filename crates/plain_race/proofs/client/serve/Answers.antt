@@ -1,4 +1,4 @@
-use Rattle.std.proofs.Common.{◌≡◌, ◌∙◌, false, true, List, sym, subst}
+use Rattle.std.proofs.Common.{◌∙◌, List, sym, subst}
 use Rattle.match_script.specs.declared.types.BodyLine.{BodyLine}
 use Rattle.pair_core.specs.stream_manager.Limits.{Terms}
 use Rattle.kept_pair.specs.Kept.{terms_in}

@@ -1,4 +1,4 @@
-use Rattle.std.proofs.Common.{◌≡◌, ◌++◌, ◌∷◌, [], List, Bool, true, false, Some, None, sym, subst}
+use Rattle.std.proofs.Common.{◌≡◌, ◌++◌, ◌∷◌, [], List, true, false, Some, None, sym, subst}
 use Rattle.pair_core.specs.Calls.{step_of}
 use Rattle.pair_core.specs.History.{PairStep}
 use Rattle.kept_pair.specs.Kept.{terms_in}

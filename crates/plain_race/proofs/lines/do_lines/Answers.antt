@@ -1,6 +1,6 @@
-use Rattle.std.proofs.Common.{◌≡◌, ◌∙◌, ◌<◌, arith, length, false, true}
+use Rattle.std.proofs.Common.{◌∙◌, arith}
 use Rattle.kept_pair.specs.Kept.{terms_in}
-use Rattle.plain_race.proofs.Calls.{begins, line_next, line_stops}
+use Rattle.plain_race.proofs.Calls.{line_next, line_stops}
 use Rattle.plain_race.proofs.lines.do_lines.Goals as goal
 
 pub returns-then-not-branch-clause-stopped : goal.returns-then-not-branch-clause-stopped

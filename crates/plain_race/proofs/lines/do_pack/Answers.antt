@@ -1,4 +1,4 @@
-use Rattle.std.proofs.Common.{◌≡◌, ◌++◌, ◌∷◌, [], List, Bool, true, false, sym, subst}
+use Rattle.std.proofs.Common.{◌≡◌, ◌++◌, ◌∷◌, [], List, true, false, sym, subst}
 use Rattle.pair_core.specs.History.{PairStep, Pack}
 use Rattle.kept_pair.specs.Kept.{terms_in}
 use Rattle.plain_race.specs.Done.{AreStepsOf, DoesLine, StopsAtLine, IsRefused}

@@ -1,4 +1,4 @@
-use Rattle.std.proofs.Common.{◌≡◌, ◌∙◌, ◌<◌, arith, length, false, true}
+use Rattle.std.proofs.Common.{◌∙◌, arith}
 use Rattle.plain_race.proofs.Calls.{may_next, takes_more, message_stops}
 use Rattle.plain_race.proofs.messages.take_all.Goals as goal
 

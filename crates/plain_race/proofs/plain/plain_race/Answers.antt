@@ -1,7 +1,4 @@
-use Rattle.std.proofs.Common.{◌≡◌, sym, subst}
-use Rattle.race_course.specs.Messages.{ticks_in}
-use Rattle.race_history.specs.Moves.{MovesFit}
-use Rattle.plain_race.proofs.Whole.{legal, moves_fit}
+use Rattle.plain_race.proofs.Whole.{legal}
 use Rattle.plain_race.proofs.plain.plain_race.Goals as goal
 
 pub returns : goal.returns

@@ -1,4 +1,4 @@
-use Rattle.std.proofs.Common.{◌≡◌, ◌∙◌, ◌++◌, ◌∷◌, [], List, sym, subst}
+use Rattle.std.proofs.Common.{◌∙◌, ◌++◌, ◌∷◌, [], List, sym, subst}
 use Rattle.std.specs.List.{AllByRecursion}
 use Rattle.pair_core.specs.History.{PairStep, Pack}
 use Rattle.plain_race.specs.Done.{IsOwnStep}
