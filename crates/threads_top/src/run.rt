@@ -7,28 +7,29 @@ ghost use Rattle.threads_top.specs.Telling.{IsRaceText, Tells, TellsFront};
 use legal_race::tell;
 use match_engine::RunFault;
 use match_script::Script;
-use race_run::{Gate, race, race_in_turn};
+use plain_race::plain_race;
+use race_run::{Gate, race};
 use std::alloc::Global;
 use std::sync::Wait;
 use std::thread::Threads;
 use tn_outside::{Sink, write_all};
 use tn_types::NoMemory;
 
-// The text of a match on one thread.
-fn text_in_turn<R: Wait>(rt: &R, alloc: Global, script: &Script) -> Result<Vec<u8>, NoMemory>
+// The text of the plain race of a script, which is legal.
+fn text_of_plain_race(alloc: Global, script: &Script) -> Result<Vec<u8>, NoMemory>
     requires { HasRanges script.now }
     ensures { IfOk result (λ text. IsRaceText script.now text.items) }
 {
-    let made = race_in_turn(rt, alloc, script)?;
+    let made = plain_race(alloc, script)?;
     let mut text = Vec::new(alloc);
     if tell(alloc, script, &made, &mut text)? {
         Ok(text)
     } else {
-        Err(NoMemory)
+        unreachable!()
     }
 }
 
-// The text of a match in threads; where its race is not legal, of one that is made again on one thread.
+// The text of a match in threads; where its race is not legal, of one that is made plainly.
 fn text_of_race<R: Threads + Wait + Sync, G: Gate + Sync>(
     rt: &R,
     alloc: Global,
@@ -43,7 +44,7 @@ fn text_of_race<R: Threads + Wait + Sync, G: Gate + Sync>(
     if tell(alloc, script, &made, &mut text)? {
         Ok(text)
     } else {
-        text_in_turn(rt, alloc, script)
+        text_of_plain_race(alloc, script)
     }
 }
 

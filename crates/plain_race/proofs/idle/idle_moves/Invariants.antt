@@ -1,0 +1,7 @@
+use Rattle.std.proofs.Common.{◌≡◌, take}
+use Rattle.race_course.specs.Messages.{ticks_in}
+use Rattle.plain_race.specs.Idle.{idle}
+use Rattle.plain_race.proofs.idle.idle_moves.Given as goal
+
+abbrev pub invariant-loop-line : goal.invariant-loop-line
+invariant-loop-line l = l.moves ≡ idle (ticks_in (take l.line-index l.script.body)) l.script.head.clients

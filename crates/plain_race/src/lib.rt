@@ -1,0 +1,16 @@
+//! A race that is legal for its script, made plainly: on one thread, with no lanes and no rings. No tick takes a move, each client's
+//! own lines and packs come first, and its messages after them.
+#![tactic(auto)]
+
+mod client;
+mod idle;
+mod lines;
+mod messages;
+mod no_values;
+mod plain;
+mod steps;
+mod values;
+mod words;
+
+pub use plain::plain_race;
+pub use race_record;
