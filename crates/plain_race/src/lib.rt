@@ -1,4 +1,4 @@
-//! A race that is legal for its script, made plainly: on one thread, with no lanes and no rings. No tick takes a move, each client's
+//! A race that is legal for its script, made plainly: on one thread, with no locks and no rings. No tick takes a move, each client's
 //! own lines and packs come first, and its messages after them.
 #![tactic(auto)]
 
