@@ -66,9 +66,9 @@ may_pack k ranges own =
       ranged = λ n f spec up at. absurd (let less = (up_from t past n up).0 in omega (arith, less, none));
     }
 
-pub no_reads : (reads : List Read) → AllByRecursion (λ r. ⊥) reads → reads ≡ []
-no_reads [] all = refl
-no_reads (r ∷ reads) all = absurd all.0
+pub no_reads : {A : Type 0} (reads : List Read) → (A → ⊥) → AllByRecursion (λ (r : Read). A) reads → reads ≡ []
+no_reads [] none all = refl
+no_reads (r ∷ reads) none all = absurd (none all.0)
 
 -- ---- lines
 

@@ -6,11 +6,11 @@ mod client;
 mod idle;
 mod lines;
 mod messages;
-mod no_values;
 mod plain;
 mod steps;
 mod values;
 mod words;
+mod zero_values;
 
 pub use plain::plain_race;
 pub use race_record;

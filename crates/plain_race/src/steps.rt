@@ -9,7 +9,7 @@ ghost use Rattle.plain_race.specs.Asks.{IsAct, IsGiven};
 ghost use Rattle.plain_race.specs.Done.{IsOwnStep, IsRefused};
 ghost use Rattle.std.specs.Prelude.{length};
 
-use crate::no_values::NoValues;
+use crate::zero_values::ZeroValues;
 use pair_core::PairStep;
 use race_record::kept_pair::{KeepFault, KeptPair};
 use std::alloc::Global;
@@ -102,7 +102,7 @@ pub(crate) fn pack(alloc: Global, pair: &mut KeptPair) -> Result<bool, NoMemory>
     if !make_room(alloc, pair)? {
         return Ok(false);
     }
-    let mut none = NoValues;
+    let mut none = ZeroValues { given: false };
     pair.pack(&[], &mut none);
     Ok(true)
 }

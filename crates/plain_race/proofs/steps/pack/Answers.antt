@@ -1,4 +1,4 @@
-use Rattle.std.proofs.Common.{◌∙◌, ◌++◌, ◌∷◌, [], List, sym, subst}
+use Rattle.std.proofs.Common.{◌≡◌, ◌∙◌, ◌++◌, ◌∷◌, [], List, true, false, sym, subst}
 use Rattle.std.specs.List.{AllByRecursion}
 use Rattle.pair_core.specs.History.{PairStep, Pack}
 use Rattle.plain_race.specs.Done.{IsOwnStep}
@@ -9,4 +9,7 @@ pub pack-requires-clause-may : goal.pack-requires-clause-may
 pack-requires-clause-may c = may_pack c.make_room.new.pair _ (subst (λ (l : List PairStep). AllByRecursion IsOwnStep l) (sym c.make_room.ensures.steps) c.requires.own)
 
 pub returns-clause-made : goal.returns-clause-made
-returns-clause-made c = λ is. c.pack.ensures.told.1 ∙ (λ j. c.make_room.ensures.steps j ++ Pack [] (no_reads c.pack.ensures.told.0 c.pack.ensures.told.2.stand j) ∷ [])
+returns-clause-made c = λ is.
+    let told = c.pack.ensures.told in
+    let none : told.0 ≡ [] = no_reads told.0 (λ e. (let no : true ≡ false = sym e ∙ told.2.alike in cc)) told.2.stand in
+    told.1 ∙ (λ j. c.make_room.ensures.steps j ++ Pack [] (none j) ∷ [])
