@@ -15,7 +15,7 @@ use Rattle.pair_periods.proofs.Agreeing.{passing_none}
 use Rattle.connection_lock.specs.Rule.{LockedState, LockHolds, IsLocked, AreLocked, IsQuiet, EachRead, OwedIsDue}
 use Rattle.kept_pair.proofs.Replaying.{newest-more}
 use Rattle.pair_periods.proofs.Agreeing.{agree-quiet}
-use Rattle.connection_lock.specs.declared.message.NetLine.{NetLine}
+use Rattle.connection_lock.specs.declared.net_line.NetLine.{NetLine}
 use Rattle.connection_lock.specs.Turns.{line_step}
 use Rattle.connection_lock.proofs.Keeping.{locked-same}
 use Rattle.connection_lock.proofs.Lines.{line-quiet}

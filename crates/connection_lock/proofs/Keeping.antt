@@ -40,7 +40,7 @@ use Rattle.stream_manager.specs.Stands as stands
 use Rattle.kept_pair.specs.pair_core.Calls.{KeepsAtServer}
 use Rattle.kept_pair.specs.Kept.{KeptState, terms_in, newest_first}
 use Rattle.kept_pair.proofs.Replaying.{newest-more}
-use Rattle.connection_lock.specs.declared.message.Message.{Message}
+use Rattle.race_messages.specs.declared.message.Message.{Message}
 use Rattle.connection_lock.specs.Taking.{Progress, MayTake, Takes, TakesAll}
 use Rattle.connection_lock.specs.Rule.{EachRead, OwedIsDue, IsLocked, AreLocked, progress_of, IsQuiet as IsQuietPair}
 use Rattle.connection_lock.specs.Turns.{TakesLocked}

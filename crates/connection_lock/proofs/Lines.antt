@@ -26,8 +26,8 @@ use Rattle.kept_pair.specs.pair_core.Calls.{step_of}
 use Rattle.kept_pair.specs.Kept.{KeptState, IsReady}
 use Rattle.pair_periods.specs.pair_steps.Steps.{IsNoPack}
 use Rattle.pair_periods.proofs.Below.pair_steps.Journals.{IsQuiet}
-use Rattle.connection_lock.specs.declared.message.NetLine.{NetLine}
-use Rattle.connection_lock.specs.declared.message.NetLine.TheVariants as line
+use Rattle.connection_lock.specs.declared.net_line.NetLine.{NetLine}
+use Rattle.connection_lock.specs.declared.net_line.NetLine.TheVariants as line
 use Rattle.connection_lock.specs.Rule.{IsQuiet as IsQuietPair}
 use Rattle.connection_lock.specs.Turns.{line_step, line_given}
 

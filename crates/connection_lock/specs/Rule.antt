@@ -18,7 +18,7 @@ use Rattle.lane_periods.specs.Periods.{PeriodList, has}
 use Rattle.lane_periods.specs.Views.{Stands}
 use Rattle.pair_periods.specs.pair_steps.Steps.{shows_in}
 use Rattle.pair_periods.specs.Agreement.{Agree, server_log, is_due_after, HasField}
-use Rattle.connection_lock.specs.declared.message.Message.{Message}
+use Rattle.race_messages.specs.declared.message.Message.{Message}
 use Rattle.connection_lock.specs.Taking.{Progress}
 
 pub record LockedState : Type 0 where

@@ -4,24 +4,19 @@
 use Rattle.std.specs.Prelude.{◌≡◌, ℕ, ◌<◌, ◌⊎◌, false, List, [], ◌∷◌, ◌++◌}
 use Rattle.dirty_lanes.specs.declared.view.DrainedBits.{DrainedBits}
 use Rattle.stream_manager.specs.Limits.{Terms}
-use Rattle.kept_pair.specs.pair_core.History.{PairStep, Show, Hide, Near, Post}
+use Rattle.kept_pair.specs.pair_core.History.{PairStep}
 use Rattle.kept_pair.specs.pair_core.Conditions.{IsMet}
 use Rattle.lane_periods.specs.Periods.{has_object}
 use Rattle.pair_periods.specs.pair_steps.Steps.{up_in}
-use Rattle.connection_lock.specs.declared.message.Message.{Message}
-use Rattle.connection_lock.specs.declared.message.Message.TheVariants as message
+use Rattle.race_messages.specs.declared.message.Message.{Message}
+use Rattle.race_messages.specs.declared.message.Message.TheVariants as message
+use Rattle.race_messages.specs.Steps.{step_for, objects_with}
 
 -- the steps, the newest first; the object of each period; and what the seat drained, the oldest first
 pub record Progress : Type 0 where
   pub past : List PairStep
   pub objects : List ℕ
   pub drains : List DrainedBits
-
-abbrev pub step_for : Message → PairStep
-step_for (message.Show object kind block level control) = Show kind block level control
-step_for (message.Hide n) = Hide n
-step_for (message.Near n level) = Near n level
-step_for (message.Post class v) = Post class v
 
 -- what a show needs of its object
 abbrev pub IsFree : ℕ → Progress → Message → Type 0
@@ -31,10 +26,6 @@ IsFree objects p m = Unit {0}
 -- the message meets its condition, where the lanes have so many objects
 abbrev pub MayTake : Terms → ℕ → Progress → Message → Type 0
 MayTake t objects p m = IsMet t p.past (step_for m) × IsFree objects p m
-
-abbrev pub objects_with : Message → List ℕ → List ℕ
-objects_with (message.Show object kind block level control) objects = objects ++ object ∷ []
-objects_with m objects = objects
 
 abbrev pub Discards : Message → List DrainedBits → List DrainedBits → Type 0
 Discards (message.Show object kind block level control) old new = (bits : ℕ) × (new ≡ old ++ record { object = object; bits = bits } ∷ [])

@@ -26,9 +26,9 @@ use Rattle.kept_pair.specs.conn_packing.Asking.{is_asked}
 use Rattle.std.specs.List.{AllByRecursion}
 use Rattle.pair_periods.specs.pair_steps.Steps.{up_in, traits_in}
 use Rattle.pair_periods.specs.Agreement.{server_log}
-use Rattle.connection_lock.specs.declared.message.Message.{Message}
-use Rattle.connection_lock.specs.declared.message.NetLine.{NetLine}
-use Rattle.connection_lock.specs.declared.message.NetLine.TheVariants as line
+use Rattle.race_messages.specs.declared.message.Message.{Message}
+use Rattle.connection_lock.specs.declared.net_line.NetLine.{NetLine}
+use Rattle.connection_lock.specs.declared.net_line.NetLine.TheVariants as line
 use Rattle.connection_lock.specs.Taking.{Progress, Takes, TakesAll}
 use Rattle.connection_lock.specs.Rule.{LockedState, AreLocked, terms_of, progress_of, progress_in}
 

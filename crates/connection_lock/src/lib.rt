@@ -5,7 +5,7 @@
 mod events;
 mod line;
 mod locked;
-mod message;
+mod net_line;
 mod packing;
 mod shared;
 mod taking;
@@ -13,5 +13,5 @@ mod taking;
 pub use kept_pair;
 pub use lane_periods::Objects;
 pub use locked::{Ended, Locked};
-pub use message::{Message, NetLine};
+pub use net_line::NetLine;
 pub use shared::SharedPair;

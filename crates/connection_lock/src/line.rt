@@ -6,7 +6,7 @@ ghost use Rattle.connection_lock.specs.Rule.{IsQuiet};
 ghost use Rattle.connection_lock.specs.Turns.{line_given, StepsLine, MadeLine};
 
 use crate::events::drop_events;
-use crate::message::NetLine;
+use crate::net_line::NetLine;
 use kept_pair::KeptPair;
 use kept_pair::pair_core::{Answer, PairStep};
 use rtrb::Producer;

@@ -3,13 +3,14 @@ ghost use Rattle.std.specs.Prelude.{◌≡◌, [], IfOk};
 ghost use Rattle.rtrb.specs.Ring.{received, sent};
 
 use crate::line::make;
-use crate::message::{Message, NetLine};
+use crate::net_line::NetLine;
 use crate::packing::{make_room, pack};
 use crate::taking::{take_messages, take_one};
 use dirty_lanes::{LaneName, Lanes, PackSeat};
 use kept_pair::pair_core::Answer;
 use kept_pair::{KeepFault, KeptPair};
 use lane_periods::{Objects, Periods};
+use race_messages::Message;
 use rtrb::{Consumer, Producer};
 use std::alloc::Global;
 use std::marker::Model;

@@ -4,10 +4,11 @@ ghost use Rattle.rtrb.specs.Ring.{received, sent};
 ghost use Rattle.connection_lock.specs.Rule.{LockHolds};
 
 use crate::locked::Locked;
-use crate::message::{Message, NetLine};
+use crate::net_line::NetLine;
 use dirty_lanes::{LaneName, Lanes, PackSeat};
 use kept_pair::pair_core::Answer;
 use kept_pair::{KeepFault, KeptPair};
+use race_messages::Message;
 use rtrb::{Consumer, Producer};
 use std::alloc::Global;
 use std::sync::{Mutex, Wait};

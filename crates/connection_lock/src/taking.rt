@@ -3,17 +3,17 @@ ghost use Rattle.std.specs.Prelude.{◌≡◌, ◌<◌, ◌≤◌, ◌++◌, Lis
 ghost use Rattle.rtrb.specs.Ring.{received, known_items};
 ghost use Rattle.kept_pair.specs.pair_core.History.{Show, Hide, Near};
 ghost use Rattle.kept_pair.specs.Kept.{MayStep, terms_in};
-ghost use Rattle.connection_lock.specs.declared.message.Message.{Message as OneMessage};
+ghost use Rattle.race_messages.specs.declared.message.Message.{Message as OneMessage};
 ghost use Rattle.connection_lock.specs.Taking.{Takes, TakesAll};
 ghost use Rattle.connection_lock.specs.Rule.{progress_of, AreLocked};
 ghost use Rattle.lane_periods.specs.Periods.{has_object};
 ghost use Rattle.connection_lock.specs.Turns.{FaultAt, TakesLocked};
 
-use crate::message::Message;
 use dirty_lanes::{LaneName, Lanes, PackSeat};
 use kept_pair::pair_core::PairStep;
 use kept_pair::{KeepFault, KeptPair};
 use lane_periods::Periods;
+use race_messages::Message;
 use rtrb::Consumer;
 use std::alloc::Global;
 use tn_types::{Class, MAX_TAKEN_MESSAGES, Payload};

@@ -11,11 +11,11 @@ ghost use Rattle.demo_record.specs.Recording.{AreRecorded, demo_head, demo_text,
 ghost use Rattle.demo_record.specs.Steps.{IsRecorded, Notes, NotesRecords, Records};
 
 use demo_format::{DemoHead, put_ending, put_head, put_record};
-use match_engine::{Match, RunFault};
+use match_engine::Match;
 use match_report::{Told, Way};
 use match_script::Script;
 use std::alloc::Global;
-use tn_outside::{Sink, write_all};
+use tn_outside::{RunFault, Sink, write_all};
 
 /// The place of the datagram that a client took, if that is what a line tells.
 fn place_taken(told: &Told, client: u8) -> Option<u32>

@@ -14,12 +14,11 @@ use crate::command::{DemoCommand, command_of};
 use crate::laws::replay_tells_the_client;
 use crate::reading::read_demo;
 use demo_format::MAX_DEMO_BYTES;
-use demo_record::match_engine::RunFault;
 use demo_record::write_demo_of;
 use demo_replay::{ReplayFault, cut_demo_tells_a_front, replay, replay_at};
 use script_input::{Status, read_script};
 use std::alloc::Global;
-use tn_outside::{Sink, Source};
+use tn_outside::{RunFault, Sink, Source};
 
 /// Serves `demo C`.
 fn serve_demo<S: Source, K: Sink>(alloc: Global, client: u8, source: &mut S, sink: &mut K) -> Status

@@ -5,8 +5,8 @@ use Rattle.std.specs.Option.{option_map_or}
 use Rattle.std.proofs.lemmas.Bool.{cases_lt}
 use Rattle.std.proofs.lemmas.Option.{slice_get_read, slice_get_within}
 use Rattle.match_script.specs.declared.types.Script.{Script}
-use Rattle.race_record.specs.declared.race.Race.{Race}
-use Rattle.race_record.specs.declared.race.RaceClient.{RaceClient}
+use Rattle.race_history.specs.declared.race.Race.{Race}
+use Rattle.race_history.specs.declared.race.RaceClient.{RaceClient}
 use Rattle.race_text.specs.Text.{of_each}
 use Rattle.race_text.proofs.Each.{each_more}
 use Rattle.legal_race.specs.Legal.{IsClientLegal}

@@ -1,7 +1,7 @@
 -- When a race is legal for a script: what its threads kept is what some order of their steps makes of the script.
 use Rattle.std.specs.Prelude.{◌≡◌, ℕ, ◌≤◌, length, slice_get, Some}
 use Rattle.match_script.specs.declared.types.Script.{Script}
-use Rattle.race_record.specs.kept_pair.Kept.{Replays, terms_in}
+use Rattle.race_history.specs.kept_pair.Kept.{Replays, terms_in}
 use Rattle.race_course.specs.own_lists.Past.{client_terms}
 use Rattle.race_history.specs.History.{IsHistoryOf}
 use Rattle.race_history.specs.Moves.{MovesFit}
@@ -9,8 +9,8 @@ use Rattle.race_course.specs.Messages.{ticks_in}
 use Rattle.race_course.specs.Course.{world_of, all_messages}
 use Rattle.race_reads.specs.Legal.{AreLegalReads}
 use Rattle.race_steps.specs.Asked.{AreAsked}
-use Rattle.race_record.specs.declared.race.Race.{Race}
-use Rattle.race_record.specs.declared.race.RaceClient.{RaceClient}
+use Rattle.race_history.specs.declared.race.Race.{Race}
+use Rattle.race_history.specs.declared.race.RaceClient.{RaceClient}
 
 -- what was kept of client c is legal
 pub record IsClientLegal (script : Script) (race : Race) (c : ℕ) (client : RaceClient) : Type 0 where

@@ -1,3 +1,3 @@
-pub use Rattle.race_record.specs as race_record
+pub use Rattle.race_history.specs as race_history
 pub mod Legal
 pub mod Text

@@ -4,10 +4,10 @@ use Rattle.std.specs.Prelude.{ℕ, List, [], ◌++◌, length, slice_get}
 use Rattle.std.specs.Option.{option_map_or}
 use Rattle.match_script.specs.declared.types.Script.{Script}
 use Rattle.race_text.specs.Text.{of_each, history_text, moves_text, masks_text}
-use Rattle.race_journal.specs.Text.{journal_text}
-use Rattle.race_show.specs.Showing.{show_line}
-use Rattle.race_record.specs.declared.race.Race.{Race}
-use Rattle.race_record.specs.declared.race.RaceClient.{RaceClient}
+use Rattle.race_text.specs.Journal.{journal_text}
+use Rattle.race_text.specs.Showing.{show_line}
+use Rattle.race_history.specs.declared.race.Race.{Race}
+use Rattle.race_history.specs.declared.race.RaceClient.{RaceClient}
 
 -- what is told of the client of this number
 abbrev pub of_client : Race → (RaceClient → List ℕ) → ℕ → List ℕ

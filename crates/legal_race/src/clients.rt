@@ -3,13 +3,13 @@ ghost use Rattle.std.specs.Prelude.{◌≡◌, ℕ, ◌<◌, ◌≤◌, ◌^◌,
 ghost use Rattle.match_script.specs.Ranges.{HasRanges};
 ghost use Rattle.race_history.specs.Deciding.{Decides};
 ghost use Rattle.race_course.specs.Course.{IsCourseOf};
-ghost use Rattle.race_record.specs.declared.race.RaceClient.{RaceClient as OneClient};
+ghost use Rattle.race_history.specs.declared.race.RaceClient.{RaceClient as OneClient};
 ghost use Rattle.legal_race.specs.Legal.{IsClientLegal};
 
 use match_script::Script;
 use race_course::Course;
+use race_history::{Race, RaceClient};
 use race_reads::reads_are_legal;
-use race_record::{Race, RaceClient};
 use race_steps::{steps_are_asked, terms_are};
 use std::alloc::Global;
 use tn_types::NoMemory;

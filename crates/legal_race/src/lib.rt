@@ -5,5 +5,5 @@ mod clients;
 mod telling;
 mod text;
 
-pub use race_record;
+pub use race_history;
 pub use telling::tell;

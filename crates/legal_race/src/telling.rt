@@ -11,7 +11,7 @@ use crate::clients::clients_are_legal;
 use crate::text::put_race;
 use match_script::Script;
 use race_course::{Course, moves_fit};
-use race_record::Race;
+use race_history::Race;
 use race_text::Draft;
 use std::alloc::Global;
 use std::mem;

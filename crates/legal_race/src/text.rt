@@ -4,10 +4,8 @@ ghost use Rattle.race_text.specs.Text.{of_each};
 ghost use Rattle.legal_race.specs.Text.{journal_of, show_of, race_text};
 
 use match_script::Script;
-use race_journal::put_journal;
-use race_record::Race;
-use race_show::put_show;
-use race_text::{Draft, put_history, put_moves, put_words};
+use race_history::Race;
+use race_text::{Draft, put_history, put_journal, put_moves, put_show, put_words};
 use std::alloc::Global;
 use tn_types::NoMemory;
 

@@ -16,5 +16,5 @@ pub use lines::line_on;
 pub use match_laws;
 pub use match_laws::client_seat;
 pub use played::Match;
-pub use running::{RunFault, run, tell};
+pub use running::{run, tell};
 pub use served::Served;

@@ -14,16 +14,7 @@ use match_laws::laws_of_matches;
 use match_report::{Told, put_line};
 use match_script::Script;
 use std::alloc::Global;
-use tn_outside::{Sink, write_all};
-
-/// Why a report was not written to its end.
-#[derive(Clone, Copy, Debug, PartialEq, Eq)]
-pub enum RunFault {
-    /// Memory was not to be had.
-    NoMemory,
-    /// The sink failed.
-    WriteFault,
-}
+use tn_outside::{RunFault, Sink, write_all};
 
 /// Writes the line of the report of what a line tells. `text` is only a place for it. After an error a front of it was written.
 pub fn tell<K: Sink>(

@@ -10,7 +10,7 @@ ghost use Rattle.script_input.specs.Reading.{seen, GaveAtMost, HasFailed};
 ghost use Rattle.match_top.specs.Outcome.{text_of, AloneIsOfRun, Outcome, IsWanted, CanBeDone, HasScript, NoScript, LeavesSource};
 
 use crate::command::{Command, command_of};
-use match_count::match_engine::{RunFault, run};
+use match_count::match_engine::run;
 use match_count::match_laws::laws_of_matches;
 use match_count::{count, put_counts};
 use match_script::Script;
@@ -18,7 +18,7 @@ use report_laws::laws_of_reports;
 use script_input::{Status, read_script};
 use script_maker::make;
 use std::alloc::Global;
-use tn_outside::{Sink, Source, write_all};
+use tn_outside::{RunFault, Sink, Source, write_all};
 use tn_types::MAX_SCRIPT_BYTES;
 use two_worlds::run_alone;
 

@@ -4,10 +4,9 @@ ghost use Rattle.std.specs.Prelude.{◌≡◌, ◌<◌, ◌≤◌, ◌∷◌, �
 use crate::server::Server;
 use crate::telling::delivered;
 use crate::watch::Watch;
-use match_engine::RunFault;
 use match_script::{BodyLine, LineDatagram, LinePayload};
 use std::alloc::Global;
-use tn_outside::Sink;
+use tn_outside::{RunFault, Sink};
 use tn_types::{Class, MAX_DATAGRAM_BYTES, NoMemory, Payload};
 
 impl Server<'_> {

@@ -14,9 +14,9 @@ use Rattle.pair_core.specs.stream_manager.Limits.{Terms}
 use Rattle.pair_core.specs.History.{PairStep, Show, Hide, Near, Post, ClientPost, Sample, Pack, ClientPack, Down, Up, Raw}
 use Rattle.pair_core.specs.Answers.{accepted_in}
 use Rattle.kept_pair.specs.Kept.{KeptState, newest_first, terms_in}
-use Rattle.connection_lock.specs.declared.message.Message.{Message}
-use Rattle.connection_lock.specs.declared.message.Message.TheVariants as message
-use Rattle.connection_lock.specs.Taking.{step_for}
+use Rattle.race_messages.specs.declared.message.Message.{Message}
+use Rattle.race_messages.specs.declared.message.Message.TheVariants as message
+use Rattle.race_messages.specs.Steps.{step_for}
 use Rattle.race_history.specs.Moves.{moves_taken}
 use Rattle.race_steps.specs.Asked.{ClientAct, IsRoom, room_found, message_step, messages_taken, objects_shown, is_pack_step, is_pack_line, packs_made, packs_asked, act_done, act_asked, acts_done, acts_asked, steps_asked, AreAsked}
 use Rattle.plain_race.specs.Done.{IsOwnStep, AreRoomsIn, IsDone, IsStopped, IsEnded}

@@ -7,7 +7,7 @@ use Rattle.tn_types.specs.declared.choices.Read.{Read}
 use Rattle.tn_types.specs.declared.moves.Move.{Move}
 use Rattle.match_script.specs.declared.types.BodyLine.{BodyLine}
 use Rattle.match_script.specs.declared.types.Script.{Script}
-use Rattle.race_record.specs.declared.race.RaceClient.{RaceClient}
+use Rattle.race_history.specs.declared.race.RaceClient.{RaceClient}
 use Rattle.world_sim.specs.Worlds.{Worlds, next}
 use Rattle.std.proofs.lemmas.Bool.{cases_lt}
 use Rattle.std.proofs.lemmas.Option.{slice_get_within}
@@ -23,8 +23,8 @@ use Rattle.dirty_lanes.specs.Named.{IsNumbered}
 use Rattle.pair_steps.specs.Steps.{shows_in}
 use Rattle.pair_steps.proofs.Journals.{IsQuiet, up_from}
 use Rattle.kept_pair.specs.Kept.{KeptState, newest_first, terms_in, MayStep, MayPack}
-use Rattle.connection_lock.specs.declared.message.Message.{Message}
-use Rattle.connection_lock.specs.Taking.{step_for, objects_with}
+use Rattle.race_messages.specs.declared.message.Message.{Message}
+use Rattle.race_messages.specs.Steps.{step_for, objects_with}
 use Rattle.pair_core.specs.Conditions.{IsMet, AreMet}
 use Rattle.race_steps.specs.Asked.{objects_shown}
 use Rattle.plain_race.specs.Done.{IsOwnStep, AreStepsOf, IsDone, IsStopped, IsRefused, DoesLine, StopsAtLine, Takes, StopsAtMessage, MayTakeAll, IsPlain}

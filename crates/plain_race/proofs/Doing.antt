@@ -17,9 +17,9 @@ use Rattle.pair_core.specs.Conditions.{IsMet, AreMet}
 use Rattle.pair_steps.proofs.Journals.{IsQuiet}
 use Rattle.conn_packing.proofs.Lists.{all-append, all-reverse}
 use Rattle.kept_pair.specs.Kept.{newest_first}
-use Rattle.connection_lock.specs.declared.message.Message.{Message}
-use Rattle.connection_lock.specs.declared.message.Message.TheVariants as message
-use Rattle.connection_lock.specs.Taking.{step_for, objects_with}
+use Rattle.race_messages.specs.declared.message.Message.{Message}
+use Rattle.race_messages.specs.declared.message.Message.TheVariants as message
+use Rattle.race_messages.specs.Steps.{step_for, objects_with}
 use Rattle.race_steps.specs.Asked.{ClientAct, IsRoom, room_found, is_pack_step, is_pack_line, packs_made, packs_asked, act_done, act_asked, act_said, acts_done, acts_asked, object_shown, objects_shown, steps_asked}
 use Rattle.plain_race.specs.Asks.{IsAct, asked_of, act_given}
 use Rattle.plain_race.specs.Done.{IsOwnStep, AreStepsOf}

@@ -41,9 +41,9 @@ use Rattle.conn_packing.proofs.Lists.{all-append, all-reverse}
 use Rattle.pair_steps.specs.Steps.{shows_in, traits_in, IsNoPack}
 use Rattle.pair_steps.proofs.Journals.{IsQuiet, kind_told}
 use Rattle.kept_pair.specs.Kept.{newest_first}
-use Rattle.connection_lock.specs.declared.message.Message.{Message}
-use Rattle.connection_lock.specs.declared.message.Message.TheVariants as message
-use Rattle.connection_lock.specs.Taking.{step_for}
+use Rattle.race_messages.specs.declared.message.Message.{Message}
+use Rattle.race_messages.specs.declared.message.Message.TheVariants as message
+use Rattle.race_messages.specs.Steps.{step_for}
 use Rattle.own_lists.specs.Past.{showing_of}
 use Rattle.own_lists.proofs.WorldFacts as facts
 use Rattle.own_lists.proofs.WorldFacts.{object_goes_on, object_values_fit, object_at}

@@ -26,9 +26,9 @@ use Rattle.pair_core.specs.History.{PairStep, Post}
 use Rattle.pair_core.specs.Conditions.{AreMet}
 use Rattle.pair_core.specs.Answers.{answer, accepted_in}
 use Rattle.kept_pair.proofs.Counts.{none-new}
-use Rattle.connection_lock.specs.declared.message.Message.{Message}
-use Rattle.connection_lock.specs.declared.message.Message.TheVariants as message
-use Rattle.connection_lock.specs.Taking.{step_for}
+use Rattle.race_messages.specs.declared.message.Message.{Message}
+use Rattle.race_messages.specs.declared.message.Message.TheVariants as message
+use Rattle.race_messages.specs.Steps.{step_for}
 use Rattle.own_lists.specs.Own.{OwnShow, OwnItem, Line}
 use Rattle.own_lists.specs.declared.showing.Showing.{Showing}
 use Rattle.own_lists.specs.Kept.{kept}

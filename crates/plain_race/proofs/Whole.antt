@@ -15,12 +15,12 @@ use Rattle.pair_core.specs.stream_manager.Limits.{Terms}
 use Rattle.pair_core.specs.History.{PairStep}
 use Rattle.pair_core.specs.Conditions.{AreMet}
 use Rattle.kept_pair.specs.Kept.{KeptState, terms_in}
-use Rattle.connection_lock.specs.declared.message.Message.{Message}
+use Rattle.race_messages.specs.declared.message.Message.{Message}
 use Rattle.own_lists.specs.Past.{client_terms}
 use Rattle.race_history.specs.History.{IsHistoryOf, world_after}
 use Rattle.race_history.specs.Moves.{HasClients, MovesFit, moves_taken}
-use Rattle.race_record.specs.declared.race.Race.{Race}
-use Rattle.race_record.specs.declared.race.RaceClient.{RaceClient}
+use Rattle.race_history.specs.declared.race.Race.{Race}
+use Rattle.race_history.specs.declared.race.RaceClient.{RaceClient}
 use Rattle.race_course.specs.Messages.{Ticks, ticks_in}
 use Rattle.race_course.specs.Course.{world_of, all_messages}
 use Rattle.race_course.proofs.Following.{ticks_reversed}

@@ -10,11 +10,11 @@ use Rattle.pair_core.specs.History.{PairStep, Show, Hide, Near, Post, Pack}
 use Rattle.pair_core.specs.Answers.{accepted_in}
 use Rattle.pair_core.specs.Conditions.{AreMet}
 use Rattle.kept_pair.specs.Kept.{KeptState, Replays, newest_first, terms_in}
-use Rattle.connection_lock.specs.declared.message.Message.{Message}
-use Rattle.connection_lock.specs.Taking.{step_for}
+use Rattle.race_messages.specs.declared.message.Message.{Message}
+use Rattle.race_messages.specs.Steps.{step_for}
 use Rattle.match_script.specs.declared.types.Script.{Script}
 use Rattle.own_lists.specs.Past.{client_terms}
-use Rattle.race_record.specs.declared.race.RaceClient.{RaceClient}
+use Rattle.race_history.specs.declared.race.RaceClient.{RaceClient}
 use Rattle.race_course.specs.Course.{all_messages}
 use Rattle.plain_race.specs.Idle.{idle_in}
 use Rattle.race_steps.specs.Asked.{IsRoom, room_found, packs_made, packs_asked, acts_done, acts_asked, objects_shown, steps_asked}

@@ -9,12 +9,12 @@ ghost use Rattle.plain_race.specs.Done.{IsPlain, IsEnded};
 
 use crate::lines::do_lines;
 use crate::messages::take_all;
-use connection_lock::Message;
 use lane_periods::Objects;
 use match_script::{Head, Script};
 use pair_core::Pair;
-use race_record::RaceClient;
-use race_record::kept_pair::KeptPair;
+use race_history::RaceClient;
+use race_history::kept_pair::KeptPair;
+use race_messages::Message;
 use std::alloc::Global;
 use stream_manager::Config;
 use tn_types::NoMemory;

@@ -13,4 +13,4 @@ mod words;
 mod zero_values;
 
 pub use plain::plain_race;
-pub use race_record;
+pub use race_history;

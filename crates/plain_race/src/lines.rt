@@ -2,7 +2,7 @@
 ghost use Rattle.std.specs.Prelude.{◌≡◌, ◌++◌, ◌∷◌, [], ℕ, List, true, false, IfOk};
 ghost use Rattle.std.specs.List.{AllByRecursion};
 ghost use Rattle.kept_pair.specs.Kept.{terms_in};
-ghost use Rattle.connection_lock.specs.declared.message.Message.{Message as OneMessage};
+ghost use Rattle.race_messages.specs.declared.message.Message.{Message as OneMessage};
 ghost use Rattle.race_steps.specs.Asked.{is_pack_line};
 ghost use Rattle.plain_race.specs.Asks.{act_given};
 ghost use Rattle.plain_race.specs.Done.{IsOwnStep, AreStepsOf, DoesLine, StopsAtLine, IsStopped};
@@ -10,7 +10,7 @@ ghost use Rattle.plain_race.specs.Done.{IsOwnStep, AreStepsOf, DoesLine, StopsAt
 use crate::steps::{act, pack, room_in};
 use match_script::BodyLine;
 use pair_core::PairStep;
-use race_record::kept_pair::KeptPair;
+use race_history::kept_pair::KeptPair;
 use std::alloc::Global;
 use tn_types::NoMemory;
 

@@ -2,15 +2,15 @@
 ghost use Rattle.std.specs.Prelude.{◌≡◌, [], ◌∷◌, ◌++◌, true, false, IfOk};
 ghost use Rattle.pair_core.specs.Calls.{step_of};
 ghost use Rattle.kept_pair.specs.Kept.{terms_in, MayStep};
-ghost use Rattle.connection_lock.specs.Taking.{step_for, objects_with};
+ghost use Rattle.race_messages.specs.Steps.{step_for, objects_with};
 ghost use Rattle.plain_race.specs.Asks.{IsGiven};
 ghost use Rattle.plain_race.specs.Done.{IsRefused, Takes, StopsAtMessage, MayTakeAll};
 
 use crate::steps::take;
-use connection_lock::Message;
 use lane_periods::Objects;
 use pair_core::PairStep;
-use race_record::kept_pair::KeptPair;
+use race_history::kept_pair::KeptPair;
+use race_messages::Message;
 use std::alloc::Global;
 use tn_types::NoMemory;
 

@@ -2,7 +2,7 @@
 ghost use Rattle.std.specs.Prelude.{◌≡◌, ℕ, IfOk, length, slice_get, Some};
 ghost use Rattle.match_script.specs.Ranges.{HasRanges};
 ghost use Rattle.race_course.specs.Course.{IsCourseOf};
-ghost use Rattle.race_record.specs.declared.race.RaceClient.{RaceClient as OneClient};
+ghost use Rattle.race_history.specs.declared.race.RaceClient.{RaceClient as OneClient};
 ghost use Rattle.legal_race.specs.Legal.{IsLegal};
 ghost use Rattle.plain_race.specs.Idle.{idle_in};
 ghost use Rattle.plain_race.specs.Done.{IsPlain};
@@ -13,8 +13,7 @@ use crate::values::values_of;
 use crate::words::no_words;
 use match_script::Script;
 use race_course::Course;
-use race_history::TickMoves;
-use race_record::{Race, RaceClients};
+use race_history::{Race, RaceClients, TickMoves};
 use std::alloc::Global;
 use tn_types::NoMemory;
 

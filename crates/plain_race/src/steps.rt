@@ -11,7 +11,7 @@ ghost use Rattle.std.specs.Prelude.{length};
 
 use crate::zero_values::ZeroValues;
 use pair_core::PairStep;
-use race_record::kept_pair::{KeepFault, KeptPair};
+use race_history::kept_pair::{KeepFault, KeptPair};
 use std::alloc::Global;
 use tn_types::{MAX_WAITING_MOVES, NoMemory};
 

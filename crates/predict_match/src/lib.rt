@@ -3,6 +3,5 @@
 
 mod running;
 
-pub use match_engine::RunFault;
 pub use predict_laws::{predict_lines, value_is_servers};
 pub use running::run_predicted;

@@ -13,12 +13,12 @@ ghost use Rattle.predict_laws.specs.Promise.{ValueIsServers};
 ghost use Rattle.predict_match.specs.Beside.{StandBeside};
 
 use client_predict::{Predict, accepted_changes_nothing, offset_settles};
-use match_engine::{Match, RunFault};
+use match_engine::Match;
 use match_script::{BodyLine, Script};
 use predict_laws::predict_lines::{EndChange, change_of, follow, put_prediction};
 use predict_laws::value_is_servers;
 use std::alloc::Global;
-use tn_outside::{Sink, write_all};
+use tn_outside::{RunFault, Sink, write_all};
 use tn_types::NoMemory;
 
 /// Whether a line shows what this client has.

@@ -8,10 +8,10 @@ ghost use Rattle.predict_top.specs.Outcome.{PredictOutcome, IsWanted, CanBeDone}
 
 use crate::command::client_of;
 use client_predict::{accepted_changes_nothing, offset_settles};
-use predict_match::{RunFault, run_predicted, value_is_servers};
+use predict_match::{run_predicted, value_is_servers};
 use script_input::{Status, read_script};
 use std::alloc::Global;
-use tn_outside::{Sink, Source};
+use tn_outside::{RunFault, Sink, Source};
 
 // Serves the command.
 fn serve<S: Source, K: Sink>(alloc: Global, client: u8, source: &mut S, sink: &mut K) -> Status

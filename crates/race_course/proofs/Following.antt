@@ -10,7 +10,7 @@ use Rattle.match_script.specs.declared.types.Script.{Script}
 use Rattle.world_rules.specs.declared.setup.Setup.{Setup}
 use Rattle.world_sim.specs.Worlds.{Worlds, next, first_world}
 use Rattle.client_scope.specs.StandsFor.{StandsFor}
-use Rattle.connection_lock.specs.declared.message.Message.{Message}
+use Rattle.race_messages.specs.declared.message.Message.{Message}
 use Rattle.race_history.specs.History.{Values, world_after, IsHistoryOf}
 use Rattle.race_history.specs.Moves.{MovesFit}
 use Rattle.race_history.proofs.Histories.{after_more}

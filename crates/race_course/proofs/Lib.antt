@@ -1,4 +1,3 @@
-pub mod Below
 pub mod Adding
 pub mod Rising
 pub mod Following

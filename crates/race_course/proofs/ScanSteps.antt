@@ -8,7 +8,7 @@ use Rattle.client_scope.specs.Changes.{hides, nears, shows}
 use Rattle.own_lists.specs.pair_core.History.{PairStep}
 use Rattle.own_lists.specs.Course.{scan_steps, hide_step, near_step, show_step}
 use Rattle.own_lists.specs.Past.{showing_of}
-use Rattle.connection_lock.specs.Taking.{step_for}
+use Rattle.race_messages.specs.Steps.{step_for}
 use Rattle.race_course.specs.Messages.{scan_messages, hide_message, near_message, show_message}
 
 hides_are : (ns : List ℕ) → map step_for (map hide_message ns) ≡ map hide_step ns

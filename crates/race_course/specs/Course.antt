@@ -6,7 +6,7 @@ use Rattle.match_script.specs.declared.types.Script.{Script}
 use Rattle.match_script.specs.Ranges.{LineFits}
 use Rattle.world_sim.specs.Worlds.{Worlds, first_world}
 use Rattle.client_scope.specs.StandsFor.{Table, StandsFor}
-use Rattle.connection_lock.specs.declared.message.Message.{Message}
+use Rattle.race_messages.specs.declared.message.Message.{Message}
 use Rattle.race_history.specs.History.{Values, IsHistoryOf}
 use Rattle.race_course.specs.Messages.{Ticks, ticks_in, world_at, scans_of, messages}
 

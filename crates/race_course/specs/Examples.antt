@@ -7,7 +7,7 @@ use Rattle.world_rules.specs.Next.{discs_made}
 use Rattle.world_rules.specs.declared.setup.Setup.{Setup}
 use Rattle.world_sim.specs.Worlds.{Worlds, first_world, next}
 use Rattle.world_scope.specs.Scope.{visible_list}
-use Rattle.connection_lock.specs.declared.message.Message.TheVariants as message
+use Rattle.race_messages.specs.declared.message.Message.TheVariants as message
 use Rattle.race_course.specs.Messages.{Ticks, messages}
 
 abbrev setup : Setup

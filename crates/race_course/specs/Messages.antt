@@ -11,8 +11,8 @@ use Rattle.world_scope.specs.Scope.{visible_list}
 use Rattle.client_scope.specs.declared.period.Near.{Near as NearPeriod}
 use Rattle.client_scope.specs.Changes.{hides, nears, shows}
 use Rattle.own_lists.specs.Past.{showing_of}
-use Rattle.connection_lock.specs.declared.message.Message.{Message}
-use Rattle.connection_lock.specs.declared.message.Message.TheVariants as message
+use Rattle.race_messages.specs.declared.message.Message.{Message}
+use Rattle.race_messages.specs.declared.message.Message.TheVariants as message
 use Rattle.race_history.specs.History.{world_after}
 
 -- ---- the messages of a scan

@@ -4,13 +4,13 @@ ghost use Rattle.world_scope.specs.declared.viewer.Seen.{Seen};
 ghost use Rattle.world_scope.specs.Scope.{visible_list};
 ghost use Rattle.world_sim.specs.Worlds.{Worlds};
 ghost use Rattle.client_scope.specs.StandsFor.{StandsFor};
-ghost use Rattle.connection_lock.specs.declared.message.Message.TheVariants as message;
+ghost use Rattle.race_messages.specs.declared.message.Message.TheVariants as message;
 ghost use Rattle.race_course.specs.Messages.{Ticks, scan_messages};
 ghost use Rattle.race_course.specs.Course.{IsClientAt};
 
 use crate::scan::scan_messages;
 use client_scope::Scope;
-use connection_lock::Message;
+use race_messages::Message;
 use std::alloc::{AllocError, Global};
 use std::marker::Model;
 use tn_types::{Class, MAX_OBJECTS, NoMemory, Payload};

@@ -7,9 +7,9 @@ ghost use Rattle.race_course.specs.Course.{IsCourseOf, IsMadeOf, world_of};
 
 use crate::client::ClientCourse;
 use crate::making::Making;
-use connection_lock::Message;
 use match_script::Script;
 use race_history::{History, TickMoves};
+use race_messages::Message;
 use std::alloc::Global;
 use std::marker::Model;
 use tn_types::NoMemory;

@@ -5,7 +5,7 @@ ghost use Rattle.world_scope.specs.declared.viewer.Seen.{Seen};
 ghost use Rattle.client_scope.specs.Changes.{hides, nears, shows};
 ghost use Rattle.own_lists.specs.Course.{scan_steps};
 ghost use Rattle.own_lists.specs.Past.{showing_of};
-ghost use Rattle.connection_lock.specs.Taking.{step_for};
+ghost use Rattle.race_messages.specs.Steps.{step_for};
 ghost use Rattle.race_course.specs.Messages.{scan_messages};
 
 /// The steps of a scan's messages are the steps that the same scan is in a match on one thread.

@@ -8,8 +8,6 @@ pub mod laws;
 mod making;
 mod scan;
 
-pub use connection_lock;
-pub use connection_lock::kept_pair;
 pub use course::Course;
 pub use fit::moves_fit;
 pub use own_lists::pair_core;

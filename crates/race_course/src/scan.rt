@@ -7,7 +7,7 @@ ghost use Rattle.client_scope.specs.StandsFor.{StandsFor};
 ghost use Rattle.race_course.specs.Messages.{hide_message, near_message, show_message, scan_messages};
 
 use client_scope::{Near, Scope};
-use connection_lock::Message;
+use race_messages::Message;
 use std::alloc::{AllocError, Global};
 use tn_types::{MAX_OBJECTS, NoMemory};
 use world_rules::flags::is_player;

@@ -3,10 +3,10 @@ ghost use Rattle.std.specs.Prelude.{◌≡◌, ◌+◌, ◌*◌, ◌<◌, true, 
 ghost use Rattle.dirty_lanes.specs.Named.{IsNumbered};
 
 use crate::left::take_left;
+use connection_lock::{Ended, Locked, SharedPair};
 use dirty_lanes::{FinalWords, LaneName, Lanes, PackSeat, SimSeat, close};
-use race_record::kept_pair::KeepFault;
-use race_record::{Race, RaceClient, RaceClients};
-use race_sim::connection_lock::{Ended, Locked, SharedPair};
+use race_history::kept_pair::KeepFault;
+use race_history::{Race, RaceClient, RaceClients};
 use race_sim::{Simulated, Waiting};
 use std::alloc::Global;
 use tn_types::NoMemory;

@@ -1,8 +1,8 @@
 //! The messages that are left when all activities have ended.
+use connection_lock::Locked;
 use dirty_lanes::{LaneName, Lanes};
-use race_record::kept_pair::KeepFault;
+use race_history::kept_pair::KeepFault;
 use race_sim::Waiting;
-use race_sim::connection_lock::Locked;
 use std::alloc::Global;
 
 // Takes what still waits at the simulation.

@@ -5,5 +5,4 @@ mod ending;
 mod left;
 
 pub use ending::end;
-pub use race_record;
-pub use race_record::kept_pair;
+pub use race_history::kept_pair;

@@ -5,6 +5,10 @@ mod history;
 pub mod laws;
 mod moves;
 mod object;
+mod race;
 
 pub use history::History;
+pub use kept_pair;
+pub use kept_pair::pair_core;
 pub use moves::TickMoves;
+pub use race::{Race, RaceClient, RaceClients};

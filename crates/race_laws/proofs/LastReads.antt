@@ -9,7 +9,7 @@ use Rattle.tn_types.specs.declared.choices.Read.{Read}
 use Rattle.pair_core.specs.History.{PairStep, Show, Hide, Near, Post, ClientPost, Sample, Pack, ClientPack, Down, Up, Raw}
 use Rattle.pair_copies.specs.Reads.{newest_in}
 use Rattle.pair_copies.specs.Reads as copies
-use Rattle.legal_race.specs.race_record.kept_pair.StepLists.{reads_in}
+use Rattle.legal_race.specs.race_history.kept_pair.StepLists.{reads_in}
 use Rattle.race_reads.specs.Reads.{is_read_of, or_earlier}
 use Rattle.race_reads.specs.Reads as races
 use Rattle.race_reads.specs.Legal.{reads_of}

@@ -38,10 +38,10 @@ use Rattle.race_reads.specs.Reads.{object_of, ReadStands, IsCurrent, IsNewest as
 use Rattle.race_reads.specs.Reads as races
 use Rattle.race_reads.specs.Legal.{reads_of, is_field_due, AreLegalReads, IsPeriodCurrent}
 use Rattle.race_reads.proofs.Joining.{in_fields, told_object}
-use Rattle.race_show.specs.Showing.{word_of, left_of, left_over}
-use Rattle.legal_race.specs.race_record.kept_pair.Kept.{terms_in}
-use Rattle.legal_race.specs.race_record.declared.race.Race.{Race}
-use Rattle.legal_race.specs.race_record.declared.race.RaceClient.{RaceClient}
+use Rattle.race_text.specs.Showing.{word_of, left_of, left_over}
+use Rattle.legal_race.specs.race_history.kept_pair.Kept.{terms_in}
+use Rattle.legal_race.specs.race_history.declared.race.Race.{Race}
+use Rattle.legal_race.specs.race_history.declared.race.RaceClient.{RaceClient}
 use Rattle.legal_race.specs.Legal.{IsLegal}
 use Rattle.race_laws.specs.Settled.{steps_of, IsShownField, HasNewest, ShowsNewest, SettledShowsNewest}
 use Rattle.race_laws.proofs.LastReads.{last_of, version_is, value_is, last_holds}

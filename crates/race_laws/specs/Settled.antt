@@ -15,10 +15,10 @@ use Rattle.match_report.specs.declared.copies.FieldTold.{FieldTold}
 use Rattle.match_laws.specs.client_seat.Told.{holder_at, field_told}
 use Rattle.match_laws.specs.Values.{IsShownFor}
 use Rattle.race_history.specs.History.{Values, version_told, newest}
-use Rattle.race_show.specs.Showing.{left_over}
-use Rattle.legal_race.specs.race_record.kept_pair.Kept.{terms_in, newest_first}
-use Rattle.legal_race.specs.race_record.declared.race.Race.{Race}
-use Rattle.legal_race.specs.race_record.declared.race.RaceClient.{RaceClient}
+use Rattle.race_text.specs.Showing.{left_over}
+use Rattle.legal_race.specs.race_history.kept_pair.Kept.{terms_in, newest_first}
+use Rattle.legal_race.specs.race_history.declared.race.Race.{Race}
+use Rattle.legal_race.specs.race_history.declared.race.RaceClient.{RaceClient}
 use Rattle.legal_race.specs.Legal.{IsLegal}
 
 -- the client's steps, the newest first, and what they made happen at both ends

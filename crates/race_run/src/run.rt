@@ -3,17 +3,17 @@ ghost use Rattle.std.specs.Prelude.{◌≡◌, ◌<◌, ◌*◌, Ok, IfOk, lengt
 ghost use Rattle.match_script.specs.Ranges.{HasRanges};
 ghost use Rattle.world_sim.specs.Worlds.{first_world};
 ghost use Rattle.race_history.specs.History.{IsHistoryOf};
-ghost use Rattle.race_activities.specs.race_sim.Simulating.{Follows, AreFew};
+ghost use Rattle.race_sim.specs.Simulating.{Follows, AreFew};
 
+use crate::activity::Served;
+use crate::start::{Ready, make_ready};
+use connection_lock::SharedPair;
 use dirty_lanes::{FreshLanes, LaneName, Lanes};
+use kept_pair::KeepFault;
 use match_script::Script;
-use race_activities::Served;
-use race_activities::connection_lock::SharedPair;
-use race_activities::race_sim::{FreeGate, Gate, Simulated, Simulation, simulate};
 use race_ending::end;
-use race_ending::kept_pair::KeepFault;
-use race_ending::race_record::Race;
-use race_start::{Ready, make_ready};
+use race_history::Race;
+use race_sim::{FreeGate, Gate, Simulated, Simulation, simulate};
 use std::alloc::{AllocError, Global};
 use std::marker::Brand;
 use std::sync::Wait;

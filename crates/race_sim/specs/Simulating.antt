@@ -8,7 +8,7 @@ use Rattle.dirty_lanes.specs.declared.view.SimView.{SimView}
 use Rattle.world_sim.specs.Worlds.{Worlds}
 use Rattle.world_scope.specs.declared.viewer.Seen.{Seen}
 use Rattle.client_scope.specs.StandsFor.{Table, StandsFor}
-use Rattle.race_course.specs.connection_lock.declared.message.Message.{Message}
+use Rattle.race_messages.specs.declared.message.Message.{Message}
 use Rattle.race_history.specs.History.{Values, IsHistoryOf, world_after}
 
 -- what the simulation has of one client

@@ -12,5 +12,4 @@ pub use gate::{Actor, FreeGate, Gate, Place};
 pub use lines::{Simulated, simulate};
 pub use outgoing::Waiting;
 pub use port::Port;
-pub use race_course::{connection_lock, kept_pair, pair_core};
 pub use simulation::Simulation;

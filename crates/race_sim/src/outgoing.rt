@@ -1,9 +1,9 @@
 //! Messages on their way to a connection.
 ghost use Rattle.std.specs.Prelude.{◌≡◌, ◌≤◌, List, [], ◌++◌, OnOk, length};
 ghost use Rattle.rtrb.specs.Ring.{sent, known_free};
-ghost use Rattle.race_course.specs.connection_lock.declared.message.Message.{Message as OneMessage};
+ghost use Rattle.race_messages.specs.declared.message.Message.{Message as OneMessage};
 
-use race_course::connection_lock::Message;
+use race_messages::Message;
 use rtrb::Producer;
 use std::alloc::Global;
 use std::collections::VecDeque;
@@ -18,7 +18,7 @@ pub struct Waiting {
 
 impl Model for Waiting {
     ghost use Rattle.std.specs.Prelude.{List};
-    ghost use Rattle.race_course.specs.connection_lock.declared.message.Message.{Message};
+    ghost use Rattle.race_messages.specs.declared.message.Message.{Message};
 
     ghost Value = { List Message };
 
@@ -36,7 +36,7 @@ pub(crate) struct Outgoing {
 impl Model for Outgoing {
     ghost use Rattle.std.specs.Prelude.{List, ◌++◌};
     ghost use Rattle.rtrb.specs.Ring.{sent};
-    ghost use Rattle.race_course.specs.connection_lock.declared.message.Message.{Message};
+    ghost use Rattle.race_messages.specs.declared.message.Message.{Message};
 
     ghost Value = { List Message };
 

@@ -5,13 +5,13 @@ ghost use Rattle.rtrb.specs.Ring.{sent, received};
 ghost use Rattle.world_scope.specs.declared.viewer.Seen.{Seen};
 ghost use Rattle.world_scope.specs.Scope.{visible_list};
 ghost use Rattle.client_scope.specs.StandsFor.{StandsFor};
-ghost use Rattle.race_course.specs.connection_lock.declared.message.Message.TheVariants as message;
-ghost use Rattle.race_course.specs.connection_lock.declared.message.Message.{Message as OneMessage};
+ghost use Rattle.race_messages.specs.declared.message.Message.TheVariants as message;
+ghost use Rattle.race_messages.specs.declared.message.Message.{Message as OneMessage};
 
 use crate::outgoing::{Outgoing, Waiting};
 use client_scope::Scope;
-use race_course::connection_lock::Message;
 use race_course::scan_messages;
+use race_messages::Message;
 use rtrb::{Consumer, Producer};
 use std::alloc::Global;
 use std::marker::Model;

@@ -13,9 +13,9 @@ use Rattle.match_script.specs.declared.types.BodyLine.TheVariants as script
 use Rattle.pair_core.specs.History as step
 use Rattle.pair_core.specs.History.{PairStep}
 use Rattle.kept_pair.specs.Kept.{KeptState, accepted_by}
-use Rattle.connection_lock.specs.declared.message.Message.{Message}
-use Rattle.connection_lock.specs.declared.message.Message.TheVariants as message
-use Rattle.connection_lock.specs.Taking.{step_for}
+use Rattle.race_messages.specs.declared.message.Message.{Message}
+use Rattle.race_messages.specs.declared.message.Message.TheVariants as message
+use Rattle.race_messages.specs.Steps.{step_for}
 use Rattle.own_lists.specs.Own.{client_named, is_named}
 use Rattle.race_history.specs.Moves.{moves_taken}
 

@@ -8,7 +8,7 @@ use crate::messages::{first_messages, message_count, messages_are, objects_are};
 use crate::moves::moves_are_first;
 use crate::packs::{packs_are, packs_asked};
 use crate::rooms::are_rooms;
-use connection_lock::Message;
+use race_messages::Message;
 use kept_pair::{KeptPair, StepList};
 use lane_periods::Objects;
 use match_script::{BodyLine, Script};

@@ -4,13 +4,13 @@ ghost use Rattle.std.specs.Option.{option_and_then};
 ghost use Rattle.race_history.specs.Deciding.{Decides};
 ghost use Rattle.pair_core.specs.Calls.{step_of};
 ghost use Rattle.pair_core.specs.History.{Show, Hide, Near, Post};
-ghost use Rattle.connection_lock.specs.Taking.{step_for};
+ghost use Rattle.race_messages.specs.Steps.{step_for};
 ghost use Rattle.race_steps.specs.Asked.{AreAllOrFirst, message_step, messages_taken, object_shown, objects_shown};
 ghost use Rattle.race_steps.specs.Walking.{Fits};
 
 use crate::fit::Fit;
 use crate::steps::step_at;
-use connection_lock::Message;
+use race_messages::Message;
 use kept_pair::StepList;
 use lane_periods::Objects;
 use pair_core::PairStep;

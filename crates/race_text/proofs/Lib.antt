@@ -1,1 +1,4 @@
 pub mod Each
+mod Counted
+mod Finding
+mod Listed

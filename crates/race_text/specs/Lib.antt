@@ -1,2 +1,4 @@
 pub mod Drafts
 pub mod Text
+pub mod Journal
+pub mod Showing

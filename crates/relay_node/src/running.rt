@@ -12,13 +12,12 @@ ghost use Rattle.relay_node.specs.Running.{MayCatchUp, CatchesUp, MayStep, Steps
 
 use crate::laws::lines_stand_as_in_the_text;
 use crate::node::Node;
-use match_engine::RunFault;
 use relay_report::{
     packs_are_of_what_was_met, put_relayed, same_lists_same_packs, same_met_same_packs,
 };
 use relay_script::{PlacedLine, RelayScript};
 use std::alloc::Global;
-use tn_outside::{Sink, write_all};
+use tn_outside::{RunFault, Sink, write_all};
 
 // Does the lines of the match from one place up to another.
 fn catch_up(

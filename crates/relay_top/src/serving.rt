@@ -9,7 +9,6 @@ ghost use Rattle.relay_top.specs.Command.{relay_of, Says};
 ghost use Rattle.relay_top.specs.Outcome.{RelayOutcome, IsWanted, CanBeDone};
 
 use crate::reading::read_relay_script;
-use match_engine::RunFault;
 use relay_laws::{
     settled_shows_the_relays, spectators_deliver_what_was_posted, spectators_periods_stand_for_one,
     spectators_show_what_was_so,
@@ -20,7 +19,7 @@ use relay_node::relay_report::{
 use relay_node::run_relay;
 use script_input::Status;
 use std::alloc::Global;
-use tn_outside::{Sink, Source};
+use tn_outside::{RunFault, Sink, Source};
 
 // Whether the words are `relay`, or where they stop being so.
 fn relay_of(words: &Vec<String>) -> Result<(), u32>

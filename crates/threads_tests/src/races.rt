@@ -5,7 +5,7 @@ ghost use Rattle.match_script.specs.Ranges.{HasRanges};
 use crate::gates::LineGate;
 use match_script::{Script, parse};
 use race_history::TickMoves;
-use race_record::Race;
+use race_history::Race;
 use race_run::{race, race_in_turn};
 use std::alloc::Global;
 use std::process::Abort;

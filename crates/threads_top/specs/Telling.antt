@@ -2,7 +2,7 @@
 use Rattle.std.specs.Prelude.{◌≡◌, ℕ, List, Option}
 use Rattle.tn_outside.specs.Totals.{Adds, AddsFront}
 use Rattle.match_script.specs.declared.types.Script.{Script}
-use Rattle.legal_race.specs.race_record.declared.race.Race.{Race}
+use Rattle.legal_race.specs.race_history.declared.race.Race.{Race}
 use Rattle.legal_race.specs.Legal.{IsLegal}
 use Rattle.legal_race.specs.Text.{race_text}
 

@@ -5,7 +5,6 @@ mod run;
 mod threads;
 
 pub use legal_race::tell;
-pub use match_engine::RunFault;
 pub use race_run::{FreeGate, Gate};
 pub use run::run_threads;
 pub use threads::top_threads;

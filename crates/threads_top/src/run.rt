@@ -5,14 +5,13 @@ ghost use Rattle.match_script.specs.Ranges.{HasRanges};
 ghost use Rattle.threads_top.specs.Telling.{IsRaceText, Tells, TellsFront};
 
 use legal_race::tell;
-use match_engine::RunFault;
 use match_script::Script;
 use plain_race::plain_race;
 use race_run::{Gate, race};
 use std::alloc::Global;
 use std::sync::Wait;
 use std::thread::Threads;
-use tn_outside::{Sink, write_all};
+use tn_outside::{RunFault, Sink, write_all};
 use tn_types::NoMemory;
 
 // The text of the plain race of a script, which is legal.

@@ -5,14 +5,13 @@ ghost use Rattle.race_laws.specs.Settled.{SettledShowsNewest};
 ghost use Rattle.threads_top.specs.Outcome.{threads_of, ThreadsOutcome, IsWanted, CanBeDone};
 
 use crate::run::run_threads;
-use match_engine::RunFault;
 use race_laws::settled_shows_newest;
 use race_run::FreeGate;
 use script_input::{Status, read_threads_script};
 use std::alloc::Global;
 use std::sync::Wait;
 use std::thread::Threads;
-use tn_outside::{Sink, Source};
+use tn_outside::{RunFault, Sink, Source};
 
 // Whether the words are `threads`, or where they stop being so.
 fn threads_of(words: &Vec<String>) -> Result<(), u32>

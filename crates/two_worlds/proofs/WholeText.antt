@@ -4,8 +4,8 @@ use Rattle.std.specs.Prelude.{Result}
 use Rattle.std.specs.List.{flat_map}
 use Rattle.std.proofs.lemmas.Bool.Decides.{nat_tests}
 use Rattle.tn_outside.specs.Causes.{HandsOn}
-use Rattle.alone_server.specs.own_items.match_engine.declared.running.RunFault.{RunFault}
-use Rattle.alone_server.specs.own_items.match_engine.declared.running.RunFault.TheVariants.{WriteFault}
+use Rattle.tn_outside.specs.declared.failed.RunFault.{RunFault}
+use Rattle.tn_outside.specs.declared.failed.RunFault.TheVariants.{WriteFault}
 use Rattle.tn_outside.specs.Totals.{Adds, AddsFront}
 use Rattle.tn_outside.proofs.Totals.{adds_nothing}
 use Rattle.match_script.specs.declared.types.Script.{Script}

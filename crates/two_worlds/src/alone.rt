@@ -7,11 +7,11 @@ ghost use Rattle.alone_server.specs.own_items.match_laws.Laws.{is_own_pack};
 ghost use Rattle.alone_server.specs.Stands.{terms_of, HeaderFits};
 
 use alone_server::own_items::OwnItem;
-use alone_server::own_items::match_engine::{RunFault, tell};
+use alone_server::own_items::match_engine::tell;
 use alone_server::{AloneHeader, AloneServer};
 use match_script::BodyLine;
 use std::alloc::Global;
-use tn_outside::Sink;
+use tn_outside::{RunFault, Sink};
 use tn_types::NoMemory;
 
 /// A server that serves one client alone. It knows nothing of the match but what it is fed: the items of the client's own list

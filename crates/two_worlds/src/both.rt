@@ -11,11 +11,10 @@ ghost use Rattle.two_worlds.specs.Text.{alone_text};
 use crate::alone::Alone;
 use crate::laws::{same_lists_same_lines, writes_the_packs};
 use alone_server::AloneHeader;
-use alone_server::own_items::match_engine::RunFault;
 use alone_server::own_items::{OwnItem, OwnSource, OwnWrites};
 use match_script::Script;
 use std::alloc::Global;
-use tn_outside::Sink;
+use tn_outside::{RunFault, Sink};
 
 /// Makes the next item and feeds it; false at the list's end. `item` is only a place for it.
 fn feed_next<K: Sink>(

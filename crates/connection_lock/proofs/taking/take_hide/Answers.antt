@@ -1,7 +1,7 @@
 use Rattle.std.proofs.Common.{inl, refl}
 use Rattle.kept_pair.specs.pair_core.History.{Hide}
 use Rattle.kept_pair.specs.Kept.{terms_in, newest_first}
-use Rattle.connection_lock.specs.declared.message.Message.TheVariants as message
+use Rattle.race_messages.specs.declared.message.Message.TheVariants as message
 use Rattle.connection_lock.proofs.Keeping.{passed-over, locked-hide, past-more, still-locked}
 use Rattle.connection_lock.proofs.taking.take_hide.Goals as goal
 

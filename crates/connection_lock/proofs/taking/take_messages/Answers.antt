@@ -3,7 +3,7 @@ use Rattle.rtrb.specs.Ring.{received}
 use Rattle.stream_manager.specs.Limits.{Terms}
 use Rattle.stream_manager.specs.Stands.{terms_of}
 use Rattle.kept_pair.specs.Kept.{terms_in}
-use Rattle.connection_lock.specs.declared.message.Message.{Message}
+use Rattle.race_messages.specs.declared.message.Message.{Message}
 use Rattle.connection_lock.specs.Taking.{Progress, Takes}
 use Rattle.connection_lock.specs.Rule.{progress_of}
 use Rattle.connection_lock.proofs.Keeping.{prepared-locked, prepared-progress, takes-push}

@@ -1,7 +1,7 @@
 use Rattle.std.proofs.Common.{◌≡◌, ◌++◌, List, length}
 use Rattle.rtrb.specs.Ring.{received}
 use Rattle.kept_pair.specs.Kept.{terms_in}
-use Rattle.connection_lock.specs.declared.message.Message.{Message}
+use Rattle.race_messages.specs.declared.message.Message.{Message}
 use Rattle.connection_lock.specs.Taking.{TakesAll}
 use Rattle.connection_lock.specs.Rule.{progress_of, AreLocked}
 use Rattle.connection_lock.proofs.taking.take_messages.Given as goal

@@ -5,7 +5,7 @@ use Rattle.kept_pair.specs.pair_core.History.{Show}
 use Rattle.kept_pair.specs.Kept.{terms_in, newest_first}
 use Rattle.lane_periods.specs.Periods.{has_object}
 use Rattle.connection_lock.specs.Rule.{IsLocked}
-use Rattle.connection_lock.specs.declared.message.Message.TheVariants as message
+use Rattle.race_messages.specs.declared.message.Message.TheVariants as message
 use Rattle.connection_lock.proofs.Keeping.{passed-over, locked-show, past-more, still-locked, few-periods}
 use Rattle.connection_lock.proofs.taking.take_show.Goals as goal
 

@@ -6,7 +6,7 @@ use Rattle.std.proofs.lemmas.Result.{err_from_is_err_and}
 use Rattle.tn_outside.specs.Totals.{Adds, AddsFront}
 use Rattle.match_script.specs.declared.types.BodyLine.{BodyLine}
 use Rattle.match_script.specs.declared.types.Script.{Script}
-use Rattle.match_engine.specs.declared.running.RunFault.{RunFault}
+use Rattle.tn_outside.specs.declared.failed.RunFault.{RunFault}
 use Rattle.demo_format.specs.Records.{IsRecord}
 use Rattle.demo_record.specs.Recording.{records_text, taken_lines}
 use Rattle.demo_record.proofs.More.{so_far, records-more, records-front, records-all, short-more}

@@ -1,6 +1,6 @@
 use Rattle.std.proofs.Common.{◌≡◌, ◌<◌, ℕ, Some}
 use Rattle.std.specs.Prelude.{slice_get}
-use Rattle.race_record.specs.declared.race.RaceClient.{RaceClient}
+use Rattle.race_history.specs.declared.race.RaceClient.{RaceClient}
 use Rattle.legal_race.specs.Legal.{IsClientLegal}
 use Rattle.legal_race.proofs.clients.clients_are_legal.Given as goal
 

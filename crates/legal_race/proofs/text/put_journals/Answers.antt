@@ -1,6 +1,6 @@
 use Rattle.std.proofs.Common.{◌∙◌, ℕ, arith}
-use Rattle.race_record.specs.declared.race.RaceClient.{RaceClient}
-use Rattle.race_journal.specs.Text.{journal_text}
+use Rattle.race_history.specs.declared.race.RaceClient.{RaceClient}
+use Rattle.race_text.specs.Journal.{journal_text}
 use Rattle.legal_race.proofs.Places.{lent_at, told_more}
 use Rattle.legal_race.proofs.text.put_journals.Goals as goal
 

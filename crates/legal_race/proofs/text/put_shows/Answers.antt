@@ -1,6 +1,6 @@
 use Rattle.std.proofs.Common.{◌∙◌, ℕ, arith}
-use Rattle.race_record.specs.declared.race.RaceClient.{RaceClient}
-use Rattle.race_show.specs.Showing.{show_line}
+use Rattle.race_history.specs.declared.race.RaceClient.{RaceClient}
+use Rattle.race_text.specs.Showing.{show_line}
 use Rattle.legal_race.proofs.Places.{lent_at, told_more}
 use Rattle.legal_race.proofs.text.put_shows.Goals as goal
 

@@ -4,7 +4,7 @@ use Rattle.std.proofs.lemmas.Result.{err_from_is_err_and}
 use Rattle.tn_outside.specs.Totals.{Adds, AddsFront}
 use Rattle.match_script.specs.declared.types.Script.{Script}
 use Rattle.match_laws.specs.Report.{report_so_far, report}
-use Rattle.match_engine.specs.declared.running.RunFault.{RunFault}
+use Rattle.tn_outside.specs.declared.failed.RunFault.{RunFault}
 use Rattle.match_engine.proofs.Continued.{told_more, told_front, told_all}
 use Rattle.match_engine.proofs.running.write_report.Goals as goal
 

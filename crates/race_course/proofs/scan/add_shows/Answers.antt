@@ -6,8 +6,8 @@ use Rattle.world_rules.specs.Kinds.{kind_of}
 use Rattle.world_rules.specs.Flags.{is_player}
 use Rattle.world_sim.specs.Worlds.{Worlds}
 use Rattle.world_scope.specs.declared.viewer.Seen.{Seen}
-use Rattle.connection_lock.specs.declared.message.Message.{Message}
-use Rattle.connection_lock.specs.declared.message.Message.TheVariants as message
+use Rattle.race_messages.specs.declared.message.Message.{Message}
+use Rattle.race_messages.specs.declared.message.Message.TheVariants as message
 use Rattle.race_course.specs.Messages.{show_message}
 use Rattle.race_course.proofs.Adding.{one_added}
 use Rattle.race_course.proofs.scan.add_shows.Goals as goal

@@ -1,7 +1,7 @@
 use Rattle.std.proofs.Common.{arith, drop}
 use Rattle.std.specs.Prelude.{map}
 use Rattle.std.proofs.lemmas.List.{length-map}
-use Rattle.connection_lock.specs.Taking.{step_for}
+use Rattle.race_messages.specs.Steps.{step_for}
 use Rattle.race_steps.specs.Asked.{message_step}
 use Rattle.race_steps.proofs.Walks.{nothing_more, next_more, other_stops, list_ends, ends_first}
 use Rattle.race_steps.proofs.messages.messages_are.Goals as goal

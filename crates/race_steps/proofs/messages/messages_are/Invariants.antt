@@ -1,7 +1,7 @@
 use Rattle.std.proofs.Common.{drop}
 use Rattle.std.specs.Prelude.{map}
 use Rattle.std.specs.List.{filter_map}
-use Rattle.connection_lock.specs.Taking.{step_for}
+use Rattle.race_messages.specs.Steps.{step_for}
 use Rattle.race_steps.specs.Asked.{AreAllOrFirst, message_step, messages_taken}
 use Rattle.race_steps.proofs.Walks.{IsLeftOf}
 use Rattle.race_steps.proofs.messages.messages_are.Given as goal

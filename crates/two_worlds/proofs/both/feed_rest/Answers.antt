@@ -3,8 +3,8 @@ use Rattle.std.specs.Prelude.{Result}
 use Rattle.std.proofs.lemmas.Result.{err_from_is_err_and}
 use Rattle.tn_outside.specs.Causes.{HandsOn}
 use Rattle.tn_outside.specs.Totals.{Adds}
-use Rattle.alone_server.specs.own_items.match_engine.declared.running.RunFault.{RunFault}
-use Rattle.alone_server.specs.own_items.match_engine.declared.running.RunFault.TheVariants.{WriteFault}
+use Rattle.tn_outside.specs.declared.failed.RunFault.{RunFault}
+use Rattle.tn_outside.specs.declared.failed.RunFault.TheVariants.{WriteFault}
 use Rattle.two_worlds.specs.Text.{alone_text}
 use Rattle.two_worlds.proofs.WholeText.{all_written, front_written, handed_on}
 use Rattle.two_worlds.proofs.both.feed_rest.Goals as goal

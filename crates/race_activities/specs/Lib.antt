@@ -1,2 +1,0 @@
-pub use Rattle.race_sim.specs as race_sim
-pub mod Asking

@@ -1,2 +1,0 @@
--- Lemmas of crates below, for those above.
-pub use Rattle.connection_lock.proofs as connection_lock
