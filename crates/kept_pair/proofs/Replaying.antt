@@ -10,7 +10,7 @@ use Rattle.pair_core.specs.stream_manager.Stands.{terms_of}
 use Rattle.pair_core.specs.History.{PairStep}
 use Rattle.pair_core.specs.Conditions.{IsMet, AreMet}
 use Rattle.pair_core.specs.Answers.{accepted_in}
-use Rattle.pair_core.specs.Laws.{StepFits}
+use Rattle.pair_core.specs.Conditions.{StepFits}
 use Rattle.pair_core.specs.Stands.{PairState, StandsFor}
 use Rattle.kept_pair.specs.Kept.{newest_first, IsFresh, Replays, AreKept}
 use Rattle.kept_pair.proofs.Counts.{one-down, one-up, few-more}

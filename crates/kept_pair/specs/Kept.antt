@@ -15,7 +15,7 @@ use Rattle.pair_core.specs.History.{PairStep, history}
 use Rattle.pair_core.specs.conn_packing.Reads.{MayDrain, HasRanges}
 use Rattle.pair_core.specs.Conditions.{IsMet, AreMet}
 use Rattle.pair_core.specs.Answers.{answer, accepted_in}
-use Rattle.pair_core.specs.Laws.{StepFits}
+use Rattle.pair_core.specs.Conditions.{StepFits}
 use Rattle.pair_core.specs.Stands.{PairState, StandsFor}
 use Rattle.kept_pair.specs.declared.fault.KeepFault.{KeepFault}
 use Rattle.kept_pair.specs.declared.fault.KeepFault.TheVariants as keeps

@@ -1,7 +1,7 @@
 //! What a step that is given says of itself.
 ghost use Rattle.std.specs.Prelude.{◌≡◌, ◌+◌, ◌≤◌, ◌++◌, length, vec_len, vec_capacity};
 ghost use Rattle.pair_core.specs.Calls.{step_of};
-ghost use Rattle.pair_core.specs.Laws.{StepFits};
+ghost use Rattle.pair_core.specs.Conditions.{StepFits};
 ghost use Rattle.kept_pair.specs.Bringing.{brings, brought};
 
 use pair_core::stream_manager::Conn;

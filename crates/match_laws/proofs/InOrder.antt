@@ -15,12 +15,12 @@ use Rattle.client_scope.specs.declared.period.Near.{Near as NearPeriod}
 use Rattle.stream_manager.specs.Limits.{Terms, IsBlockBytes, AreTerms}
 use Rattle.client_seat.specs.pair_core.History.{PairStep}
 use Rattle.client_seat.specs.pair_core.Conditions.{IsHonest}
-use Rattle.client_seat.specs.pair_core.Laws.{StepFits}
-use Rattle.client_seat.proofs.Below.pair_core.Good.{AreGood}
-use Rattle.client_seat.proofs.Below.pair_core.Delivered.{good}
+use Rattle.client_seat.specs.pair_core.Conditions.{StepFits}
+use Rattle.pair_copies.proofs.Below.pair_laws.Good.{AreGood}
+use Rattle.pair_copies.proofs.Below.pair_laws.Delivered.{good}
 use Rattle.conn_packing.proofs.Lists.{all-append}
-use Rattle.client_seat.proofs.Below.pair_core.InOrder.{delivers_down, delivers_up, accepts}
-use Rattle.client_seat.proofs.Below.pair_core.LooseEvents.{loose_down, loose_up}
+use Rattle.pair_copies.proofs.Below.pair_laws.InOrder.{delivers_down, delivers_up, accepts}
+use Rattle.pair_copies.proofs.Below.pair_laws.LooseEvents.{loose_down, loose_up}
 use Rattle.client_seat.specs.own_lists.declared.showing.Showing.{Showing}
 use Rattle.client_seat.specs.own_lists.Own.{OwnItem, Line, Scan, Tick}
 use Rattle.client_seat.specs.own_lists.Course.{onto, near_step, show_step, scan_steps}

@@ -23,9 +23,9 @@ use Rattle.client_seat.specs.pair_core.declared.step.Answer.TheVariants as says
 use Rattle.client_seat.specs.pair_core.History.{PairStep, Down, Up, history}
 use Rattle.client_seat.specs.pair_core.Conditions.{IsHonest}
 use Rattle.client_seat.specs.pair_core.Answers.{answer}
-use Rattle.client_seat.specs.pair_core.Refusals.{RefusesLittle}
-use Rattle.client_seat.proofs.Below.pair_core.Good.{AreGood}
-use Rattle.client_seat.proofs.Below.pair_core.RefusalLaw.{little}
+use Rattle.pair_copies.specs.pair_laws.Refusals.{RefusesLittle}
+use Rattle.pair_copies.proofs.Below.pair_laws.Good.{AreGood}
+use Rattle.pair_copies.proofs.Below.pair_laws.RefusalLaw.{little}
 use Rattle.client_seat.specs.own_lists.Own.{OwnItem, Line, Scan, Tick}
 use Rattle.client_seat.specs.own_lists.Course.{Course, onto, room_in, scan_steps}
 use Rattle.client_seat.specs.own_lists.Kept.{Kept, put, after_line, follows, kept, journal, drains_of, reads_of}

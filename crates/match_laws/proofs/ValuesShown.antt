@@ -19,8 +19,9 @@ use Rattle.stream_manager.specs.Server.{ghost_log}
 use Rattle.stream_manager.specs.Client.{ghosts_came}
 use Rattle.client_seat.specs.pair_core.History.{PairStep, history}
 use Rattle.client_seat.specs.pair_core.Conditions.{IsHonest}
-use Rattle.client_seat.specs.pair_core.Laws.{StepFits, Always}
-use Rattle.client_seat.proofs.Below.pair_core.Good.{AreGood}
+use Rattle.client_seat.specs.pair_core.Conditions.{StepFits}
+use Rattle.pair_copies.specs.pair_laws.Laws.{Always}
+use Rattle.pair_copies.proofs.Below.pair_laws.Good.{AreGood}
 use Rattle.pair_copies.specs.Reads.{AllShowReads, ShowNewest, IsNewest, last_read}
 use Rattle.match_script.specs.declared.types.BodyLine.{BodyLine}
 use Rattle.match_script.specs.declared.types.Head.{Head}

@@ -21,7 +21,7 @@ use Rattle.stream_manager.specs.Client.{client_end}
 use Rattle.client_seat.specs.pair_core.History.{PairStep, Post, ClientPost, Sample, Pack, ClientPack, Down, Up, Raw, history}
 use Rattle.client_seat.specs.pair_core.Conditions.{IsHonest}
 use Rattle.client_seat.specs.pair_core.Answers.{client_delivered, server_delivered}
-use Rattle.client_seat.specs.pair_core.Laws.{posted_at}
+use Rattle.pair_copies.specs.pair_laws.Laws.{posted_at}
 use Rattle.conn_packing.proofs.Lists.{all-append}
 use Rattle.client_scope.specs.declared.period.Near.{Near as NearPeriod}
 use Rattle.client_seat.specs.own_lists.declared.showing.Showing.{Showing}

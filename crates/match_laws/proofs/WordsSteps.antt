@@ -23,7 +23,7 @@ use Rattle.stream_manager.specs.Client.{ClientEvent, client_end, client_state, c
 use Rattle.conn_packing.specs.Packs.{absorbing, values_of}
 use Rattle.client_seat.specs.pair_core.History.{PairStep, Post, ClientPost, Sample, Pack, ClientPack, Down, Up, Raw, history, server_posts, client_posts, client_gets, server_gets}
 use Rattle.client_seat.specs.pair_core.Answers.{client_delivered, server_delivered}
-use Rattle.client_seat.specs.pair_core.Laws.{posted_at}
+use Rattle.pair_copies.specs.pair_laws.Laws.{posted_at}
 use Rattle.conn_packing.proofs.Absorbed.{absorbed-end}
 use Rattle.client_seat.specs.own_lists.declared.showing.Showing.{Showing}
 use Rattle.client_seat.specs.own_lists.Course.{onto, hide_step, near_step, show_step, scan_steps}

@@ -31,7 +31,7 @@ use Rattle.stream_manager.specs.Client as client
 use Rattle.stream_manager.specs.Client.{ClientEvent, client_end, client_answer, took_at_client, posted_at_client, client_datagrams, seen_down}
 use Rattle.client_seat.specs.pair_core.History.{PairStep, History, Down, Up, history, server_posts, client_posts, client_gets, server_gets}
 use Rattle.client_seat.specs.pair_core.Answers.{client_delivered, server_delivered, brought_down, brought_up, came_down, came_up}
-use Rattle.client_seat.specs.pair_core.Laws.{posted_at}
+use Rattle.pair_copies.specs.pair_laws.Laws.{posted_at}
 use Rattle.match_laws.specs.Laws.{first}
 use Rattle.match_laws.specs.Words.{events_told, is_numbered}
 use Rattle.match_laws.proofs.WordsBytes.{Quiet, solid_decimal, ◌&◌, say, number, arrival_quiet, server_refusal_quiet, client_refusal_quiet}

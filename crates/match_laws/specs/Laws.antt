@@ -9,9 +9,9 @@ use Rattle.match_report.specs.Text.{report_line}
 use Rattle.stream_manager.specs.Limits.{Terms}
 use Rattle.client_seat.specs.pair_core.History.{PairStep}
 use Rattle.client_seat.specs.pair_core.Conditions.{IsHonest}
-use Rattle.client_seat.specs.pair_core.Laws.{DeliversDown, DeliversUp, AcceptsInOrder}
-use Rattle.client_seat.specs.pair_core.LooseEvents.{LooseDown, LooseUp}
-use Rattle.client_seat.specs.pair_core.Refusals.{IsOldAtClient, IsOldAtServer}
+use Rattle.pair_copies.specs.pair_laws.Laws.{DeliversDown, DeliversUp, AcceptsInOrder}
+use Rattle.pair_copies.specs.pair_laws.LooseEvents.{LooseDown, LooseUp}
+use Rattle.pair_copies.specs.pair_laws.Refusals.{IsOldAtClient, IsOldAtServer}
 use Rattle.match_report.specs.declared.told.Told.{Told}
 use Rattle.match_report.specs.declared.told.Told.TheVariants.{ServerRefused, ClientRefused}
 use Rattle.client_seat.specs.own_lists.Own.{OwnItem, Line, client_named}

@@ -1,3 +1,4 @@
+pub mod Below
 pub mod Runs
 pub mod Levels
 pub mod Sent

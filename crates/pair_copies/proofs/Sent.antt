@@ -36,9 +36,9 @@ use Rattle.conn_packing.specs.Packs.{absorbing, values_of}
 use Rattle.pair_core.specs.History.{PairStep, Show, Hide, Near, Post, ClientPost, Sample, Pack, ClientPack, Down, Up, Raw, history, server_posts, server_gets}
 use Rattle.conn_packing.specs.Reads.{AreReads, IsReadFor}
 use Rattle.conn_packing.proofs.Absorbed.{absorbed-state, absorbed-scope}
-use Rattle.pair_core.proofs.Good.{AreGood}
+use Rattle.pair_laws.proofs.Good.{AreGood}
 use Rattle.pair_core.proofs.LegalLogs.{IsLegalLog, packed-legal}
-use Rattle.pair_core.proofs.Carried.{carried-absorbed}
+use Rattle.pair_laws.proofs.Carried.{carried-absorbed}
 use Rattle.pair_copies.specs.Reads.{HasRead, WasRead, newest_in, last_read}
 use Rattle.pair_copies.proofs.Levels.{packet-levels}
 

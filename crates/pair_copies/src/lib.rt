@@ -12,7 +12,7 @@ ghost use Rattle.ghost_logs.specs.Copies.{CopiesAgree, PacketsFit};
 ghost use Rattle.ghost_logs.specs.Blocks.{IsHeld, RefusesNoGhosts};
 ghost use Rattle.ghost_logs.specs.Recovery.{LosesNothing};
 ghost use Rattle.pair_core.specs.History.{history};
-ghost use Rattle.pair_core.specs.Laws.{Always};
+ghost use Rattle.pair_laws.specs.Laws.{Always};
 ghost use Rattle.pair_copies.specs.Reads.{AllShowReads, ShowNewest};
 
 /// Each copy that the client has is of the period that holds its slot at the server, of that period's kind and block, and

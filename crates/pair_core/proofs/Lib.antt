@@ -1,30 +1,6 @@
 pub mod Below
 pub mod Keeping
 pub mod Brought
-pub mod Fits
-pub mod Posted
-pub mod Sections
 pub mod Flat
 pub mod Packed
-mod Packets
-pub mod Good
-mod GhostItems
 pub mod LegalLogs
-mod Heads
-pub mod Carried
-mod Windows
-mod Grown
-pub mod VerdictLaw
-mod Reached
-mod Honest
-pub mod Joined
-mod JoinedUp
-mod Spelled
-pub mod Delivered
-pub mod RefusalLaw
-pub mod InOrder
-pub mod HeldBlocks
-pub mod ReceivedBlocks
-pub mod Subsequences
-pub mod LooseItems
-pub mod LooseEvents

@@ -2,9 +2,10 @@
 -- brought nearer and drained only while it is shown and not hidden. A pack that makes a data packet reads exactly the fields
 -- that the packet carries, in the order of its ghosts and by rising field, each in its range; a pack that makes a ping or
 -- nothing drains and reads nothing.
-use Rattle.std.specs.Prelude.{◌≡◌, ℕ, ◌<◌, ◌≤◌, Bool, true, false, List, [], ◌∷◌}
+use Rattle.std.specs.Prelude.{◌≡◌, ℕ, ◌<◌, ◌≤◌, Bool, true, false, List, [], ◌∷◌, length}
 use Rattle.std.specs.List.{AllByRecursion}
-use Rattle.tn_types.specs.declared.limits.TheConstants.{MAX_SHOWN_PERIODS, MAX_SHOWS, MAX_DISTANCE_LEVEL}
+use Rattle.tn_types.specs.declared.limits.TheConstants.{MAX_SHOWN_PERIODS, MAX_SHOWS, MAX_DISTANCE_LEVEL, MAX_EVENT_BYTES}
+use Rattle.tn_types.specs.Bytes.{AreBytes}
 use Rattle.ghost_model.specs.Scope.{shows, up_periods, had_control}
 use Rattle.ghost_model.specs.Ghosts.{GhostEvent, scope_log}
 use Rattle.ghost_model.specs.Legal.{IsShowable, IsUp}
@@ -53,6 +54,17 @@ IsMet t steps step = IsMetAt t (history t steps).server step
 abbrev pub AreMet : Terms → List PairStep → Type 0
 AreMet t [] = Unit {0}
 AreMet t (step ∷ steps) = IsMet t steps step × AreMet t steps
+
+-- ---- payloads
+
+-- each posted payload is a byte string of an event
+abbrev pub IsPayload : List ℕ → Type 0
+IsPayload v = (length v ≤ MAX_EVENT_BYTES) × AreBytes v
+
+abbrev pub StepFits : PairStep → Type 0
+StepFits (Post class v) = IsPayload v
+StepFits (ClientPost class v) = IsPayload v
+StepFits other = Unit {0}
 
 -- ---- who is honest
 

@@ -3,15 +3,9 @@ pub use Rattle.conn_packing.specs.stream_manager.ghost_masks as ghost_masks
 pub use Rattle.event_manager.specs as event_manager
 pub use Rattle.conn_packing.specs as conn_packing
 pub mod History
-pub mod Exchange
 pub mod Conditions
 pub mod Answers
-pub mod Laws
-pub mod HeldBlocks
-pub mod LooseEvents
 pub mod Flat
 pub mod Keeping
 pub mod Stands
 pub mod Calls
-pub mod Verdicts
-pub mod Refusals

@@ -28,8 +28,8 @@ use Rattle.predict_lines.proofs.Below.match_laws.InOrder.{terms_fit, are_good, m
 use Rattle.own_lists.specs.Kept.{drains_of}
 use Rattle.own_lists.specs.Past.{client_terms, kept_by, after}
 use Rattle.own_lists.specs.Agreement.{OwnListsHold}
-use Rattle.pair_core.proofs.Good.{AreGood}
-use Rattle.pair_core.proofs.Joined.{joins}
+use Rattle.pair_laws.proofs.Good.{AreGood}
+use Rattle.pair_laws.proofs.Joined.{joins}
 use Rattle.world_rules.specs.Kinds.{match_kinds}
 use Rattle.client_predict.specs.Standing.{played}
 use Rattle.client_predict.specs.Predicting.{value_of}

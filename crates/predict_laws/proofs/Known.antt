@@ -17,8 +17,8 @@ use Rattle.stream_manager.specs.Server.{server_datagrams}
 use Rattle.stream_manager.specs.Client as client
 use Rattle.stream_manager.specs.Client.{ClientEvent, sample_log, sampled_at, sampled_answer, posted_at_client, client_state, pack_event, client_answer, took_at_client}
 use Rattle.pair_core.specs.History.{PairStep, Show, Hide, Near, Post, ClientPost, Sample, Pack, ClientPack, Down, Up, Raw, history, client_posts, client_samples, client_gets}
-use Rattle.pair_core.proofs.Good.{AreGood}
-use Rattle.pair_core.proofs.Carried.{carried}
+use Rattle.pair_laws.proofs.Good.{AreGood}
+use Rattle.pair_laws.proofs.Carried.{carried}
 use Rattle.world_rules.specs.Kinds.{match_kinds}
 use Rattle.client_predict.specs.Standing.{played}
 use Rattle.client_predict.specs.Predicting.{value_of, base_of, pending_of}

@@ -19,7 +19,7 @@ use Rattle.stream_manager.specs.Limits.{Terms, AreTerms}
 use Rattle.stream_manager.specs.Server.{ghost_log}
 use Rattle.stream_manager.specs.Client.{ghosts_came}
 use Rattle.pair_core.specs.History.{PairStep, history}
-use Rattle.pair_core.specs.Laws.{Always}
+use Rattle.pair_copies.specs.pair_laws.Laws.{Always}
 use Rattle.pair_copies.specs.Reads.{ShowNewest, IsNewest}
 use Rattle.pair_copies.specs.Reads as copies
 use Rattle.pair_steps.specs.Steps.{up_in}

@@ -11,9 +11,10 @@ use Rattle.stream_manager.proofs.Packets.{shows-alike}
 use Rattle.pair_core.specs.History.{PairStep, history}
 use Rattle.pair_core.specs.Answers.{client_delivered}
 use Rattle.pair_core.specs.Conditions.{AreMet, IsHonest}
-use Rattle.pair_core.specs.Laws.{IsPayload, StepFits, posted_at}
-use Rattle.pair_core.proofs.Delivered.{good}
-use Rattle.pair_core.proofs.InOrder.{delivers_down}
+use Rattle.pair_core.specs.Conditions.{IsPayload, StepFits}
+use Rattle.pair_copies.specs.pair_laws.Laws.{posted_at}
+use Rattle.pair_copies.proofs.Below.pair_laws.Delivered.{good}
+use Rattle.pair_copies.proofs.Below.pair_laws.InOrder.{delivers_down}
 use Rattle.match_script.specs.declared.types.Head.{Head}
 use Rattle.own_lists.specs.Kept.{journal}
 use Rattle.own_lists.specs.Past.{client_terms, after}

@@ -8,7 +8,7 @@ use Rattle.stream_manager.specs.Limits.{Terms}
 use Rattle.stream_manager.specs.Packets.{delivered_to}
 use Rattle.pair_core.specs.History.{PairStep}
 use Rattle.pair_core.specs.Conditions.{IsHonestStep, IsHonest}
-use Rattle.pair_core.specs.Laws.{IsPayload, StepFits}
+use Rattle.pair_core.specs.Conditions.{IsPayload, StepFits}
 use Rattle.match_script.specs.declared.types.BodyLine.{BodyLine}
 use Rattle.match_script.specs.declared.types.BodyLine.TheVariants as script
 use Rattle.own_lists.specs.declared.showing.Showing.{Showing}

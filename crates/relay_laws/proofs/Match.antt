@@ -16,8 +16,9 @@ use Rattle.stream_manager.specs.Server.{server_end, posted_at_server}
 use Rattle.pair_core.specs.History.{PairStep, Show, Hide, Near, Post, ClientPost, Sample, Pack, ClientPack, Down, Up, Raw, history}
 use Rattle.pair_core.specs.Answers.{client_delivered}
 use Rattle.pair_core.specs.Conditions.{IsHonest}
-use Rattle.pair_core.specs.Laws.{IsPayload, StepFits, DeliversDown, posted_at}
-use Rattle.match_laws.proofs.Below.client_seat.Below.pair_core.Good.{AreGood}
+use Rattle.pair_core.specs.Conditions.{IsPayload, StepFits}
+use Rattle.pair_copies.specs.pair_laws.Laws.{DeliversDown, posted_at}
+use Rattle.pair_copies.proofs.Below.pair_laws.Good.{AreGood}
 use Rattle.match_script.specs.declared.types.BodyLine.{BodyLine}
 use Rattle.match_script.specs.declared.types.Head.{Head}
 use Rattle.match_script.specs.declared.types.Script.{Script}

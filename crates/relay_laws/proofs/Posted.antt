@@ -10,7 +10,7 @@ use Rattle.stream_manager.specs.Limits.{Terms}
 use Rattle.stream_manager.specs.Server as server
 use Rattle.stream_manager.specs.Server.{ServerEvent, server_end, posted_at_server}
 use Rattle.pair_core.specs.History.{PairStep, Pack, ClientPack, Down, Up, history}
-use Rattle.pair_core.specs.Laws.{posted_at}
+use Rattle.pair_copies.specs.pair_laws.Laws.{posted_at}
 use Rattle.match_script.specs.declared.types.BodyLine.{BodyLine}
 use Rattle.match_script.specs.declared.types.BodyLine.TheVariants as script
 use Rattle.own_lists.specs.Own.{OwnShow, OwnWrite, OwnItem, Line, Scan, Tick}

@@ -16,7 +16,7 @@ use Rattle.stream_manager.specs.Packets.{ghosts_seen}
 use Rattle.stream_manager.specs.Client.{ghosts_came}
 use Rattle.stream_manager.proofs.Packets.{shows-alike}
 use Rattle.pair_core.specs.History.{PairStep}
-use Rattle.pair_core.specs.Laws.{Always}
+use Rattle.pair_copies.specs.pair_laws.Laws.{Always}
 use Rattle.pair_copies.specs.Reads.{IsReadLevel, ShowsReads, AllShowReads}
 use Rattle.pair_steps.specs.Steps.{shows_in, traits_in}
 use Rattle.pair_steps.proofs.Journals.{kind_told}

@@ -12,7 +12,7 @@ use Rattle.ghost_client.specs.State.{field_value}
 use Rattle.stream_manager.specs.Packets.{ghosts_seen}
 use Rattle.stream_manager.specs.Client.{ghosts_came}
 use Rattle.stream_manager.proofs.Packets.{shows-alike}
-use Rattle.pair_core.specs.Laws.{Always}
+use Rattle.pair_copies.specs.pair_laws.Laws.{Always}
 use Rattle.pair_copies.specs.Reads.{ShowNewest}
 use Rattle.world_rules.specs.Kinds.{match_kinds}
 use Rattle.match_script.specs.declared.types.Head.{Head}

@@ -9,7 +9,7 @@ use Rattle.stream_manager.specs.Packets.{ghosts_seen}
 use Rattle.stream_manager.specs.Server.{ghost_log}
 use Rattle.stream_manager.proofs.Packets.{shows-alike}
 use Rattle.pair_core.specs.History.{history}
-use Rattle.pair_core.specs.Laws.{Always}
+use Rattle.pair_copies.specs.pair_laws.Laws.{Always}
 use Rattle.pair_copies.specs.Reads.{AllShowReads}
 use Rattle.match_script.specs.declared.types.BodyLine.{BodyLine}
 use Rattle.match_script.specs.declared.types.Head.{Head}

@@ -3,7 +3,7 @@ use Rattle.std.specs.Prelude.{ℕ, List}
 use Rattle.tn_types.specs.Prefix.{IsPrefixOf}
 use Rattle.match_laws.specs.pair_core.event_manager.Posted.{guaranteed_of}
 use Rattle.match_laws.specs.pair_core.Answers.{client_delivered}
-use Rattle.match_laws.specs.pair_core.Laws.{posted_at}
+use Rattle.pair_copies.specs.pair_laws.Laws.{posted_at}
 use Rattle.match_laws.specs.pair_core.stream_manager.Server.{server_end}
 use Rattle.match_laws.specs.Values.{ends_then as match_ends}
 use Rattle.relay_laws.specs.Moments.{RelayMoment, AtEachLine, match_then, terms_of, kept_then}

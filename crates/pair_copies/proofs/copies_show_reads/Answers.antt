@@ -18,10 +18,10 @@ use Rattle.ghost_logs.specs.Recovery.{IsRight, IsRecovered}
 use Rattle.ghost_logs.proofs.Agree.{agree, loses-nothing}
 use Rattle.ghost_logs.proofs.Kept.{same-kept}
 use Rattle.pair_core.specs.History.{PairStep, history}
-use Rattle.pair_core.proofs.Good.{AreGood}
-use Rattle.pair_core.proofs.Delivered.{good}
-use Rattle.pair_core.proofs.Carried.{carried}
-use Rattle.pair_core.proofs.Joined.{joined}
+use Rattle.pair_laws.proofs.Good.{AreGood}
+use Rattle.pair_laws.proofs.Delivered.{good}
+use Rattle.pair_laws.proofs.Carried.{carried}
+use Rattle.pair_laws.proofs.Joined.{joined}
 use Rattle.pair_copies.specs.Reads.{IsReadLevel, ShowsReads, IsLastLevel, IsNewest, last_read}
 use Rattle.pair_copies.proofs.Sent.{all-read, all-last}
 use Rattle.pair_copies.proofs.copies_show_reads.Goals as goal

@@ -1,8 +1,8 @@
 use Rattle.pair_core.specs.History.{history}
-use Rattle.pair_core.proofs.Delivered.{good}
-use Rattle.pair_core.proofs.Carried.{carried}
-use Rattle.pair_core.proofs.Joined.{joined}
-use Rattle.pair_core.proofs.ReceivedBlocks.{holds_received}
+use Rattle.pair_laws.proofs.Delivered.{good}
+use Rattle.pair_laws.proofs.Carried.{carried}
+use Rattle.pair_laws.proofs.Joined.{joined}
+use Rattle.pair_laws.proofs.ReceivedBlocks.{holds_received}
 use Rattle.ghost_logs.proofs.Refused.{refuses-no-ghosts}
 use Rattle.pair_copies.proofs.newer_packets_fit_the_copies.Goals as goal
 

@@ -1,7 +1,7 @@
 use Rattle.pair_core.specs.History.{history}
-use Rattle.pair_core.proofs.Delivered.{good}
-use Rattle.pair_core.proofs.Carried.{carried}
-use Rattle.pair_core.proofs.Joined.{joined}
+use Rattle.pair_laws.proofs.Delivered.{good}
+use Rattle.pair_laws.proofs.Carried.{carried}
+use Rattle.pair_laws.proofs.Joined.{joined}
 use Rattle.ghost_logs.proofs.Agree.{loses-nothing}
 use Rattle.pair_copies.proofs.no_change_is_lost.Goals as goal
 

@@ -1,5 +1,0 @@
-use Rattle.pair_core.proofs.Delivered.{good, is-exchange}
-use Rattle.pair_core.proofs.exchange.packets_are_exchanged.Goals as goal
-
-pub returns : goal.returns
-returns c t steps limits fit met honest = is-exchange t steps (good t limits steps fit met honest)

@@ -1,0 +1,6 @@
+pub mod Exchange
+pub mod Laws
+pub mod HeldBlocks
+pub mod LooseEvents
+pub mod Verdicts
+pub mod Refusals
