@@ -11,7 +11,7 @@ use Rattle.wire_format.specs.Reading.{AreListed}
 use Rattle.wire_format.specs.Events.{spell_event, spell_events, low_event, low_number, IsEvent}
 use Rattle.wire_format.proofs.LowNumbers.{low-event, low-fits}
 use Rattle.event_logs.specs.event_manager.Low.{whole_number, whole_items, IsFound}
-use Rattle.wire_logs.proofs.Found.{found}
+use Rattle.event_manager.proofs.WholeNumbers.{found}
 
 -- the events as they stand in a datagram
 abbrev pub low_events : ℕ → List EventItem → List EventItem
