@@ -42,27 +42,46 @@ pub enum Class {
     Loose,
 }
 
+/// An end of a connection.
+#[derive(Clone, Copy, Debug, PartialEq, Eq)]
+pub enum End {
+    /// It shows objects, and sends what they are.
+    Server,
+    /// It has copies of what it was sent, and sends moves.
+    Client,
+}
+
 /// The dirty fields of period `n` that a pack took: bit f for field f.
 #[derive(Clone, Copy, Debug, PartialEq, Eq)]
 pub struct Drain {
+    /// The period's number.
     pub n: u32,
+    /// The fields.
     pub bits: u32,
 }
 
 /// A value that a pack read of a field of period `n`, with the number of writes that came before it.
 #[derive(Clone, Copy, Debug, PartialEq, Eq)]
 pub struct Read {
+    /// The period's number.
     pub n: u32,
+    /// The field's place among those of the object.
     pub field: u8,
+    /// How many writes came before it.
     pub version: u32,
+    /// What was read.
     pub value: i64,
 }
 
 /// A ghost item that a plan chose: period `n` in its slot, and the fields that it carries (bit f for field f).
 #[derive(Clone, Copy, Debug, PartialEq, Eq)]
 pub struct Choice {
+    /// The period's number.
     pub n: u32,
+    /// The slot that it holds.
     pub slot: u8,
+    /// What the item does to the slot.
     pub op: Op,
+    /// The fields.
     pub mask: u32,
 }

@@ -14,7 +14,7 @@ mod values;
 mod words;
 
 pub use bytes::{Bytes, are_bytes};
-pub use choices::{Choice, Class, Drain, NoMemory, Op, PacketKind, Read, Verdict};
+pub use choices::{Choice, Class, Drain, End, NoMemory, Op, PacketKind, Read, Verdict};
 pub use limits::{
     MAX_BLOCK_BYTES, MAX_BLOCKS, MAX_BLOCKS_AHEAD, MAX_BODY_LINES, MAX_CLIENTS, MAX_COORDINATE,
     MAX_COUNTED_LINES, MAX_DATAGRAM_BYTES, MAX_DATAGRAMS, MAX_DISTANCE_LEVEL, MAX_EVENT_BYTES,

@@ -6,10 +6,13 @@ ghost use Rattle.tn_types.specs.Steps.{is_step};
 /// uses.
 #[derive(Clone, Copy, Debug, PartialEq, Eq)]
 pub struct Move {
+    /// The step along x.
     pub dx: i8,
+    /// The step along y.
     pub dy: i8,
+    /// Whether he fires.
     pub fire: bool,
-    /// The script's USE.
+    /// Whether he uses: the script's USE.
     pub act: bool,
     pub ghost dx_range: { is_step dx ≡ true },
     pub ghost dy_range: { is_step dy ≡ true },

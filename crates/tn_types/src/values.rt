@@ -1,5 +1,5 @@
 //! Where a pack takes its values from.
-ghost use Rattle.std.specs.Prelude.{◌≡◌, ℕ, ℤ, ◌≤ℤ◌, Bool, not, ◌&&◌, ◌==◌, Option, IfSome, IsSome};
+ghost use Rattle.std.specs.Prelude.{◌≡◌, ℕ, ℤ, ◌≤ℤ◌, Option, IfSome, IsSome, List, [], ◌∷◌, ◌++◌};
 ghost use Rattle.tn_types.specs.declared.choices.Read.{Read};
 
 use crate::choices::Read;
@@ -9,30 +9,23 @@ pub trait Values {
     /// The least and the greatest value of a field of a period; `None` where it may not be asked for.
     ghost ranges: { Self → ℕ → ℕ → Option (ℤ × ℤ) };
 
-    /// A read that holds for these values.
-    ghost stands: { Self → Read → Type 0 };
+    /// What was asked of the first until it was the second, and nothing else happened to it: exactly these reads, the oldest
+    /// first.
+    ghost asks: { Self → List Read → Self → Type 0 };
 
-    /// Fields of periods that must still be asked for.
-    ghost owes: { Self → ℕ → ℕ → Bool };
-
-    /// What no call changes, for a caller that lends the values and wants to know them again afterwards.
-    ghost same: { Self → Self → Type 0 };
-
-    /// The value of a field of period `n`: it lies in the field's range, the read stands from now on, and
-    /// the field is owed no more. Every read that stood before stands, and all else that is owed stays.
+    /// The value of a field of period `n`: it lies in the field's range, and this one read was asked.
     fn value(&mut self, n: u32, field: u8) -> Read
         requires { IsSome (ranges self.old n field) }
         ensures asked { (result.n ≡ n) × (result.field ≡ field) }
         ensures range { IfSome (ranges self.old n field) (λ r. (r.0 ≤ℤ result.value) × (result.value ≤ℤ r.1)) }
-        ensures ranges { (m f : ℕ) → ranges self.new m f ≡ ranges self.old m f }
-        ensures stands { stands self.new result }
-        ensures kept { (r : Read) → stands self.old r → stands self.new r }
-        ensures owes { (m f : ℕ) → owes self.new m f ≡ (owes self.old m f && not ((n == m) && (field == f))) }
-        ensures same { same self.old self.new };
+        ensures asks { asks self.old (result ∷ []) self.new };
 
-    ghost same_refl: { (x : Self) → same x x };
+    /// Where nothing was asked, it is what it was.
+    ghost asks_none: { (x : Self) → asks x [] x };
 
-    ghost same_trans: { (x y z : Self) → same x y → same y z → same x z };
+    /// What is asked after other reads stands behind them.
+    ghost asks_more: { (x y z : Self) (first later : List Read) → asks x first y → asks y later z → asks x (first ++ later) z };
 
-    ghost same_ranges: { (x y : Self) (n f : ℕ) → same x y → ranges y n f ≡ ranges x n f };
+    /// Asking changes no range, nor what may be asked for.
+    ghost asks_ranges: { (x y : Self) (reads : List Read) (n f : ℕ) → asks x reads y → ranges y n f ≡ ranges x n f };
 }
