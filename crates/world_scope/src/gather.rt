@@ -1,9 +1,8 @@
 //! The walk over the objects that a client may see: a look at each, and what is seen of them, by rising number.
-ghost use Rattle.std.specs.Prelude.{◌≡◌, ℕ, ◌≤◌, ◌<◌, ◌+◌, ◌++◌, [], ◌∷◌, OnOk, OnErr, IfOk, IfErr, length, map, drop, count_by, vec_capacity, ◌-◌, ◌^◌, nat_le, Some, true, false, if◌then◌else◌, slice_index_or, min, ◌⊎◌};
+ghost use Rattle.std.specs.Prelude.{◌≡◌, ℕ, ◌≤◌, ◌<◌, ◌+◌, ◌++◌, [], ◌∷◌, OnOk, OnErr, IfOk, IfErr, length, map, drop, count_by, vec_capacity, ◌-◌, ◌^◌, nat_le, Some, true, false, if◌then◌else◌, min, ◌⊎◌};
 ghost use Rattle.std.specs.Int.{bit_at, trailing_zeros, w64};
 ghost use Rattle.world_rules.specs.Ranges.{PlaceFits};
 ghost use Rattle.std.specs.List.{cons_option, filter_map, enumerate_from};
-ghost use Rattle.world_cells.specs.Lines.{AreBits};
 ghost use Rattle.world_places.specs.Places.{AreOf64, ArePlaced, place_at};
 ghost use Rattle.world_sim.specs.Worlds.{alive_at};
 ghost use Rattle.world_sim.specs.Glances.{glance_of};

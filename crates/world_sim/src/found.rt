@@ -1,5 +1,5 @@
 //! What a tick finds of the objects before anything moves, so that each rule looks through a short list only.
-ghost use Rattle.std.specs.Prelude.{◌≡◌, ◌≤◌, ◌+◌, ◌*◌, ◌&&◌, ◌||◌, ◌++◌, ◌∷◌, ◌<◌, [], true, slice_set, OnOk, IfSome, position, filter, map, length, count_by, List, if◌then◌else◌};
+ghost use Rattle.std.specs.Prelude.{◌≡◌, ◌≤◌, ◌+◌, ◌&&◌, ◌||◌, ◌++◌, ◌∷◌, ◌<◌, [], true, slice_set, OnOk, IfSome, position, filter, map, length, count_by, List, if◌then◌else◌};
 ghost use Rattle.std.specs.List.{list_any, AllByRecursion};
 ghost use Rattle.world_rules.specs.declared.object.Object.{Object};
 ghost use Rattle.world_rules.specs.Near.{is_standing, is_other_near};

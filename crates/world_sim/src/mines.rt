@@ -1,5 +1,5 @@
 //! A mine's tick.
-ghost use Rattle.std.specs.Prelude.{◌≡◌, ℕ, ◌<◌, ◌≤◌, ◌+◌, ◌++◌, ◌∷◌, List, length, vec_capacity};
+ghost use Rattle.std.specs.Prelude.{◌≡◌, ◌<◌, ◌≤◌, ◌+◌, ◌++◌, ◌∷◌, List, length, vec_capacity};
 ghost use Rattle.world_rules.specs.declared.object.Object.{Object};
 ghost use Rattle.world_rules.specs.declared.object.State.TheVariants.{Mine as mine_of};
 ghost use Rattle.world_rules.specs.Mines.{is_armed_part, mine_next};
