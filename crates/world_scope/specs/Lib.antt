@@ -6,3 +6,4 @@ pub mod Square
 pub mod Candidates
 pub mod Marks
 pub mod Examples
+pub mod Walks

@@ -1,15 +1,15 @@
 //! The walk over the objects that a client may see: a look at each, and what is seen of them, by rising number.
-ghost use Rattle.std.specs.Prelude.{◌≡◌, ℕ, ◌≤◌, ◌<◌, ◌+◌, ◌++◌, [], ◌∷◌, OnOk, OnErr, IfOk, IfErr, length, map, drop, count_by, vec_capacity, ◌-◌, ◌^◌, nat_le, Some, true, false, if◌then◌else◌, slice_index_or, min, ◌⊎◌};
+ghost use Rattle.std.specs.Prelude.{◌≡◌, ℕ, ◌≤◌, ◌<◌, ◌+◌, ◌++◌, [], ◌∷◌, OnOk, OnErr, IfOk, IfErr, length, map, drop, count_by, vec_capacity, ◌-◌, ◌^◌, nat_le, Some, true, false, if◌then◌else◌, min, ◌⊎◌};
 ghost use Rattle.std.specs.Int.{bit_at, trailing_zeros, w64};
 ghost use Rattle.world_rules.specs.Ranges.{PlaceFits};
 ghost use Rattle.std.specs.List.{cons_option, filter_map, enumerate_from};
-ghost use Rattle.world_cells.specs.Lines.{AreBits};
 ghost use Rattle.world_places.specs.Places.{AreOf64, ArePlaced, place_at};
 ghost use Rattle.world_sim.specs.Worlds.{alive_at};
 ghost use Rattle.world_sim.specs.Glances.{glance_of};
 ghost use Rattle.world_scope.specs.Scope.{seen};
 ghost use Rattle.world_scope.specs.Views.{look, IsReady};
 ghost use Rattle.world_scope.specs.Rings.{AreLevels, HasPlaces};
+ghost use Rattle.world_scope.specs.Walks.{IsWalked};
 ghost use Rattle.world_scope.specs.Candidates.{AreThose, HasOnePlayer, may_see, seen_in, to_come};
 
 use crate::viewer::{Seen, Viewer};
@@ -22,6 +22,21 @@ use tn_types::{MAX_OBJECTS, Steps};
 use world_places::{PlaceWord, Places};
 use world_rules::Place;
 use world_sim::{Glance, World};
+
+/// What a walk reads: who looks, the world, and a glance at each of its objects.
+#[derive(Clone, Copy)]
+pub struct Walk<'w> {
+    pub viewer: &'w Viewer,
+    pub world: &'w World,
+    pub glances: &'w [Glance],
+}
+
+/// A word of a walk: the places of the 64 objects from a number on.
+#[derive(Clone, Copy)]
+pub struct WalkWord<'p> {
+    pub places: PlaceWord<'p>,
+    pub from: usize,
+}
 
 // Room for one more.
 #[inline(never)]
@@ -127,38 +142,40 @@ fn without_lowest(word: u64) -> u64
     word & (word - 1)
 }
 
-// Looks at each of 64 objects from a number on that has a bit, the lowest for the first, one by one.
+// Looks at each object of a word that has a bit, one by one.
 #[inline(always)]
 fn gather_bits<L: Ledger>(
-    viewer: &Viewer,
-    world: &World,
-    glances: &[Glance],
-    places: &PlaceWord<'_>,
-    from: usize,
-    word: u64,
+    walk: &Walk<'_>,
+    part: &WalkWord<'_>,
+    bits: u64,
     list: Vec<Seen>,
     steps: &mut Steps<L>,
 ) -> Result<Vec<Seen>, Vec<Seen>>
-    requires glances { glances.now ≡ map glance_of world.now.objects }
-    requires places { HasPlaces places.now from world.now.objects }
-    requires few { from + 64 ≤ MAX_OBJECTS }
-    requires bits { AreBits word from 64 (may_see (look viewer.now)) world.now.objects }
-    requires owned { HasOnePlayer (look viewer.now) world.now.objects }
-    requires ready { IsReady viewer.now }
-    ensures ok { IfOk result (λ longer. longer.items ++ to_come (look viewer.now) world.now.objects (from + 64)
-        ≡ list.items ++ to_come (look viewer.now) world.now.objects from) }
-    ensures room { OnErr result (vec_capacity list < length (list.items ++ to_come (look viewer.now) world.now.objects from)) }
+    requires part { IsWalked walk.now part.now bits }
+    ensures ok { IfOk result (λ longer. longer.items ++ to_come (look walk.now.viewer.now) walk.now.world.now.objects (part.now.from + 64)
+        ≡ list.items ++ to_come (look walk.now.viewer.now) walk.now.world.now.objects part.now.from) }
+    ensures room { OnErr result (vec_capacity list
+        < length (list.items ++ to_come (look walk.now.viewer.now) walk.now.world.now.objects part.now.from)) }
     ensures kept { IfOk result (λ longer. vec_capacity list ≤ vec_capacity longer) }
     ensures kept_err { IfErr result (λ longer. vec_capacity list ≤ vec_capacity longer) }
-    ensures steps { steps.new + count_by (may_see (look viewer.now)) (drop (from + 64) world.now.objects)
-        ≤ steps.old + count_by (may_see (look viewer.now)) (drop from world.now.objects) }
+    ensures steps { steps.new + count_by (may_see (look walk.now.viewer.now)) (drop (part.now.from + 64) walk.now.world.now.objects)
+        ≤ steps.old + count_by (may_see (look walk.now.viewer.now)) (drop part.now.from walk.now.world.now.objects) }
 {
+    let Walk {
+        viewer,
+        world,
+        glances,
+    } = *walk;
+    let from = part.from;
     let mut next = from;
-    let mut rest = word;
+    let mut rest = bits;
     let mut out = list;
     while rest != 0 {
         let k = rest.trailing_zeros() as usize;
-        out = add(look_at(viewer, world, glances, places, from, k, steps), out)?;
+        out = add(
+            look_at(viewer, world, glances, &part.places, from, k, steps),
+            out,
+        )?;
         next = from + k + 1;
         rest = without_lowest(rest);
     }
@@ -241,38 +258,31 @@ fn is_whole(
         && has_levels(viewer, places, levels)
 }
 
-// Looks at each of 64 objects from a number on that has a bit, all at once where that serves.
+// Looks at each object of a word that has a bit, all at once where that serves.
 #[inline(always)]
 fn gather_word<L: Ledger>(
-    viewer: &Viewer,
-    world: &World,
-    glances: &[Glance],
-    places: &PlaceWord<'_>,
-    from: usize,
-    word: u64,
+    walk: &Walk<'_>,
+    part: &WalkWord<'_>,
+    bits: u64,
     list: Vec<Seen>,
     levels: &mut [u16; 64],
     steps: &mut Steps<L>,
 ) -> Result<Vec<Seen>, Vec<Seen>>
-    requires glances { glances.now ≡ map glance_of world.now.objects }
-    requires places { HasPlaces places.now from world.now.objects }
-    requires few { from + 64 ≤ MAX_OBJECTS }
-    requires bits { AreBits word from 64 (may_see (look viewer.now)) world.now.objects }
-    requires owned { HasOnePlayer (look viewer.now) world.now.objects }
-    requires ready { IsReady viewer.now }
-    ensures ok { IfOk result (λ longer. longer.items ++ to_come (look viewer.now) world.now.objects (from + 64)
-        ≡ list.items ++ to_come (look viewer.now) world.now.objects from) }
-    ensures room { OnErr result (vec_capacity list < length (list.items ++ to_come (look viewer.now) world.now.objects from)) }
+    requires part { IsWalked walk.now part.now bits }
+    ensures ok { IfOk result (λ longer. longer.items ++ to_come (look walk.now.viewer.now) walk.now.world.now.objects (part.now.from + 64)
+        ≡ list.items ++ to_come (look walk.now.viewer.now) walk.now.world.now.objects part.now.from) }
+    ensures room { OnErr result (vec_capacity list
+        < length (list.items ++ to_come (look walk.now.viewer.now) walk.now.world.now.objects part.now.from)) }
     ensures kept { IfOk result (λ longer. vec_capacity list ≤ vec_capacity longer) }
     ensures kept_err { IfErr result (λ longer. vec_capacity list ≤ vec_capacity longer) }
-    ensures steps { steps.new + count_by (may_see (look viewer.now)) (drop (from + 64) world.now.objects)
-        ≤ steps.old + count_by (may_see (look viewer.now)) (drop from world.now.objects) }
+    ensures steps { steps.new + count_by (may_see (look walk.now.viewer.now)) (drop (part.now.from + 64) walk.now.world.now.objects)
+        ≤ steps.old + count_by (may_see (look walk.now.viewer.now)) (drop part.now.from walk.now.world.now.objects) }
 {
-    let count = front_count(world, from, word);
-    if is_whole(viewer, places, word, count, &list, levels) {
-        add_all(world, levels, from, count, list, steps)
+    let count = front_count(walk.world, part.from, bits);
+    if is_whole(walk.viewer, &part.places, bits, count, &list, levels) {
+        add_all(walk.world, levels, part.from, count, list, steps)
     } else {
-        gather_bits(viewer, world, glances, places, from, word, list, steps)
+        gather_bits(walk, part, bits, list, steps)
     }
 }
 
@@ -299,25 +309,23 @@ fn gather_words<L: Ledger>(
     ensures kept_err { IfErr result (λ longer. vec_capacity list ≤ vec_capacity longer) }
     ensures steps { steps.new ≤ steps.old + count_by (may_see (look viewer.now)) world.now.objects }
 {
-    let glances = world.glances();
+    let walk = Walk {
+        viewer,
+        world,
+        glances: world.glances(),
+    };
     let mut levels = [0; 64];
     let mut next = 0;
     let mut rest = set.marks();
     let mut out = list;
     while rest != 0 {
         let word = rest.trailing_zeros() as usize;
+        let part = WalkWord {
+            places: places.word(word),
+            from: 64 * word,
+        };
         let bits = set.word(word);
-        out = gather_word(
-            viewer,
-            world,
-            glances,
-            &places.word(word),
-            64 * word,
-            bits,
-            out,
-            &mut levels,
-            steps,
-        )?;
+        out = gather_word(&walk, &part, bits, out, &mut levels, steps)?;
         next = word + 1;
         rest = without_lowest(rest);
     }

@@ -74,7 +74,7 @@ map_same : (p q : Object → Bool) (xs : List Object) → ((x : Object) → p x 
 map_same p q [] h = refl
 map_same p q (x ∷ xs) h = rw (h x, map_same p q xs h) refl
 
-pub are_found : (os : List Object) (found : Found) (standing : List Object) → found.players.items ≡ filter is_players os → standing ≡ filter is_standing os → found.standing.items ≡ standing → found.flags.items ≡ filter is_flag os → found.hitting.items ≡ filter (is_hitting os) os → found.triggered.items ≡ filter (is_triggered_by standing) os → found.marks.items ≡ map (λ o. is_hitting os o || is_triggered_by standing o) os → AreFound os found
+pub are_found : (os : List Object) (found : Found) (standing : List Object) → found.players.items ≡ filter is_players os → standing ≡ filter is_standing os → found.standing.items ≡ standing → found.picked.flags.items ≡ filter is_flag os → found.picked.hitting.items ≡ filter (is_hitting os) os → found.picked.triggered.items ≡ filter (is_triggered_by standing) os → found.picked.marks.items ≡ map (λ o. is_hitting os o || is_triggered_by standing o) os → AreFound os found
 are_found os found standing players s kept flags h m marks =
     let triggered : (o : Object) → is_triggered_by standing o ≡ is_triggered os o = λ o. triggered_is os standing o s in
     record {
@@ -88,19 +88,19 @@ are_found os found standing players s kept flags h m marks =
 
 -- ---- few
 
-pub hitting_few : (os : List Object) (found : Found) → AreFound os found → length os ≤ 1024 → length found.hitting.items ≤ 1024
+pub hitting_few : (os : List Object) (found : Found) → AreFound os found → length os ≤ 1024 → length found.picked.hitting.items ≤ 1024
 hitting_few os found a few = omega (arith, ap (λ (xs : List Object). length xs) a.hitting_are, length-filter_le (is_hitting os) os)
 
-pub triggered_few : (os : List Object) (found : Found) → AreFound os found → length os ≤ 1024 → length found.triggered.items ≤ 1024
+pub triggered_few : (os : List Object) (found : Found) → AreFound os found → length os ≤ 1024 → length found.picked.triggered.items ≤ 1024
 triggered_few os found a few = omega (arith, ap (λ (xs : List Object). length xs) a.triggered_are, length-filter_le (is_triggered os) os)
 
-pub flags_few : (os : List Object) (found : Found) → AreFound os found → length os ≤ 1024 → length found.flags.items ≤ 1024
+pub flags_few : (os : List Object) (found : Found) → AreFound os found → length os ≤ 1024 → length found.picked.flags.items ≤ 1024
 flags_few os found a few = omega (arith, ap (λ (xs : List Object). length xs) a.flags_are, length-filter_le is_flag os)
 
-pub as_many_marks : (os : List Object) (found : Found) → AreFound os found → length found.marks.items ≡ length os
+pub as_many_marks : (os : List Object) (found : Found) → AreFound os found → length found.picked.marks.items ≡ length os
 as_many_marks os found a = ap (λ (xs : List Bool). length xs) a.marks_are ∙ simp length-map
 
-pub mark_at : (os : List Object) (found : Found) (i : ℕ) (b : Bool) (o : Object) → AreFound os found → i < length os → get_or found.marks.items i b ≡ is_ending os (get_or os i o)
+pub mark_at : (os : List Object) (found : Found) (i : ℕ) (b : Bool) (o : Object) → AreFound os found → i < length os → get_or found.picked.marks.items i b ≡ is_ending os (get_or os i o)
 mark_at os found i b o a l = ap (λ (xs : List Bool). get_or xs i b) a.marks_are ∙ get_or-map (is_ending os) os i o b l
 
 -- ---- captures
@@ -180,17 +180,17 @@ count_harm os i o at target =
     ∙ count_same (λ d. is_hitting os d && is_other_near DISC_REACH o d) (is_harming o) os
     (λ d. found_near (is_flying d) (list_any (is_target_near DISC_REACH d) os) (is_other_near DISC_REACH o d) (near_hits os i o d at target))
 
-pub harm_is : (os : List Object) (found : Found) (i : ℕ) (o : Object) → AreFound os found → slice_get os i ≡ Some o → is_target o ≡ true → DISC_HARM * count_by (is_other_near DISC_REACH o) found.hitting.items ≡ harm os o
+pub harm_is : (os : List Object) (found : Found) (i : ℕ) (o : Object) → AreFound os found → slice_get os i ≡ Some o → is_target o ≡ true → DISC_HARM * count_by (is_other_near DISC_REACH o) found.picked.hitting.items ≡ harm os o
 unfolding harm
 harm_is os found i o a at target = ap (λ n. DISC_HARM * n) (rw a.hitting_are (count_harm os i o at target))
 
-pub damage_is : (os : List Object) (found : Found) (i : ℕ) (o : Object) → AreFound os found → slice_get os i ≡ Some o → is_target o ≡ true → DISC_HARM * count_by (is_other_near DISC_REACH o) found.hitting.items + MINE_HARM * count_by (is_other_near MINE_REACH o) found.triggered.items ≡ damage os o
+pub damage_is : (os : List Object) (found : Found) (i : ℕ) (o : Object) → AreFound os found → slice_get os i ≡ Some o → is_target o ≡ true → DISC_HARM * count_by (is_other_near DISC_REACH o) found.picked.hitting.items + MINE_HARM * count_by (is_other_near MINE_REACH o) found.picked.triggered.items ≡ damage os o
 unfolding damage
 damage_is os found i o a at target =
-    ap (λ n. n + MINE_HARM * count_by (is_other_near MINE_REACH o) found.triggered.items) (harm_is os found i o a at target)
+    ap (λ n. n + MINE_HARM * count_by (is_other_near MINE_REACH o) found.picked.triggered.items) (harm_is os found i o a at target)
     ∙ ap (λ n. harm os o + MINE_HARM * n) (rw a.triggered_are (count_filter (is_triggered os) (is_other_near MINE_REACH o) os))
 
-pub hits_is : (os : List Object) (found : Found) (client : ℕ) → AreFound os found → count_by (λ d. is_of client d.state) found.hitting.items ≡ hits os client
+pub hits_is : (os : List Object) (found : Found) (client : ℕ) → AreFound os found → count_by (λ d. is_of client d.state) found.picked.hitting.items ≡ hits os client
 unfolding hits
 hits_is os found client a = rw a.hitting_are (count_filter (is_hitting os) (λ d. is_of client d.state) os)
 

@@ -235,7 +235,7 @@ behind (suc i) f [] n l = refl
 behind (suc i) f (x ∷ os) zero l = absurd (omega arith)
 behind (suc i) f (x ∷ os) (suc n) l = behind i f os n (omega arith)
 
-pub quiet_before : (os objects : List Object) (f : Object → Object) (found : Found) (marks : List Bool) (i from to : ℕ) → objects ≡ stepped_to i f os → i ≤ from → to ≤ length os → AreFound os found → marks ≡ found.marks.items → ((n : ℕ) (o : Object) → from ≤ n → n < to → slice_get objects n ≡ Some o → is_quiet (get_or marks n false) o ≡ true) → AreQuiet from to os
+pub quiet_before : (os objects : List Object) (f : Object → Object) (found : Found) (marks : List Bool) (i from to : ℕ) → objects ≡ stepped_to i f os → i ≤ from → to ≤ length os → AreFound os found → marks ≡ found.picked.marks.items → ((n : ℕ) (o : Object) → from ≤ n → n < to → slice_get objects n ≡ Some o → is_quiet (get_or marks n false) o ≡ true) → AreQuiet from to os
 quiet_before os objects f found marks i from to e l most is told quiet = λ n o a b at.
     let there : slice_get objects n ≡ Some o = ap (λ (xs : List Object). slice_get xs n) e ∙ behind i f os n (omega (arith, a, l)) ∙ at in
     let mark : get_or marks n false ≡ is_ending os o = ap (λ (xs : List Bool). get_or xs n false) told ∙ mark_at os found n false o is (omega (arith, b, most)) ∙ ap (is_ending os) (sym (same_at os n o at)) in

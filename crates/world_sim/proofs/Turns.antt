@@ -27,7 +27,10 @@ use Rattle.world_cells.specs.Lines.{GridParts}
 use Rattle.world_cells.specs.Cells.{IsGrid, spot}
 use Rattle.world_sim.specs.declared.rows.Row.{Row}
 use Rattle.world_sim.specs.Rows.{values_of, row_versions, as_number}
-use Rattle.world_sim.specs.RowsNext.{row_values, row_next, rows_updated}
+use Rattle.world_sim.specs.RowsNext.{row_values, row_next, rows_updated, IsSoundRow}
+use Rattle.world_sim.specs.declared.table.Beside.{Beside}
+use Rattle.world_sim.specs.Keeping.{KeepsUp}
+use Rattle.world_sim.proofs.RowFields.{row_stays, writes_nothing}
 use Rattle.world_sim.proofs.RowLoops.{updated_at}
 use Rattle.world_sim.proofs.Gathered.{filter_filter, filter_same, player_same, drone_same, mine_same}
 
@@ -280,3 +283,14 @@ mine_told ending o now m armed e f h = rw (h, f) (values_of_mine ending o m e)
 
 pub mine_turn : (os : List Object) (moves : List (Option Move)) (t : Moment) (o : Object) (m : MinePart) (ending : Bool) → o.state ≡ Mine m → ending ≡ is_ending os o → mine_next ending o m ≡ object_next os moves t o
 mine_turn os moves t o m ending e f = mine_same os o m ending e f ∙ by_state os moves t o _ e
+
+-- an object that stays as it is keeps all up
+pub stays_kept : (number : ℕ) (o : Object) (row : Row) (beside : Beside) → row.values.items ≡ values_of o → IsSoundRow row → KeepsUp number o o row row beside beside
+stays_kept number o row beside values sound = record {
+  row_is = row_stays row o (sym values) sound.1;
+  written = writes_nothing beside.writes.items number row.values.items _ row.versions.items values;
+  grid = λ first behind many grid. grid;
+  placed = λ first behind many fits placed. placed;
+  few = omega arith;
+  kept = omega arith;
+}

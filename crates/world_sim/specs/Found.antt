@@ -52,7 +52,7 @@ IsPlayersEnd (o ∷ os) (suc n) = IsPlayersEnd os n
 pub record AreFound (os : List Object) (found : Found) : Type 0 where
   pub players_are : found.players.items ≡ filter is_players os
   pub standing_are : found.standing.items ≡ filter is_standing os
-  pub flags_are : found.flags.items ≡ filter is_flag os
-  pub hitting_are : found.hitting.items ≡ filter (is_hitting os) os
-  pub triggered_are : found.triggered.items ≡ filter (is_triggered os) os
-  pub marks_are : found.marks.items ≡ map (is_ending os) os
+  pub flags_are : found.picked.flags.items ≡ filter is_flag os
+  pub hitting_are : found.picked.hitting.items ≡ filter (is_hitting os) os
+  pub triggered_are : found.picked.triggered.items ≡ filter (is_triggered os) os
+  pub marks_are : found.picked.marks.items ≡ map (is_ending os) os

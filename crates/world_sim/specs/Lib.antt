@@ -7,3 +7,4 @@ pub mod Turns
 pub mod Searches
 pub mod Facts
 pub mod History
+pub mod Keeping

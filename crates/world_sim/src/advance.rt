@@ -17,6 +17,7 @@ use crate::found::{Found, captures_of, find_all, nothing};
 use crate::glance::{Glance, glance_of};
 use crate::rows::{Row, Write, fresh_row};
 use crate::step::{Old, turn_all};
+use crate::table::Table;
 use std::alloc::{AllocError, Global};
 use tn_types::{MAX_CLIENTS, MAX_OBJECTS, Move};
 use world_cells::{Cells, NumberSet};
@@ -30,7 +31,6 @@ pub const MAX_WRITES: usize = 5 * MAX_OBJECTS;
 #[derive(Drop)]
 pub struct Work {
     pub made: Vec<Object>,
-    pub after_writes: Vec<Write>,
     pub found: Found,
 }
 
@@ -38,7 +38,6 @@ pub struct Work {
 pub fn workroom(alloc: Global) -> Result<Work, AllocError> {
     Ok(Work {
         made: Vec::with_capacity(alloc, MAX_CLIENTS as usize)?,
-        after_writes: Vec::with_capacity(alloc, MAX_WRITES)?,
         found: nothing(alloc)?,
     })
 }
@@ -66,11 +65,9 @@ fn prepare(
     ensures found { OnOk result (AreFound objects.old.items work.new.found) }
     ensures made { OnOk result (work.new.made.items ≡ discs_made objects.old.items moves.now) }
     ensures few { OnOk result (length objects.old.items + length work.new.made.items ≤ MAX_OBJECTS) }
-    ensures none { OnOk result (work.new.after_writes.items ≡ []) }
     ensures room { OnOk result (length objects.old.items + length work.new.made.items ≤ vec_capacity objects.new) }
     ensures rows_room { OnOk result (length rows.old.items + length work.new.made.items ≤ vec_capacity rows.new) }
     ensures glances_room { OnOk result (length glances.old.items + length work.new.made.items ≤ vec_capacity glances.new) }
-    ensures writes_room { OnOk result (5 * MAX_OBJECTS ≤ vec_capacity work.new.after_writes) }
 {
     find_all(cells, objects, glances, going, &mut work.found)?;
     let room = MAX_OBJECTS - objects.len();
@@ -78,8 +75,6 @@ fn prepare(
     objects.reserve(work.made.len())?;
     rows.reserve(work.made.len())?;
     glances.reserve(work.made.len())?;
-    work.after_writes.clear();
-    work.after_writes.reserve(MAX_WRITES)?;
     Ok(())
 }
 
@@ -115,48 +110,61 @@ fn add_made(
     }
 }
 
-/// The objects, rows, cells and places after a tick, and what the tick writes. For want of memory they stay.
+// No writes yet, and room for those of a tick.
+fn make_room(writes: &mut Vec<Write>) -> Result<(), AllocError>
+    ensures none { OnOk result (writes.new.items ≡ []) }
+    ensures room { OnOk result (5 * MAX_OBJECTS ≤ vec_capacity writes.new) }
+{
+    writes.clear();
+    writes.reserve(MAX_WRITES)
+}
+
+/// The objects and all that is kept of them after a tick, and what the tick writes. For want of memory all but the writes stay.
 pub fn advance(
-    objects: &mut Vec<Object>,
-    rows: &mut Vec<Row>,
-    glances: &mut Vec<Glance>,
-    cells: &mut Cells,
-    places: &mut Places,
-    going: &mut NumberSet,
+    table: &mut Table,
     moves: &[Option<Move>],
     seed: u32,
     tick: u32,
     work: &mut Work,
 ) -> Result<(), AllocError>
-    requires few { length objects.old.items ≤ MAX_OBJECTS }
-    requires going { HasGoing going.old objects.old.items }
-    requires kept { map row_values rows.old.items ≡ map values_of objects.old.items }
-    requires sound { AllByRecursion IsSoundRow rows.old.items }
-    requires grid { IsGrid cells.old objects.old.items }
-    requires placed { ArePlaced places.old objects.old.items }
-    requires glances { glances.old.items ≡ map glance_of objects.old.items }
-    requires first { PlayersFirst objects.old.items }
-    requires alive { AllByRecursion LivesOn objects.old.items }
-    requires fits { AllByRecursion ObjectFits objects.old.items }
-    ensures objects { OnOk result (objects.new.items
-        ≡ objects_next objects.old.items moves.now (record { seed = seed; tick = tick })) }
-    ensures rows { OnOk result (rows.new.items ≡ rows_next rows.old.items objects.new.items) }
-    ensures writes { OnOk result (work.new.after_writes.items
-        ≡ world_writes 0 objects.old.items objects.new.items (map row_counts rows.old.items)) }
-    ensures glances { OnOk result (glances.new.items ≡ map glance_of objects.new.items) }
-    ensures grid { OnOk result (IsGrid cells.new objects.new.items) }
-    ensures placed { OnOk result (ArePlaced places.new objects.new.items) }
-    ensures going { OnOk result (HasGoing going.new objects.new.items) }
-    ensures same { OnErr result (objects.new.items ≡ objects.old.items) }
-    ensures rows_same { OnErr result (rows.new.items ≡ rows.old.items) }
-    ensures glances_same { OnErr result (glances.new.items ≡ glances.old.items) }
-    ensures cells_same { OnErr result (cells.new ≡ cells.old) }
-    ensures places_same { OnErr result (places.new ≡ places.old) }
-    ensures going_same { OnErr result (going.new ≡ going.old) }
+    requires few { length table.old.objects.items ≤ MAX_OBJECTS }
+    requires going { HasGoing table.old.going table.old.objects.items }
+    requires kept { map row_values table.old.rows.items ≡ map values_of table.old.objects.items }
+    requires sound { AllByRecursion IsSoundRow table.old.rows.items }
+    requires grid { IsGrid table.old.beside.cells table.old.objects.items }
+    requires placed { ArePlaced table.old.beside.places table.old.objects.items }
+    requires glances { table.old.glances.items ≡ map glance_of table.old.objects.items }
+    requires first { PlayersFirst table.old.objects.items }
+    requires alive { AllByRecursion LivesOn table.old.objects.items }
+    requires fits { AllByRecursion ObjectFits table.old.objects.items }
+    ensures objects { OnOk result (table.new.objects.items
+        ≡ objects_next table.old.objects.items moves.now (record { seed = seed; tick = tick })) }
+    ensures rows { OnOk result (table.new.rows.items ≡ rows_next table.old.rows.items table.new.objects.items) }
+    ensures writes { OnOk result (table.new.beside.writes.items
+        ≡ world_writes 0 table.old.objects.items table.new.objects.items (map row_counts table.old.rows.items)) }
+    ensures glances { OnOk result (table.new.glances.items ≡ map glance_of table.new.objects.items) }
+    ensures grid { OnOk result (IsGrid table.new.beside.cells table.new.objects.items) }
+    ensures placed { OnOk result (ArePlaced table.new.beside.places table.new.objects.items) }
+    ensures going { OnOk result (HasGoing table.new.going table.new.objects.items) }
+    ensures same { OnErr result (table.new.objects.items ≡ table.old.objects.items) }
+    ensures rows_same { OnErr result (table.new.rows.items ≡ table.old.rows.items) }
+    ensures glances_same { OnErr result (table.new.glances.items ≡ table.old.glances.items) }
+    ensures cells_same { OnErr result (table.new.beside.cells ≡ table.old.beside.cells) }
+    ensures places_same { OnErr result (table.new.beside.places ≡ table.old.beside.places) }
+    ensures going_same { OnErr result (table.new.going ≡ table.old.going) }
 {
-    prepare(objects, rows, glances, cells, going, moves, work)?;
-    let red = captures_of(objects, &work.found.flags, 0) as u32;
-    let blue = captures_of(objects, &work.found.flags, 1) as u32;
+    prepare(
+        &mut table.objects,
+        &mut table.rows,
+        &mut table.glances,
+        &table.beside.cells,
+        &table.going,
+        moves,
+        work,
+    )?;
+    make_room(&mut table.beside.writes)?;
+    let red = captures_of(&table.objects, &work.found.picked.flags, 0) as u32;
+    let blue = captures_of(&table.objects, &work.found.picked.flags, 1) as u32;
     let old = Old {
         found: &work.found,
         red,
@@ -165,16 +173,14 @@ pub fn advance(
         seed,
         tick,
     };
-    turn_all(
-        &old,
-        objects,
-        rows,
-        glances,
-        cells,
-        places,
-        going,
-        &mut work.after_writes,
+    turn_all(&old, table);
+    add_made(
+        &work.made,
+        &mut table.objects,
+        &mut table.rows,
+        &mut table.glances,
+        &mut table.beside.cells,
+        &mut table.beside.places,
     );
-    add_made(&work.made, objects, rows, glances, cells, places);
     Ok(())
 }

@@ -1,5 +1,5 @@
 //! What a tick finds of the objects before anything moves, so that each rule looks through a short list only.
-ghost use Rattle.std.specs.Prelude.{◌≡◌, ◌≤◌, ◌+◌, ◌*◌, ◌&&◌, ◌||◌, ◌++◌, ◌∷◌, ◌<◌, [], true, slice_set, OnOk, IfSome, position, filter, map, length, count_by, List, if◌then◌else◌};
+ghost use Rattle.std.specs.Prelude.{◌≡◌, ◌≤◌, ◌+◌, ◌&&◌, ◌||◌, ◌++◌, ◌∷◌, ◌<◌, [], true, slice_set, OnOk, IfSome, position, filter, map, length, count_by, List, if◌then◌else◌};
 ghost use Rattle.std.specs.List.{list_any, AllByRecursion};
 ghost use Rattle.world_rules.specs.declared.object.Object.{Object};
 ghost use Rattle.world_rules.specs.Near.{is_standing, is_other_near};
@@ -7,7 +7,7 @@ ghost use Rattle.world_rules.specs.Discs.{is_of, is_hitting};
 ghost use Rattle.world_rules.specs.Flags.{captures, is_player};
 ghost use Rattle.world_rules.specs.Identity.{LivesOn};
 ghost use Rattle.world_rules.specs.Ranges.{PlaceFits, ObjectFits};
-ghost use Rattle.world_sim.specs.Searches.{AreWatched};
+ghost use Rattle.world_sim.specs.Searches.{AreWatched, IsSearch};
 ghost use Rattle.world_cells.specs.Cells.{IsGrid};
 ghost use Rattle.world_sim.specs.Found.{is_triggered_by, is_flag, is_players, PlayersFirst, IsPlayersEnd, AreFound};
 ghost use Rattle.world_sim.specs.Glances.{glance_of};
@@ -24,11 +24,9 @@ use world_rules::flags::{is_captured, is_player};
 use world_rules::measures::MINE_REACH;
 use world_rules::{Object, State};
 
-/// What a tick found. All room is made at the start.
+/// What is picked out of all objects for a tick.
 #[derive(Drop)]
-pub struct Found {
-    pub players: Vec<Object>,
-    pub standing: Vec<Object>,
+pub struct Picked {
     pub flags: Vec<Object>,
     /// The discs that hit.
     pub hitting: Vec<Object>,
@@ -38,15 +36,34 @@ pub struct Found {
     pub marks: Vec<bool>,
 }
 
+/// What a tick found. All room is made at the start.
+#[derive(Drop)]
+pub struct Found {
+    pub players: Vec<Object>,
+    pub standing: Vec<Object>,
+    pub picked: Picked,
+}
+
+/// What a tick looks through: all objects with their cells, and those that stand with the plots that they watch.
+#[derive(Clone, Copy)]
+pub struct Search<'s> {
+    pub cells: &'s Cells,
+    pub objects: &'s [Object],
+    pub watched: &'s [bool],
+    pub standing: &'s [Object],
+}
+
 /// Nothing found yet.
 pub fn nothing(alloc: Global) -> Result<Found, AllocError> {
     Ok(Found {
         players: Vec::with_capacity(alloc, MAX_OBJECTS)?,
         standing: Vec::with_capacity(alloc, MAX_OBJECTS)?,
-        flags: Vec::with_capacity(alloc, MAX_OBJECTS)?,
-        hitting: Vec::with_capacity(alloc, MAX_OBJECTS)?,
-        triggered: Vec::with_capacity(alloc, MAX_OBJECTS)?,
-        marks: Vec::with_capacity(alloc, MAX_OBJECTS)?,
+        picked: Picked {
+            flags: Vec::with_capacity(alloc, MAX_OBJECTS)?,
+            hitting: Vec::with_capacity(alloc, MAX_OBJECTS)?,
+            triggered: Vec::with_capacity(alloc, MAX_OBJECTS)?,
+            marks: Vec::with_capacity(alloc, MAX_OBJECTS)?,
+        },
     })
 }
 
@@ -161,77 +178,55 @@ fn mark(hits: bool, triggers: bool, number: usize, marks: &mut Vec<bool>)
 
 // Whether this one is a flag, a disc that hits or a mine that is triggered.
 fn find_this(
+    search: &Search<'_>,
     number: usize,
     o: &Object,
-    cells: &Cells,
-    objects: &[Object],
-    watched: &[bool],
-    standing: &[Object],
-    flags: &mut Vec<Object>,
-    hitting: &mut Vec<Object>,
-    triggered: &mut Vec<Object>,
-    marks: &mut Vec<bool>,
+    picked: &mut Picked,
 ) -> Result<(), AllocError>
-    requires grid { IsGrid cells.now objects.now }
-    requires alive { AllByRecursion LivesOn objects.now }
-    requires fits { AllByRecursion ObjectFits objects.now }
+    requires search { IsSearch search.now }
     requires place { PlaceFits o.now.place }
-    requires room { length watched.now ≡ PLOTS }
-    requires watched { AreWatched standing.now watched.now }
-    requires number { number < length marks.old.items }
-    ensures flags { OnOk result (flags.new.items ≡ flags.old.items ++ (if is_flag o.now then o.now ∷ [] else [])) }
-    ensures hitting { OnOk result (hitting.new.items
-        ≡ hitting.old.items ++ (if is_hitting objects.now o.now then o.now ∷ [] else [])) }
-    ensures triggered { OnOk result (triggered.new.items
-        ≡ triggered.old.items ++ (if is_triggered_by standing.now o.now then o.now ∷ [] else [])) }
-    ensures marks { OnOk result (marks.new.items
-        ≡ (if is_hitting objects.now o.now || is_triggered_by standing.now o.now then slice_set marks.old.items number true
-        else marks.old.items)) }
+    requires number { number < length picked.old.marks.items }
+    ensures flags { OnOk result (picked.new.flags.items ≡ picked.old.flags.items ++ (if is_flag o.now then o.now ∷ [] else [])) }
+    ensures hitting { OnOk result (picked.new.hitting.items
+        ≡ picked.old.hitting.items ++ (if is_hitting search.now.objects.now o.now then o.now ∷ [] else [])) }
+    ensures triggered { OnOk result (picked.new.triggered.items
+        ≡ picked.old.triggered.items ++ (if is_triggered_by search.now.standing.now o.now then o.now ∷ [] else [])) }
+    ensures marks { OnOk result (picked.new.marks.items
+        ≡ (if is_hitting search.now.objects.now o.now || is_triggered_by search.now.standing.now o.now
+        then slice_set picked.old.marks.items number true else picked.old.marks.items)) }
 {
-    let hits = is_hitting(cells, objects, o);
-    let triggers = is_triggered_by(watched, standing, o);
-    keep(is_flag(o), o, flags)?;
-    keep(hits, o, hitting)?;
-    keep(triggers, o, triggered)?;
-    mark(hits, triggers, number, marks);
+    let hits = is_hitting(search.cells, search.objects, o);
+    let triggers = is_triggered_by(search.watched, search.standing, o);
+    keep(is_flag(o), o, &mut picked.flags)?;
+    keep(hits, o, &mut picked.hitting)?;
+    keep(triggers, o, &mut picked.triggered)?;
+    mark(hits, triggers, number, &mut picked.marks);
     Ok(())
 }
 
 // The same by a glance at it first, since most are none of these.
 fn find_one(
+    search: &Search<'_>,
     number: usize,
     o: &Object,
     glance: &Glance,
-    cells: &Cells,
-    objects: &[Object],
-    watched: &[bool],
-    standing: &[Object],
-    flags: &mut Vec<Object>,
-    hitting: &mut Vec<Object>,
-    triggered: &mut Vec<Object>,
-    marks: &mut Vec<bool>,
+    picked: &mut Picked,
 ) -> Result<(), AllocError>
+    requires search { IsSearch search.now }
     requires glance { glance.now ≡ glance_of o.now }
-    requires grid { IsGrid cells.now objects.now }
-    requires alive { AllByRecursion LivesOn objects.now }
-    requires fits { AllByRecursion ObjectFits objects.now }
     requires place { PlaceFits o.now.place }
-    requires room { length watched.now ≡ PLOTS }
-    requires watched { AreWatched standing.now watched.now }
-    requires number { number < length marks.old.items }
-    ensures flags { OnOk result (flags.new.items ≡ flags.old.items ++ (if is_flag o.now then o.now ∷ [] else [])) }
-    ensures hitting { OnOk result (hitting.new.items
-        ≡ hitting.old.items ++ (if is_hitting objects.now o.now then o.now ∷ [] else [])) }
-    ensures triggered { OnOk result (triggered.new.items
-        ≡ triggered.old.items ++ (if is_triggered_by standing.now o.now then o.now ∷ [] else [])) }
-    ensures marks { OnOk result (marks.new.items
-        ≡ (if is_hitting objects.now o.now || is_triggered_by standing.now o.now then slice_set marks.old.items number true
-        else marks.old.items)) }
+    requires number { number < length picked.old.marks.items }
+    ensures flags { OnOk result (picked.new.flags.items ≡ picked.old.flags.items ++ (if is_flag o.now then o.now ∷ [] else [])) }
+    ensures hitting { OnOk result (picked.new.hitting.items
+        ≡ picked.old.hitting.items ++ (if is_hitting search.now.objects.now o.now then o.now ∷ [] else [])) }
+    ensures triggered { OnOk result (picked.new.triggered.items
+        ≡ picked.old.triggered.items ++ (if is_triggered_by search.now.standing.now o.now then o.now ∷ [] else [])) }
+    ensures marks { OnOk result (picked.new.marks.items
+        ≡ (if is_hitting search.now.objects.now o.now || is_triggered_by search.now.standing.now o.now
+        then slice_set picked.old.marks.items number true else picked.old.marks.items)) }
 {
-    if glance.may_matter(watched, &o.place) {
-        find_this(
-            number, o, cells, objects, watched, standing, flags, hitting, triggered, marks,
-        )
+    if glance.may_matter(search.watched, &o.place) {
+        find_this(search, number, o, picked)
     } else {
         Ok(())
     }
@@ -241,52 +236,32 @@ fn find_one(
 // still change.
 #[tactic(auto, using(crate::proofs::Gathered::filter_more, crate::proofs::Watching::place_fits))]
 fn gather_ending(
-    cells: &Cells,
-    objects: &[Object],
+    search: &Search<'_>,
     glances: &[Glance],
     going: &NumberSet,
-    watched: &[bool],
-    standing: &[Object],
-    flags: &mut Vec<Object>,
-    hitting: &mut Vec<Object>,
-    triggered: &mut Vec<Object>,
-    marks: &mut Vec<bool>,
+    picked: &mut Picked,
 ) -> Result<(), AllocError>
-    requires glances { glances.now ≡ map glance_of objects.now }
-    requires going { HasGoing going.now objects.now }
-    requires most { length objects.now ≤ MAX_OBJECTS }
-    requires grid { IsGrid cells.now objects.now }
-    requires alive { AllByRecursion LivesOn objects.now }
-    requires fits { AllByRecursion ObjectFits objects.now }
-    requires room { length watched.now ≡ PLOTS }
-    requires watched { AreWatched standing.now watched.now }
-    ensures flags { OnOk result (flags.new.items ≡ filter is_flag objects.now) }
-    ensures hitting { OnOk result (hitting.new.items ≡ filter (is_hitting objects.now) objects.now) }
-    ensures triggered { OnOk result (triggered.new.items ≡ filter (is_triggered_by standing.now) objects.now) }
-    ensures marks { OnOk result (marks.new.items
-        ≡ map (λ o. is_hitting objects.now o || is_triggered_by standing.now o) objects.now) }
+    requires search { IsSearch search.now }
+    requires glances { glances.now ≡ map glance_of search.now.objects.now }
+    requires going { HasGoing going.now search.now.objects.now }
+    requires most { length search.now.objects.now ≤ MAX_OBJECTS }
+    ensures flags { OnOk result (picked.new.flags.items ≡ filter is_flag search.now.objects.now) }
+    ensures hitting { OnOk result (picked.new.hitting.items ≡ filter (is_hitting search.now.objects.now) search.now.objects.now) }
+    ensures triggered { OnOk result (picked.new.triggered.items
+        ≡ filter (is_triggered_by search.now.standing.now) search.now.objects.now) }
+    ensures marks { OnOk result (picked.new.marks.items
+        ≡ map (λ o. is_hitting search.now.objects.now o || is_triggered_by search.now.standing.now o) search.now.objects.now) }
 {
-    flags.clear();
-    hitting.clear();
-    triggered.clear();
-    marks.clear();
-    marks.resize(objects.len(), false)?;
+    let objects = search.objects;
+    picked.flags.clear();
+    picked.hitting.clear();
+    picked.triggered.clear();
+    picked.marks.clear();
+    picked.marks.resize(objects.len(), false)?;
     let many = objects.len();
     let mut i = going.next(0, many);
     while i < many {
-        find_one(
-            i,
-            &objects[i],
-            &glances[i],
-            cells,
-            objects,
-            watched,
-            standing,
-            flags,
-            hitting,
-            triggered,
-            marks,
-        )?;
+        find_one(search, i, &objects[i], &glances[i], picked)?;
         i = going.next(i + 1, many);
     }
     Ok(())
@@ -317,18 +292,13 @@ pub fn find_all(
     )?;
     let mut watched = [false; 4096];
     watch_all(&found.standing, &mut watched);
-    gather_ending(
+    let search = Search {
         cells,
         objects,
-        glances,
-        going,
-        &watched,
-        &found.standing,
-        &mut found.flags,
-        &mut found.hitting,
-        &mut found.triggered,
-        &mut found.marks,
-    )?;
+        watched: &watched,
+        standing: &found.standing,
+    };
+    gather_ending(&search, glances, going, &mut found.picked)?;
     Ok(())
 }
 

@@ -11,6 +11,7 @@ mod near;
 mod rows;
 mod start;
 mod step;
+mod table;
 mod watch;
 mod world;
 

@@ -1,19 +1,20 @@
 //! A mine's tick.
-ghost use Rattle.std.specs.Prelude.{◌≡◌, ℕ, ◌<◌, ◌≤◌, ◌+◌, ◌++◌, ◌∷◌, List, length, vec_capacity};
+ghost use Rattle.std.specs.Prelude.{◌≡◌, ◌<◌, ◌≤◌, ◌+◌, ◌++◌, ◌∷◌, List, length, vec_capacity};
 ghost use Rattle.world_rules.specs.declared.object.Object.{Object};
 ghost use Rattle.world_rules.specs.declared.object.State.TheVariants.{Mine as mine_of};
 ghost use Rattle.world_rules.specs.Mines.{is_armed_part, mine_next};
 ghost use Rattle.world_rules.specs.Ranges.{PlaceFits};
 ghost use Rattle.world_places.specs.Places.{ArePlaced, is_special};
-ghost use Rattle.world_sim.specs.Rows.{values_of, row_writes, as_number};
-ghost use Rattle.world_sim.specs.RowsNext.{row_next, IsSoundRow};
-ghost use Rattle.world_cells.specs.Cells.{IsGrid};
+ghost use Rattle.world_sim.specs.Rows.{values_of, as_number};
+ghost use Rattle.world_sim.specs.Keeping.{KeepsUp};
+ghost use Rattle.world_sim.specs.RowsNext.{IsSoundRow};
 ghost use Rattle.world_sim.specs.Glances.{glance_of};
 
 use crate::glance::{Glance, glance_of};
-use crate::rows::{Row, Write, change_three};
+use crate::rows::{Row, change_three};
+use crate::table::Beside;
 use tn_types::MAX_OBJECTS;
-use world_cells::{Cells, spot};
+use world_cells::spot;
 use world_places::Places;
 use world_rules::movers::turn_mine;
 use world_rules::{Mine, Object, State};
@@ -50,33 +51,24 @@ pub fn step_mine(
     object: &mut Object,
     row: &mut Row,
     glance: &mut Glance,
-    cells: &mut Cells,
-    places: &mut Places,
-    writes: &mut Vec<Write>,
+    beside: &mut Beside,
 )
     requires number { number < MAX_OBJECTS }
     requires mine { object.old.state ≡ mine_of m }
     requires sound { IsSoundRow row.old }
     requires glance { glance.old ≡ glance_of object.old }
     requires values { row.old.values.items ≡ values_of object.old }
-    requires room { length writes.old.items + 5 ≤ vec_capacity writes.old }
+    requires room { length beside.old.writes.items + 5 ≤ vec_capacity beside.old.writes }
     ensures object { object.new ≡ mine_next ending object.old m }
     ensures glance { glance.new ≡ glance_of object.new }
-    ensures row { row.new ≡ row_next row.old object.new }
-    ensures writes { writes.new.items ≡ writes.old.items
-        ++ row_writes number 0 row.old.values.items (values_of object.new) row.old.versions.items }
-    ensures grid { (before behind : List Object) → length before ≡ number → IsGrid cells.old (before ++ object.old ∷ behind)
-        → IsGrid cells.new (before ++ object.new ∷ behind) }
-    ensures placed { (before behind : List Object) → length before ≡ number → PlaceFits object.new.place
-        → ArePlaced places.old (before ++ object.old ∷ behind) → ArePlaced places.new (before ++ object.new ∷ behind) }
-    ensures few { length writes.new.items ≤ length writes.old.items + 5 }
-    ensures kept { vec_capacity writes.old ≤ vec_capacity writes.new }
+    ensures keeps_up { KeepsUp number object.old object.new row.old row.new beside.old beside.new }
 {
     let from = spot(object);
     turn_mine(ending, object, &m);
     let armed = armed_number(object);
-    change_three(number, row, object.place.x, object.place.y, armed, writes);
+    let now = object.place;
+    change_three(number, row, now.x, now.y, armed, &mut beside.writes);
     *glance = glance_of(object);
-    note_armed(m.armed, number, object, places);
-    cells.shift(number, from, spot(object));
+    note_armed(m.armed, number, object, &mut beside.places);
+    beside.cells.shift(number, from, spot(object));
 }

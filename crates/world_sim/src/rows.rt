@@ -5,7 +5,7 @@ ghost use Rattle.world_sim.specs.RowsNext.{row_next, fresh_row, IsSoundRow};
 ghost use Rattle.world_sim.specs.Rows.{values_of, differs, version_next, field_writes, row_versions, row_writes, as_number, holder_number};
 
 use arrayvec::ArrayVec;
-use world_rules::{Object, State};
+use world_rules::{Object, Place, Player, State};
 
 /// A field that has a new value.
 #[derive(Clone, Copy, Debug, PartialEq, Eq)]
@@ -222,14 +222,11 @@ fn change_field(
     }
 }
 
-// The five values of a row in place.
-fn change_five(
+// The five values of a player's row in place.
+fn change_player(
     object: u32,
-    first: u32,
-    second: u32,
-    third: u32,
-    fourth: u32,
-    fifth: u32,
+    place: Place,
+    player: &Player,
     values: &mut [i64],
     versions: &mut [u32],
     writes: &mut Vec<Write>,
@@ -238,19 +235,23 @@ fn change_five(
     requires versions { length versions.old ≡ 5 }
     requires small { AllByRecursion (λ v. v < 2 ^ 32 - 1) versions.old }
     requires room { length writes.old.items + 5 ≤ vec_capacity writes.old }
-    ensures values { values.new ≡ pos first ∷ pos second ∷ pos third ∷ pos fourth ∷ pos fifth ∷ [] }
+    ensures values { values.new ≡ pos place.x ∷ pos place.y ∷ pos player.now.hp ∷ pos player.now.ammo ∷ pos player.now.score ∷ [] }
     ensures versions { versions.new
-        ≡ row_versions values.old (pos first ∷ pos second ∷ pos third ∷ pos fourth ∷ pos fifth ∷ []) versions.old }
+        ≡ row_versions values.old
+        (pos place.x ∷ pos place.y ∷ pos player.now.hp ∷ pos player.now.ammo ∷ pos player.now.score ∷ [])
+        versions.old }
     ensures writes { writes.new.items ≡ writes.old.items
-        ++ row_writes object 0 values.old (pos first ∷ pos second ∷ pos third ∷ pos fourth ∷ pos fifth ∷ []) versions.old }
+        ++ row_writes object 0 values.old
+        (pos place.x ∷ pos place.y ∷ pos player.now.hp ∷ pos player.now.ammo ∷ pos player.now.score ∷ [])
+        versions.old }
     ensures few { length writes.new.items ≤ length writes.old.items + 5 }
     ensures kept { vec_capacity writes.old ≤ vec_capacity writes.new }
 {
-    change_field(object, 0, first, values, versions, writes);
-    change_field(object, 1, second, values, versions, writes);
-    change_field(object, 2, third, values, versions, writes);
-    change_field(object, 3, fourth, values, versions, writes);
-    change_field(object, 4, fifth, values, versions, writes);
+    change_field(object, 0, place.x, values, versions, writes);
+    change_field(object, 1, place.y, values, versions, writes);
+    change_field(object, 2, player.hp, values, versions, writes);
+    change_field(object, 3, player.ammo, values, versions, writes);
+    change_field(object, 4, player.score, values, versions, writes);
 }
 
 // The row of an object of any kind after a tick that made this of it, with its writes.
@@ -291,10 +292,7 @@ pub fn change_row(object: u32, row: &mut Row, now: &Object, writes: &mut Vec<Wri
         if row.values.len() == 5 {
             let values = row.values.as_mut_slice();
             let versions = row.versions.as_mut_slice();
-            let place = now.place;
-            change_five(
-                object, place.x, place.y, p.hp, p.ammo, p.score, values, versions, writes,
-            );
+            change_player(object, now.place, p, values, versions, writes);
             return;
         }
     }

@@ -8,10 +8,11 @@ ghost use Rattle.world_rules.specs.Discs.{harm, hits};
 ghost use Rattle.world_rules.specs.Players.{damage};
 ghost use Rattle.world_rules.specs.Next.{object_next};
 ghost use Rattle.world_rules.specs.Drones.{drone_next};
-ghost use Rattle.world_rules.specs.Ranges.{PlaceFits, ObjectFits};
+ghost use Rattle.world_rules.specs.Ranges.{ObjectFits};
 ghost use Rattle.world_places.specs.Places.{ArePlaced};
-ghost use Rattle.world_sim.specs.Rows.{values_of, row_writes};
-ghost use Rattle.world_sim.specs.RowsNext.{row_values, row_next, rows_updated, rows_writes, IsSoundRow};
+ghost use Rattle.world_sim.specs.Rows.{values_of};
+ghost use Rattle.world_sim.specs.Keeping.{KeepsUp};
+ghost use Rattle.world_sim.specs.RowsNext.{row_values, rows_updated, rows_writes, IsSoundRow};
 ghost use Rattle.world_cells.specs.Cells.{IsGrid, spot};
 ghost use Rattle.world_cells.specs.declared.cells.TheConstants.{CELL_SIDE};
 ghost use Rattle.world_sim.specs.Found.{AreFound, is_ending};
@@ -22,10 +23,10 @@ ghost use Rattle.std.specs.Option.{option_map_or};
 use crate::found::{Found, count_near, count_of};
 use crate::glance::{Glance, glance_of};
 use crate::mines::step_mine;
-use crate::rows::{Row, Write, change_row, change_three, change_two};
+use crate::rows::{Row, change_row, change_three, change_two};
+use crate::table::{Beside, Table};
 use tn_types::{MAX_OBJECTS, Move};
 use world_cells::{CELL_SIDE, Cells, NumberSet, spot};
-use world_places::Places;
 use world_rules::fire::move_of;
 use world_rules::flags::{clock_next, flag_next};
 use world_rules::measures::{DISC_HARM, DISC_REACH, MINE_HARM, MINE_REACH};
@@ -33,7 +34,7 @@ use world_rules::movers::{
     disc_next, drawn, drift_drone, drone_next, mine_next, player_next, turn_drone,
 };
 use world_rules::object::MAX_AGE;
-use world_rules::{Drone, Object, State};
+use world_rules::{Drone, Object, Place, State};
 
 /// What the rules read of the world before the tick.
 #[derive(Clone, Copy)]
@@ -49,36 +50,36 @@ pub struct Old<'b, 'c> {
 
 // What discs take from an object: of a target, only discs that hit are near.
 fn harm(old: &Old<'_, '_>, o: &Object) -> u32
-    requires { length old.now.found.now.hitting.items ≤ MAX_OBJECTS }
+    requires { length old.now.found.now.picked.hitting.items ≤ MAX_OBJECTS }
     ensures { (os : List Object) (i : ℕ) → AreFound os old.now.found.now → slice_get os i ≡ Some o.now
         → is_target o.now ≡ true → result ≡ harm os o.now }
 {
-    DISC_HARM * count_near(DISC_REACH, o, &old.found.hitting) as u32
+    DISC_HARM * count_near(DISC_REACH, o, &old.found.picked.hitting) as u32
 }
 
 // What discs and mines take from a player.
 fn damage(old: &Old<'_, '_>, o: &Object) -> u32
-    requires discs { length old.now.found.now.hitting.items ≤ MAX_OBJECTS }
-    requires mines { length old.now.found.now.triggered.items ≤ MAX_OBJECTS }
+    requires discs { length old.now.found.now.picked.hitting.items ≤ MAX_OBJECTS }
+    requires mines { length old.now.found.now.picked.triggered.items ≤ MAX_OBJECTS }
     ensures { (os : List Object) (i : ℕ) → AreFound os old.now.found.now → slice_get os i ≡ Some o.now
         → is_target o.now ≡ true → result ≡ damage os o.now }
 {
-    DISC_HARM * count_near(DISC_REACH, o, &old.found.hitting) as u32
-        + MINE_HARM * count_near(MINE_REACH, o, &old.found.triggered) as u32
+    DISC_HARM * count_near(DISC_REACH, o, &old.found.picked.hitting) as u32
+        + MINE_HARM * count_near(MINE_REACH, o, &old.found.picked.triggered) as u32
 }
 
 // How many discs of a client hit.
 fn hits(old: &Old<'_, '_>, client: u8) -> u32
-    requires { length old.now.found.now.hitting.items ≤ MAX_OBJECTS }
+    requires { length old.now.found.now.picked.hitting.items ≤ MAX_OBJECTS }
     ensures { (os : List Object) → AreFound os old.now.found.now → result ≡ hits os client }
 {
-    count_of(client, &old.found.hitting) as u32
+    count_of(client, &old.found.picked.hitting) as u32
 }
 
 // An object after the tick, which ends or not as a disc that hits or a mine that is triggered.
 fn object_next(old: &Old<'_, '_>, ending: bool, o: &Object) -> Object
-    requires discs { length old.now.found.now.hitting.items ≤ MAX_OBJECTS }
-    requires mines { length old.now.found.now.triggered.items ≤ MAX_OBJECTS }
+    requires discs { length old.now.found.now.picked.hitting.items ≤ MAX_OBJECTS }
+    requires mines { length old.now.found.now.picked.triggered.items ≤ MAX_OBJECTS }
     requires standing { old.now.found.now.standing.items ≡ filter is_standing old.now.found.now.players.items }
     ensures { (os : List Object) (i : ℕ) → IsOld os old.now → slice_get os i ≡ Some o.now → ending ≡ is_ending os o.now
         → result ≡ object_next os old.now.moves.now (moment old.now) o.now }
@@ -113,69 +114,48 @@ fn is_quiet(ending: bool, o: &Object) -> bool
     }
 }
 
-// The cells after an object came here from the spot of this place. Most stay in their cells.
+// The cells after an object came here from another place, which lay in this spot. Most stay in their cells.
 fn come_from(
-    x: u32,
-    y: u32,
-    now_x: u32,
-    now_y: u32,
+    left: Place,
+    now: Place,
     from: Option<u8>,
     number: u32,
     object: &Object,
     cells: &mut Cells,
 )
     requires number { number < MAX_OBJECTS }
-    requires column { now_x ≡ object.now.place.x }
-    requires row { now_y ≡ object.now.place.y }
+    requires place { now ≡ object.now.place }
     ensures { (before behind : List Object) (was : Object) → length before ≡ number → spot was ≡ from
-        → (x / CELL_SIDE ≡ object.now.place.x / CELL_SIDE → y / CELL_SIDE ≡ object.now.place.y / CELL_SIDE → spot was ≡ spot object.now)
+        → (left.x / CELL_SIDE ≡ object.now.place.x / CELL_SIDE → left.y / CELL_SIDE ≡ object.now.place.y / CELL_SIDE
+        → spot was ≡ spot object.now)
         → IsGrid cells.old (before ++ was ∷ behind) → IsGrid cells.new (before ++ object.now ∷ behind) }
 {
-    if x / CELL_SIDE == now_x / CELL_SIDE && y / CELL_SIDE == now_y / CELL_SIDE {
+    if left.x / CELL_SIDE == now.x / CELL_SIDE && left.y / CELL_SIDE == now.y / CELL_SIDE {
         return;
     }
     cells.shift(number, from, spot(object));
 }
 
 // A drone's tick where nothing hits it: it only drifts, and each field of its place is written where it lies.
-fn drift(
-    r: u32,
-    number: u32,
-    d: &Drone,
-    object: &mut Object,
-    row: &mut Row,
-    cells: &mut Cells,
-    places: &mut Places,
-    writes: &mut Vec<Write>,
-)
+fn drift(r: u32, number: u32, d: &Drone, object: &mut Object, row: &mut Row, beside: &mut Beside)
     requires number { number < MAX_OBJECTS }
     requires drone { object.old.state ≡ drone_of d.now }
     requires alive { object.old.alive ≡ true }
     requires sound { IsSoundRow row.old }
     requires values { row.old.values.items ≡ values_of object.old }
-    requires room { length writes.old.items + 5 ≤ vec_capacity writes.old }
+    requires room { length beside.old.writes.items + 5 ≤ vec_capacity beside.old.writes }
     requires whole { 0 < d.now.hp }
     ensures object { object.new ≡ drone_next r 0 object.old d.now }
     ensures glance { glance_of object.new ≡ glance_of object.old }
-    ensures row { row.new ≡ row_next row.old object.new }
-    ensures writes { writes.new.items ≡ writes.old.items
-        ++ row_writes number 0 row.old.values.items (values_of object.new) row.old.versions.items }
-    ensures grid { (before behind : List Object) → length before ≡ number → IsGrid cells.old (before ++ object.old ∷ behind)
-        → IsGrid cells.new (before ++ object.new ∷ behind) }
-    ensures placed { (before behind : List Object) → length before ≡ number → PlaceFits object.new.place
-        → ArePlaced places.old (before ++ object.old ∷ behind) → ArePlaced places.new (before ++ object.new ∷ behind) }
-    ensures few { length writes.new.items ≤ length writes.old.items + 5 }
-    ensures kept { vec_capacity writes.old ≤ vec_capacity writes.new }
+    ensures keeps_up { KeepsUp number object.old object.new row.old row.new beside.old beside.new }
 {
     let from = spot(object);
-    let x = object.place.x;
-    let y = object.place.y;
+    let left = object.place;
     drift_drone(r, object, d);
-    let now_x = object.place.x;
-    let now_y = object.place.y;
-    change_two(number, row, now_x, now_y, writes);
-    places.shift(number, now_x, now_y);
-    come_from(x, y, now_x, now_y, from, number, object, cells);
+    let now = object.place;
+    change_two(number, row, now.x, now.y, &mut beside.writes);
+    beside.places.shift(number, now.x, now.y);
+    come_from(left, now, from, number, object, &mut beside.cells);
 }
 
 // A drone's tick where something hits it.
@@ -187,37 +167,24 @@ fn hurt(
     d: &Drone,
     object: &mut Object,
     row: &mut Row,
-    glance: &mut Glance,
-    cells: &mut Cells,
-    places: &mut Places,
-    writes: &mut Vec<Write>,
+    beside: &mut Beside,
 )
     requires number { number < MAX_OBJECTS }
     requires drone { object.old.state ≡ drone_of d.now }
     requires alive { object.old.alive ≡ true }
     requires sound { IsSoundRow row.old }
-    requires glance { glance.old ≡ glance_of object.old }
     requires values { row.old.values.items ≡ values_of object.old }
-    requires room { length writes.old.items + 5 ≤ vec_capacity writes.old }
+    requires room { length beside.old.writes.items + 5 ≤ vec_capacity beside.old.writes }
     ensures object { object.new ≡ drone_next r harm object.old d.now }
-    ensures glance { glance.new ≡ glance_of object.new }
-    ensures row { row.new ≡ row_next row.old object.new }
-    ensures writes { writes.new.items ≡ writes.old.items
-        ++ row_writes number 0 row.old.values.items (values_of object.new) row.old.versions.items }
-    ensures grid { (before behind : List Object) → length before ≡ number → IsGrid cells.old (before ++ object.old ∷ behind)
-        → IsGrid cells.new (before ++ object.new ∷ behind) }
-    ensures placed { (before behind : List Object) → length before ≡ number → PlaceFits object.new.place
-        → ArePlaced places.old (before ++ object.old ∷ behind) → ArePlaced places.new (before ++ object.new ∷ behind) }
-    ensures few { length writes.new.items ≤ length writes.old.items + 5 }
-    ensures kept { vec_capacity writes.old ≤ vec_capacity writes.new }
+    ensures keeps_up { KeepsUp number object.old object.new row.old row.new beside.old beside.new }
 {
     let from = spot(object);
     turn_drone(r, harm, object, d);
     let hp = d.hp.saturating_sub(harm);
-    change_three(number, row, object.place.x, object.place.y, hp, writes);
-    glance.alive = object.alive;
-    places.shift(number, object.place.x, object.place.y);
-    cells.shift(number, from, spot(object));
+    let place = object.place;
+    change_three(number, row, place.x, place.y, hp, &mut beside.writes);
+    beside.places.shift(number, place.x, place.y);
+    beside.cells.shift(number, from, spot(object));
 }
 
 // A drone's tick. Most of what moves in a field are drones, and most of them nothing hits.
@@ -228,39 +195,28 @@ fn step_drone(
     object: &mut Object,
     row: &mut Row,
     glance: &mut Glance,
-    cells: &mut Cells,
-    places: &mut Places,
-    writes: &mut Vec<Write>,
+    beside: &mut Beside,
 )
-    requires discs { length old.now.found.now.hitting.items ≤ MAX_OBJECTS }
+    requires discs { length old.now.found.now.picked.hitting.items ≤ MAX_OBJECTS }
     requires number { number < MAX_OBJECTS }
     requires drone { object.old.state ≡ drone_of d }
     requires alive { object.old.alive ≡ true }
     requires sound { IsSoundRow row.old }
     requires glance { glance.old ≡ glance_of object.old }
     requires values { row.old.values.items ≡ values_of object.old }
-    requires room { length writes.old.items + 5 ≤ vec_capacity writes.old }
+    requires room { length beside.old.writes.items + 5 ≤ vec_capacity beside.old.writes }
     ensures object { (os : List Object) (i : ℕ) → IsOld os old.now → slice_get os i ≡ Some object.old
         → object.new ≡ object_next os old.now.moves.now (moment old.now) object.old }
     ensures glance { glance.new ≡ glance_of object.new }
-    ensures row { row.new ≡ row_next row.old object.new }
-    ensures writes { writes.new.items ≡ writes.old.items
-        ++ row_writes number 0 row.old.values.items (values_of object.new) row.old.versions.items }
-    ensures grid { (before behind : List Object) → length before ≡ number → IsGrid cells.old (before ++ object.old ∷ behind)
-        → IsGrid cells.new (before ++ object.new ∷ behind) }
-    ensures placed { (before behind : List Object) → length before ≡ number → PlaceFits object.new.place
-        → ArePlaced places.old (before ++ object.old ∷ behind) → ArePlaced places.new (before ++ object.new ∷ behind) }
-    ensures few { length writes.new.items ≤ length writes.old.items + 5 }
-    ensures kept { vec_capacity writes.old ≤ vec_capacity writes.new }
+    ensures keeps_up { KeepsUp number object.old object.new row.old row.new beside.old beside.new }
 {
     let r = drawn(old.seed, d.number, old.tick);
     let harm = harm(old, object);
     if harm > 0 || d.hp == 0 {
-        hurt(
-            r, harm, number, &d, object, row, glance, cells, places, writes,
-        );
+        hurt(r, harm, number, &d, object, row, beside);
+        glance.alive = object.alive;
     } else {
-        drift(r, number, &d, object, row, cells, places, writes);
+        drift(r, number, &d, object, row, beside);
     }
 }
 
@@ -273,36 +229,26 @@ fn step_any(
     object: &mut Object,
     row: &mut Row,
     glance: &mut Glance,
-    cells: &mut Cells,
-    places: &mut Places,
-    writes: &mut Vec<Write>,
+    beside: &mut Beside,
 )
-    requires discs { length old.now.found.now.hitting.items ≤ MAX_OBJECTS }
-    requires mines { length old.now.found.now.triggered.items ≤ MAX_OBJECTS }
+    requires discs { length old.now.found.now.picked.hitting.items ≤ MAX_OBJECTS }
+    requires mines { length old.now.found.now.picked.triggered.items ≤ MAX_OBJECTS }
     requires standing { old.now.found.now.standing.items ≡ filter is_standing old.now.found.now.players.items }
     requires number { number < MAX_OBJECTS }
     requires sound { IsSoundRow row.old }
     requires glance { glance.old ≡ glance_of object.old }
     requires values { row.old.values.items ≡ values_of object.old }
-    requires room { length writes.old.items + 5 ≤ vec_capacity writes.old }
+    requires room { length beside.old.writes.items + 5 ≤ vec_capacity beside.old.writes }
     ensures object { (os : List Object) (i : ℕ) → IsOld os old.now → slice_get os i ≡ Some object.old
         → ending ≡ is_ending os object.old → object.new ≡ object_next os old.now.moves.now (moment old.now) object.old }
     ensures glance { glance.new ≡ glance_of object.new }
-    ensures row { row.new ≡ row_next row.old object.new }
-    ensures writes { writes.new.items ≡ writes.old.items
-        ++ row_writes number 0 row.old.values.items (values_of object.new) row.old.versions.items }
-    ensures grid { (before behind : List Object) → length before ≡ number → IsGrid cells.old (before ++ object.old ∷ behind)
-        → IsGrid cells.new (before ++ object.new ∷ behind) }
-    ensures placed { (before behind : List Object) → length before ≡ number → PlaceFits object.new.place
-        → ArePlaced places.old (before ++ object.old ∷ behind) → ArePlaced places.new (before ++ object.new ∷ behind) }
-    ensures few { length writes.new.items ≤ length writes.old.items + 5 }
-    ensures kept { vec_capacity writes.old ≤ vec_capacity writes.new }
+    ensures keeps_up { KeepsUp number object.old object.new row.old row.new beside.old beside.new }
 {
     let now = object_next(old, ending, object);
-    change_row(number, row, &now, writes);
-    cells.resettle(number, object, &now);
+    change_row(number, row, &now, &mut beside.writes);
+    beside.cells.resettle(number, object, &now);
     *glance = glance_of(&now);
-    places.settle(number, &now);
+    beside.places.settle(number, &now);
     *object = now;
 }
 
@@ -314,34 +260,24 @@ fn turn(
     object: &mut Object,
     row: &mut Row,
     glance: &mut Glance,
-    cells: &mut Cells,
-    places: &mut Places,
-    writes: &mut Vec<Write>,
+    beside: &mut Beside,
 )
-    requires discs { length old.now.found.now.hitting.items ≤ MAX_OBJECTS }
-    requires mines { length old.now.found.now.triggered.items ≤ MAX_OBJECTS }
+    requires discs { length old.now.found.now.picked.hitting.items ≤ MAX_OBJECTS }
+    requires mines { length old.now.found.now.picked.triggered.items ≤ MAX_OBJECTS }
     requires standing { old.now.found.now.standing.items ≡ filter is_standing old.now.found.now.players.items }
     requires number { number < MAX_OBJECTS }
     requires sound { IsSoundRow row.old }
     requires glance { glance.old ≡ glance_of object.old }
     requires values { row.old.values.items ≡ values_of object.old }
-    requires room { length writes.old.items + 5 ≤ vec_capacity writes.old }
+    requires room { length beside.old.writes.items + 5 ≤ vec_capacity beside.old.writes }
     ensures object { (os : List Object) (i : ℕ) → IsOld os old.now → slice_get os i ≡ Some object.old
         → ending ≡ is_ending os object.old → object.new ≡ object_next os old.now.moves.now (moment old.now) object.old }
     ensures glance { glance.new ≡ glance_of object.new }
-    ensures row { row.new ≡ row_next row.old object.new }
-    ensures writes { writes.new.items ≡ writes.old.items
-        ++ row_writes number 0 row.old.values.items (values_of object.new) row.old.versions.items }
-    ensures grid { (before behind : List Object) → length before ≡ number → IsGrid cells.old (before ++ object.old ∷ behind)
-        → IsGrid cells.new (before ++ object.new ∷ behind) }
-    ensures placed { (before behind : List Object) → length before ≡ number → PlaceFits object.new.place
-        → ArePlaced places.old (before ++ object.old ∷ behind) → ArePlaced places.new (before ++ object.new ∷ behind) }
-    ensures few { length writes.new.items ≤ length writes.old.items + 5 }
-    ensures kept { vec_capacity writes.old ≤ vec_capacity writes.new }
+    ensures keeps_up { KeepsUp number object.old object.new row.old row.new beside.old beside.new }
 {
     if let State::Drone(d) = object.state {
         if object.alive {
-            step_drone(old, number, d, object, row, glance, cells, places, writes);
+            step_drone(old, number, d, object, row, glance, beside);
         }
         return;
     }
@@ -349,14 +285,10 @@ fn turn(
         return;
     }
     if let State::Mine(m) = object.state {
-        step_mine(
-            number, ending, m, object, row, glance, cells, places, writes,
-        );
+        step_mine(number, ending, m, object, row, glance, beside);
         return;
     }
-    step_any(
-        old, number, ending, object, row, glance, cells, places, writes,
-    );
+    step_any(old, number, ending, object, row, glance, beside);
 }
 
 // Takes an object that is over out of those that may still change.
@@ -404,48 +336,58 @@ fn next_turn(
 
 /// Each object after the tick, with its row, its cell, its place and the writes. What is over has no turn.
 #[inline(never)]
-pub fn turn_all(
-    old: &Old<'_, '_>,
-    objects: &mut Vec<Object>,
-    rows: &mut Vec<Row>,
-    glances: &mut Vec<Glance>,
-    cells: &mut Cells,
-    places: &mut Places,
-    going: &mut NumberSet,
-    writes: &mut Vec<Write>,
-)
-    requires old { IsOld objects.old.items old.now }
-    requires values { map row_values rows.old.items ≡ map values_of objects.old.items }
-    requires sound { AllByRecursion IsSoundRow rows.old.items }
-    requires glances { glances.old.items ≡ map glance_of objects.old.items }
-    requires grid { IsGrid cells.old objects.old.items }
-    requires placed { ArePlaced places.old objects.old.items }
-    requires fits { AllByRecursion ObjectFits objects.old.items }
-    requires going { HasGoing going.old objects.old.items }
-    requires none { writes.old.items ≡ [] }
-    requires room { 5 * MAX_OBJECTS ≤ vec_capacity writes.old }
-    ensures objects { objects.new.items ≡ map (object_next objects.old.items old.now.moves.now (moment old.now)) objects.old.items }
-    ensures rows { rows.new.items ≡ rows_updated (length rows.old.items) rows.old.items objects.new.items }
-    ensures writes { writes.new.items ≡ rows_writes 0 rows.old.items objects.new.items }
-    ensures glances { glances.new.items ≡ map glance_of objects.new.items }
-    ensures grid { IsGrid cells.new objects.new.items }
-    ensures placed { ArePlaced places.new objects.new.items }
-    ensures going { HasGoing going.new objects.new.items }
-    ensures kept { vec_capacity objects.old ≤ vec_capacity objects.new }
-    ensures rows_kept { vec_capacity rows.old ≤ vec_capacity rows.new }
-    ensures glances_kept { vec_capacity glances.old ≤ vec_capacity glances.new }
+pub fn turn_all(old: &Old<'_, '_>, table: &mut Table)
+    requires old { IsOld table.old.objects.items old.now }
+    requires values { map row_values table.old.rows.items ≡ map values_of table.old.objects.items }
+    requires sound { AllByRecursion IsSoundRow table.old.rows.items }
+    requires glances { table.old.glances.items ≡ map glance_of table.old.objects.items }
+    requires grid { IsGrid table.old.beside.cells table.old.objects.items }
+    requires placed { ArePlaced table.old.beside.places table.old.objects.items }
+    requires fits { AllByRecursion ObjectFits table.old.objects.items }
+    requires going { HasGoing table.old.going table.old.objects.items }
+    requires none { table.old.beside.writes.items ≡ [] }
+    requires room { 5 * MAX_OBJECTS ≤ vec_capacity table.old.beside.writes }
+    ensures objects { table.new.objects.items
+        ≡ map (object_next table.old.objects.items old.now.moves.now (moment old.now)) table.old.objects.items }
+    ensures rows { table.new.rows.items ≡ rows_updated (length table.old.rows.items) table.old.rows.items table.new.objects.items }
+    ensures writes { table.new.beside.writes.items ≡ rows_writes 0 table.old.rows.items table.new.objects.items }
+    ensures glances { table.new.glances.items ≡ map glance_of table.new.objects.items }
+    ensures grid { IsGrid table.new.beside.cells table.new.objects.items }
+    ensures placed { ArePlaced table.new.beside.places table.new.objects.items }
+    ensures going { HasGoing table.new.going table.new.objects.items }
+    ensures kept { vec_capacity table.old.objects ≤ vec_capacity table.new.objects }
+    ensures rows_kept { vec_capacity table.old.rows ≤ vec_capacity table.new.rows }
+    ensures glances_kept { vec_capacity table.old.glances ≤ vec_capacity table.new.glances }
 {
-    let many = objects.len();
-    let mut i = next_turn(going, glances, &old.found.marks, 0, many);
+    let many = table.objects.len();
+    let mut i = next_turn(
+        &table.going,
+        &table.glances,
+        &old.found.picked.marks,
+        0,
+        many,
+    );
     while i < many {
-        let ending = old.found.marks[i];
-        let object = &mut objects[i];
-        let row = &mut rows[i];
-        let glance = &mut glances[i];
+        let ending = old.found.picked.marks[i];
+        let object = &mut table.objects[i];
+        let row = &mut table.rows[i];
+        let glance = &mut table.glances[i];
         turn(
-            old, i as u32, ending, object, row, glance, cells, places, writes,
+            old,
+            i as u32,
+            ending,
+            object,
+            row,
+            glance,
+            &mut table.beside,
         );
-        leave_over(i as u32, glance, going);
-        i = next_turn(going, glances, &old.found.marks, i + 1, many);
+        leave_over(i as u32, glance, &mut table.going);
+        i = next_turn(
+            &table.going,
+            &table.glances,
+            &old.found.picked.marks,
+            i + 1,
+            many,
+        );
     }
 }

@@ -14,8 +14,9 @@ ghost use Rattle.world_sim.specs.Glances.{glance_of};
 use crate::advance::{MAX_WRITES, Work, advance, workroom};
 use crate::found::place_of_player;
 use crate::glance::Glance;
-use crate::rows::{Row, Write};
+use crate::rows::Write;
 use crate::start::{first_glances, first_places, first_rows, lasting, start_objects};
+use crate::table::{Beside, Table};
 use std::alloc::{AllocError, Global};
 use std::marker::Model;
 use std::mem;
@@ -33,19 +34,11 @@ pub struct World {
     // How far players see, in centimetres.
     radius: u32,
     ticks: u32,
-    objects: Vec<Object>,
-    rows: Vec<Row>,
+    table: Table,
+    // What the last tick wrote.
     writes: Vec<Write>,
-    // A glance at each object.
-    glances: Vec<Glance>,
-    // The living by the cell that they lie in.
-    cells: Cells,
-    // Where each object is.
-    places: Places,
     // The numbers of what every client sees. No tick makes or ends one.
     always: Vec<u32>,
-    // The numbers of all that may still change.
-    going: NumberSet,
     work: Work,
 }
 
@@ -57,14 +50,9 @@ impl Drop for World {
             clients: _clients,
             radius: _radius,
             ticks: _ticks,
-            objects: _objects,
-            rows: _rows,
+            table: _table,
             writes: _writes,
-            glances: _glances,
-            cells: _cells,
-            places: _places,
             always: _always,
-            going: _going,
             work: _work,
         } = self;
     }
@@ -82,8 +70,8 @@ impl Model for World {
       clients = w.clients;
       radius = w.radius;
       ticks = w.ticks;
-      objects = w.objects.items;
-      versions = map row_counts w.rows.items;
+      objects = w.table.objects.items;
+      versions = map row_counts w.table.rows.items;
       writes = w.writes.items;
     } };
 
@@ -92,10 +80,11 @@ impl Model for World {
       clients = w.clients;
       radius = w.radius;
       ticks = w.ticks;
-      objects = w.objects.items;
-      versions = map row_counts w.rows.items;
+      objects = w.table.objects.items;
+      versions = map row_counts w.table.rows.items;
       writes = w.writes.items;
-    }) w.rows.items w.glances.items w.cells w.places w.always.items w.going };
+    }) w.table.rows.items w.table.glances.items w.table.beside.cells w.table.beside.places w.always.items
+        w.table.going };
 }
 
 impl World {
@@ -121,6 +110,7 @@ impl World {
         let rows = first_rows(alloc, &objects)?;
         let glances = first_glances(alloc, &objects)?;
         let writes = Vec::with_capacity(alloc, MAX_WRITES)?;
+        let next_writes = Vec::with_capacity(alloc, MAX_WRITES)?;
         let always = lasting(alloc, &objects)?;
         let going = NumberSet::all(alloc)?;
         let places = first_places(alloc, &objects)?;
@@ -132,14 +122,19 @@ impl World {
             clients: setup.clients,
             radius: setup.radius,
             ticks: 0,
-            objects,
-            rows,
+            table: Table {
+                objects,
+                rows,
+                glances,
+                beside: Beside {
+                    cells,
+                    places,
+                    writes: next_writes,
+                },
+                going,
+            },
             writes,
-            glances,
-            cells,
-            places,
             always,
-            going,
             work,
         })
     }
@@ -171,20 +166,10 @@ impl World {
         ensures more { OnOk result (length self.old.objects ≤ length self.new.objects) }
         ensures writes { OnOk result (AllByRecursion (IsWriteOf self.old) self.new.writes) }
     {
-        advance(
-            &mut self.objects,
-            &mut self.rows,
-            &mut self.glances,
-            &mut self.cells,
-            &mut self.places,
-            &mut self.going,
-            moves,
-            self.seed,
-            self.ticks + 1,
-            &mut self.work,
-        )?;
-        mem::swap(&mut self.writes, &mut self.work.after_writes);
-        self.ticks += 1;
+        let tick = self.ticks + 1;
+        advance(&mut self.table, moves, self.seed, tick, &mut self.work)?;
+        mem::swap(&mut self.writes, &mut self.table.beside.writes);
+        self.ticks = tick;
         Ok(())
     }
 
@@ -207,7 +192,7 @@ impl World {
         ensures value { result ≡ length self.now.objects }
         ensures few { result ≤ MAX_OBJECTS }
     {
-        self.objects.len() as u32
+        self.table.objects.len() as u32
     }
 
     /// The clients of the match.
@@ -221,7 +206,7 @@ impl World {
     pub fn player(&self, client: u8) -> Option<u32>
         ensures { result ≡ player_of self.now client }
     {
-        match place_of_player(client, &self.objects) {
+        match place_of_player(client, &self.table.objects) {
             Some(place) => Some(place as u32),
             None => None,
         }
@@ -242,7 +227,7 @@ impl World {
         ensures peopled { IsPeopled self.now.clients result.now }
         ensures fits { AllByRecursion ObjectFits result.now }
     {
-        self.objects.as_slice()
+        self.table.objects.as_slice()
     }
 
     /// The numbers of the living objects in a cell of the field, rising: those with `x / 4096` equal to `cx` and
@@ -253,7 +238,7 @@ impl World {
         requires row { cy < CELLS_ACROSS }
         ensures { result.now ≡ numbers (lies_at cx cy) 0 self.now.objects }
     {
-        self.cells.cell(cy * CELLS_ACROSS as u8 + cx)
+        self.table.beside.cells.cell(cy * CELLS_ACROSS as u8 + cx)
     }
 
     /// Which of the 64 objects from number `64 * word` on are alive and lie in the cells between two columns and two rows,
@@ -267,7 +252,8 @@ impl World {
         requires row_last { rows.1 ≤ CELLS_ACROSS }
         ensures { AreBits result (64 * word) 64 (lies_between columns.0 columns.1 rows.0 rows.1) self.now.objects }
     {
-        self.cells.columns_between(columns, word) & self.cells.rows_between(rows, word)
+        self.table.beside.cells.columns_between(columns, word)
+            & self.table.beside.cells.rows_between(rows, word)
     }
 
     /// The numbers of the living objects that every client sees, rising: flags and clocks.
@@ -282,14 +268,14 @@ impl World {
         ensures value { result.now ≡ map glance_of self.now.objects }
         ensures few { length result.now ≤ MAX_OBJECTS }
     {
-        self.glances.as_slice()
+        self.table.glances.as_slice()
     }
 
     /// Where each object is, dead ones too, as lists that are lent 64 objects at a time.
     pub fn places(&self) -> &Places
         ensures placed { ArePlaced result.now self.now.objects }
     {
-        &self.places
+        &self.table.beside.places
     }
 
     /// A look at an object, which takes one step: its place in centimetres, `None` exactly for a clock.
@@ -299,7 +285,7 @@ impl World {
         ensures steps { steps.new ≡ steps.old + 1 }
     {
         steps.tick();
-        let o = &self.objects[object as usize];
+        let o = &self.table.objects[object as usize];
         if has_place(o) {
             Some((i64::from(o.place.x), i64::from(o.place.y)))
         } else {
@@ -312,7 +298,7 @@ impl World {
         requires { object < length self.now.objects }
         ensures { Some result ≡ alive_at self.now object }
     {
-        self.objects[object as usize].alive
+        self.table.objects[object as usize].alive
     }
 
     /// The number of an object's kind.
@@ -320,7 +306,7 @@ impl World {
         requires { object < length self.now.objects }
         ensures { Some result ≡ kind_at self.now object }
     {
-        self.objects[object as usize].kind()
+        self.table.objects[object as usize].kind()
     }
 
     /// The block that an object refers to.
@@ -328,7 +314,7 @@ impl World {
         requires { object < length self.now.objects }
         ensures { Some result ≡ block_at self.now object }
     {
-        self.objects[object as usize].block
+        self.table.objects[object as usize].block
     }
 
     /// The values of an object's fields, in order.
@@ -338,7 +324,7 @@ impl World {
         ensures value { Some result.now ≡ values_at self.now object }
         ensures fits { ValuesFit (kind_at self.now object) result.now }
     {
-        self.rows[object as usize].values.as_slice()
+        self.table.rows[object as usize].values.as_slice()
     }
 
     /// How often a field was written, which is at most once in each tick; `None` exactly where the object has no such field.
@@ -355,7 +341,7 @@ impl World {
         ensures value { result ≡ version_at self.now object field }
         ensures counted { AllByRecursion (WasCounted self.now.ticks) self.now.versions }
     {
-        self.rows[object as usize]
+        self.table.rows[object as usize]
             .versions
             .get(field as usize)
             .copied()

@@ -7,10 +7,10 @@ use Rattle.world_scope.proofs.gather.gather_bits.Given as goal
 abbrev pub invariant-loop-rest : goal.invariant-loop-rest
 invariant-loop-rest g l = record {
   fits : l.rest < 2 ^ 64;
-  left : IsRest l.word l.from l.rest l.next;
-  so_far : l.out.items ++ to_come (look l.viewer) l.world.objects l.next ≡ l.initial.out.items ++ to_come (look l.viewer) l.world.objects l.from;
+  left : IsRest l.bits l.part.from l.rest l.next;
+  so_far : l.out.items ++ to_come (look l.walk.viewer.now) l.walk.world.now.objects l.next ≡ l.initial.out.items ++ to_come (look l.walk.viewer.now) l.walk.world.now.objects l.part.from;
   room : vec_capacity l.initial.out ≤ vec_capacity l.out;
-  steps : l.steps + count_by (may_see (look l.viewer)) (drop l.next l.world.objects) ≡ l.initial.steps + count_by (may_see (look l.viewer)) (drop l.from l.world.objects);
+  steps : l.steps + count_by (may_see (look l.walk.viewer.now)) (drop l.next l.walk.world.now.objects) ≡ l.initial.steps + count_by (may_see (look l.walk.viewer.now)) (drop l.part.from l.walk.world.now.objects);
 }
 
 abbrev pub decreases-loop-rest : goal.decreases-loop-rest

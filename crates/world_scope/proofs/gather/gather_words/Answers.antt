@@ -14,34 +14,33 @@ any_err : {A E P : Type 0} → (r : Result A E) → P → OnErr r P
 any_err (Ok a) p = tt
 any_err (Err e) p = p
 
-pub word-bits-requires : goal.word-bits-requires
-word-bits-requires g c =
-    let some : 0 < c.loop-rest.rest = omega (arith, c.loop-rest-test.true) in
-    mark_few c.marks-rest.result c.loop-rest.rest c.loop-rest.next some c.loop-rest.invariant.fits c.loop-rest.invariant.left c.marks-rest.ensures.few
-
 pub word-requires : goal.word-requires
 word-requires g c =
     let some : 0 < c.loop-rest.rest = omega (arith, c.loop-rest-test.true) in
     mark_few c.marks-rest.result c.loop-rest.rest c.loop-rest.next some c.loop-rest.invariant.fits c.loop-rest.invariant.left c.marks-rest.ensures.few
 
-pub gather_word-requires-clause-few : goal.gather_word-requires-clause-few
-gather_word-requires-clause-few g c =
+pub word-bits-requires : goal.word-bits-requires
+word-bits-requires g c =
     let some : 0 < c.loop-rest.rest = omega (arith, c.loop-rest-test.true) in
-    let few = mark_few c.marks-rest.result c.loop-rest.rest c.loop-rest.next some c.loop-rest.invariant.fits c.loop-rest.invariant.left c.marks-rest.ensures.few in
-    omega (arith, few)
+    mark_few c.marks-rest.result c.loop-rest.rest c.loop-rest.next some c.loop-rest.invariant.fits c.loop-rest.invariant.left c.marks-rest.ensures.few
 
-pub gather_word-requires-clause-places : goal.gather_word-requires-clause-places
-gather_word-requires-clause-places g c =
-    word_places c.args.places.now c.word.result c.args.world.now.objects (trailing_zeros w64 c.loop-rest.rest) c.requires.placed c.word.ensures
-
-pub gather_word-requires-clause-bits : goal.gather_word-requires-clause-bits
-gather_word-requires-clause-bits g c =
+pub gather_word-requires : goal.gather_word-requires
+gather_word-requires g c =
     let p = may_see (look c.args.viewer.now) in
     let os = c.args.world.now.objects in
     let s = trailing_zeros w64 c.loop-rest.rest in
     let some : 0 < c.loop-rest.rest = omega (arith, c.loop-rest-test.true) in
     let few = mark_few c.marks-rest.result c.loop-rest.rest c.loop-rest.next some c.loop-rest.invariant.fits c.loop-rest.invariant.left c.marks-rest.ensures.few in
-    subst (λ (w : ℕ). AreBits w (64 * s) 64 p os) (sym c.word-bits.ensures) (word_bits c.args.set.now p os s c.requires.those few)
+    record {
+      part = record {
+        glanced = c.glances.ensures.value;
+        placed = word_places c.args.places.now c.word.result os s c.requires.placed c.word.ensures;
+        few = omega (arith, few);
+        marked = subst (λ (w : ℕ). AreBits w (64 * s) 64 p os) (sym c.word-bits.ensures) (word_bits c.args.set.now p os s c.requires.those few);
+        owned = c.requires.owned;
+        ready = c.requires.ready;
+      };
+    }
 
 pub returns-in_err-out-clause-room : goal.returns-in_err-out-clause-room
 returns-in_err-out-clause-room g c =

@@ -13,7 +13,7 @@ returns c =
     let end = c.players_end.ensures.end os c.requires.glances in
     let players : c.gather.new.players.items ≡ filter is_players os = c.in_ok-gather.ensures.players ∙ players_up_to os n c.requires.first end in
     let standing : c.gather.new.standing.items ≡ filter is_standing os = c.in_ok-gather.ensures.standing ∙ standing_up_to os n c.requires.first end in
-    let found : Found = record { players = c.gather.new.players; standing = c.gather.new.standing; flags = c.gather_ending.new.flags; hitting = c.gather_ending.new.hitting; triggered = c.gather_ending.new.triggered; marks = c.gather_ending.new.marks } in
+    let found : Found = record { players = c.gather.new.players; standing = c.gather.new.standing; picked = c.gather_ending.new.picked } in
     are_found os found c.gather.new.standing.items players standing refl c.in_ok-gather_ending.ensures.flags
     c.in_ok-gather_ending.ensures.hitting
     (rw c.deref-2.ensures.value at c.in_ok-gather_ending.ensures.triggered)

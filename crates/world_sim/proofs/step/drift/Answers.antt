@@ -9,27 +9,22 @@ use Rattle.world_sim.proofs.step.drift.Goals as goal
 pub change_two-requires-clause-three : goal.change_two-requires-clause-three
 change_two-requires-clause-three c = three_of_drone c.args.object.now c.args.d.now c.args.row.now.values.items c.requires.values c.requires.drone
 
-pub returns-clause-row : goal.returns-clause-row
-returns-clause-row c =
+pub returns-clause-keeps_up : goal.returns-clause-keeps_up
+returns-clause-keeps_up c =
     let now = c.drift_drone.new.o in
     let told : values_of now ≡ pos now.place.x ∷ pos now.place.y ∷ slice_index_or c.args.row.now.values.items 2 (pos 0) ∷ [] = drift_told c.args.r c.args.object.now now c.args.d.now c.args.row.now.values.items c.requires.alive c.requires.drone c.drift_drone.ensures c.requires.values in
-    row_told c.args.row.now c.change_two.new.row now _ told c.change_two.ensures.values c.change_two.ensures.versions
-
-pub returns-clause-writes : goal.returns-clause-writes
-returns-clause-writes c =
-    let now = c.drift_drone.new.o in
-    let told : values_of now ≡ pos now.place.x ∷ pos now.place.y ∷ slice_index_or c.args.row.now.values.items 2 (pos 0) ∷ [] = drift_told c.args.r c.args.object.now now c.args.d.now c.args.row.now.values.items c.requires.alive c.requires.drone c.drift_drone.ensures c.requires.values in
-    c.change_two.ensures.writes ∙ ap (λ (xs : List ℤ). c.args.writes.now.items ++ row_writes c.args.number 0 c.args.row.now.values.items xs c.args.row.now.versions.items) (sym told)
+    record {
+      row_is = row_told c.args.row.now c.change_two.new.row now _ told c.change_two.ensures.values c.change_two.ensures.versions;
+      written = c.change_two.ensures.writes ∙ ap (λ (xs : List ℤ). c.args.beside.now.writes.items ++ row_writes c.args.number 0 c.args.row.now.values.items xs c.args.row.now.versions.items) (sym told);
+      grid = λ first behind many grid.
+          c.come_from.ensures first behind c.args.object.now many (sym c.spot-from.ensures)
+          (drift_spot c.args.r c.args.object.now now c.args.d.now c.requires.alive c.requires.drone c.requires.whole c.drift_drone.ensures) grid;
+      placed = λ first behind many fits placed.
+          c.shift.ensures first behind c.args.object.now now many refl fits
+          (drone_special c.args.r 0 c.args.object.now now c.args.d.now c.requires.alive c.drift_drone.ensures) placed;
+      few = c.change_two.ensures.few;
+      kept = c.change_two.ensures.kept;
+    }
 
 pub returns-clause-glance : goal.returns-clause-glance
 returns-clause-glance c = drift_glance c.args.r c.args.object.now c.drift_drone.new.o c.args.d.now c.requires.alive c.requires.drone c.requires.whole c.drift_drone.ensures
-
-pub returns-clause-grid : goal.returns-clause-grid
-returns-clause-grid c = λ before behind many grid.
-    c.come_from.ensures before behind c.args.object.now many (sym c.spot-from.ensures)
-    (drift_spot c.args.r c.args.object.now c.drift_drone.new.o c.args.d.now c.requires.alive c.requires.drone c.requires.whole c.drift_drone.ensures) grid
-
-pub returns-clause-placed : goal.returns-clause-placed
-returns-clause-placed c = λ before behind many fits placed.
-    c.shift.ensures before behind c.args.object.now c.drift_drone.new.o many refl fits
-    (drone_special c.args.r 0 c.args.object.now c.drift_drone.new.o c.args.d.now c.requires.alive c.drift_drone.ensures) placed

@@ -9,20 +9,20 @@ use Rattle.world_sim.proofs.step.turn_all.Given as goal
 
 abbrev pub invariant-loop-i : goal.invariant-loop-i
 invariant-loop-i l =
-    let os = l.initial.objects.items in
+    let os = l.initial.table.objects.items in
     let next = object_next os l.old.moves.now (moment l.old) in
     record {
-      turned : Turned os next l.initial.rows.items l.i l.objects.items l.rows.items l.writes.items;
+      turned : Turned os next l.initial.table.rows.items l.i l.table.objects.items l.table.rows.items l.table.beside.writes.items;
       most : l.i ≤ length os;
-      glances : l.glances.items ≡ map glance_of l.objects.items;
-      grid : IsGrid l.cells l.objects.items;
-      placed : ArePlaced l.places l.objects.items;
-      going : HasGoing l.going l.objects.items;
-      few : length l.writes.items ≤ 5 * l.i;
-      room : 5 * 1024 ≤ vec_capacity l.writes;
-      kept : vec_capacity l.initial.objects ≤ vec_capacity l.objects;
-      rows_kept : vec_capacity l.initial.rows ≤ vec_capacity l.rows;
-      glances_kept : vec_capacity l.initial.glances ≤ vec_capacity l.glances;
+      glances : l.table.glances.items ≡ map glance_of l.table.objects.items;
+      grid : IsGrid l.table.beside.cells l.table.objects.items;
+      placed : ArePlaced l.table.beside.places l.table.objects.items;
+      going : HasGoing l.table.going l.table.objects.items;
+      few : length l.table.beside.writes.items ≤ 5 * l.i;
+      room : 5 * 1024 ≤ vec_capacity l.table.beside.writes;
+      kept : vec_capacity l.initial.table.objects ≤ vec_capacity l.table.objects;
+      rows_kept : vec_capacity l.initial.table.rows ≤ vec_capacity l.table.rows;
+      glances_kept : vec_capacity l.initial.table.glances ≤ vec_capacity l.table.glances;
     }
 
 abbrev pub decreases-loop-i : goal.decreases-loop-i
