@@ -10,10 +10,10 @@ ghost use Rattle.race_steps.specs.Walking.{Fits};
 
 use crate::fit::Fit;
 use crate::steps::step_at;
-use race_messages::Message;
 use kept_pair::StepList;
 use lane_periods::Objects;
 use pair_core::PairStep;
+use race_messages::Message;
 use tn_types::{Class, MAX_KEPT_STEPS, Payload};
 
 // Whether it is the step of a message.
