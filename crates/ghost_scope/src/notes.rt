@@ -2,11 +2,34 @@
 use crate::period::Period;
 use tn_types::MAX_SLOTS;
 
-/// So many places are noted, each by the last bits of a period's number.
-pub(crate) const NOTES: usize = 256;
+// So many places are noted, each by the last bits of a period's number.
+const NOTES: usize = 256;
 
 // More than any place of an entry.
 const NO_PLACE: usize = 65_536;
+
+/// Where the items of a list of periods stand, by their numbers, as far as noted: looked at first, and nothing rests on it.
+#[derive(Drop)]
+pub struct PlaceNotes {
+    places: [u16; NOTES],
+}
+
+impl PlaceNotes {
+    /// No note.
+    pub fn new() -> PlaceNotes {
+        PlaceNotes { places: [0; NOTES] }
+    }
+
+    /// Notes that the item of this number stands at this place.
+    pub fn note(&mut self, n: u32, at: usize) {
+        self.places[n as usize % NOTES] = (at % NO_PLACE) as u16;
+    }
+
+    /// Where the item of this number stands, if it stands as noted.
+    pub fn place(&self, n: u32) -> usize {
+        self.places[n as usize % NOTES] as usize
+    }
+}
 
 /// Notes that the entry of the slot's holder stands at this place.
 pub(crate) fn note_seat(seats: &mut [u16; MAX_SLOTS], slot: u8, at: usize) {
@@ -20,14 +43,9 @@ pub(crate) fn note_seats(seats: &mut [u16; MAX_SLOTS], entries: &[Period], from:
     }
 }
 
-/// Notes that the entry of this number stands at this place.
-pub(crate) fn note(places: &mut [u16; NOTES], n: u32, at: usize) {
-    places[n as usize % NOTES] = (at % NO_PLACE) as u16;
-}
-
 /// Notes where the entries from this place on stand.
-pub(crate) fn note_from(places: &mut [u16; NOTES], entries: &[Period], from: usize) {
+pub(crate) fn note_from(places: &mut PlaceNotes, entries: &[Period], from: usize) {
     for at in from..entries.len() {
-        note(places, entries[at].n, at);
+        places.note(entries[at].n, at);
     }
 }

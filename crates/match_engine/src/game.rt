@@ -14,9 +14,9 @@ use crate::lanes::raise_all;
 use crate::lines::line_on;
 use crate::serving::{Room, pack_for, scan_for, show_for};
 use crate::ticking::{living_of, take_moves};
-use crate::values::NOTES;
 use client_scope::Scope;
 use dirty_lanes::PlainLanes;
+use ghost_scope::PlaceNotes;
 use match_laws::client_seat::Seat;
 use match_laws::pair_core::Pair;
 use match_report::Told;
@@ -168,7 +168,7 @@ impl<'a> Game<'a> {
                 seen: Vec::new(alloc),
                 shows: Vec::new(alloc),
                 drains: Vec::new(alloc),
-                places: [0; NOTES],
+                places: PlaceNotes::new(),
             },
             done: 0,
         })

@@ -13,9 +13,10 @@ ghost use Rattle.match_laws.specs.Report.{told_after};
 ghost use Rattle.match_engine.specs.Serving.{Serves, OthersStay};
 
 use crate::lanes::{clear_all, drain_all, written_of};
-use crate::values::{Places, WorldValues, note_all};
+use crate::values::{WorldValues, note_all};
 use client_scope::Scope;
 use dirty_lanes::PlainLanes;
+use ghost_scope::PlaceNotes;
 use match_laws::client_seat::Seat;
 use match_laws::own_lists::Showing;
 use match_report::Told;
@@ -57,7 +58,7 @@ pub(crate) fn pack_for(
     lanes: &mut PlainLanes,
     client: u8,
     drains: &mut Vec<Drain>,
-    places: &mut Places,
+    places: &mut PlaceNotes,
 ) -> Result<Told, NoMemory>
     requires serves { (h : Head) × (past : List OneLine) × Serves seat.old scope.now world.now lanes.old client h past
         × (counted_in past < MAX_COUNTED_LINES) }
@@ -163,5 +164,5 @@ pub(crate) struct Room {
     pub(crate) seen: Vec<Seen>,
     pub(crate) shows: Vec<Showing>,
     pub(crate) drains: Vec<Drain>,
-    pub(crate) places: Places,
+    pub(crate) places: PlaceNotes,
 }

@@ -4,6 +4,7 @@ ghost use Rattle.std.specs.Option.{option_copied};
 ghost use Rattle.match_engine.specs.Values.{period_of, Rise, IsAt};
 
 use client_scope::ShownPeriod;
+use ghost_scope::PlaceNotes;
 use tn_types::{Read, Values};
 use world_sim::World;
 
@@ -14,23 +15,14 @@ pub(crate) struct WorldValues<'a> {
     pub(crate) world: &'a World,
     pub(crate) shown: &'a [ShownPeriod],
     // where shown periods stand
-    pub(crate) places: &'a Places,
+    pub(crate) places: &'a PlaceNotes,
     ghost rising: { Rise shown.now },
 }
 
-/// So many places are noted, each by the last bits of a period's number.
-pub(crate) const NOTES: usize = 256;
-
-// More than any place of a shown period.
-const NO_PLACE: usize = 65_536;
-
-/// Where shown periods stand, as far as noted: looked at first, and nothing rests on it.
-pub(crate) type Places = [u16; NOTES];
-
 /// Notes where these periods stand.
-pub(crate) fn note_all(places: &mut Places, shown: &[ShownPeriod]) {
+pub(crate) fn note_all(places: &mut PlaceNotes, shown: &[ShownPeriod]) {
     for at in 0..shown.len() {
-        places[shown[at].n as usize % NOTES] = (at % NO_PLACE) as u16;
+        places.note(shown[at].n, at);
     }
 }
 
@@ -44,12 +36,12 @@ fn place(shown: &[ShownPeriod], n: u32) -> Option<usize>
 }
 
 // The same. Where it stands as noted, it is found at once.
-fn place_noted(shown: &[ShownPeriod], places: &Places, n: u32) -> Option<usize>
+fn place_noted(shown: &[ShownPeriod], places: &PlaceNotes, n: u32) -> Option<usize>
     requires rising { Rise shown.now }
     ensures found { IfSome result (IsAt shown.now n) }
     ensures absent { result ≡ None → period_of shown.now n ≡ None }
 {
-    let at = places[n as usize % NOTES] as usize;
+    let at = places.place(n);
     if at < shown.len() && shown[at].n == n {
         return Some(at);
     }
