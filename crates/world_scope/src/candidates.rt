@@ -1,11 +1,10 @@
 //! Which objects a scan looks at, as a bit for each number: what is always seen, and what lies in the cells that the square
 //! round the client's player touches.
-ghost use Rattle.std.specs.Prelude.{◌≡◌, ℕ, ◌≤◌, ◌<◌, ◌+◌, ◌-◌, ◌*◌, ◌/◌, ◌==◌, Bool, List, min, nat_le, length, replicate, slice_index_or, if◌then◌else◌};
+ghost use Rattle.std.specs.Prelude.{◌≡◌, ℕ, ◌≤◌, ◌<◌, ◌+◌, ◌-◌, ◌*◌, ◌/◌, Bool, List, min, nat_le, length, replicate, slice_index_or};
 ghost use Rattle.std.specs.List.{AllByRecursion};
 ghost use Rattle.world_rules.specs.declared.object.Object.{Object};
 ghost use Rattle.world_rules.specs.Ranges.{ObjectFits};
 ghost use Rattle.world_cells.specs.Grid.{numbers, lies_between};
-ghost use Rattle.world_cells.specs.NumberSet.{bit_of};
 ghost use Rattle.world_scope.specs.Views.{look};
 ghost use Rattle.world_scope.specs.Square.{is_round};
 ghost use Rattle.world_scope.specs.Candidates.{AreThose, either, is_in_row, is_near, may_see};

@@ -1,7 +1,8 @@
 -- What a tick finds of the objects before anything moves: those that matter to others, in the order of their numbers, and
 -- a mark for each object that ends in the tick.
-use Rattle.std.specs.Prelude.{◌≡◌, ℕ, zero, suc, ◌⊎◌, ◌&&◌, ◌||◌, Bool, true, false, List, [], ◌∷◌, filter, map}
+use Rattle.std.specs.Prelude.{◌≡◌, ℕ, zero, suc, ◌⊎◌, ◌&&◌, ◌||◌, Bool, true, false, List, [], ◌∷◌, ◌≤◌, length, filter, map}
 use Rattle.std.specs.List.{list_any, AllByRecursion}
+use Rattle.tn_types.specs.declared.limits.TheConstants.{MAX_OBJECTS}
 use Rattle.world_rules.specs.declared.measures.TheConstants.{MINE_REACH}
 use Rattle.world_rules.specs.declared.object.Object.{Object}
 use Rattle.world_rules.specs.declared.object.State.{State}
@@ -56,3 +57,9 @@ pub record AreFound (os : List Object) (found : Found) : Type 0 where
   pub hitting_are : found.picked.hitting.items ≡ filter (is_hitting os) os
   pub triggered_are : found.picked.triggered.items ≡ filter (is_triggered os) os
   pub marks_are : found.picked.marks.items ≡ map (is_ending os) os
+
+-- no more discs hit and no more mines are triggered than there may be objects, and those that stand are among the players
+pub record FoundFits (found : Found) : Type 0 where
+  pub discs : length found.picked.hitting.items ≤ MAX_OBJECTS
+  pub mines : length found.picked.triggered.items ≤ MAX_OBJECTS
+  pub standing : found.standing.items ≡ filter is_standing found.players.items

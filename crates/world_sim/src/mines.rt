@@ -1,13 +1,12 @@
 //! A mine's tick.
-ghost use Rattle.std.specs.Prelude.{◌≡◌, ◌<◌, ◌≤◌, ◌+◌, ◌++◌, ◌∷◌, List, length, vec_capacity};
+ghost use Rattle.std.specs.Prelude.{◌≡◌, ◌<◌, ◌+◌, ◌++◌, ◌∷◌, List, length};
 ghost use Rattle.world_rules.specs.declared.object.Object.{Object};
 ghost use Rattle.world_rules.specs.declared.object.State.TheVariants.{Mine as mine_of};
 ghost use Rattle.world_rules.specs.Mines.{is_armed_part, mine_next};
 ghost use Rattle.world_rules.specs.Ranges.{PlaceFits};
 ghost use Rattle.world_places.specs.Places.{ArePlaced, is_special};
-ghost use Rattle.world_sim.specs.Rows.{values_of, as_number};
-ghost use Rattle.world_sim.specs.Keeping.{KeepsUp};
-ghost use Rattle.world_sim.specs.RowsNext.{IsSoundRow};
+ghost use Rattle.world_sim.specs.Rows.{as_number};
+ghost use Rattle.world_sim.specs.Keeping.{HasTurn, KeepsUp};
 ghost use Rattle.world_sim.specs.Glances.{glance_of};
 
 use crate::glance::{Glance, glance_of};
@@ -53,12 +52,9 @@ pub fn step_mine(
     glance: &mut Glance,
     beside: &mut Beside,
 )
-    requires number { number < MAX_OBJECTS }
+    requires turn { HasTurn number object.old row.old beside.old }
     requires mine { object.old.state ≡ mine_of m }
-    requires sound { IsSoundRow row.old }
     requires glance { glance.old ≡ glance_of object.old }
-    requires values { row.old.values.items ≡ values_of object.old }
-    requires room { length beside.old.writes.items + 5 ≤ vec_capacity beside.old.writes }
     ensures object { object.new ≡ mine_next ending object.old m }
     ensures glance { glance.new ≡ glance_of object.new }
     ensures keeps_up { KeepsUp number object.old object.new row.old row.new beside.old beside.new }

@@ -1,5 +1,5 @@
 //! The values of all objects, their versions, and what a tick writes.
-ghost use Rattle.std.specs.Prelude.{vec_capacity, take, drop, ◌≡◌, ◌<◌, ◌≤◌, ◌+◌, ◌-◌, ◌^◌, ◌++◌, ℤ, ℕ, List, length, [], ◌∷◌, slice_index, slice_index_or, slice_set, pos, ◌⊎◌, replicate};
+ghost use Rattle.std.specs.Prelude.{vec_capacity, take, drop, ◌≡◌, ◌<◌, ◌≤◌, ◌+◌, ◌-◌, ◌^◌, ◌++◌, length, [], ◌∷◌, slice_index, slice_index_or, slice_set, pos, ◌⊎◌, replicate};
 ghost use Rattle.std.specs.List.{AllByRecursion};
 ghost use Rattle.world_sim.specs.RowsNext.{row_next, fresh_row, IsSoundRow};
 ghost use Rattle.world_sim.specs.Rows.{values_of, differs, version_next, field_writes, row_versions, row_writes, as_number, holder_number};

@@ -1,9 +1,9 @@
 //! Each object's tick, in place, by what the tick found of all of them before anything changed.
-ghost use Rattle.std.specs.Prelude.{◌≡◌, ℕ, ◌<◌, ◌≤◌, ◌-◌, ◌+◌, ◌*◌, ◌/◌, ◌++◌, ◌∷◌, [], List, map, length, filter, slice_get, slice_set, Some, true, false, vec_capacity};
+ghost use Rattle.std.specs.Prelude.{◌≡◌, ℕ, ◌<◌, ◌≤◌, ◌-◌, ◌+◌, ◌*◌, ◌/◌, ◌++◌, ◌∷◌, [], List, map, length, slice_get, slice_set, Some, true, false, vec_capacity};
 ghost use Rattle.std.specs.List.{AllByRecursion};
 ghost use Rattle.world_rules.specs.declared.object.Object.{Object};
 ghost use Rattle.world_rules.specs.declared.object.State.TheVariants.{Drone as drone_of};
-ghost use Rattle.world_rules.specs.Near.{is_target, is_standing};
+ghost use Rattle.world_rules.specs.Near.{is_target};
 ghost use Rattle.world_rules.specs.Discs.{harm, hits};
 ghost use Rattle.world_rules.specs.Players.{damage};
 ghost use Rattle.world_rules.specs.Next.{object_next};
@@ -11,11 +11,11 @@ ghost use Rattle.world_rules.specs.Drones.{drone_next};
 ghost use Rattle.world_rules.specs.Ranges.{ObjectFits};
 ghost use Rattle.world_places.specs.Places.{ArePlaced};
 ghost use Rattle.world_sim.specs.Rows.{values_of};
-ghost use Rattle.world_sim.specs.Keeping.{KeepsUp};
+ghost use Rattle.world_sim.specs.Keeping.{HasTurn, KeepsUp};
 ghost use Rattle.world_sim.specs.RowsNext.{row_values, rows_updated, rows_writes, IsSoundRow};
 ghost use Rattle.world_cells.specs.Cells.{IsGrid, spot};
 ghost use Rattle.world_cells.specs.declared.cells.TheConstants.{CELL_SIDE};
-ghost use Rattle.world_sim.specs.Found.{AreFound, is_ending};
+ghost use Rattle.world_sim.specs.Found.{AreFound, FoundFits, is_ending};
 ghost use Rattle.world_sim.specs.Glances.{glance_of};
 ghost use Rattle.world_sim.specs.Turns.{ArePassed, IsOld, HasGoing, is_over, is_quiet, moment};
 ghost use Rattle.std.specs.Option.{option_map_or};
@@ -78,9 +78,7 @@ fn hits(old: &Old<'_, '_>, client: u8) -> u32
 
 // An object after the tick, which ends or not as a disc that hits or a mine that is triggered.
 fn object_next(old: &Old<'_, '_>, ending: bool, o: &Object) -> Object
-    requires discs { length old.now.found.now.picked.hitting.items ≤ MAX_OBJECTS }
-    requires mines { length old.now.found.now.picked.triggered.items ≤ MAX_OBJECTS }
-    requires standing { old.now.found.now.standing.items ≡ filter is_standing old.now.found.now.players.items }
+    requires found { FoundFits old.now.found.now }
     ensures { (os : List Object) (i : ℕ) → IsOld os old.now → slice_get os i ≡ Some o.now → ending ≡ is_ending os o.now
         → result ≡ object_next os old.now.moves.now (moment old.now) o.now }
 {
@@ -138,12 +136,9 @@ fn come_from(
 
 // A drone's tick where nothing hits it: it only drifts, and each field of its place is written where it lies.
 fn drift(r: u32, number: u32, d: &Drone, object: &mut Object, row: &mut Row, beside: &mut Beside)
-    requires number { number < MAX_OBJECTS }
+    requires turn { HasTurn number object.old row.old beside.old }
     requires drone { object.old.state ≡ drone_of d.now }
     requires alive { object.old.alive ≡ true }
-    requires sound { IsSoundRow row.old }
-    requires values { row.old.values.items ≡ values_of object.old }
-    requires room { length beside.old.writes.items + 5 ≤ vec_capacity beside.old.writes }
     requires whole { 0 < d.now.hp }
     ensures object { object.new ≡ drone_next r 0 object.old d.now }
     ensures glance { glance_of object.new ≡ glance_of object.old }
@@ -169,12 +164,9 @@ fn hurt(
     row: &mut Row,
     beside: &mut Beside,
 )
-    requires number { number < MAX_OBJECTS }
+    requires turn { HasTurn number object.old row.old beside.old }
     requires drone { object.old.state ≡ drone_of d.now }
     requires alive { object.old.alive ≡ true }
-    requires sound { IsSoundRow row.old }
-    requires values { row.old.values.items ≡ values_of object.old }
-    requires room { length beside.old.writes.items + 5 ≤ vec_capacity beside.old.writes }
     ensures object { object.new ≡ drone_next r harm object.old d.now }
     ensures keeps_up { KeepsUp number object.old object.new row.old row.new beside.old beside.new }
 {
@@ -198,13 +190,10 @@ fn step_drone(
     beside: &mut Beside,
 )
     requires discs { length old.now.found.now.picked.hitting.items ≤ MAX_OBJECTS }
-    requires number { number < MAX_OBJECTS }
+    requires turn { HasTurn number object.old row.old beside.old }
     requires drone { object.old.state ≡ drone_of d }
     requires alive { object.old.alive ≡ true }
-    requires sound { IsSoundRow row.old }
     requires glance { glance.old ≡ glance_of object.old }
-    requires values { row.old.values.items ≡ values_of object.old }
-    requires room { length beside.old.writes.items + 5 ≤ vec_capacity beside.old.writes }
     ensures object { (os : List Object) (i : ℕ) → IsOld os old.now → slice_get os i ≡ Some object.old
         → object.new ≡ object_next os old.now.moves.now (moment old.now) object.old }
     ensures glance { glance.new ≡ glance_of object.new }
@@ -231,14 +220,9 @@ fn step_any(
     glance: &mut Glance,
     beside: &mut Beside,
 )
-    requires discs { length old.now.found.now.picked.hitting.items ≤ MAX_OBJECTS }
-    requires mines { length old.now.found.now.picked.triggered.items ≤ MAX_OBJECTS }
-    requires standing { old.now.found.now.standing.items ≡ filter is_standing old.now.found.now.players.items }
-    requires number { number < MAX_OBJECTS }
-    requires sound { IsSoundRow row.old }
+    requires found { FoundFits old.now.found.now }
+    requires turn { HasTurn number object.old row.old beside.old }
     requires glance { glance.old ≡ glance_of object.old }
-    requires values { row.old.values.items ≡ values_of object.old }
-    requires room { length beside.old.writes.items + 5 ≤ vec_capacity beside.old.writes }
     ensures object { (os : List Object) (i : ℕ) → IsOld os old.now → slice_get os i ≡ Some object.old
         → ending ≡ is_ending os object.old → object.new ≡ object_next os old.now.moves.now (moment old.now) object.old }
     ensures glance { glance.new ≡ glance_of object.new }
@@ -262,14 +246,9 @@ fn turn(
     glance: &mut Glance,
     beside: &mut Beside,
 )
-    requires discs { length old.now.found.now.picked.hitting.items ≤ MAX_OBJECTS }
-    requires mines { length old.now.found.now.picked.triggered.items ≤ MAX_OBJECTS }
-    requires standing { old.now.found.now.standing.items ≡ filter is_standing old.now.found.now.players.items }
-    requires number { number < MAX_OBJECTS }
-    requires sound { IsSoundRow row.old }
+    requires found { FoundFits old.now.found.now }
+    requires turn { HasTurn number object.old row.old beside.old }
     requires glance { glance.old ≡ glance_of object.old }
-    requires values { row.old.values.items ≡ values_of object.old }
-    requires room { length beside.old.writes.items + 5 ≤ vec_capacity beside.old.writes }
     ensures object { (os : List Object) (i : ℕ) → IsOld os old.now → slice_get os i ≡ Some object.old
         → ending ≡ is_ending os object.old → object.new ≡ object_next os old.now.moves.now (moment old.now) object.old }
     ensures glance { glance.new ≡ glance_of object.new }

@@ -7,7 +7,7 @@ use Rattle.world_sim.proofs.Placing.{mine_special, mine_stays}
 use Rattle.world_sim.proofs.mines.step_mine.Goals as goal
 
 pub change_three-requires-clause-three : goal.change_three-requires-clause-three
-change_three-requires-clause-three c = three_of_mine c.args.object.now c.args.m c.args.row.now.values.items c.requires.values c.requires.mine
+change_three-requires-clause-three c = three_of_mine c.args.object.now c.args.m c.args.row.now.values.items c.requires.turn.values_are c.requires.mine
 
 pub note_armed-requires-clause-mine : goal.note_armed-requires-clause-mine
 note_armed-requires-clause-mine c = mine_special c.args.ending c.args.object.now c.turn_mine.new.o c.args.m c.requires.mine c.turn_mine.ensures

@@ -7,12 +7,12 @@ use Rattle.world_sim.proofs.Placing.{drone_special}
 use Rattle.world_sim.proofs.step.drift.Goals as goal
 
 pub change_two-requires-clause-three : goal.change_two-requires-clause-three
-change_two-requires-clause-three c = three_of_drone c.args.object.now c.args.d.now c.args.row.now.values.items c.requires.values c.requires.drone
+change_two-requires-clause-three c = three_of_drone c.args.object.now c.args.d.now c.args.row.now.values.items c.requires.turn.values_are c.requires.drone
 
 pub returns-clause-keeps_up : goal.returns-clause-keeps_up
 returns-clause-keeps_up c =
     let now = c.drift_drone.new.o in
-    let told : values_of now ≡ pos now.place.x ∷ pos now.place.y ∷ slice_index_or c.args.row.now.values.items 2 (pos 0) ∷ [] = drift_told c.args.r c.args.object.now now c.args.d.now c.args.row.now.values.items c.requires.alive c.requires.drone c.drift_drone.ensures c.requires.values in
+    let told : values_of now ≡ pos now.place.x ∷ pos now.place.y ∷ slice_index_or c.args.row.now.values.items 2 (pos 0) ∷ [] = drift_told c.args.r c.args.object.now now c.args.d.now c.args.row.now.values.items c.requires.alive c.requires.drone c.drift_drone.ensures c.requires.turn.values_are in
     record {
       row_is = row_told c.args.row.now c.change_two.new.row now _ told c.change_two.ensures.values c.change_two.ensures.versions;
       written = c.change_two.ensures.writes ∙ ap (λ (xs : List ℤ). c.args.beside.now.writes.items ++ row_writes c.args.number 0 c.args.row.now.values.items xs c.args.row.now.versions.items) (sym told);

@@ -6,7 +6,7 @@ use Rattle.world_sim.proofs.Placing.{drone_special}
 use Rattle.world_sim.proofs.step.hurt.Goals as goal
 
 pub change_three-requires-clause-three : goal.change_three-requires-clause-three
-change_three-requires-clause-three c = three_of_drone c.args.object.now c.args.d.now c.args.row.now.values.items c.requires.values c.requires.drone
+change_three-requires-clause-three c = three_of_drone c.args.object.now c.args.d.now c.args.row.now.values.items c.requires.turn.values_are c.requires.drone
 
 pub returns-clause-keeps_up : goal.returns-clause-keeps_up
 returns-clause-keeps_up c =

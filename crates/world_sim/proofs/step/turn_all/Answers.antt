@@ -20,17 +20,18 @@ use Rattle.world_sim.proofs.Placing.{placed_turn, next_place_fits}
 use Rattle.world_sim.proofs.Going.{Turned, over_for_good, quiet_before, turned_passed, none_turned}
 use Rattle.world_sim.proofs.step.turn_all.Goals as goal
 
-pub turn-requires-clause-discs : goal.turn-requires-clause-discs
-turn-requires-clause-discs c = hitting_few c.args.table.now.objects.items c.args.old.now.found.now c.requires.old.found_is c.requires.old.few
+pub turn-requires-clause-found : goal.turn-requires-clause-found
+turn-requires-clause-found c =
+    let os = c.args.table.now.objects.items in
+    let found = c.args.old.now.found.now in
+    record {
+      discs = hitting_few os found c.requires.old.found_is c.requires.old.few;
+      mines = triggered_few os found c.requires.old.found_is c.requires.old.few;
+      standing = standing_found os found c.requires.old.found_is;
+    }
 
-pub turn-requires-clause-mines : goal.turn-requires-clause-mines
-turn-requires-clause-mines c = triggered_few c.args.table.now.objects.items c.args.old.now.found.now c.requires.old.found_is c.requires.old.few
-
-pub turn-requires-clause-standing : goal.turn-requires-clause-standing
-turn-requires-clause-standing c = standing_found c.args.table.now.objects.items c.args.old.now.found.now c.requires.old.found_is
-
-pub turn-requires-clause-sound : goal.turn-requires-clause-sound
-turn-requires-clause-sound c =
+pub turn-requires-clause-turn : goal.turn-requires-clause-turn
+turn-requires-clause-turn c =
     let os = c.args.table.now.objects.items in
     let rows = c.args.table.now.rows.items in
     let next = object_next os c.args.old.now.moves.now (moment c.args.old.now) in
@@ -38,20 +39,15 @@ turn-requires-clause-sound c =
     let many : length rows ≡ length os = as_many rows os c.requires.values in
     let l : i < length os = omega (arith, c.loop-i-test.true, c.len-many.ensures, c.args.table.now.objects.ok) in
     let m : i < length rows = omega (arith, l, many) in
-    subst IsSoundRow (sym c.index_mut-row.ensures.value) (sound_now i rows c.loop-i.table.rows.items (map next os) c.index_mut-row.result.now c.loop-i.invariant.turned.rows_are m c.requires.sound)
-
-pub turn-requires-clause-values : goal.turn-requires-clause-values
-turn-requires-clause-values c =
-    let os = c.args.table.now.objects.items in
-    let rows = c.args.table.now.rows.items in
-    let next = object_next os c.args.old.now.moves.now (moment c.args.old.now) in
-    let i = c.loop-i.i in
-    let many : length rows ≡ length os = as_many rows os c.requires.values in
-    let l : i < length os = omega (arith, c.loop-i-test.true, c.len-many.ensures, c.args.table.now.objects.ok) in
-    let m : i < length rows = omega (arith, l, many) in
-    ap row_values c.index_mut-row.ensures.value
-    ∙ row_of_old i next os c.loop-i.table.objects.items rows c.loop-i.table.rows.items c.index_mut-row.result.now c.index_mut-object.result.now c.requires.values l m c.loop-i.invariant.turned.objects_are c.loop-i.invariant.turned.rows_are
-    ∙ ap values_of (sym c.index_mut-object.ensures.value)
+    record {
+      small = omega (arith, l, c.requires.old.few);
+      sound = subst IsSoundRow (sym c.index_mut-row.ensures.value) (sound_now i rows c.loop-i.table.rows.items (map next os) c.index_mut-row.result.now c.loop-i.invariant.turned.rows_are m c.requires.sound);
+      values_are =
+          ap row_values c.index_mut-row.ensures.value
+          ∙ row_of_old i next os c.loop-i.table.objects.items rows c.loop-i.table.rows.items c.index_mut-row.result.now c.index_mut-object.result.now c.requires.values l m c.loop-i.invariant.turned.objects_are c.loop-i.invariant.turned.rows_are
+          ∙ ap values_of (sym c.index_mut-object.ensures.value);
+      room = omega (arith, l, c.requires.old.few, c.loop-i.invariant.few, c.loop-i.invariant.room);
+    }
 
 pub index_mut-object-requires : goal.index_mut-object-requires
 index_mut-object-requires c =
