@@ -12,7 +12,7 @@ use crate::seat::Seat;
 use match_report::Told;
 use own_lists::pair_core::{Answer, Pair, PairStep};
 use std::alloc::Global;
-use tn_types::{Drain, MAX_DATAGRAM_BYTES, MAX_DATAGRAMS, NoMemory, RawBytes, Values};
+use tn_types::{Drain, End, MAX_DATAGRAM_BYTES, MAX_DATAGRAMS, NoMemory, RawBytes, Values};
 
 // These bytes, in room that was given back if there is any.
 fn refilled(alloc: Global, spare: Option<RawBytes>, bytes: &[u8]) -> Result<RawBytes, NoMemory>
@@ -25,6 +25,18 @@ fn refilled(alloc: Global, spare: Option<RawBytes>, bytes: &[u8]) -> Result<RawB
             Ok(room)
         }
         None => RawBytes::from_slice(alloc, bytes),
+    }
+}
+
+// The newest datagram that was made, up or down.
+fn newest_of(pair: &Pair, up: bool) -> Option<&[u8]>
+    ensures value { option_copied result ≡ newest (if up then pair.now.up else pair.now.down) }
+    ensures fits { IfSome result (λ bytes. length bytes.now ≤ MAX_DATAGRAM_BYTES) }
+{
+    if up {
+        pair.newest(End::Client)
+    } else {
+        pair.newest(End::Server)
     }
 }
 
@@ -76,14 +88,13 @@ fn packed_by(
             client,
             place,
             ping,
-            pair.newest(!up),
+            newest_of(pair, up),
         ),
         _ => unreachable!(),
     }
 }
 
 impl Seat {
-    ghost use Rattle.conn_packing.specs.Asking.{Asks};
     ghost use Rattle.own_lists.specs.pair_core.Calls.{MayPack};
     ghost use Rattle.client_seat.specs.Told.{client_pack_told};
     ghost use Rattle.own_lists.specs.Course.{with_step};
@@ -102,7 +113,7 @@ impl Seat {
         requires few { self.old.pair.sent < MAX_DATAGRAMS }
         requires may { MayPack self.old.pair drains.now (V.ranges values.old) }
         ensures packs { IfOk result (λ told. (reads : List Read) × Packs self.old drains.now reads client told self.new
-            × Asks V.ranges V.stands V.owes V.same values.old values.new reads) }
+            × V.asks values.old reads values.new) }
         ensures keeping { self.new.pair.keeps_all ≡ self.old.pair.keeps_all }
     {
         self.pair.prepare(alloc)?;

@@ -13,7 +13,7 @@ pub struct Noting<'a, V: Values> {
 }
 
 impl<'a, V: Values> Values for Noting<'a, V> {
-    ghost use Rattle.std.specs.Prelude.{ℕ, ◌≡◌, refl, vec_capacity};
+    ghost use Rattle.std.specs.Prelude.{◌≡◌, refl, vec_capacity};
     ghost use Rattle.std.proofs.Common.{◌∙◌};
     ghost use Rattle.conn_packing.specs.Noted.{AreNoted, noted_none, noted_more};
 
