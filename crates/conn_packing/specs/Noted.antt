@@ -13,8 +13,8 @@ AreNoted room noted reads noted' = length (noted ++ reads) ≤ room → noted' �
 pub noted_none : (room : ℕ) (noted : List Read) → AreNoted room noted [] noted
 noted_none room noted fits = sym (append-nil noted)
 
-pub noted_more : (room room' : ℕ) (one two three first later : List Read) → room' ≡ room → AreNoted room one first two → AreNoted room' two later three
-    → AreNoted room one (first ++ later) three
+pub noted_more : (room room' : ℕ) (one two three first later : List Read) → room' ≡ room
+    → AreNoted room one first two → AreNoted room' two later three → AreNoted room one (first ++ later) three
 noted_more room room' one two three first later same p q fits =
     let whole : length ((one ++ first) ++ later) ≤ room = subst (λ (l : List Read). length l ≤ room) (sym (append_assoc one first later)) fits in
     let before : length (one ++ first) ≤ length ((one ++ first) ++ later) =

@@ -13,7 +13,8 @@ all_append : (P : Read → Type 0) (xs ys : List Read) → AllByRecursion P xs �
 all_append P [] ys h k = k
 all_append P (x ∷ xs) ys h k = (h.0, all_append P xs ys h.1 k)
 
-pub zip_append : (R : ReadField → Read → Type 0) (us vs : List ReadField) (xs ys : List Read) → AllZip R us xs → AllZip R vs ys → AllZip R (us ++ vs) (xs ++ ys)
+pub zip_append : (R : ReadField → Read → Type 0) (us vs : List ReadField) (xs ys : List Read)
+    → AllZip R us xs → AllZip R vs ys → AllZip R (us ++ vs) (xs ++ ys)
 zip_append R [] vs [] ys h k = k
 zip_append R [] vs (x ∷ xs) ys h k = absurd h
 zip_append R (u ∷ us) vs [] ys h k = absurd h
@@ -26,8 +27,8 @@ onto_append (u ∷ us) vs view = onto_append us vs (step.Read u ∷ view)
 pub reads_none : (p : PeriodList) (view : List PackStep) → ReadsOnto p view [] view
 reads_none p view = record { added = []; each = tt; up = tt; onto = refl }
 
-pub reads_more : (p q : PeriodList) (one two three : List PackStep) (first later : List Read) → q ≡ p → ReadsOnto p one first two → ReadsOnto q two later three
-    → ReadsOnto p one (first ++ later) three
+pub reads_more : (p q : PeriodList) (one two three : List PackStep) (first later : List Read) → q ≡ p
+    → ReadsOnto p one first two → ReadsOnto q two later three → ReadsOnto p one (first ++ later) three
 reads_more p q one two three first later same a b = record {
   added = a.added ++ c.added;
   each = zip_append (IsTheRead p.objects p.kinds p.table) a.added c.added first later a.each c.each;

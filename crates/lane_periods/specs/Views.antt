@@ -100,6 +100,7 @@ counts_as_greatest : value_in ten 99 ≡ pos 20
 counts_as_greatest = refl
 
 -- what is read last is the newest entry
-newest_in_front : read_onto (record { object = 3; field = 0; version = 2; value = 8 } ∷ record { object = 3; field = 1; version = 1; value = 5 } ∷ []) []
+newest_in_front :
+    read_onto (record { object = 3; field = 0; version = 2; value = 8 } ∷ record { object = 3; field = 1; version = 1; value = 5 } ∷ []) []
     ≡ a_read 3 1 1 5 ∷ a_read 3 0 2 8 ∷ []
 newest_in_front = refl
