@@ -13,17 +13,14 @@ pub(crate) struct AloneValues<'a> {
 }
 
 impl<'a> Values for AloneValues<'a> {
-    ghost use Rattle.std.specs.Prelude.{◌≡◌, ℕ, false, refl};
+    ghost use Rattle.std.specs.Prelude.{◌≡◌, [], All, refl};
+    ghost use Rattle.std.proofs.Common.{◌∙◌, subst};
+    ghost use Rattle.std.proofs.lemmas.List.Elements.{All-append, All-from_recursion};
     ghost use Rattle.alone_server.specs.Values.{ranges as ranges_of, IsOwnRead};
-    ghost use Rattle.std.proofs.Common.{◌∙◌};
 
     ghost ranges = { λ v n f. ranges_of v.periods.now n f };
 
-    ghost stands = { λ v r. IsOwnRead v.periods.now r };
-
-    ghost owes = { λ v n f. false };
-
-    ghost same = { λ a b. b.periods.now ≡ a.periods.now };
+    ghost asks = { λ a reads b. (b.periods.now ≡ a.periods.now) × All (IsOwnRead a.periods.now) reads };
 
     fn value(&mut self, n: u32, field: u8) -> Read {
         let Some(period) = period_in(self.periods, n) else {
@@ -38,9 +35,12 @@ impl<'a> Values for AloneValues<'a> {
         }
     }
 
-    ghost same_refl = { λ x. refl };
+    ghost asks_none = { λ x. (refl, All-from_recursion (IsOwnRead x.periods.now) [] tt) };
 
-    ghost same_trans = { λ x y z p q. q ∙ p };
+    ghost asks_more = { λ x y z first later p q. (
+      q.0 ∙ p.0,
+      All-append (IsOwnRead x.periods.now) first later p.1 (subst (λ ps. All (IsOwnRead ps) later) p.0 q.1),
+    ) };
 
-    ghost same_ranges = { λ x y n f p j. ranges_of (p j) n f };
+    ghost asks_ranges = { λ x y reads n f p j. ranges_of (p.0 j) n f };
 }

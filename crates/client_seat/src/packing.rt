@@ -6,7 +6,8 @@ ghost use Rattle.own_lists.specs.pair_core.declared.step.Answer.TheVariants as s
 ghost use Rattle.own_lists.specs.pair_core.History.{ClientPack};
 ghost use Rattle.own_lists.specs.pair_core.Keeping.{newest};
 ghost use Rattle.match_report.specs.declared.told.Told.TheVariants as told_as;
-ghost use Rattle.client_seat.specs.Answering.{TellsPack, kind_made, sent_by};
+ghost use Rattle.client_seat.specs.Answering.{TellsPack, kind_made};
+ghost use Rattle.own_lists.specs.pair_core.Stands.{sent_by};
 
 use crate::seat::Seat;
 use match_report::Told;
@@ -38,17 +39,6 @@ fn kind_made(ping: bool) -> PacketKind
         PacketKind::Ping
     } else {
         PacketKind::Body
-    }
-}
-
-// The newest datagram that an end sent.
-fn newest_by(pair: &Pair, by: End) -> Option<&[u8]>
-    ensures value { option_copied result ≡ newest (sent_by by pair.now) }
-    ensures fits { IfSome result (λ bytes. length bytes.now ≤ MAX_DATAGRAM_BYTES) }
-{
-    match by {
-        End::Server => pair.newest(true),
-        End::Client => pair.newest(false),
     }
 }
 
@@ -100,14 +90,13 @@ fn packed_by(
             client,
             place,
             kind_made(ping),
-            newest_by(pair, by),
+            pair.newest(by),
         ),
         _ => unreachable!(),
     }
 }
 
 impl Seat {
-    ghost use Rattle.conn_packing.specs.Asking.{Asks};
     ghost use Rattle.own_lists.specs.pair_core.Calls.{MayPack};
     ghost use Rattle.client_seat.specs.Told.{client_pack_told};
     ghost use Rattle.own_lists.specs.Course.{with_step};
@@ -126,7 +115,7 @@ impl Seat {
         requires few { self.old.pair.sent < MAX_DATAGRAMS }
         requires may { MayPack self.old.pair drains.now (V.ranges values.old) }
         ensures packs { IfOk result (λ told. (reads : List Read) × Packs self.old drains.now reads client told self.new
-            × Asks V.ranges V.stands V.owes V.same values.old values.new reads) }
+            × V.asks values.old reads values.new) }
         ensures keeping { self.new.pair.keeps_all ≡ self.old.pair.keeps_all }
     {
         self.pair.prepare(alloc)?;

@@ -3,4 +3,5 @@ pub mod Said
 pub mod Packs
 pub mod Reads
 pub mod Asking
+pub mod Noted
 pub mod Calls

@@ -4,6 +4,7 @@
 
 mod asking;
 mod made;
+mod noting;
 mod packer;
 mod packing;
 mod said;
@@ -11,6 +12,7 @@ mod writing;
 
 pub use asking::MAX_PACKET_VALUES;
 pub use made::{Made, TooSmall};
+pub use noting::Noting;
 pub use packer::Packer;
 pub use stream_manager;
 pub use writing::{ping_into, seal_into};

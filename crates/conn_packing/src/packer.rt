@@ -2,7 +2,6 @@
 ghost use Rattle.std.specs.Prelude.{◌≡◌, ◌+◌, ◌<◌, ◌≤◌, ◌++◌, ◌↔◌, ℕ, List, IsErr, IfOk, IfErr, OnErr, length, take, drop, vec_len, vec_capacity};
 ghost use Rattle.tn_types.specs.declared.choices.Read.{Read};
 ghost use Rattle.conn_packing.specs.Packs.{len_of};
-ghost use Rattle.conn_packing.specs.Asking.{Asks};
 ghost use Rattle.conn_packing.specs.Calls.{MayPackEnd, PacksEnd};
 
 use crate::asking::MAX_PACKET_VALUES;
@@ -13,7 +12,7 @@ use notify_window::SendState;
 use std::alloc::Global;
 use std::marker::Model;
 use stream_manager::Conn;
-use tn_types::{Drain, NoMemory, Read, Values};
+use tn_types::{Drain, NoMemory, Values};
 
 /// Where the values of a data packet lie while it is made. It takes its memory once, and serves any connections, one after another.
 ///
@@ -21,8 +20,6 @@ use tn_types::{Drain, NoMemory, Read, Values};
 #[derive(Drop)]
 pub struct Packer {
     listed: Vec<i64>,
-    // no pack notes its reads here
-    noted: Vec<Read>,
 }
 
 impl Model for Packer {
@@ -33,7 +30,7 @@ impl Model for Packer {
 
     ghost view = { λ p. tt };
 
-    ghost invariant = { λ p. (MAX_PACKET_VALUES ≤ vec_capacity p.listed) × (MAX_PACKET_VALUES ≤ vec_capacity p.noted) };
+    ghost invariant = { λ p. MAX_PACKET_VALUES ≤ vec_capacity p.listed };
 }
 
 impl Packer {
@@ -42,15 +39,13 @@ impl Packer {
         let Ok(listed) = Vec::with_capacity(alloc, MAX_PACKET_VALUES) else {
             return Err(NoMemory);
         };
-        let Ok(noted) = Vec::with_capacity(alloc, MAX_PACKET_VALUES) else {
-            return Err(NoMemory);
-        };
-        Ok(Packer { listed, noted })
+        Ok(Packer { listed })
     }
 
     /// Makes the end's next datagram behind what `out` holds, which has room for it. Where the end's state is Room, these drains are
     /// absorbed first, and the data packet carries values that are asked for now: each field that its ghosts carry once, in their
-    /// order and by rising field, and nothing else. Where it is Held or Worn, nothing is drained or asked. It takes no memory.
+    /// order and by rising field, and nothing else. Where it is Held or Worn, nothing is drained or asked. It takes no memory. A caller
+    /// that wants to keep what was read lends a `Noting`.
     pub fn pack<V: Values>(
         &mut self,
         conn: &mut Conn,
@@ -61,42 +56,11 @@ impl Packer {
         requires may { MayPackEnd conn.old drains.now (V.ranges values.old) }
         requires room { vec_len out.old + conn.old.common.config.size ≤ vec_capacity out.old }
         ensures told { (reads : List Read) × (bytes : List ℕ) × PacksEnd conn.old drains.now reads result bytes conn.new
-            × (out.new.items ≡ out.old.items ++ bytes) × Asks V.ranges V.stands V.owes V.same values.old values.new reads }
+            × (out.new.items ≡ out.old.items ++ bytes) × V.asks values.old reads values.new × (length reads ≤ MAX_PACKET_VALUES) }
         ensures short { vec_len out.new ≤ vec_len out.old + conn.old.common.config.size }
         ensures room { vec_capacity out.old ≤ vec_capacity out.new }
     {
-        pack_onto(
-            conn,
-            drains,
-            values,
-            false,
-            &mut self.noted,
-            &mut self.listed,
-            out,
-        )
-    }
-
-    /// The same, and it notes what was read, in the order in which it was asked for and in place of what was noted before.
-    pub fn pack_noting<V: Values>(
-        &mut self,
-        conn: &mut Conn,
-        drains: &[Drain],
-        values: &mut V,
-        noted: &mut Vec<Read>,
-        out: &mut Vec<u8>,
-    ) -> Made
-        requires may { MayPackEnd conn.old drains.now (V.ranges values.old) }
-        requires room { vec_len out.old + conn.old.common.config.size ≤ vec_capacity out.old }
-        requires note_room { MAX_PACKET_VALUES ≤ vec_capacity noted.old }
-        ensures told { (bytes : List ℕ) × PacksEnd conn.old drains.now noted.new.items result bytes conn.new
-            × (out.new.items ≡ out.old.items ++ bytes) }
-        ensures asks { Asks V.ranges V.stands V.owes V.same values.old values.new noted.new.items }
-        ensures short { vec_len out.new ≤ vec_len out.old + conn.old.common.config.size }
-        ensures room { vec_capacity out.old ≤ vec_capacity out.new }
-        ensures few { length noted.new.items ≤ MAX_PACKET_VALUES }
-        ensures note_room { vec_capacity noted.new ≡ vec_capacity noted.old }
-    {
-        pack_onto(conn, drains, values, true, noted, &mut self.listed, out)
+        pack_onto(conn, drains, values, &mut self.listed, out)
     }
 
     /// The same in a buffer: the datagram's bytes are its first, as many as the answer says. A buffer that is smaller than the
@@ -114,20 +78,13 @@ impl Packer {
         ensures unchanged { OnErr result ((conn.new ≡ conn.old) × (values.new ≡ values.old) × (out.new ≡ out.old)) }
         ensures told { IfOk result (λ made. (reads : List Read)
             × PacksEnd conn.old drains.now reads made (take (len_of made) out.new) conn.new
-            × Asks V.ranges V.stands V.owes V.same values.old values.new reads) }
+            × V.asks values.old reads values.new × (length reads ≤ MAX_PACKET_VALUES)) }
         ensures rest { IfOk result (λ made. drop (len_of made) out.new ≡ drop (len_of made) out.old) }
         ensures few { IfOk result (λ made. (len_of made ≤ conn.old.common.config.size) × (len_of made ≤ length out.new)) }
     {
         check_room(conn, out.len())?;
         let life = conn.config().life;
-        match begin(
-            conn,
-            drains,
-            values,
-            false,
-            &mut self.noted,
-            &mut self.listed,
-        ) {
+        match begin(conn, drains, values, &mut self.listed) {
             SendState::Held => {
                 let len = ping_at(conn, out);
                 Ok(Made::Ping { len })

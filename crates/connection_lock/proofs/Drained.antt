@@ -4,19 +4,18 @@ use Rattle.std.specs.List.{AllByRecursion}
 use Rattle.std.proofs.Math.Nat.{mod-lt}
 use Rattle.std.proofs.lemmas.Nat.{pow_pos}
 use Rattle.tn_types.specs.declared.choices.Drain.{Drain}
-use Rattle.tn_types.specs.declared.choices.Read.{Read}
 use Rattle.notify_window.specs.declared.SendState.{SendState}
 use Rattle.notify_window.specs.declared.SendState.TheVariants.{Held, Worn, Room}
 use Rattle.ghost_masks.specs.Plan.{kind_of, fields_of}
-use Rattle.dirty_lanes.specs.Views.{drains}
+use Rattle.dirty_lanes.specs.Views.{drains, reads}
 use Rattle.dirty_lanes.specs.declared.view.PackStep.{PackStep}
 use Rattle.stream_manager.specs.Limits.{Terms}
 use Rattle.stream_manager.specs.Server.{ghost_log}
 use Rattle.kept_pair.specs.pair_core.History.{PairStep}
 use Rattle.kept_pair.specs.conn_packing.Reads.{MayBeDrained, MayDrain}
 use Rattle.lane_periods.specs.Periods.{PeriodList, has, field_count, ArePeriods}
-use Rattle.lane_periods.specs.Views.{Stands, owes_of, is_drained, entries, own_bits}
-use Rattle.lane_periods.proofs.Owed.{each-up, drains-owed, drains-stand, drains-entries}
+use Rattle.lane_periods.specs.Views.{owes_of, is_drained, entries, own_bits}
+use Rattle.lane_periods.proofs.Owed.{each-up, drains-owed, drains-read_nothing, drains-entries}
 use Rattle.pair_periods.specs.pair_steps.Steps.{traits_in}
 use Rattle.pair_periods.specs.Agreement.{server_log}
 use Rattle.pair_periods.proofs.Below.pair_steps.Journals.{kind_told, up_from}
@@ -44,7 +43,7 @@ pub record AreDrains (t : Terms) (past : List PairStep) (state : SendState) (p :
   pub own : ds ≡ map (fields_drained t past) words
   pub entered : drains mid ≡ drains view ++ entries p.objects words
   pub owed : (n f : ℕ) → f < field_count p.table p.kinds n → owes_of p.objects p.up mid n f ≡ true → (owes_of p.objects p.up view n f || is_drained ds n f) ≡ true
-  pub stand : (r : Read) → Stands p.objects p.kinds p.table view r → Stands p.objects p.kinds p.table mid r
+  pub read : reads mid ≡ reads view
   pub few : length ds ≤ length p.up
   pub may : MayDrain t (server_log t past) state ds
 
@@ -81,7 +80,7 @@ module _ (t : Terms) (objects : ℕ) (past : List PairStep) (view : List PackSte
         own = d.own ∙ own-is d.words up;
         entered = drains-entries p view mid ds are d;
         owed = drains-owed p view mid ds are d;
-        stand = drains-stand p view mid ds are d;
+        read = drains-read_nothing p view mid ds are d;
         few = omega (arith, ap length d.own, length-drains (own_bits p.table p.kinds) d.words, ap length d.each, length-map (λ (x : Drain). x.n) d.words);
         may = subst (AllByRecursion (MayBeDrained t (ghost_log (server_log t past)))) (sym d.own) (may-each d.words up);
       }
@@ -94,7 +93,7 @@ module _ (t : Terms) (objects : ℕ) (past : List PairStep) (view : List PackSte
         own = empty;
         entered = ap drains same ∙ sym (append-nil (drains view));
         owed = λ n f few e. subst (λ l. (owes_of p.objects p.up view n f || is_drained l n f) ≡ true) (sym empty) (or-none (owes_of p.objects p.up view n f) (subst (λ v. owes_of p.objects p.up v n f ≡ true) same e));
-        stand = λ r h. subst (λ v. Stands p.objects p.kinds p.table v r) (sym same) h;
+        read = ap reads same;
         few = omega (arith, ap length empty);
         may = empty;
       }
@@ -107,7 +106,7 @@ module _ (t : Terms) (objects : ℕ) (past : List PairStep) (view : List PackSte
         own = empty;
         entered = ap drains same ∙ sym (append-nil (drains view));
         owed = λ n f few e. subst (λ l. (owes_of p.objects p.up view n f || is_drained l n f) ≡ true) (sym empty) (or-none (owes_of p.objects p.up view n f) (subst (λ v. owes_of p.objects p.up v n f ≡ true) same e));
-        stand = λ r h. subst (λ v. Stands p.objects p.kinds p.table v r) (sym same) h;
+        read = ap reads same;
         few = omega (arith, ap length empty);
         may = empty;
       }

@@ -9,10 +9,9 @@ use Rattle.kept_pair.specs.Kept.{KeptState, Replays, terms_in, newest_first}
 use Rattle.dirty_lanes.specs.Views.{owes}
 use Rattle.dirty_lanes.specs.declared.view.PackStep.{PackStep}
 use Rattle.lane_periods.specs.Periods.{PeriodList, has}
-use Rattle.lane_periods.specs.Views.{Stands}
 use Rattle.pair_periods.proofs.Below.pair_steps.Journals.{kind_told}
 use Rattle.pair_periods.proofs.Agreeing.{passing_none}
-use Rattle.connection_lock.specs.Rule.{LockedState, LockHolds, IsLocked, AreLocked, IsQuiet, EachRead, OwedIsDue}
+use Rattle.connection_lock.specs.Rule.{LockedState, LockHolds, IsLocked, AreLocked, IsQuiet, AreReadsOf, OwedIsDue}
 use Rattle.kept_pair.proofs.Replaying.{newest-more}
 use Rattle.pair_periods.proofs.Agreeing.{agree-quiet}
 use Rattle.connection_lock.specs.declared.net_line.NetLine.{NetLine}
@@ -26,12 +25,9 @@ lock-holds s objects p same replays l = record {
   objects = ap length same ∙ l.0.agree.count;
   kinds = p.kinds;
   are_kinds = λ n lt. l.0.agree.kinds n (omega (arith, lt, ap length same, l.0.agree.count)) ∙ ap (λ k. Some k) (sym (kind_told (terms_in s.kept) (newest_first s.kept.steps) n));
-  stand = subst (λ (os : List ℕ). EachStands os) (sym same) l.0.stand;
+  read = subst (λ (os : List ℕ). AreReadsOf os p.kinds (terms_in s.kept).kinds s.seat.steps (newest_first s.kept.steps)) (sym same) l.0.read;
   owed = subst (λ (os : List ℕ). OwedIsDue (terms_in s.kept) (newest_first s.kept.steps) os s.seat.steps) (sym same) l.0.owed;
 }
-  where
-    EachStands : List ℕ → Type 0
-    EachStands os = EachRead (Stands os p.kinds (terms_in s.kept).kinds s.seat.steps) (newest_first s.kept.steps)
 
 -- ---- at the start
 
@@ -63,7 +59,7 @@ fresh-locked objects k seat p none replays no_steps no_objects no_kinds no_up ta
     };
     table = table;
     there = λ n h. absurd (let e : has n [] ≡ true = subst (λ (l : List ℕ). has n l ≡ true) no_up h in cc);
-    stand = tt;
+    read = subst (λ (l : List PackStep). AreReadsOf p.objects p.kinds (terms_in k).kinds l []) (sym no_steps) tt;
     owed = λ n f up field owed. absurd (let e : owes [] (slice_index p.objects n) f ≡ true = subst (λ (l : List PackStep). owes l (slice_index p.objects n) f ≡ true) no_steps owed in cc);
   }),
   fresh-quiet k none replays,

@@ -2,7 +2,7 @@
 use Rattle.std.proofs.Common.{◌≡◌, ◌⊎◌, inl, inr, ⊎_elim, ℕ, zero, suc, ◌<◌, ◌≤◌, Bool, true, false, not, cond, ◌&&◌, ◌||◌, ◌==◌, List, [], ◌∷◌, ◌++◌, length, filter, Option, Some, None, refl, sym, ap, ◌∙◌, subst, arith, length-append}
 use Rattle.std.specs.Prelude.{slice_get, slice_index}
 use Rattle.std.specs.Option.{option_and_then}
-use Rattle.std.specs.List.{AllByRecursion}
+use Rattle.std.specs.List.{AllZip}
 use Rattle.std.proofs.lemmas.Bool.{eq-eqb, ne_eqb, cases_eq, or_right}
 use Rattle.std.proofs.lemmas.List.{get_or_append_left, length-reverse}
 use Rattle.std.proofs.Math.Seq.{get_or-append_seam}
@@ -15,18 +15,16 @@ use Rattle.ghost_model.specs.Legal.{IsUp}
 use Rattle.ghost_masks.specs.Plan.{kind_of, fields_of, fields_in}
 use Rattle.dirty_lanes.specs.declared.view.ReadField.{ReadField}
 use Rattle.dirty_lanes.specs.declared.view.PackStep.{PackStep}
-use Rattle.dirty_lanes.specs.declared.view.PackStep.TheVariants as step
-use Rattle.dirty_lanes.specs.Views.{owes, a_drain}
+use Rattle.dirty_lanes.specs.Views.{owes, reads, a_drain}
 use Rattle.stream_manager.specs.Limits.{Terms}
 use Rattle.stream_manager.specs.Server.{ghost_log}
 use Rattle.kept_pair.specs.pair_core.History.{PairStep, Show, Hide, Near, Post, ClientPost, Sample, Pack, ClientPack, Down, Up, Raw, history}
 use Rattle.kept_pair.specs.pair_core.Conditions.{IsMet, AreMet}
-use Rattle.kept_pair.specs.conn_packing.Asking.{is_asked}
 use Rattle.kept_pair.proofs.Below.pair_core.LegalLogs.{IsLegalLog}
-use Rattle.kept_pair.proofs.Below.conn_packing.Lists.{all-map}
 use Rattle.lane_periods.specs.Periods.{PeriodList, has, has_object, spec_at, field_count, ArePeriods}
 use Rattle.lane_periods.specs.Periods as periods
-use Rattle.lane_periods.specs.Views.{IsTheRead, Stands, owes_of, is_drained}
+use Rattle.lane_periods.specs.Views.{IsTheRead, is_read, owes_of, is_drained}
+use Rattle.lane_periods.specs.Reading.{zip_append}
 use Rattle.lane_periods.proofs.Numbers.{or-cases, and-both, has-more, has-fewer, has-its-object}
 use Rattle.pair_periods.specs.pair_steps.Steps.{shows_in, is_hidden_in, traits_in, IsNoPack}
 use Rattle.pair_periods.specs.Agreement.{Agree, server_log, is_due_after, HasField}
@@ -42,19 +40,20 @@ use Rattle.kept_pair.specs.Kept.{KeptState, terms_in, newest_first}
 use Rattle.kept_pair.proofs.Replaying.{newest-more}
 use Rattle.race_messages.specs.declared.message.Message.{Message}
 use Rattle.connection_lock.specs.Taking.{Progress, MayTake, Takes, TakesAll}
-use Rattle.connection_lock.specs.Rule.{EachRead, OwedIsDue, IsLocked, AreLocked, progress_of, IsQuiet as IsQuietPair}
+use Rattle.connection_lock.specs.Rule.{reads_told, AreReadsOf, OwedIsDue, IsLocked, AreLocked, progress_of, IsQuiet as IsQuietPair}
 use Rattle.connection_lock.specs.Turns.{TakesLocked}
 
 -- ---- reads
 
-pub each-more : (P Q : Read → Type 0) → ((r : Read) → P r → Q r) → (past : List PairStep) → EachRead P past → EachRead Q past
-each-more P Q f [] h = tt
-each-more P Q f (Pack drains reads ∷ past) h = (all-map P Q f reads h.0, each-more P Q f past h.1)
-each-more P Q f (step ∷ past) h = each-more P Q f past h
+each-more : (R Q : ReadField → Read → Type 0) → ((x : ReadField) (r : Read) → R x r → Q x r) → (xs : List ReadField) (rs : List Read) → AllZip R xs rs → AllZip Q xs rs
+each-more R Q f [] [] h = tt
+each-more R Q f [] (r ∷ rs) h = absurd h
+each-more R Q f (x ∷ xs) [] h = absurd h
+each-more R Q f (x ∷ xs) (r ∷ rs) h = (f x r h.0, each-more R Q f xs rs h.1)
 
-each-no_pack : (P : Read → Type 0) (step : PairStep) (past : List PairStep) → IsNoPack step → EachRead P past → EachRead P (step ∷ past)
-each-no_pack P (Pack drains reads) past none h = absurd none
-each-no_pack P step past none h = h
+reads-no_pack : (step : PairStep) (past : List PairStep) → IsNoPack step → reads_told (step ∷ past) ≡ reads_told past
+reads-no_pack (Pack drained read) past none = absurd none
+reads-no_pack step past none = refl
 
 spec-more : (table : List Kind) (kinds more : List ℕ) (n f : ℕ) → (o : Option ℕ) → slice_get kinds n ≡ o → slice_get (kinds ++ more) n ≡ o ⊎ (o ≡ None)
 spec-more table [] more n f o e = inr (sym e)
@@ -69,21 +68,16 @@ own-more table kinds more r objects x h =
     absurd (let e = sym (ap (option_and_then (λ k. option_and_then (λ (kind : Kind). slice_get kind.fields r.field) (slice_get table k))) none) ∙ h.own in cc))
     (spec-more table kinds more r.n r.field (slice_get kinds r.n) refl)
 
-stands-more : (objects kinds : List ℕ) (o k : ℕ) (table : List Kind) (view : List PackStep) (r : Read) → Stands objects kinds table view r → Stands (objects ++ o ∷ []) (kinds ++ k ∷ []) table view r
-stands-more objects kinds o k table [] r h = h
-stands-more objects kinds o k table (step.Drain d ∷ view) r h = stands-more objects kinds o k table view r h
-stands-more objects kinds o k table (step.Read x ∷ view) r h =
-    ⊎_elim
-    (λ (t : IsTheRead objects kinds table x r). inl (record {
-      spec = t.spec;
-      shown = omega (arith, t.shown, length-append objects (o ∷ []));
-      object = t.object ∙ sym (get_or_append_left objects (o ∷ []) 0 r.n t.shown);
-      field = t.field;
-      version = t.version;
-      own = own-more table kinds (k ∷ []) r objects x t;
-      value = t.value;
-    }))
-    (λ (s : Stands objects kinds table view r). inr (stands-more objects kinds o k table view r s)) h
+is-more : (objects kinds : List ℕ) (o k : ℕ) (table : List Kind) (x : ReadField) (r : Read) → IsTheRead objects kinds table x r → IsTheRead (objects ++ o ∷ []) (kinds ++ k ∷ []) table x r
+is-more objects kinds o k table x r t = record {
+  spec = t.spec;
+  shown = omega (arith, t.shown, length-append objects (o ∷ []));
+  object = t.object ∙ sym (get_or_append_left objects (o ∷ []) 0 r.n t.shown);
+  field = t.field;
+  version = t.version;
+  own = own-more table kinds (k ∷ []) r objects x t;
+  value = t.value;
+}
 
 -- ---- fields
 
@@ -120,7 +114,7 @@ module _ (t : Terms) (objects : ℕ) (past : List PairStep) (view : List PackSte
     agree = after;
     table = k.table;
     there = k.there;
-    stand = each-no_pack (Stands p.objects p.kinds t.kinds view) step past none k.stand;
+    read = subst (AllZip (IsTheRead p.objects p.kinds t.kinds) (reads view)) (sym (reads-no_pack step past none)) k.read;
     owed = λ n f up field owed. step_due n f t step (history t past) none (k.owed n f (same-up n up) (same-field n f up field) owed);
   }
 
@@ -170,8 +164,8 @@ module _ (t : Terms) (objects : ℕ) (past : List PairStep) (view : List PackSte
     agree = agree-show t past p q object kind block level control met k.agree are.long q_objects q_kinds q_up;
     table = q_table ∙ k.table;
     there = show-there;
-    stand = subst (λ (x : List ℕ × List ℕ). EachRead (Stands x.0 x.1 t.kinds (a_drain object bits ∷ view)) past) (λ j. (sym q_objects j, sym q_kinds j))
-        (each-more (Stands p.objects p.kinds t.kinds view) (Stands (p.objects ++ object ∷ []) (p.kinds ++ kind ∷ []) t.kinds (a_drain object bits ∷ view)) (λ r h. stands-more p.objects p.kinds object kind t.kinds view r h) past k.stand);
+    read = subst (λ (x : List ℕ × List ℕ). AreReadsOf x.0 x.1 t.kinds view past) (λ j. (sym q_objects j, sym q_kinds j))
+        (each-more (IsTheRead p.objects p.kinds t.kinds) (IsTheRead (p.objects ++ object ∷ []) (p.kinds ++ kind ∷ []) t.kinds) (is-more p.objects p.kinds object kind t.kinds) (reads view) (reads_told past) k.read);
     owed = show-owed;
   }
 
@@ -184,7 +178,7 @@ module _ (t : Terms) (objects : ℕ) (past : List PairStep) (view : List PackSte
     agree = agree-hide past p q m k.agree q_objects q_kinds q_up;
     table = q_table ∙ k.table;
     there = λ n h. subst (λ l. slice_index l n < objects) (sym q_objects) (k.there n (has-fewer (λ x. not (x == m)) n p.up (subst (λ l. has n l ≡ true) q_up h)));
-    stand = subst (λ (x : List ℕ × List ℕ). EachRead (Stands x.0 x.1 t.kinds view) past) (λ j. (sym q_objects j, sym q_kinds j)) k.stand;
+    read = subst (λ (x : List ℕ × List ℕ). AreReadsOf x.0 x.1 t.kinds view past) (λ j. (sym q_objects j, sym q_kinds j)) k.read;
     owed = λ n f up field owed.
         let told = up_from t (Hide m ∷ past) n up in
         k.owed n f (up_to t past n told.0 (none-of (m == n) (is_hidden_in past n) told.1)) field (subst (λ l. owes view (slice_index l n) f ≡ true) q_objects owed);
@@ -196,27 +190,26 @@ module _ (t : Terms) (objects : ℕ) (past : List PairStep) (view : List PackSte
 
 -- ---- a pack
 
-module _ (t : Terms) (objects : ℕ) (past : List PairStep) (view mid new : List PackStep) (p : PeriodList) (k : IsLocked t objects past view p) (drains : List Drain) (reads : List Read)
-    (table : table_fault t.kinds ≡ None) (legal : IsLegalLog t.kinds (history t past).server) (met : IsMet t past (Pack drains reads))
+module _ (t : Terms) (objects : ℕ) (past : List PairStep) (view mid new : List PackStep) (p : PeriodList) (k : IsLocked t objects past view p) (drains : List Drain) (rs : List Read)
+    (table : table_fault t.kinds ≡ None) (legal : IsLegalLog t.kinds (history t past).server) (met : IsMet t past (Pack drains rs))
     (drained : (n f : ℕ) → f < field_count p.table p.kinds n → owes_of p.objects p.up mid n f ≡ true → (owes_of p.objects p.up view n f || is_drained drains n f) ≡ true)
-    (read : (n f : ℕ) → owes_of p.objects p.up new n f ≡ (owes_of p.objects p.up mid n f && not (is_asked reads n f)))
-    (kept : (r : Read) → Stands p.objects p.kinds p.table view r → Stands p.objects p.kinds p.table new r)
-    (all : AllByRecursion (Stands p.objects p.kinds p.table new) reads) where
-  pack-agree : Agree (Pack drains reads ∷ past) p
-  pack-agree = agree-quiet past (Pack drains reads) p tt k.agree
+    (paid : (n f : ℕ) → owes_of p.objects p.up new n f ≡ (owes_of p.objects p.up mid n f && not (is_read rs n f)))
+    (added : List ReadField) (entered : reads new ≡ reads view ++ added) (each : AllZip (IsTheRead p.objects p.kinds p.table) added rs) where
+  pack-agree : Agree (Pack drains rs ∷ past) p
+  pack-agree = agree-quiet past (Pack drains rs) p tt k.agree
 
-  pack-owed : OwedIsDue t (Pack drains reads ∷ past) p.objects new
+  pack-owed : OwedIsDue t (Pack drains rs ∷ past) p.objects new
   pack-owed n f up field owed =
-      let here = same-up t objects past view p k (Pack drains reads) pack-agree n up in
-      let own = same-field t objects past view p k (Pack drains reads) pack-agree n f up field in
+      let here = same-up t objects past view p k (Pack drains rs) pack-agree n up in
+      let own = same-field t objects past view p k (Pack drains rs) pack-agree n f up field in
       let listed : has n p.up ≡ true = subst (λ l. has n l ≡ true) (sym k.agree.up) (up-listed t past n here) in
       let now : owes_of p.objects p.up new n f ≡ true = (λ j. listed j && owed j) in
-      let two = and-both (owes_of p.objects p.up mid n f) (not (is_asked reads n f)) (sym (read n f) ∙ now) in
+      let two = and-both (owes_of p.objects p.up mid n f) (not (is_read rs n f)) (sym (paid n f) ∙ now) in
       let kind : slice_get p.kinds n ≡ Some (kind_of (ghost_log (server_log t past)) n) = k.agree.kinds n (up_from t past n here).0 ∙ ap (λ x. Some x) (sym (kind_told t past n)) in
       let count : field_count p.table p.kinds n ≡ length (fields_of t.kinds (kind_of (ghost_log (server_log t past)) n)) =
       fields-counted p.table p.kinds n (kind_of (ghost_log (server_log t past)) n) kind ∙ ap (λ x. length (fields_of x (kind_of (ghost_log (server_log t past)) n))) k.table in
       let before = drained n f (subst (λ c. f < c) (sym count) own) two.0 in
-      pack_due n f t past drains reads table legal met own (not-true (is_asked reads n f) two.1)
+      pack_due n f t past drains rs table legal met own (not-true (is_read rs n f) two.1)
       (⊎_elim
       (λ (x : owes_of p.objects p.up view n f ≡ true). ap (λ b. b || is_drained drains n f) (k.owed n f here own (and-both (has n p.up) (owes view (slice_index p.objects n) f) x).1))
       (λ (x : is_drained drains n f ≡ true). or_right (is_due_after t past n f) (is_drained drains n f) x)
@@ -226,13 +219,13 @@ module _ (t : Terms) (objects : ℕ) (past : List PairStep) (view mid new : List
       not-true true e = sym e
       not-true false e = refl
 
-  pub locked-pack : IsLocked t objects (Pack drains reads ∷ past) new p
+  pub locked-pack : IsLocked t objects (Pack drains rs ∷ past) new p
   locked-pack = record {
     agree = pack-agree;
     table = k.table;
     there = k.there;
-    stand = subst (λ (x : List Kind). AllByRecursion (Stands p.objects p.kinds x new) reads × EachRead (Stands p.objects p.kinds x new) past) k.table
-        (all, each-more (Stands p.objects p.kinds p.table view) (Stands p.objects p.kinds p.table new) kept past (subst (λ (x : List Kind). EachRead (Stands p.objects p.kinds x view) past) (sym k.table) k.stand));
+    read = subst (λ (l : List ReadField). AllZip (IsTheRead p.objects p.kinds t.kinds) l (reads_told past ++ rs)) (sym entered)
+        (zip_append (IsTheRead p.objects p.kinds t.kinds) (reads view) added (reads_told past) rs k.read (subst (λ (x : List Kind). AllZip (IsTheRead p.objects p.kinds x) added rs) k.table each));
     owed = pack-owed;
   }
 
@@ -283,7 +276,7 @@ module _ (objects : ℕ) (k new : KeptState) (seat : PackView) (p q : PeriodList
     agree = record { count = l.agree.count; up = l.agree.up; kinds = l.agree.kinds };
     table = l.table;
     there = l.there;
-    stand = l.stand;
+    read = l.read;
     owed = l.owed;
   }
 

@@ -19,10 +19,9 @@ use Rattle.tn_types.specs.declared.limits.TheConstants.{MAX_KEPT_STEPS, MAX_TAKE
 use Rattle.kept_pair.specs.Kept.{KeptState, terms_in, accepted_by, answer_after}
 use Rattle.dirty_lanes.specs.declared.view.PackView.{PackView}
 use Rattle.lane_periods.specs.Periods.{PeriodList}
-use Rattle.lane_periods.specs.Views.{Stands, Drains, owes_of, entries}
+use Rattle.lane_periods.specs.Views.{Drains, entries}
 use Rattle.dirty_lanes.specs.declared.view.PackStep.{PackStep}
 use Rattle.dirty_lanes.specs.Views.{drains}
-use Rattle.kept_pair.specs.conn_packing.Asking.{is_asked}
 use Rattle.std.specs.List.{AllByRecursion}
 use Rattle.pair_periods.specs.pair_steps.Steps.{up_in, traits_in}
 use Rattle.pair_periods.specs.Agreement.{server_log}
@@ -59,13 +58,6 @@ abbrev pub DrainsAt : SendState → PeriodList → List PackStep → List PackSt
 DrainsAt Room p old new drains = Drains p old new drains
 DrainsAt Held p old new drains = (new ≡ old) × (drains ≡ [])
 DrainsAt Worn p old new drains = (new ≡ old) × (drains ≡ [])
-
--- what a pack reads: each read stands from then on, what stood stands still, and what was read is owed no more
-pub record ReadsBy (p : PeriodList) (old new : List PackStep) (reads : List Read) : Type 0 where
-  pub stand : AllByRecursion (Stands p.objects p.kinds p.table new) reads
-  pub kept : (r : Read) → Stands p.objects p.kinds p.table old r → Stands p.objects p.kinds p.table new r
-  pub owed : (n f : ℕ) → owes_of p.objects p.up new n f ≡ (owes_of p.objects p.up old n f && not (is_asked reads n f))
-  pub drained : drains new ≡ drains old
 
 -- one Pack step was made after these
 pub record Packs (t : Terms) (old : Progress) (answered : Answer) (new : Progress) : Type 0 where

@@ -6,10 +6,10 @@ ghost use Rattle.kept_pair.specs.pair_core.History.{Pack};
 ghost use Rattle.kept_pair.specs.pair_core.Calls.{KeepsAtServer};
 ghost use Rattle.kept_pair.specs.Kept.{terms_in, newest_first, answer_after, MayPack};
 ghost use Rattle.lane_periods.specs.Periods.{has};
-ghost use Rattle.lane_periods.specs.Views.{ranges};
+ghost use Rattle.lane_periods.specs.Views.{ranges, ReadsOnto};
 ghost use Rattle.pair_periods.specs.Agreement.{server_log};
 ghost use Rattle.connection_lock.specs.Rule.{progress_of, AreLocked};
-ghost use Rattle.connection_lock.specs.Turns.{Packs, DrainsAt, ReadsBy, FaultAt};
+ghost use Rattle.connection_lock.specs.Turns.{Packs, DrainsAt, FaultAt};
 
 use dirty_lanes::{LaneName, Lanes, PackSeat};
 use kept_pair::pair_core::Answer;
@@ -65,7 +65,7 @@ fn drain<N: LaneName>(
     }
 }
 
-/// Packs with these drains, and reads what the packet carries.
+/// Packs with these drains, and reads what the packet carries: the reads are new entries of the seat's view.
 fn pack_read<N: LaneName>(
     pair: &mut KeptPair,
     seat: &mut PackSeat<N>,
@@ -78,7 +78,7 @@ fn pack_read<N: LaneName>(
     requires may { MayPack pair.old drains.now (ranges lanes.now.objects periods.now) }
     ensures answer { result ≡ answer_after pair.old (Pack drains.now []) }
     ensures told { (reads : List OneRead) × (pair.new.steps ≡ pair.old.steps ++ Pack drains.now reads ∷ [])
-        × ReadsBy periods.now seat.old.steps seat.new.steps reads }
+        × ReadsOnto periods.now seat.old.steps reads seat.new.steps }
     ensures keeps { KeepsAtServer pair.old.pair pair.new.pair }
     ensures terms { terms_in pair.new ≡ terms_in pair.old }
     ensures client { seat.new.client ≡ seat.old.client }

@@ -14,8 +14,8 @@ use std::io::{self, Read, Write};
 use std::process::ExitCode;
 use std::{env, str};
 use table::{down_table, up_table};
-use tn_types::MAX_READ_BYTES;
-use words::{Command, Options, Refusal, Way, read_command};
+use tn_types::{End, MAX_READ_BYTES};
+use words::{Command, Options, Refusal, read_command};
 
 /// The exit status of words or a report that can't be read.
 const REFUSED: u8 = 2;
@@ -38,16 +38,16 @@ fn arguments(rt: &HostRuntime) -> Result<Vec<String>, Refusal> {
 /// The table of one datagram.
 fn datagram_table(
     alloc: Global,
-    way: Way,
+    by: End,
     bytes: &[u8],
     options: Options,
 ) -> Result<Vec<u8>, Refusal>
     requires { length bytes.now ≤ MAX_READ_BYTES }
 {
     let Options { version, mut slots } = options;
-    let made = match way {
-        Way::Down => down_table(alloc, version, bytes, &mut slots),
-        Way::Up => up_table(alloc, version, bytes),
+    let made = match by {
+        End::Server => down_table(alloc, version, bytes, &mut slots),
+        End::Client => up_table(alloc, version, bytes),
     };
     match made {
         Ok(text) => Ok(text),
@@ -59,15 +59,11 @@ fn datagram_table(
 fn text_of(rt: &HostRuntime) -> Result<Vec<u8>, Refusal> {
     let words = arguments(rt)?;
     match read_command(rt.alloc(), words.as_slice())? {
-        Command::Datagram {
-            way,
-            bytes,
-            options,
-        } => {
+        Command::Datagram { by, bytes, options } => {
             if bytes.len() > MAX_READ_BYTES {
                 return Err(Refusal::LongHex);
             }
-            datagram_table(rt.alloc(), way, bytes.as_slice(), options)
+            datagram_table(rt.alloc(), by, bytes.as_slice(), options)
         }
         Command::Report { options } => {
             let mut bytes = Vec::new(rt.alloc());

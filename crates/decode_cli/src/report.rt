@@ -3,14 +3,14 @@ ghost use Rattle.std.specs.Prelude.{◌≤◌, length};
 
 use crate::slots::Slots;
 use crate::table::{down_table, up_table};
-use crate::words::{Refusal, Way, bytes_of};
+use crate::words::{Refusal, bytes_of};
 use std::alloc::Global;
-use tn_types::{MAX_CLIENTS, MAX_READ_BYTES};
+use tn_types::{End, MAX_CLIENTS, MAX_READ_BYTES};
 
 /// A line of a report that has a datagram.
 #[derive(Drop)]
 struct Sent<'a> {
-    way: Way,
+    by: End,
     client: usize,
     /// The line up to the datagram, without the kind of packet.
     head: &'a str,
@@ -25,10 +25,10 @@ fn first_word(line: &str) -> Option<(&str, &str)> {
 /// What a line `pack C K data HEX`, `cpack C K data HEX` or `raw C HEX` says; `None` for any other line.
 fn sent_of(line: &str) -> Option<Sent<'_>> {
     let (name, behind) = first_word(line)?;
-    let way = match name {
-        "pack" => Way::Down,
-        "cpack" => Way::Up,
-        "raw" => Way::Up,
+    let by = match name {
+        "pack" => End::Server,
+        "cpack" => End::Client,
+        "raw" => End::Client,
         _ => return None,
     };
     let (head, hex) = line.rsplit_once(' ')?;
@@ -40,7 +40,7 @@ fn sent_of(line: &str) -> Option<Sent<'_>> {
     if name == "raw" {
         return if rest == hex {
             Some(Sent {
-                way,
+                by,
                 client,
                 head,
                 hex,
@@ -54,7 +54,7 @@ fn sent_of(line: &str) -> Option<Sent<'_>> {
         return None;
     }
     Some(Sent {
-        way,
+        by,
         client,
         head,
         hex,
@@ -82,9 +82,9 @@ fn table(
 ) -> Result<Vec<u8>, Refusal>
     requires { length bytes.now ≤ MAX_READ_BYTES }
 {
-    let made = match sent.way {
-        Way::Down => down_table(alloc, version, bytes, slots),
-        Way::Up => up_table(alloc, version, bytes),
+    let made = match sent.by {
+        End::Server => down_table(alloc, version, bytes, slots),
+        End::Client => up_table(alloc, version, bytes),
     };
     match made {
         Ok(text) => Ok(text),

@@ -5,23 +5,14 @@ use hex::FromHexError;
 use std::alloc::Global;
 use std::error::Error;
 use std::fmt;
-use tn_types::MAX_READ_BYTES;
-
-/// Which way a datagram goes.
-#[derive(Clone, Copy, Debug, PartialEq, Eq)]
-pub(crate) enum Way {
-    /// From the server.
-    Down,
-    /// From a client.
-    Up,
-}
+use tn_types::{End, MAX_READ_BYTES};
 
 /// What the words ask for.
 #[derive(Drop)]
 pub(crate) enum Command {
-    /// The table of one datagram.
+    /// The table of one datagram, as one that this end sent.
     Datagram {
-        way: Way,
+        by: End,
         bytes: Vec<u8>,
         options: Options,
     },
@@ -170,9 +161,9 @@ pub(crate) fn read_command(alloc: Global, words: &[String]) -> Result<Command, R
             options: read_options(words, 1)?,
         });
     }
-    let way = match first.as_str() {
-        "down" => Way::Down,
-        "up" => Way::Up,
+    let by = match first.as_str() {
+        "down" => End::Server,
+        "up" => End::Client,
         _ => return Err(Refusal::NoWay),
     };
     let Some(datagram) = words.get(1) else {
@@ -180,7 +171,7 @@ pub(crate) fn read_command(alloc: Global, words: &[String]) -> Result<Command, R
     };
     let bytes = bytes_of(alloc, datagram.as_str())?;
     Ok(Command::Datagram {
-        way,
+        by,
         bytes,
         options: read_options(words, 2)?,
     })

@@ -16,6 +16,7 @@ use match_report::{Told, Way};
 use match_script::Script;
 use std::alloc::Global;
 use tn_outside::{RunFault, Sink, write_all};
+use tn_types::End;
 
 /// The place of the datagram that a client took, if that is what a line tells.
 fn place_taken(told: &Told, client: u8) -> Option<u32>
@@ -65,7 +66,7 @@ fn note<K: Sink>(
     let Some(k) = place_taken(told, client) else {
         return Ok(());
     };
-    let Some(bytes) = game.pair(client).datagram(true, k) else {
+    let Some(bytes) = game.pair(client).datagram(End::Server, k) else {
         unreachable!()
     };
     piece.clear();

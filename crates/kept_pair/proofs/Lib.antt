@@ -3,3 +3,4 @@ mod Cutting
 pub mod Counts
 pub mod Replaying
 pub mod Showing
+mod Noting

@@ -5,7 +5,7 @@ ghost use Rattle.tn_types.specs.declared.choices.Read.{Read};
 use crate::fault::KeepFault;
 use crate::given::{add_moves, brought, learn_payload};
 use crate::step_list::StepList;
-use pair_core::conn_packing::MAX_PACKET_VALUES;
+use pair_core::conn_packing::{MAX_PACKET_VALUES, Noting};
 use pair_core::{Answer, Pair, PairStep};
 use std::alloc::Global;
 use std::marker::Model;
@@ -66,7 +66,6 @@ impl Model for KeptPair {
 impl KeptPair {
     ghost use Rattle.pair_core.specs.stream_manager.EndCalls.{popped};
     ghost use Rattle.pair_core.specs.History.{Pack};
-    ghost use Rattle.pair_core.specs.conn_packing.Asking.{Asks};
     ghost use Rattle.pair_core.specs.Calls.{step_of, Hands, Accepts, Keeps, KeepsAtServer, Unchanged};
     ghost use Rattle.kept_pair.specs.Kept.{KeptState, IsFresh, Replays, MayStep, IsReady, MayPack, HasCause, Prepares, terms_in, answer_after, accepted_by};
 
@@ -179,12 +178,17 @@ impl KeptPair {
         requires may { MayPack self.old drains.now (V.ranges values.old) }
         ensures answer { result ≡ answer_after self.old (Pack drains.now []) }
         ensures told { (reads : List Read) × (self.new.steps ≡ self.old.steps ++ Pack drains.now reads ∷ [])
-            × Asks V.ranges V.stands V.owes V.same values.old values.new reads }
+            × V.asks values.old reads values.new }
         ensures keeps { KeepsAtServer self.old.pair self.new.pair }
         ensures terms { terms_in self.new ≡ terms_in self.old }
     {
         self.befores.push_reserved(self.moves.len() as u32);
-        let answer = self.pair.pack_noting(drains, values, &mut self.noted);
+        self.noted.clear();
+        let mut noting = Noting {
+            values,
+            noted: &mut self.noted,
+        };
+        let answer = self.pair.pack(drains, &mut noting);
         self.steps
             .push(PairStep::Pack, drains, self.noted.as_slice());
         self.drains -= drains.len();

@@ -1,7 +1,7 @@
--- Drains make fields owed, and a read pays for the field of its own period alone.
+-- Drains make fields owed, and a read pays for the field of its own period alone. What a pack reads are new entries of the view.
 use Rattle.std.proofs.Common.{◌≡◌, ⊎_elim, ℕ, ◌+◌, ◌<◌, ◌/◌, ◌%◌, ◌^◌, Bool, true, false, not, ◌&&◌, ◌||◌, ◌==◌, List, [], ◌∷◌, ◌++◌, map, refl, sym, ap, ◌∙◌, subst, arith, append_assoc, append-nil}
 use Rattle.std.specs.Prelude.{slice_index}
-use Rattle.std.specs.List.{AllByRecursion}
+use Rattle.std.specs.List.{AllByRecursion, AllZip}
 use Rattle.std.specs.Int.{bit_at}
 use Rattle.std.proofs.lemmas.Bool.{eq-eqb, eqb-true}
 use Rattle.std.proofs.lemmas.Nat.Bits.{bit_at_cat_low}
@@ -13,9 +13,9 @@ use Rattle.quantised_fields.specs.declared.kind.Kind.{Kind}
 use Rattle.dirty_lanes.specs.declared.view.ReadField.{ReadField}
 use Rattle.dirty_lanes.specs.declared.view.PackStep.{PackStep}
 use Rattle.dirty_lanes.specs.declared.view.PackStep.TheVariants as step
-use Rattle.dirty_lanes.specs.Views.{owes, drains, a_drain}
+use Rattle.dirty_lanes.specs.Views.{owes, drains, reads, a_drain}
 use Rattle.lane_periods.specs.Periods.{PeriodList, has, ArePeriods, field_count}
-use Rattle.lane_periods.specs.Views.{Stands, owes_of, is_drained, drained_onto, entries, own_bits, Drains}
+use Rattle.lane_periods.specs.Views.{IsTheRead, read_onto, ReadsOnto, is_read, owes_of, is_drained, drained_onto, entries, own_bits, Drains}
 use Rattle.lane_periods.proofs.Numbers.{same-number, or-cases, or-second, and-both}
 
 bool-cases : {P : Type 0} (b : Bool) → (b ≡ true → P) → (b ≡ false → P) → P
@@ -60,6 +60,42 @@ pays objects kinds up view x n are here is m f =
     ap (λ b. b && (owes view (slice_index objects m) f && not ((x.object == slice_index objects m) && (x.field == f)))) there
     ∙ ap (λ b. (b && owes view (slice_index objects m) f) && not ((n == m) && (x.field == f))) (sym there)))
 
+-- ---- all reads of a pack
+
+drains-read : (xs : List ReadField) (view : List PackStep) → drains (read_onto xs view) ≡ drains view
+drains-read [] view = refl
+drains-read (x ∷ xs) view = drains-read xs (step.Read x ∷ view)
+
+reads-onto : (xs : List ReadField) (view : List PackStep) → reads (read_onto xs view) ≡ reads view ++ xs
+reads-onto [] view = sym (append-nil (reads view))
+reads-onto (x ∷ xs) view = reads-onto xs (step.Read x ∷ view) ∙ append_assoc (reads view) (x ∷ []) xs
+
+paid-twice : (o a b : Bool) → ((o && not a) && not b) ≡ (o && not (a || b))
+paid-twice true true b = refl
+paid-twice true false b = refl
+paid-twice false a b = refl
+
+all-paid : (objects kinds up : List ℕ) (table : List Kind) → ArePeriods objects kinds up → (xs : List ReadField) (rs : List Read) (view : List PackStep) → AllZip (IsTheRead objects kinds table) xs rs
+    → AllByRecursion (λ (r : Read). has r.n up ≡ true) rs → (n f : ℕ) → owes_of objects up (read_onto xs view) n f ≡ (owes_of objects up view n f && not (is_read rs n f))
+all-paid objects kinds up table are [] [] view each here n f = sym (and-true (owes_of objects up view n f))
+all-paid objects kinds up table are [] (r ∷ rs) view each here n f = absurd each
+all-paid objects kinds up table are (x ∷ xs) [] view each here n f = absurd each
+all-paid objects kinds up table are (x ∷ xs) (r ∷ rs) view each here n f =
+    all-paid objects kinds up table are xs rs (step.Read x ∷ view) each.1 here.1 n f
+    ∙ ap (λ (o : Bool). o && not (is_read rs n f)) (pays objects kinds up view x r.n are here.0 each.0.object n f ∙ ap (λ (k : ℕ). owes_of objects up view n f && not ((r.n == n) && (k == f))) each.0.field)
+    ∙ paid-twice (owes_of objects up view n f) ((r.n == n) && (r.field == f)) (is_read rs n f)
+
+-- the view has the new entries behind those that it had, what was read is owed no more, and nothing was drained
+module _ (p : PeriodList) (old new : List PackStep) (rs : List Read) (o : ReadsOnto p old rs new) where
+  pub reads-entered : reads new ≡ reads old ++ o.added
+  reads-entered = ap reads o.onto ∙ reads-onto o.added old
+
+  pub reads-pay : ArePeriods p.objects p.kinds p.up → (n f : ℕ) → owes_of p.objects p.up new n f ≡ (owes_of p.objects p.up old n f && not (is_read rs n f))
+  reads-pay are n f = subst (λ v. owes_of p.objects p.up v n f ≡ (owes_of p.objects p.up old n f && not (is_read rs n f))) (sym o.onto) (all-paid p.objects p.kinds p.up p.table are o.added rs old o.each o.up n f)
+
+  pub reads-drain : drains new ≡ drains old
+  reads-drain = ap drains o.onto ∙ drains-read o.added old
+
 -- ---- drains
 
 pub drains-onto : (objects : List ℕ) (ds : List Drain) (view : List PackStep) → drains (drained_onto objects ds view) ≡ drains view ++ entries objects ds
@@ -68,9 +104,9 @@ drains-onto objects (d ∷ ds) view =
     drains-onto objects ds (a_drain (slice_index objects d.n) d.bits ∷ view)
     ∙ append_assoc (drains view) (record { object = slice_index objects d.n; bits = d.bits } ∷ []) (entries objects ds)
 
-pub stands-onto : (objects kinds : List ℕ) (table : List Kind) (ds : List Drain) (view : List PackStep) (r : Read) → Stands objects kinds table view r → Stands objects kinds table (drained_onto objects ds view) r
-stands-onto objects kinds table [] view r h = h
-stands-onto objects kinds table (d ∷ ds) view r h = stands-onto objects kinds table ds (a_drain (slice_index objects d.n) d.bits ∷ view) r h
+reads-drained : (objects : List ℕ) (ds : List Drain) (view : List PackStep) → reads (drained_onto objects ds view) ≡ reads view
+reads-drained objects [] view = refl
+reads-drained objects (d ∷ ds) view = reads-drained objects ds (a_drain (slice_index objects d.n) d.bits ∷ view)
 
 pub onto-more : (objects : List ℕ) (ds : List Drain) (d : Drain) (view : List PackStep) → drained_onto objects (ds ++ d ∷ []) view ≡ a_drain (slice_index objects d.n) d.bits ∷ drained_onto objects ds view
 onto-more objects [] d view = refl
@@ -132,8 +168,8 @@ module _ (p : PeriodList) (old new : List PackStep) (ds : List Drain) (are : Are
       ap (λ b. owes_of p.objects p.up old n f || b) (ap (λ l. is_drained l n f) d.own ∙ own-drained p.table p.kinds n f few d.words)
       ∙ owed-onto p.objects p.kinds p.up are n f d.words old each-up (subst (λ v. owes_of p.objects p.up v n f ≡ true) d.taken e)
 
-  pub drains-stand : (r : Read) → Stands p.objects p.kinds p.table old r → Stands p.objects p.kinds p.table new r
-  drains-stand r h = subst (λ v. Stands p.objects p.kinds p.table v r) (sym d.taken) (stands-onto p.objects p.kinds p.table d.words old r h)
+  pub drains-read_nothing : reads new ≡ reads old
+  drains-read_nothing = ap reads d.taken ∙ reads-drained p.objects d.words old
 
   pub drains-entries : drains new ≡ drains old ++ entries p.objects d.words
   drains-entries = ap drains d.taken ∙ drains-onto p.objects d.words old

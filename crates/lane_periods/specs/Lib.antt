@@ -1,2 +1,3 @@
 pub mod Periods
 pub mod Views
+pub mod Reading

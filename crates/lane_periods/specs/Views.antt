@@ -1,6 +1,8 @@
 -- What a packer's view says of periods. A read is one that the view has, of the object of its period; a value above the greatest
--- of the field counts as that greatest. A field that the view owes is owed for the shown period of its object.
-use Rattle.std.specs.Prelude.{◌≡◌, refl, ℕ, ℤ, pos, ◌<◌, ◌%◌, ◌^◌, ◌+ℤ◌, ◌⊎◌, min, nat_lt, Bool, false, ◌&&◌, ◌||◌, ◌==◌, if◌then◌else◌, List, [], ◌∷◌, length, map, slice_index, Option, None, option_map, Some}
+-- of the field counts as that greatest. What a pack reads are new entries of the view. A field that the view owes is owed for the shown
+-- period of its object.
+use Rattle.std.specs.Prelude.{◌≡◌, refl, ℕ, ℤ, pos, ◌<◌, ◌%◌, ◌^◌, ◌+ℤ◌, min, nat_lt, Bool, false, ◌&&◌, ◌||◌, ◌==◌, true, if◌then◌else◌, List, [], ◌∷◌, length, map, slice_index, Option, None, option_map, Some}
+use Rattle.std.specs.List.{AllByRecursion, AllZip}
 use Rattle.tn_types.specs.BitWords.{has_bit}
 use Rattle.tn_types.specs.declared.choices.Drain.{Drain}
 use Rattle.tn_types.specs.declared.choices.Read.{Read}
@@ -11,7 +13,7 @@ use Rattle.dirty_lanes.specs.declared.view.DrainedBits.{DrainedBits}
 use Rattle.dirty_lanes.specs.declared.view.ReadField.{ReadField}
 use Rattle.dirty_lanes.specs.declared.view.PackStep.{PackStep}
 use Rattle.dirty_lanes.specs.declared.view.PackStep.TheVariants as step
-use Rattle.dirty_lanes.specs.Views.{owes, a_drain}
+use Rattle.dirty_lanes.specs.Views.{owes, a_drain, a_read}
 use Rattle.lane_periods.specs.Periods.{PeriodList, has, spec_at, field_count}
 
 -- ---- values
@@ -38,11 +40,22 @@ pub record IsTheRead (objects kinds : List ℕ) (table : List Kind) (x : ReadFie
   pub own : spec_at table kinds r.n r.field ≡ Some spec
   pub value : r.value ≡ value_in spec x.value
 
--- the read stands in the view
-abbrev pub Stands : List ℕ → List ℕ → List Kind → List PackStep → Read → Type 0
-Stands objects kinds table [] r = ⊥
-Stands objects kinds table (step.Drain d ∷ view) r = Stands objects kinds table view r
-Stands objects kinds table (step.Read x ∷ view) r = IsTheRead objects kinds table x r ⊎ Stands objects kinds table view r
+-- the view after these fields were read, in this order
+abbrev pub read_onto : List ReadField → List PackStep → List PackStep
+read_onto [] view = view
+read_onto (x ∷ xs) view = read_onto xs (step.Read x ∷ view)
+
+-- exactly these reads were made, of periods that are up: each is a new entry of the view, in this order
+pub record ReadsOnto (p : PeriodList) (old : List PackStep) (reads : List Read) (new : List PackStep) : Type 0 where
+  pub added : List ReadField
+  pub each : AllZip (IsTheRead p.objects p.kinds p.table) added reads
+  pub up : AllByRecursion (λ (r : Read). has r.n p.up ≡ true) reads
+  pub onto : new ≡ read_onto added old
+
+-- one of the reads is of this field of this period
+abbrev pub is_read : List Read → ℕ → ℕ → Bool
+is_read [] n field = false
+is_read (r ∷ reads) n field = ((r.n == n) && (r.field == field)) || is_read reads n field
 
 -- ---- drains
 
@@ -85,3 +98,9 @@ fourth = refl
 
 counts_as_greatest : value_in ten 99 ≡ pos 20
 counts_as_greatest = refl
+
+-- what is read last is the newest entry
+newest_in_front :
+    read_onto (record { object = 3; field = 0; version = 2; value = 8 } ∷ record { object = 3; field = 1; version = 1; value = 5 } ∷ []) []
+    ≡ a_read 3 1 1 5 ∷ a_read 3 0 2 8 ∷ []
+newest_in_front = refl

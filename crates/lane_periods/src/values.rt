@@ -28,19 +28,15 @@ fn value_in(spec: &FieldSpec, word: u32) -> i64
 }
 
 impl<'a, N: LaneName> Values for SeatValues<'a, N> {
-    ghost use Rattle.std.specs.Prelude.{ℕ, ◌≡◌, ◌<◌, refl, true};
-    ghost use Rattle.dirty_lanes.specs.Views.{drains};
-    ghost use Rattle.lane_periods.specs.Views.{ranges as ranges_of, Stands, owes_of};
+    ghost use Rattle.std.specs.Prelude.{◌≡◌, refl};
+    ghost use Rattle.lane_periods.specs.Views.{ranges as ranges_of, ReadsOnto};
+    ghost use Rattle.lane_periods.specs.Reading.{reads_none, reads_more};
     ghost use Rattle.std.proofs.Common.{◌∙◌};
 
     ghost ranges = { λ s n f. ranges_of s.lanes.now.objects s.periods.now n f };
 
-    ghost stands = { λ s r. Stands s.periods.now.objects s.periods.now.kinds s.periods.now.table s.seat.now.steps r };
-
-    ghost owes = { λ s n f. owes_of s.periods.now.objects s.periods.now.up s.seat.now.steps n f };
-
-    ghost same = { λ a b. (b.seat.ghost_name ≡ a.seat.ghost_name) × (b.lanes.now ≡ a.lanes.now) × (b.periods.now ≡ a.periods.now)
-        × (b.seat.now.client ≡ a.seat.now.client) × (drains b.seat.now.steps ≡ drains a.seat.now.steps) };
+    ghost asks = { λ a reads b. (b.seat.ghost_name ≡ a.seat.ghost_name) × (b.lanes.now ≡ a.lanes.now) × (b.periods.now ≡ a.periods.now)
+        × (b.seat.now.client ≡ a.seat.now.client) × ReadsOnto a.periods.now a.seat.now.steps reads b.seat.now.steps };
 
     fn value(&mut self, n: u32, field: u8) -> Read {
         self.periods.are_periods();
@@ -57,9 +53,15 @@ impl<'a, N: LaneName> Values for SeatValues<'a, N> {
         }
     }
 
-    ghost same_refl = { λ x. (refl, refl, refl, refl, refl) };
+    ghost asks_none = { λ x. (refl, refl, refl, refl, reads_none x.periods.now x.seat.now.steps) };
 
-    ghost same_trans = { λ x y z p q. (q.0 ∙ p.0, q.1 ∙ p.1, q.2 ∙ p.2, q.3 ∙ p.3, q.4 ∙ p.4) };
+    ghost asks_more = { λ x y z first later p q. (
+      q.0 ∙ p.0,
+      q.1 ∙ p.1,
+      q.2 ∙ p.2,
+      q.3 ∙ p.3,
+      reads_more x.periods.now y.periods.now x.seat.now.steps y.seat.now.steps z.seat.now.steps first later p.2 p.4 q.4,
+    ) };
 
-    ghost same_ranges = { λ x y n f p j. ranges_of (p.1 j).objects (p.2 j) n f };
+    ghost asks_ranges = { λ x y reads n f p j. ranges_of (p.1 j).objects (p.2 j) n f };
 }

@@ -62,17 +62,14 @@ fn period_of(shown: &[ShownPeriod], place: Option<usize>, n: u32) -> Option<&Sho
 }
 
 impl<'a> Values for WorldValues<'a> {
-    ghost use Rattle.std.specs.Prelude.{◌≡◌, ℕ, false, refl};
+    ghost use Rattle.std.specs.Prelude.{◌≡◌, [], All, refl};
+    ghost use Rattle.std.proofs.Common.{◌∙◌, subst};
+    ghost use Rattle.std.proofs.lemmas.List.Elements.{All-append, All-from_recursion};
     ghost use Rattle.match_engine.specs.Values.{ranges as ranges_of, IsNewest};
-    ghost use Rattle.std.proofs.Common.{◌∙◌};
 
     ghost ranges = { λ v n f. ranges_of v.world.now v.shown.now n f };
 
-    ghost stands = { λ v r. IsNewest v.world.now v.shown.now r };
-
-    ghost owes = { λ v n f. false };
-
-    ghost same = { λ a b. (b.world.now ≡ a.world.now) × (b.shown.now ≡ a.shown.now) };
+    ghost asks = { λ a reads b. (b.world.now ≡ a.world.now) × (b.shown.now ≡ a.shown.now) × All (IsNewest a.world.now a.shown.now) reads };
 
     fn value(&mut self, n: u32, field: u8) -> Read {
         let place = place_noted(self.shown, self.places, n);
@@ -88,9 +85,14 @@ impl<'a> Values for WorldValues<'a> {
         }
     }
 
-    ghost same_refl = { λ x. (refl, refl) };
+    ghost asks_none = { λ x. (refl, refl, All-from_recursion (IsNewest x.world.now x.shown.now) [] tt) };
 
-    ghost same_trans = { λ x y z p q. (q.0 ∙ p.0, q.1 ∙ p.1) };
+    ghost asks_more = { λ x y z first later p q. (
+      q.0 ∙ p.0,
+      q.1 ∙ p.1,
+      All-append (IsNewest x.world.now x.shown.now) first later p.2
+          (subst (λ v. All (IsNewest v.0 v.1) later) (λ j. (p.0 j, p.1 j)) q.2),
+    ) };
 
-    ghost same_ranges = { λ x y n f p j. ranges_of (p.0 j) (p.1 j) n f };
+    ghost asks_ranges = { λ x y reads n f p j. ranges_of (p.0 j) (p.1 j) n f };
 }

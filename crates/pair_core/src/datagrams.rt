@@ -3,7 +3,6 @@ ghost use Rattle.std.specs.Prelude.{◌≡◌, true, false, ℕ, List, ◌+◌, 
 ghost use Rattle.std.specs.Option.{option_copied};
 ghost use Rattle.std.specs.Prelude.{vec_len, vec_capacity};
 ghost use Rattle.tn_types.specs.declared.choices.Read.{Read};
-ghost use Rattle.conn_packing.specs.Asking.{Asks};
 ghost use Rattle.conn_packing.specs.Calls.{MayPackEnd, PacksEnd};
 ghost use Rattle.pair_core.specs.Flat.{cut, Rise, with_made};
 ghost use Rattle.pair_core.specs.Keeping.{kept, newest, newest_alone};
@@ -12,7 +11,7 @@ use conn_packing::stream_manager::Conn;
 use conn_packing::{MAX_PACKET_VALUES, Made, Packer};
 use std::alloc::Global;
 use std::marker::Model;
-use tn_types::{Drain, MAX_DATAGRAM_BYTES, MAX_DATAGRAMS, NoMemory, Read, Values};
+use tn_types::{Drain, MAX_DATAGRAM_BYTES, MAX_DATAGRAMS, NoMemory, Values};
 
 /// The room for datagrams, and for their bytes, that a list of all begins with: those of a short match, so that it seldom moves as it
 /// grows.
@@ -160,37 +159,11 @@ impl Datagrams {
         requires may { MayPackEnd conn.old drains.now (V.ranges values.old) }
         ensures told { (reads : List Read) × (bytes : List ℕ) × PacksEnd conn.old drains.now reads result bytes conn.new
             × (self.new.list ≡ with_made result bytes self.old.list)
-            × Asks V.ranges V.stands V.owes V.same values.old values.new reads }
+            × V.asks values.old reads values.new × (length reads ≤ MAX_PACKET_VALUES) }
     {
         // no datagram is longer than its size, nor that than 1,200
         let _config = conn.config();
         let made = packer.pack(conn, drains, values, &mut self.bytes);
-        note_end(&made, &mut self.ends, self.bytes.len());
-        made
-    }
-
-    /// The same, and what was read is noted in place of what was noted before.
-    pub(crate) fn pack_noting<V: Values>(
-        &mut self,
-        packer: &mut Packer,
-        conn: &mut Conn,
-        drains: &[Drain],
-        values: &mut V,
-        noted: &mut Vec<Read>,
-    ) -> Made
-        requires room { self.old.has_room ≡ true }
-        requires few { length self.old.list < MAX_DATAGRAMS }
-        requires may { MayPackEnd conn.old drains.now (V.ranges values.old) }
-        requires note_room { MAX_PACKET_VALUES ≤ vec_capacity noted.old }
-        ensures told { (bytes : List ℕ) × PacksEnd conn.old drains.now noted.new.items result bytes conn.new
-            × (self.new.list ≡ with_made result bytes self.old.list) }
-        ensures asks { Asks V.ranges V.stands V.owes V.same values.old values.new noted.new.items }
-        ensures few { length noted.new.items ≤ MAX_PACKET_VALUES }
-        ensures note_room { vec_capacity noted.new ≡ vec_capacity noted.old }
-    {
-        // no datagram is longer than its size, nor that than 1,200
-        let _config = conn.config();
-        let made = packer.pack_noting(conn, drains, values, noted, &mut self.bytes);
         note_end(&made, &mut self.ends, self.bytes.len());
         made
     }

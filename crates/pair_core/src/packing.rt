@@ -1,14 +1,13 @@
 //! The server's next datagram, with the values of what it carries.
-ghost use Rattle.std.specs.Prelude.{◌≡◌, true, ◌<◌, ◌≤◌, List, [], length, vec_capacity};
+ghost use Rattle.std.specs.Prelude.{◌≡◌, true, ◌<◌, ◌≤◌, List, [], length};
 ghost use Rattle.tn_types.specs.declared.choices.Read.{Read};
-ghost use Rattle.conn_packing.specs.Asking.{Asks};
 ghost use Rattle.pair_core.specs.Answers.{of_made};
 ghost use Rattle.pair_core.specs.Flat.{count_with};
 
 use crate::pair::Pair;
 use crate::step::Answer;
 use conn_packing::{MAX_PACKET_VALUES, Made};
-use tn_types::{Drain, MAX_DATAGRAMS, Read, Values};
+use tn_types::{Drain, MAX_DATAGRAMS, Values};
 
 /// What a pack answers, by what it made: its datagram has this place.
 fn packed(made: Made, place: u32) -> Answer
@@ -41,14 +40,14 @@ impl Pair {
     /// The server makes its next datagram. Where the state is Room, these drains are absorbed first, and the data packet
     /// carries values that are asked for now: each field that its ghosts carry once, in their order and by rising field, and
     /// nothing else. Where it is Held or Worn, nothing is drained or asked. It takes no memory; there has to be room for the
-    /// datagram.
+    /// datagram. A caller that keeps the step with its reads lends `Noting` of `conn_packing`.
     pub fn pack<V: Values>(&mut self, drains: &[Drain], values: &mut V) -> Answer
         requires prepared { self.old.prepared ≡ true }
         requires few { self.old.sent < MAX_DATAGRAMS }
         requires may { MayPack self.old drains.now (V.ranges values.old) }
         ensures answer { Answers self.old (λ t steps. answer t steps (Pack drains.now [])) result }
         ensures told { (reads : List Read) × Packs self.old drains.now reads self.new
-            × Asks V.ranges V.stands V.owes V.same values.old values.new reads }
+            × V.asks values.old reads values.new × (length reads ≤ MAX_PACKET_VALUES) }
         ensures keeps { KeepsAtServer self.old self.new }
         ensures keeping { self.new.keeps_all ≡ self.old.keeps_all }
     {
@@ -56,35 +55,6 @@ impl Pair {
         let made = self
             .down
             .pack(&mut self.packer, &mut self.conn, drains, values);
-        self.sent = counted(&made, place);
-        self.down.keep(self.keeps_all);
-        packed(made, place)
-    }
-
-    /// The same, and it notes what was read, in the order in which it was asked for and in place of what was noted before. A
-    /// caller gets here what it needs to keep the step with its reads.
-    pub fn pack_noting<V: Values>(
-        &mut self,
-        drains: &[Drain],
-        values: &mut V,
-        noted: &mut Vec<Read>,
-    ) -> Answer
-        requires prepared { self.old.prepared ≡ true }
-        requires few { self.old.sent < MAX_DATAGRAMS }
-        requires may { MayPack self.old drains.now (V.ranges values.old) }
-        requires room { MAX_PACKET_VALUES ≤ vec_capacity noted.old }
-        ensures answer { Answers self.old (λ t steps. answer t steps (Pack drains.now [])) result }
-        ensures packs { Packs self.old drains.now noted.new.items self.new }
-        ensures asks { Asks V.ranges V.stands V.owes V.same values.old values.new noted.new.items }
-        ensures keeps { KeepsAtServer self.old self.new }
-        ensures keeping { self.new.keeps_all ≡ self.old.keeps_all }
-        ensures few { length noted.new.items ≤ MAX_PACKET_VALUES }
-        ensures room { vec_capacity noted.new ≡ vec_capacity noted.old }
-    {
-        let place = self.sent;
-        let made = self
-            .down
-            .pack_noting(&mut self.packer, &mut self.conn, drains, values, noted);
         self.sent = counted(&made, place);
         self.down.keep(self.keeps_all);
         packed(made, place)

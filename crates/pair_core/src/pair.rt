@@ -1,5 +1,5 @@
 //! Both ends and the network.
-ghost use Rattle.std.specs.Prelude.{◌≡◌, true, false, ◌≤◌, [], IfOk, IfSome, OnOk, OnErr, IsTrue, ◌↔◌, if◌then◌else◌, length, slice_get};
+ghost use Rattle.std.specs.Prelude.{◌≡◌, true, false, ◌≤◌, [], IfOk, IfSome, OnOk, OnErr, IsTrue, ◌↔◌, length, slice_get};
 ghost use Rattle.std.specs.Option.{option_copied};
 
 use crate::datagrams::{Datagrams, FIRST_BYTES, FIRST_DATAGRAMS};
@@ -10,7 +10,7 @@ use event_manager::MAX_READY_EVENTS;
 use quantised_fields::KindTable;
 use std::alloc::Global;
 use std::marker::Model;
-use tn_types::{BlockBytes, Class, MAX_BLOCKS, MAX_DATAGRAM_BYTES, NoMemory, Payload};
+use tn_types::{BlockBytes, Class, End, MAX_BLOCKS, MAX_DATAGRAM_BYTES, NoMemory, Payload};
 
 /// The server's end, the client's end, and the datagrams that each sent.
 ///
@@ -63,7 +63,7 @@ impl Pair {
     ghost use Rattle.conn_packing.specs.stream_manager.Limits.{IsConfig};
     ghost use Rattle.conn_packing.specs.stream_manager.EndCalls.{popped};
     ghost use Rattle.pair_core.specs.Keeping.{newest};
-    ghost use Rattle.pair_core.specs.Stands.{StandsFor};
+    ghost use Rattle.pair_core.specs.Stands.{StandsFor, sent_by};
     ghost use Rattle.pair_core.specs.Answers.{answer};
     ghost use Rattle.pair_core.specs.Calls.{step_of, Meets, IsReady, Does, Answers, Stays, Hands, Accepts, Keeps, Unchanged};
 
@@ -208,16 +208,14 @@ impl Pair {
         &self.client
     }
 
-    /// The datagram of this place, counted from 0, of those that are kept of what the server sent, or else of those that the client
-    /// sent; `None` exactly where there is none.
-    pub fn datagram(&self, down: bool, k: u32) -> Option<&[u8]>
-        ensures value { option_copied result ≡ slice_get (if down then self.now.down else self.now.up) k }
+    /// The datagram of this place, counted from 0, of those that an end sent and that are kept; `None` exactly where there is none.
+    pub fn datagram(&self, by: End, k: u32) -> Option<&[u8]>
+        ensures value { option_copied result ≡ slice_get (sent_by by self.now) k }
         ensures fits { IfSome result (λ bytes. length bytes.now ≤ MAX_DATAGRAM_BYTES) }
     {
-        if down {
-            self.down.get(k)
-        } else {
-            self.up.get(k)
+        match by {
+            End::Server => self.down.get(k),
+            End::Client => self.up.get(k),
         }
     }
 
@@ -228,15 +226,14 @@ impl Pair {
         self.sent
     }
 
-    /// The newest datagram that the server sent, or else that the client sent; `None` exactly where none was sent.
-    pub fn newest(&self, down: bool) -> Option<&[u8]>
-        ensures value { option_copied result ≡ newest (if down then self.now.down else self.now.up) }
+    /// The newest datagram that an end sent; `None` exactly where it sent none.
+    pub fn newest(&self, by: End) -> Option<&[u8]>
+        ensures value { option_copied result ≡ newest (sent_by by self.now) }
         ensures fits { IfSome result (λ bytes. length bytes.now ≤ MAX_DATAGRAM_BYTES) }
     {
-        if down {
-            self.down.newest()
-        } else {
-            self.up.newest()
+        match by {
+            End::Server => self.down.newest(),
+            End::Client => self.up.newest(),
         }
     }
 

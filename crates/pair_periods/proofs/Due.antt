@@ -40,18 +40,17 @@ use Rattle.pair_steps.specs.conn_packing.Packs.{absorbing, values_of}
 use Rattle.pair_steps.specs.pair_core.History.{PairStep, Show, Hide, Near, Post, ClientPost, Sample, Pack, ClientPack, Down, Up, Raw, History, history, happens, server_posts, server_gets}
 use Rattle.pair_steps.specs.conn_packing.Reads.{IsReadFor, field_of, fields_in, asked_by, asked_by_all}
 use Rattle.pair_steps.specs.pair_core.Conditions.{IsMet}
-use Rattle.pair_steps.specs.conn_packing.Asking.{is_asked}
 use Rattle.pair_steps.proofs.Below.conn_packing.Absorbed.{absorbed-state, all-drained}
 use Rattle.pair_steps.proofs.Below.pair_core.LegalLogs.{IsLegalLog, absorbs-legal, packed-legal}
 use Rattle.pair_steps.proofs.Below.conn_packing.Scoped.{absorbed-kind}
-use Rattle.lane_periods.specs.Views.{is_drained}
+use Rattle.lane_periods.specs.Views.{is_read, is_drained}
 use Rattle.lane_periods.proofs.Numbers.{or-cases}
 use Rattle.pair_steps.proofs.Carriers.{is-it, asked_has}
 use Rattle.pair_steps.proofs.Due.{Due, absorbs_due}
 
 -- ---- what is carried is read
 
-read-has : (n f : ℕ) (reads : List Read) → is_asked reads n f ≡ list_any (is-it n f) (map field_of reads)
+read-has : (n f : ℕ) (reads : List Read) → is_read reads n f ≡ list_any (is-it n f) (map field_of reads)
 read-has n f [] = refl
 read-has n f (r ∷ reads) = ap (λ b. ((r.n == n) && (r.field == f)) || b) (read-has n f reads)
 
@@ -71,7 +70,7 @@ module _ (n f : ℕ) where
       (or-cases (is_due (ghost_log s) n f) (((d.n == n) && has_bit d.bits f) || is_drained drains n f) e)
 
   module _ (t : Terms) (s : List ServerEvent) (reads : List Read) (table : table_fault t.kinds ≡ None) (legal : IsLegalLog t.kinds s)
-      (own : f < length (fields_of t.kinds (kind_of (ghost_log s) n))) (none : is_asked reads n f ≡ false) where
+      (own : f < length (fields_of t.kinds (kind_of (ghost_log s) n))) (none : is_read reads n f ≡ false) where
     uncarried : IsReadFor t s Room reads → carries n f (choices_at t s) ≡ false
     uncarried read = by (carries n f (choices_at t s)) refl
       where
@@ -84,7 +83,7 @@ module _ (n f : ℕ) where
         by : (b : Bool) → carries n f (choices_at t s) ≡ b → b ≡ false
         by true e =
             absurd (
-            let asked : is_asked reads n f ≡ true =
+            let asked : is_read reads n f ≡ true =
             read-has n f reads ∙ ap (list_any (is-it n f)) read.asked ∙ asked_has t.kinds (Grant ∷ ghost_log s) n f own (omega (arith, own, few_fields t.kinds table (kind_of (ghost_log s) n))) (choices_at t s) masks e in cc)
         by false e = refl
 
@@ -95,7 +94,7 @@ module _ (n f : ℕ) where
 
   -- what was due or is drained, and isn't read, is due after a pack
   pub pack_due : (t : Terms) (steps : List PairStep) (drains : List Drain) (reads : List Read) → table_fault t.kinds ≡ None → IsLegalLog t.kinds (history t steps).server
-      → IsMet t steps (Pack drains reads) → f < length (fields_of t.kinds (kind_of (ghost_log (history t steps).server) n)) → is_asked reads n f ≡ false
+      → IsMet t steps (Pack drains reads) → f < length (fields_of t.kinds (kind_of (ghost_log (history t steps).server) n)) → is_read reads n f ≡ false
       → (is_due (ghost_log (history t steps).server) n f || is_drained drains n f) ≡ true → Due n f (history t (Pack drains reads ∷ steps)).server
   pack_due t steps drains reads table legal met own none e =
       let s = (history t steps).server in

@@ -11,9 +11,8 @@ ghost use Rattle.stream_manager.specs.Limits.{Terms};
 ghost use Rattle.stream_manager.specs.Server.{ghost_log};
 ghost use Rattle.pair_steps.specs.pair_core.History.{PairStep, Pack};
 ghost use Rattle.pair_steps.specs.pair_core.Conditions.{IsMet};
-ghost use Rattle.pair_steps.specs.conn_packing.Asking.{is_asked};
 ghost use Rattle.lane_periods.specs.Periods.{has};
-ghost use Rattle.lane_periods.specs.Views.{is_drained};
+ghost use Rattle.lane_periods.specs.Views.{is_read, is_drained};
 ghost use Rattle.pair_steps.specs.Steps.{shows_in, up_in, traits_in, IsNoPack};
 ghost use Rattle.pair_periods.specs.Agreement.{server_log, is_due_after, HasField};
 
@@ -31,6 +30,6 @@ pub fn fields_stay_due()
         → is_due_after t steps n field ≡ true → is_due_after t (step ∷ steps) n field ≡ true }
     ensures packs { (t : Terms) (steps : List PairStep) (drains : List Drain) (reads : List Read) (n field : ℕ) → table_fault t.kinds ≡ None
         → IsLegal (sizes t.kinds) (ghost_log (server_log t steps)) → IsMet t steps (Pack drains reads) → HasField t steps n field
-        → is_asked reads n field ≡ false → (is_due_after t steps n field || is_drained drains n field) ≡ true
+        → is_read reads n field ≡ false → (is_due_after t steps n field || is_drained drains n field) ≡ true
         → is_due_after t (Pack drains reads ∷ steps) n field ≡ true }
 {}

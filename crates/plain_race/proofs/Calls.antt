@@ -1,8 +1,9 @@
 -- What the calls do, one after another.
 use Rattle.std.proofs.Common.{◌≡◌, ℕ, zero, suc, ◌+◌, ◌<◌, ◌≤◌, List, [], ◌∷◌, ◌++◌, length, take, drop, map, replicate, get_or, Option, Some, Result, Ok, Err, refl, sym, ap, subst, ◌∙◌, arith, append-nil, append_assoc, add-one, ◌⊎◌, inl, inr, length-append}
-use Rattle.std.specs.Prelude.{ℤ, IfOk, slice_get}
+use Rattle.std.specs.Prelude.{ℤ, All, IfOk, slice_get}
 use Rattle.std.specs.List.{AllByRecursion}
 use Rattle.std.proofs.lemmas.List.{take_more, map-append}
+use Rattle.std.proofs.lemmas.List.Elements.{recursion_from_All}
 use Rattle.tn_types.specs.declared.choices.Read.{Read}
 use Rattle.tn_types.specs.declared.moves.Move.{Move}
 use Rattle.match_script.specs.declared.types.BodyLine.{BodyLine}
@@ -66,9 +67,9 @@ may_pack k ranges own =
       ranged = λ n f spec up at. absurd (let less = (up_from t past n up).0 in omega (arith, less, none));
     }
 
-pub no_reads : {A : Type 0} (reads : List Read) → (A → ⊥) → AllByRecursion (λ (r : Read). A) reads → reads ≡ []
-no_reads [] none all = refl
-no_reads (r ∷ reads) none all = absurd (none all.0)
+pub no_reads : (P : Read → Type 0) (reads : List Read) → ((r : Read) → P r → ⊥) → All P reads → reads ≡ []
+no_reads P [] none all = refl
+no_reads P (r ∷ reads) none all = absurd (none r (recursion_from_All P (r ∷ reads) all).0)
 
 -- ---- lines
 

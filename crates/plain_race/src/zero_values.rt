@@ -9,16 +9,13 @@ pub(crate) struct ZeroValues {
 }
 
 impl Values for ZeroValues {
-    ghost use Rattle.std.specs.Prelude.{◌≡◌, ℕ, true, false, pos, Some, None, if◌then◌else◌, refl};
-    ghost use Rattle.std.proofs.Common.{◌∙◌};
+    ghost use Rattle.std.specs.Prelude.{◌≡◌, true, pos, [], All, Some, None, if◌then◌else◌, refl};
+    ghost use Rattle.std.proofs.Common.{◌∙◌, subst};
+    ghost use Rattle.std.proofs.lemmas.List.Elements.{All-append, All-from_recursion};
 
     ghost ranges = { λ s n f. if s.given then Some (pos 0, pos 0) else None };
 
-    ghost stands = { λ s r. s.given ≡ true };
-
-    ghost owes = { λ s n f. false };
-
-    ghost same = { λ a b. b.given ≡ a.given };
+    ghost asks = { λ a reads b. (b.given ≡ a.given) × All (λ r. (a.given ≡ true) × (r.value ≡ pos 0)) reads };
 
     fn value(&mut self, n: u32, field: u8) -> Read {
         Read {
@@ -29,9 +26,13 @@ impl Values for ZeroValues {
         }
     }
 
-    ghost same_refl = { λ x. refl };
+    ghost asks_none = { λ x. (refl, All-from_recursion (λ r. (x.given ≡ true) × (r.value ≡ pos 0)) [] tt) };
 
-    ghost same_trans = { λ x y z p q. q ∙ p };
+    ghost asks_more = { λ x y z first later p q. (
+      q.0 ∙ p.0,
+      All-append (λ r. (x.given ≡ true) × (r.value ≡ pos 0)) first later p.1
+          (subst (λ given. All (λ r. (given ≡ true) × (r.value ≡ pos 0)) later) p.0 q.1),
+    ) };
 
-    ghost same_ranges = { λ x y n f p j. if p j then Some (pos 0, pos 0) else None };
+    ghost asks_ranges = { λ x y reads n f p j. if p.0 j then Some (pos 0, pos 0) else None };
 }

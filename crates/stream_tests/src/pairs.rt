@@ -1,5 +1,5 @@
 //! Both ends and the network on rows that were worked out beforehand, byte for byte: what is lost, and what comes of it.
-ghost use Rattle.std.specs.Prelude.{◌≡◌, ℕ, true, false, ◌<◌, ◌≤ℤ◌, List, IfOk, IsTrue, IsSome, Some, slice_get, length, if◌then◌else◌};
+ghost use Rattle.std.specs.Prelude.{◌≡◌, ℕ, true, false, ◌<◌, ◌≤ℤ◌, List, IfOk, IsTrue, IsSome, Some, slice_get, length};
 ghost use Rattle.std.specs.Option.{option_and_then};
 ghost use Rattle.ghost_masks.specs.Plan.{kind_of, fields_of};
 ghost use Rattle.ghost_model.specs.Legal.{IsUp};
@@ -22,7 +22,8 @@ use std::alloc::Global;
 use std::test::Fail;
 use stream_manager::{ClientFault, Config, Conn};
 use tn_types::{
-    BlockBytes, Class, Drain, MAX_DATAGRAMS, MAX_FIELDS, MAX_SHOWS, Move, Payload, Read, Values,
+    BlockBytes, Class, Drain, End, MAX_DATAGRAMS, MAX_FIELDS, MAX_SHOWS, Move, Payload, Read,
+    Values,
 };
 use world_rules::match_kinds;
 
@@ -72,19 +73,15 @@ fn within(spec: &FieldSpec, value: i64) -> i64
 }
 
 impl<'a> Values for Given<'a> {
-    ghost use Rattle.std.specs.Prelude.{◌≡◌, ℕ, false, refl, slice_get};
+    ghost use Rattle.std.specs.Prelude.{◌≡◌, refl, slice_get};
     ghost use Rattle.std.specs.Option.{option_map, option_and_then};
     ghost use Rattle.ghost_masks.specs.Plan.{fields_of};
-    ghost use Rattle.std.proofs.Common.{◌∙◌, ap};
+    ghost use Rattle.std.proofs.Common.{◌∙◌};
 
     ghost ranges = { λ v n f. option_map (λ s. (s.lo, s.hi))
         (option_and_then (λ k. slice_get (fields_of v.kinds k) f) (slice_get v.shown.now n)) };
 
-    ghost stands = { λ v r. Unit {0} };
-
-    ghost owes = { λ v n f. false };
-
-    ghost same = { λ a b. (b.kinds ≡ a.kinds) × (b.shown ≡ a.shown) };
+    ghost asks = { λ a reads b. (b.kinds ≡ a.kinds) × (b.shown ≡ a.shown) };
 
     fn value(&mut self, n: u32, field: u8) -> Read {
         let spec = spec_of(&self.kinds, self.shown, n, field);
@@ -98,11 +95,11 @@ impl<'a> Values for Given<'a> {
         }
     }
 
-    ghost same_refl = { λ x. (refl, refl) };
+    ghost asks_none = { λ x. (refl, refl) };
 
-    ghost same_trans = { λ x y z p q. (q.0 ∙ p.0, q.1 ∙ p.1) };
+    ghost asks_more = { λ x y z first later p q. (q.0 ∙ p.0, q.1 ∙ p.1) };
 
-    ghost same_ranges = { λ x y n f p j. option_map (λ s. (s.lo, s.hi))
+    ghost asks_ranges = { λ x y reads n f p j. option_map (λ s. (s.lo, s.hi))
         (option_and_then (λ k. slice_get (fields_of (p.0 j) k) f) (slice_get ((p.1 j).now) n)) };
 }
 
@@ -232,20 +229,24 @@ fn may_be_drained(conn: &Conn, drain: Drain) -> bool
     conn.is_up(drain.n) && conn.is_alive(drain.n) && conn.has_fields(drain.n, drain.bits)
 }
 
-/// Whether fewer datagrams than may be were sent that way.
-fn has_place(pair: &Pair, down: bool) -> bool
-    ensures { IsTrue result → (if down then pair.now.sent else length pair.now.up) < MAX_DATAGRAMS }
+/// Whether the server sent fewer datagrams than may be.
+fn server_has_place(pair: &Pair) -> bool
+    ensures { IsTrue result → pair.now.sent < MAX_DATAGRAMS }
 {
-    if down {
-        return pair.sent() < MAX_DATAGRAMS;
-    }
-    pair.datagram(false, MAX_DATAGRAMS - 1).is_none()
+    pair.sent() < MAX_DATAGRAMS
 }
 
-/// Whether a data packet with these bytes was made that way.
-fn made(pair: &Pair, down: bool, answer: Answer, bytes: &[u8]) -> bool {
+/// Whether the client sent fewer datagrams than may be.
+fn client_has_place(pair: &Pair) -> bool
+    ensures { IsTrue result → length pair.now.up < MAX_DATAGRAMS }
+{
+    pair.datagram(End::Client, MAX_DATAGRAMS - 1).is_none()
+}
+
+/// Whether a data packet with these bytes was made by the end.
+fn made(pair: &Pair, by: End, answer: Answer, bytes: &[u8]) -> bool {
     match answer {
-        Answer::Packed { ping: false, place } => pair.datagram(down, place) == Some(bytes),
+        Answer::Packed { ping: false, place } => pair.datagram(by, place) == Some(bytes),
         _ => false,
     }
 }
@@ -265,7 +266,7 @@ fn packs(
     if pair.prepare(alloc).is_err() {
         return false;
     }
-    if !has_place(pair, true) || !are_listed(pair.conn(), shown) {
+    if !server_has_place(pair) || !are_listed(pair.conn(), shown) {
         return false;
     }
     let mut given = Given {
@@ -276,13 +277,13 @@ fn packs(
     };
     let Some(drain) = drain else {
         let answer = pair.pack(&[], &mut given);
-        return given.asked == values.len() && made(pair, true, answer, bytes);
+        return given.asked == values.len() && made(pair, End::Server, answer, bytes);
     };
     if pair.conn().pack_state() != SendState::Room || !may_be_drained(pair.conn(), drain) {
         return false;
     }
     let answer = pair.pack(&[drain], &mut given);
-    given.asked == values.len() && made(pair, true, answer, bytes)
+    given.asked == values.len() && made(pair, End::Server, answer, bytes)
 }
 
 /// Whether the client's next datagram is a data packet with these bytes.
@@ -290,11 +291,11 @@ fn client_packs(alloc: Global, pair: &mut Pair, bytes: &[u8]) -> bool
     requires { Stands pair.old }
     ensures { Stands pair.new }
 {
-    if pair.prepare(alloc).is_err() || !has_place(pair, false) {
+    if pair.prepare(alloc).is_err() || !client_has_place(pair) {
         return false;
     }
     let answer = pair.step(&PairStep::ClientPack);
-    made(pair, false, answer, bytes)
+    made(pair, End::Client, answer, bytes)
 }
 
 /// Whether the client takes the server's datagram of this place.

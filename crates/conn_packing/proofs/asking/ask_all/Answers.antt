@@ -8,14 +8,12 @@ use Rattle.conn_packing.proofs.asking.ask_all.Goals as goal
 pub items-preserved : goal.items-preserved
 items-preserved g c =
     record {
-      told = subst (λ (fs : List (ℕ × ℕ)). AreAsked g.V.Values.ranges g.V.Values.stands g.V.Values.owes g.V.Values.same c.args.noting c.args.values.now c.ask_fields-list.new.values fs c.args.noted.now.items c.ask_fields-list.new.noted.items c.args.listed.items c.ask_fields-list.result.items)
+      told = subst (λ (fs : List (ℕ × ℕ)). AreAsked g.V.Values.ranges g.V.Values.asks c.args.values.now c.ask_fields-list.new.values fs c.args.listed.items c.ask_fields-list.result.items)
           (sym (all-push (take c.items.choice-index c.args.choices.now) _) ∙ ap asked_by_all (sym (take_more c.args.choices.now c.items.choice-index _ c.items-test.true)))
-          (asked-then g.V.Values.ranges g.V.Values.stands g.V.Values.owes g.V.Values.same c.args.noting c.args.values.now c.items.values c.ask_fields-list.new.values
-          (asked_by_all (take c.items.choice-index c.args.choices.now)) _ c.args.noted.now.items c.items.noted.items c.ask_fields-list.new.noted.items
-          c.args.listed.items c.items.list.items c.ask_fields-list.result.items
-          (g.met.V.Values.same_trans c.args.values.now c.items.values c.ask_fields-list.new.values) c.items.invariant.told c.ask_fields-list.ensures.told);
+          (asked-then g.V.Values.ranges g.V.Values.asks c.args.values.now c.items.values c.ask_fields-list.new.values
+          (asked_by_all (take c.items.choice-index c.args.choices.now)) _ c.args.listed.items c.items.list.items c.ask_fields-list.result.items
+          (g.met.V.Values.asks_more c.args.values.now c.items.values c.ask_fields-list.new.values) (g.met.V.Values.asks_ranges c.args.values.now c.items.values)
+          c.items.invariant.told c.ask_fields-list.ensures.told);
       few = omega (arith, c.items.invariant.few, c.ask_fields-list.ensures.few);
-      list_few = omega (arith, c.items.invariant.list_few, c.ask_fields-list.ensures.list_few);
       room = c.ask_fields-list.ensures.room ∙ c.items.invariant.room;
-      list_room = c.ask_fields-list.ensures.list_room ∙ c.items.invariant.list_room;
     }

@@ -6,9 +6,7 @@ use Rattle.conn_packing.proofs.asking.ask_all.Given as goal
 
 abbrev pub invariant-items : goal.invariant-items
 invariant-items g l = record {
-  told : AreAsked g.V.Values.ranges g.V.Values.stands g.V.Values.owes g.V.Values.same l.noting l.initial.values l.values (asked_by_all (take l.choice-index l.choices)) l.initial.noted.items l.noted.items l.fn.listed.items l.list.items;
-  few : vec_len l.noted ≤ vec_len l.initial.noted + 16 * l.choice-index;
-  list_few : vec_len l.list ≤ vec_len l.fn.listed + 16 * l.choice-index;
-  room : vec_capacity l.noted ≡ vec_capacity l.initial.noted;
-  list_room : vec_capacity l.list ≡ vec_capacity l.fn.listed;
+  told : AreAsked g.V.Values.ranges g.V.Values.asks l.initial.values l.values (asked_by_all (take l.choice-index l.choices)) l.fn.listed.items l.list.items;
+  few : vec_len l.list ≤ vec_len l.fn.listed + 16 * l.choice-index;
+  room : vec_capacity l.list ≡ vec_capacity l.fn.listed;
 }

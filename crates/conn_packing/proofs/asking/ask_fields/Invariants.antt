@@ -7,9 +7,7 @@ use Rattle.conn_packing.proofs.asking.ask_fields.Given as goal
 
 abbrev pub invariant-fields : goal.invariant-fields
 invariant-fields g l = record {
-  told : AreAsked g.V.Values.ranges g.V.Values.stands g.V.Values.owes g.V.Values.same l.noting l.initial.values l.values (map (λ f. (l.choice.n, f)) (filter (has_bit l.choice.mask) (upto l.field))) l.initial.noted.items l.noted.items l.fn.listed.items l.list.items;
-  few : vec_len l.noted ≤ vec_len l.initial.noted + l.field;
-  list_few : vec_len l.list ≤ vec_len l.fn.listed + l.field;
-  room : vec_capacity l.noted ≡ vec_capacity l.initial.noted;
-  list_room : vec_capacity l.list ≡ vec_capacity l.fn.listed;
+  told : AreAsked g.V.Values.ranges g.V.Values.asks l.initial.values l.values (map (λ f. (l.choice.n, f)) (filter (has_bit l.choice.mask) (upto l.field))) l.fn.listed.items l.list.items;
+  few : vec_len l.list ≤ vec_len l.fn.listed + l.field;
+  room : vec_capacity l.list ≡ vec_capacity l.fn.listed;
 }

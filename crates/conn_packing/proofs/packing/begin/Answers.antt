@@ -1,4 +1,4 @@
-use Rattle.std.proofs.Common.{◌∙◌, List, [], refl, sym, ap, subst}
+use Rattle.std.proofs.Common.{◌∙◌, List, [], refl, sym, ap, subst, arith}
 use Rattle.notify_window.specs.declared.SendState.{SendState}
 use Rattle.notify_window.specs.declared.SendState.TheVariants.{Held, Worn, Room}
 use Rattle.stream_manager.specs.Limits.{Terms}
@@ -8,7 +8,6 @@ use Rattle.stream_manager.specs.Stands.{ConnState, ConnStandsFor, terms_of}
 use Rattle.tn_types.specs.declared.choices.Drain.{Drain}
 use Rattle.conn_packing.specs.Packs.{absorbing}
 use Rattle.conn_packing.specs.Reads.{HasRanges, AreReads}
-use Rattle.conn_packing.proofs.Asked.{asks-none}
 use Rattle.conn_packing.proofs.Absorbed.{absorbed-state, all-drained}
 use Rattle.conn_packing.proofs.Scoped.{absorbed-ranges}
 use Rattle.conn_packing.proofs.Planned.{plan-fits}
@@ -46,9 +45,9 @@ returns-in-Held-clause-told g c = (
     ready = sym c.in-Held.ensures.state;
     keeps = c.absorb_all.ensures.keeps;
   },
-  asks-none g.V.Values.ranges g.V.Values.stands g.V.Values.owes g.V.Values.same c.args.values.now (g.met.V.Values.same_refl c.args.values.now),
-  λ _. c.clear.ensures.items,
-  c.clear-2.ensures.items,
+  g.met.V.Values.asks_none c.args.values.now,
+  c.clear.ensures.items,
+  omega arith,
 )
 
 pub returns-in-Worn-clause-told : goal.returns-in-Worn-clause-told
@@ -61,9 +60,9 @@ returns-in-Worn-clause-told g c = (
     ready = tt;
     keeps = c.absorb_all.ensures.keeps;
   },
-  asks-none g.V.Values.ranges g.V.Values.stands g.V.Values.owes g.V.Values.same c.args.values.now (g.met.V.Values.same_refl c.args.values.now),
-  λ _. c.clear.ensures.items,
-  c.clear-2.ensures.items,
+  g.met.V.Values.asks_none c.args.values.now,
+  c.clear.ensures.items,
+  omega arith,
 )
 
 pub returns-in-Room-clause-told : goal.returns-in-Room-clause-told
@@ -78,15 +77,15 @@ returns-in-Room-clause-told g c =
             (plans.stands (absorbing c.args.drains.now log) (absorbs.stands log s));
         told = state-told c.args.conn.now c.absorb_all.new.conn c.args.drains.now Room absorbs.stands absorbs.keeps c.in-Room.ensures.log;
         read = λ log s. subst (λ (t : Terms). AreReads t (absorbing c.args.drains.now log) told.0) absorbs.keeps.terms
-            (told.1.fit (absorbing c.args.drains.now log) (absorbs.stands log s));
+            (told.1 (absorbing c.args.drains.now log) (absorbs.stands log s));
         ready = (
           plans.planned,
           λ other so. plan-fits c.absorb_all.new.conn c.plan_and_ask.new.conn (absorbing c.args.drains.now may.log) told.0 (absorbs.stands may.log may.stands) plans
-              (told.1.fit (absorbing c.args.drains.now may.log) (absorbs.stands may.log may.stands)) other so,
+              (told.1 (absorbing c.args.drains.now may.log) (absorbs.stands may.log may.stands)) other so,
         );
         keeps = keeps-both c.args.conn.now c.absorb_all.new.conn c.plan_and_ask.new.conn absorbs.keeps plans.keeps;
       },
-      told.1.asks,
       told.2,
       told.3,
+      told.4,
     )

@@ -15,7 +15,7 @@ returns-in-Held-clause-told g c =
           (held-packs c.args.conn.now c.args.drains.now told.0 c.begin.new.conn c.ping_onto-len.new.conn sent.0 told.1 c.ping_onto-len.ensures.pings sent.1),
       sent.2,
       told.2,
-      told.3,
+      told.4,
     )
 
 pub returns-in-Worn-clause-told : goal.returns-in-Worn-clause-told
@@ -27,7 +27,7 @@ returns-in-Worn-clause-told g c =
           (worn-packs c.args.conn.now c.args.drains.now told.0 c.begin.new.conn told.1),
       sym (append-nil c.args.out.now.items),
       told.2,
-      told.3,
+      told.4,
     )
 
 pub returns-in-Room-clause-told : goal.returns-in-Room-clause-told
@@ -37,8 +37,8 @@ returns-in-Room-clause-told g c =
       told.0,
       sent.0,
       subst (λ n. PacksEnd c.args.conn.now c.args.drains.now told.0 (made.Body n) sent.0 c.seal_onto-len.new.conn) (sym sent.3)
-          (room-packs c.args.conn.now c.args.drains.now told.0 c.begin.new.conn c.seal_onto-len.new.conn c.as_slice.result.now sent.0 told.1 c.seal_onto-len.ensures.seals (c.as_slice.ensures.value ∙ told.4) sent.1),
+          (room-packs c.args.conn.now c.args.drains.now told.0 c.begin.new.conn c.seal_onto-len.new.conn c.as_slice.result.now sent.0 told.1 c.seal_onto-len.ensures.seals (c.as_slice.ensures.value ∙ told.3) sent.1),
       sent.2,
       told.2,
-      told.3,
+      told.4,
     )

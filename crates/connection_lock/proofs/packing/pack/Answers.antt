@@ -1,4 +1,4 @@
-use Rattle.std.proofs.Common.{◌∙◌, ◌∷◌, ◌<◌, [], List, sym, ap, subst, refl}
+use Rattle.std.proofs.Common.{◌∙◌, ◌∷◌, ◌++◌, ◌<◌, [], List, sym, ap, subst, refl}
 use Rattle.std.specs.Prelude.{slice_index}
 use Rattle.tn_types.specs.declared.choices.Drain.{Drain}
 use Rattle.stream_manager.specs.Limits.{Terms}
@@ -7,6 +7,7 @@ use Rattle.kept_pair.specs.pair_core.History.{PairStep, Pack}
 use Rattle.kept_pair.specs.pair_core.Conditions.{AreMet}
 use Rattle.kept_pair.specs.pair_core.Answers.{answer}
 use Rattle.kept_pair.specs.Kept.{terms_in, newest_first}
+use Rattle.lane_periods.proofs.Owed.{reads-entered, reads-pay, reads-drain}
 use Rattle.pair_periods.specs.Agreement.{server_log}
 use Rattle.pair_periods.proofs.Agreeing.{agree-ranges}
 use Rattle.connection_lock.specs.Turns.{DrainsAt}
@@ -39,7 +40,7 @@ returns-clause-packs g c =
       taken = d.taken;
       past = past-more g.N.LaneName.objects c.args.pair.now c.pack_read-answer.new.pair c.args.seat.now c.pack_read-answer.new.seat c.args.periods.now c.args.periods.now c.requires.locked e.terms e.keeps (Pack c.as_slice.result.now told.0) told.1
           ∙ ap (λ (ds : List Drain). Pack ds told.0 ∷ newest_first c.args.pair.now.steps) d.own;
-      drained = told.2.drained ∙ d.entered;
+      drained = reads-drain c.args.periods.now c.drain.new.seat.steps c.pack_read-answer.new.seat.steps told.0 told.2 ∙ d.entered;
       objects = refl;
       answer = e.answer ∙ ap (λ (ds : List Drain). answer (terms_in c.args.pair.now) (newest_first c.args.pair.now.steps) (Pack ds [])) d.own;
     }
@@ -54,6 +55,9 @@ returns-clause-locked g c =
     (server_state (terms_in c.args.pair.now).config (server_log (terms_in c.args.pair.now) (newest_first c.args.pair.now.steps))) c.drain.new.seat.steps c.as_slice.result.now drained in
     let past = past-more g.N.LaneName.objects c.args.pair.now c.pack_read-answer.new.pair c.args.seat.now c.pack_read-answer.new.seat c.args.periods.now c.args.periods.now c.requires.locked e.terms e.keeps (Pack c.as_slice.result.now told.0) told.1 in
     let met = subst (λ (x : Terms × List PairStep). AreMet x.0 x.1) (λ j. (e.terms j, past j)) c.steps-after.ensures.replays.met in
+    let mid = c.drain.new.seat.steps in
+    let new = c.pack_read-answer.new.seat.steps in
     still-locked g.N.LaneName.objects c.args.pair.now c.pack_read-answer.new.pair c.args.seat.now c.pack_read-answer.new.seat c.args.periods.now c.args.periods.now c.requires.locked e.terms e.keeps (Pack c.as_slice.result.now told.0) told.1
     (locked-pack (terms_in c.args.pair.now) g.N.LaneName.objects (newest_first c.args.pair.now.steps) c.args.seat.now.steps c.drain.new.seat.steps c.pack_read-answer.new.seat.steps c.args.periods.now c.requires.locked.0 c.as_slice.result.now told.0
-    masks.table masks.legal met.0 d.owed told.2.owed (λ r h. told.2.kept r (d.stand r h)) told.2.stand)
+    masks.table masks.legal met.0 d.owed (reads-pay c.args.periods.now mid new told.0 told.2 c.are_periods.ensures)
+    told.2.added (reads-entered c.args.periods.now mid new told.0 told.2 ∙ ap (λ l. l ++ told.2.added) d.read) told.2.each)

@@ -1,6 +1,7 @@
 use Rattle.std.proofs.Common.{◌≡◌, ◌∙◌, List, sym, subst}
-use Rattle.std.specs.Prelude.{OnOk, IfOk, Result, Ok, Err}
+use Rattle.std.specs.Prelude.{OnOk, IfOk, Result, Ok, Err, All}
 use Rattle.std.specs.List.{AllByRecursion}
+use Rattle.std.proofs.lemmas.List.Elements.{recursion_from_All}
 use Rattle.tn_types.specs.declared.choices.Read.{Read}
 use Rattle.match_report.specs.declared.told.Told.{Told}
 use Rattle.world_sim.specs.Worlds.{Worlds}
@@ -29,17 +30,16 @@ pack-requires-clause-may c =
     subst (λ (ps : List ShownPeriod). MayPack c.args.seat.now.pair c.deref.result.now (ranges c.args.world.now ps)) (sym c.shown-shown.ensures)
     (may_pack c.args.seat.now c.args.scope.now c.args.world.now c.args.lanes.now c.args.client h.0 h.1 h.2 c.deref.result.now is)
 
--- what was asked of values that are those of this world and of these periods
-newest_here : (w v : Worlds) (qs ps : List ShownPeriod) → w ≡ v → qs ≡ ps → (rs : List Read) → AllByRecursion (IsNewest w qs) rs → AllByRecursion (IsNewest v ps) rs
-newest_here w v qs ps same_world same_periods rs h =
-    subst (λ (x : Worlds). AllByRecursion (IsNewest x ps) rs) same_world (subst (λ (x : List ShownPeriod). AllByRecursion (IsNewest w x) rs) same_periods h)
+-- what was asked is newest of these periods
+newest_here : (w : Worlds) (qs ps : List ShownPeriod) → qs ≡ ps → (rs : List Read) → All (IsNewest w qs) rs → AllByRecursion (IsNewest w ps) rs
+newest_here w qs ps same rs h = subst (λ (x : List ShownPeriod). AllByRecursion (IsNewest w x) rs) same (recursion_from_All (IsNewest w qs) rs h)
 
 pub returns-clause-told : goal.returns-clause-told
 returns-clause-told c =
     map_if_ok c.pack.result _ _
     (λ told x h past s.
     let is : c.deref.result.now ≡ drains_of (client_terms h c.args.client) (kept_by h (after h past) c.args.client) = c.deref.ensures.value ∙ c.in-Ok.ensures.drains c.args.world.now h past s in
-    let newest = newest_here c.pack.new.values.world.now c.args.world.now c.pack.new.values.shown.now c.args.scope.now.shown x.2.alike.0 (x.2.alike.1 ∙ c.shown-shown.ensures) x.0 x.2.stand in
+    let newest = newest_here c.args.world.now c.shown-shown.result.now c.args.scope.now.shown c.shown-shown.ensures x.0 x.2.2 in
     let reads = reads_are c.args.seat.now c.args.scope.now c.args.world.now c.args.lanes.now c.args.client h past s c.deref.result.now x.0 is
     (x.1.read (client_terms h c.args.client) (kept_by h (after h past) c.args.client).course s.holds.course) newest in
     packed_tells c.args.seat.now c.args.scope.now c.args.world.now c.args.lanes.now c.args.client h past s c.deref.result.now x.0 told c.pack.new.self is reads x.1)
@@ -54,7 +54,7 @@ returns-clause-serves c =
     serves_if c.pack.result _ _
     (λ told x h past s few.
     let is : c.deref.result.now ≡ drains_of (client_terms h c.args.client) (kept_by h (after h past) c.args.client) = c.deref.ensures.value ∙ c.in-Ok.ensures.drains c.args.world.now h past s in
-    let newest = newest_here c.pack.new.values.world.now c.args.world.now c.pack.new.values.shown.now c.args.scope.now.shown x.2.alike.0 (x.2.alike.1 ∙ c.shown-shown.ensures) x.0 x.2.stand in
+    let newest = newest_here c.args.world.now c.shown-shown.result.now c.args.scope.now.shown c.shown-shown.ensures x.0 x.2.2 in
     let reads = reads_are c.args.seat.now c.args.scope.now c.args.world.now c.args.lanes.now c.args.client h past s c.deref.result.now x.0 is
     (x.1.read (client_terms h c.args.client) (kept_by h (after h past) c.args.client).course s.holds.course) newest in
     packed_serves c.args.seat.now c.args.scope.now c.args.world.now c.args.lanes.now c.args.client h past s c.deref.result.now x.0 told c.pack.new.self c.drains_for.new.lanes is reads x.1

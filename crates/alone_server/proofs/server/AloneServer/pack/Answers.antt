@@ -1,6 +1,7 @@
 use Rattle.std.proofs.Common.{◌≡◌, ◌∙◌, ◌++◌, List, ◌∷◌, length, take, drop, map, Some, sym, ap, subst}
 use Rattle.std.specs.Prelude.{Result, Ok, Err, IfOk, OnOk}
 use Rattle.std.specs.List.{AllByRecursion}
+use Rattle.std.proofs.lemmas.List.Elements.{recursion_from_All}
 use Rattle.match_script.specs.declared.types.BodyLine.TheVariants as script
 use Rattle.match_report.specs.declared.told.Told.{Told}
 use Rattle.own_lists.specs.Own.{Line}
@@ -63,7 +64,7 @@ returns-clause-told c =
     let drains : c.deref-2.result.now ≡ drained st (map drain_of me.periods.items) =
     c.deref-2.ensures.value ∙ c.in-Ok.ensures.drains ∙ ap (λ ps. drained st (map drain_of ps)) c.deref_mut.ensures.value in
     let ds = drains ∙ drains_is me.client me.seat (table_of me) t items s st at in
-    let newest = subst (λ (ps : List OwnPeriod). AllByRecursion (IsOwnRead ps) x.0) (x.2.alike ∙ left) x.2.stand in
+    let newest = subst (λ (ps : List OwnPeriod). AllByRecursion (IsOwnRead ps) x.0) left (recursion_from_All (IsOwnRead c.deref.result.now) x.0 x.2.1) in
     let reads = reads_are me.client me.seat (table_of me) t items s st c.deref-2.result.now x.0 ds (x.1.read t (kept t items).course s.course) newest in
     ap (λ (y : Told). Some y) (packed_tells me.client me.seat (table_of me) t items s c.deref-2.result.now x.0 told c.pack.new.self ds reads x.1))
     c.pack.ensures.packs
@@ -79,7 +80,7 @@ returns-clause-goes c =
     let drains : c.deref-2.result.now ≡ drained st (map drain_of me.periods.items) =
     c.deref-2.ensures.value ∙ c.in-Ok.ensures.drains ∙ ap (λ ps. drained st (map drain_of ps)) c.deref_mut.ensures.value in
     let ds = drains ∙ drains_is me.client me.seat (table_of me) t items s st at in
-    let newest = subst (λ (ps : List OwnPeriod). AllByRecursion (IsOwnRead ps) x.0) (x.2.alike ∙ left) x.2.stand in
+    let newest = subst (λ (ps : List OwnPeriod). AllByRecursion (IsOwnRead ps) x.0) left (recursion_from_All (IsOwnRead c.deref.result.now) x.0 x.2.1) in
     let reads = reads_are me.client me.seat (table_of me) t items s st c.deref-2.result.now x.0 ds (x.1.read t (kept t items).course s.course) newest in
     subst (λ (ps : List OwnPeriod). Serves me.client c.pack.new.self (record { shows = me.shows; periods = ps }) t (Line (script.Pack c.args.client) ∷ items)) (sym kept_periods)
     (packed_serves me.client me.seat (table_of me) t items s c.deref-2.result.now x.0 told c.pack.new.self ds reads x.1 st at c.args.client c.pack.ensures.keeping))

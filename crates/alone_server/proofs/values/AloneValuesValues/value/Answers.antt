@@ -1,17 +1,18 @@
-use Rattle.std.proofs.Common.{◌≡◌, ◌∙◌, ℤ, pos, Some, rules, get_or, sym, ap, subst, refl}
+use Rattle.std.proofs.Common.{◌≡◌, ◌∙◌, ◌∷◌, [], ℤ, pos, Some, rules, get_or, sym, ap, subst, refl}
 use Rattle.std.specs.Prelude.{IsSome, option_and_then, slice_get}
 use Rattle.std.proofs.lemmas.Int.{to_z-of_z}
+use Rattle.std.proofs.lemmas.List.Elements.{All-from_recursion}
 use mir.Syntax.{w64}
 use mir.Val.{to_z, of_z, SFits}
 use Rattle.ghost_masks.specs.Plan.{fields_of}
 use Rattle.world_rules.specs.Kinds.{match_kinds}
 use Rattle.alone_server.specs.Periods.{period_in}
-use Rattle.alone_server.specs.Values.{range_in}
+use Rattle.alone_server.specs.Values.{range_in, IsOwnRead}
 use Rattle.alone_server.proofs.Packing.{has_value}
 use Rattle.alone_server.proofs.values.AloneValuesValues.value.Goals as goal
 
-pub returns-clause-stands : goal.returns-clause-stands
-returns-clause-stands c =
+pub returns-clause-asks : goal.returns-clause-asks
+returns-clause-asks c =
     let ps = c.args.self.now.periods.now in
     let p = c.in-Some.period.now in
     let field = c.args.field in
@@ -22,4 +23,5 @@ returns-clause-stands c =
     let some : IsSome (range_in field p) = subst (IsSome {T = ℤ × ℤ}) (ap (option_and_then (range_in field)) found) c.requires in
     let there = has_value (slice_get (fields_of match_kinds p.kind) field) p.values.items field some in
     let read : get_or p.values.items field (pos 0) ≡ z = ap (λ vs. get_or vs field (pos 0)) (sym c.as_slice-values.ensures.value) in
-    record { period = p; found = found; newest = there ∙ ap Some (read ∙ sym same); plain = refl }
+    let own : IsOwnRead ps _ = record { period = p; found = found; newest = there ∙ ap Some (read ∙ sym same); plain = refl } in
+    (refl, All-from_recursion (IsOwnRead ps) (_ ∷ []) (own, tt))

@@ -1,7 +1,6 @@
 use Rattle.std.proofs.Common.{sym, subst, List}
 use Rattle.tn_types.specs.declared.choices.Read.{Read}
 use Rattle.stream_manager.specs.Limits.{Terms}
-use Rattle.conn_packing.specs.Asking.{Asks}
 use Rattle.own_lists.specs.pair_core.Calls.{MayPack}
 use Rattle.own_lists.specs.pair_core.History.{Pack}
 use Rattle.own_lists.specs.Course.{Course, with_step}
@@ -29,7 +28,7 @@ returns-clause-packs g c =
     stands_more ready c.pack-answer.new.self (Pack c.args.drains.now reads) (none_by_pack c.args.drains.now reads) packs.stands c.pack-answer.ensures.keeps in
     let stood : (t : Terms) (k : Course) → StandsFor c.args.self.now t k → StandsFor ready t k =
     λ t k s. prepares t k (subst (λ (x : SeatState). StandsFor x t k) (sym c.self.view_is) s) in
-    pack-ok c.packed_by.result c.args.self.now new c.args.drains.now reads c.args.client (Asks g.V.Values.ranges g.V.Values.stands g.V.Values.owes g.V.Values.same c.args.values.now c.pack-answer.new.values)
+    pack-ok c.packed_by.result c.args.self.now new c.args.drains.now reads c.args.client (λ rs. g.V.Values.asks c.args.values.now rs c.pack-answer.new.values)
     (λ t k s. does t k (stood t k s))
     (λ t k s.
     server-packs t k.steps c.args.client c.packed_by.result c.pack-answer.result c.pack-answer.new.self.down c.pack-answer.new.self.keeps_all c.args.drains.now reads (c.pack-answer.ensures.answer t k.steps (stood t k s).holds.pair)

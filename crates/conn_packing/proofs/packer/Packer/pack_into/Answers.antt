@@ -8,7 +8,6 @@ use Rattle.conn_packing.specs.declared.made.Made.{Made}
 use Rattle.conn_packing.specs.declared.made.Made.TheVariants as made
 use Rattle.conn_packing.specs.declared.made.TooSmall.{TooSmall}
 use Rattle.conn_packing.specs.Packs.{len_of}
-use Rattle.conn_packing.specs.Asking.{Asks}
 use Rattle.conn_packing.specs.Calls.{PacksEnd}
 use Rattle.conn_packing.proofs.Sent.{worn-packs, held-packs, room-packs}
 use Rattle.conn_packing.proofs.packer.Packer.pack_into.Goals as goal
@@ -21,38 +20,41 @@ returns-clause-told g c = elim c.match-begin.branch [
       let e = w.ping_at-len.ensures in
       subst (λ (x : Result Made TooSmall × ConnState × List ℕ). IfOk x.0 (λ made. (reads : List Read)
       × PacksEnd c.args.conn.now c.args.drains.now reads made (take (len_of made) x.2) x.1
-      × Asks g.V.Values.ranges g.V.Values.stands g.V.Values.owes g.V.Values.same c.args.values.now c.begin.new.values reads))
+      × g.V.Values.asks c.args.values.now reads c.begin.new.values × (length reads ≤ 2048)))
       (λ j. (sym w.result-is j, sym w.conn-is j, sym w.out-is j)) (
         told.0,
         subst (λ n. PacksEnd c.args.conn.now c.args.drains.now told.0 (made.Ping n) (take w.ping_at-len.result w.ping_at-len.new.out) w.ping_at-len.new.conn)
             (length-take-le w.ping_at-len.result w.ping_at-len.new.out e.within)
             (held-packs c.args.conn.now c.args.drains.now told.0 c.begin.new.conn w.ping_at-len.new.conn (take w.ping_at-len.result w.ping_at-len.new.out) told.1 e.pings e.bytes),
         told.2,
+        told.4,
       )
   | in-Worn w ↦
       let told = w.in-Worn.ensures.told in
       subst (λ (x : Result Made TooSmall × ConnState). IfOk x.0 (λ made. (reads : List Read)
       × PacksEnd c.args.conn.now c.args.drains.now reads made (take (len_of made) c.match-begin.out) x.1
-      × Asks g.V.Values.ranges g.V.Values.stands g.V.Values.owes g.V.Values.same c.args.values.now c.begin.new.values reads))
+      × g.V.Values.asks c.args.values.now reads c.begin.new.values × (length reads ≤ 2048)))
       (λ j. (sym w.result-is j, sym w.conn-is j)) (
         told.0,
         subst (λ n. PacksEnd c.args.conn.now c.args.drains.now told.0 (made.Worn n) (take 0 c.match-begin.out) c.begin.new.conn) (sym (ap (λ (k : Config). k.life) c.config.ensures.value))
             (worn-packs c.args.conn.now c.args.drains.now told.0 c.begin.new.conn told.1),
         told.2,
+        told.4,
       )
   | in-Room w ↦
       let told = w.in-Room.ensures.told in
       let e = w.seal_at-len.ensures in
       subst (λ (x : Result Made TooSmall × ConnState × List ℕ). IfOk x.0 (λ made. (reads : List Read)
       × PacksEnd c.args.conn.now c.args.drains.now reads made (take (len_of made) x.2) x.1
-      × Asks g.V.Values.ranges g.V.Values.stands g.V.Values.owes g.V.Values.same c.args.values.now c.begin.new.values reads))
+      × g.V.Values.asks c.args.values.now reads c.begin.new.values × (length reads ≤ 2048)))
       (λ j. (sym w.result-is j, sym w.conn-is j, sym w.out-is j)) (
         told.0,
         subst (λ n. PacksEnd c.args.conn.now c.args.drains.now told.0 (made.Body n) (take w.seal_at-len.result w.seal_at-len.new.out) w.seal_at-len.new.conn)
             (length-take-le w.seal_at-len.result w.seal_at-len.new.out e.within)
             (room-packs c.args.conn.now c.args.drains.now told.0 c.begin.new.conn w.seal_at-len.new.conn w.as_slice.result.now (take w.seal_at-len.result w.seal_at-len.new.out)
-            told.1 e.seals (w.as_slice.ensures.value ∙ told.4) e.bytes),
+            told.1 e.seals (w.as_slice.ensures.value ∙ told.3) e.bytes),
         told.2,
+        told.4,
       )
 ]
 

@@ -28,4 +28,4 @@ returns g c =
     let is : cut 0 c.note_end.new.ends.items c.pack-made.new.out.items ≡ with_made c.pack-made.result told.1 c.args.self.now.list =
     made-cut c.pack-made.result c.self.inside.ends.items c.self.inside.bytes.items told.1 c.note_end.new.ends.items c.pack-made.new.out.items c.len.result none told.3 c.note_end.ensures at c.self.invariant.rise
     ∙ ap (λ d. with_made c.pack-made.result told.1 d.list) c.self.view_is in
-    record { told = (told.0, told.1, told.2, is, told.4) }
+    record { told = (told.0, told.1, told.2, is, told.4, told.5) }

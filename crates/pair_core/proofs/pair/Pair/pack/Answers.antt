@@ -37,6 +37,7 @@ returns-clause-told g c =
       subst (λ (x : PairState). Packs x c.args.drains.now told.0 (record { conn = c.pack-made.new.conn; client = c.self.inside.client; down = c.keep.new.self.list; up = c.self.inside.up.list; prepared = c.keep.new.self.has_room && c.self.inside.up.has_room; keeps_all = c.self.inside.keeps_all; sent = c.counted-self-inside.result })) c.self.view_is
           (pair-packs p c.args.drains.now told.0 c.pack-made.result told.1 c.pack-made.new.conn told.2 (c.keep.new.self.has_room && c.self.inside.up.has_room) c.keep.new.self.list c.counted-self-inside.result (c.keep.ensures ∙ ap (kept c.self.inside.keeps_all) told.3) c.counted-self-inside.ensures),
       told.4,
+      told.5,
     )
 
 pub returns-clause-keeps : goal.returns-clause-keeps
