@@ -1,5 +1,8 @@
 //! The end of a match, when all activities have ended.
-ghost use Rattle.std.specs.Prelude.{◌≡◌, ◌+◌, ◌*◌, ◌<◌, true, IfOk, OnOk, length};
+ghost use Rattle.std.specs.Prelude.{◌≡◌, ℕ, ◌+◌, ◌*◌, ◌<◌, ◌++◌, ◌∷◌, [], ◌||◌, true, IfOk, OnOk, None, Result, length, get_or};
+ghost use Rattle.race_history.specs.kept_pair.declared.fault.KeepFault.{KeepFault as Fault};
+ghost use Rattle.race_history.specs.declared.race.RaceClient.{RaceClient as Client};
+ghost use Rattle.race_ending.specs.Ended.{met_no_room, fault_of, TakesLeft, IsEnded, AreEnded};
 ghost use Rattle.dirty_lanes.specs.Named.{IsNumbered};
 
 use crate::left::take_left;
@@ -12,7 +15,9 @@ use std::alloc::Global;
 use tn_types::NoMemory;
 
 // Whether an activity stopped because no more steps can be kept; it is an error that memory was wanting.
-fn is_full(stopped: Option<KeepFault>) -> Result<bool, NoMemory> {
+fn is_full(stopped: Option<KeepFault>) -> Result<bool, NoMemory>
+    ensures { IfOk result (λ full. full ≡ met_no_room stopped) }
+{
     match stopped {
         None => Ok(false),
         Some(KeepFault::NoRoom { kept: _ }) => Ok(true),
@@ -28,7 +33,10 @@ fn finish_steps<N: LaneName>(
     waiting: &mut Waiting,
     packer: Option<KeepFault>,
     net: Option<KeepFault>,
-) -> Result<bool, NoMemory> {
+) -> Result<bool, NoMemory>
+    ensures { IfOk result (λ full. (left : Result (Unit {0}) Fault) × TakesLeft N.objects locked.old waiting.old locked.new left
+        × (full ≡ (met_no_room (fault_of left) || (met_no_room packer || met_no_room net)))) }
+{
     let was_full = is_full(packer)? | is_full(net)?;
     let is_full = is_full(take_left(alloc, lanes, locked, waiting).err())?;
     Ok(is_full || was_full)
@@ -42,7 +50,8 @@ fn keep<N: LaneName>(
     clients: &mut RaceClients,
     seats: &mut Vec<PackSeat<N>>,
 ) -> Result<(), NoMemory>
-    ensures clients { OnOk result (length clients.new ≡ length clients.old + 1) }
+    ensures clients { OnOk result ((c : Client) × (clients.new ≡ clients.old ++ c ∷ [])
+        × (c.pair ≡ ended.pair) × (c.objects ≡ ended.objects) × (c.full ≡ full)) }
     ensures seats { OnOk result (length seats.new.items ≡ length seats.old.items + 1) }
 {
     let Ended {
@@ -78,9 +87,11 @@ fn end_next<N: LaneName>(
 ) -> Result<(), NoMemory>
     requires waiting { length seats.old.items < length waiting.old.items }
     requires stopped { length stopped.now ≡ 2 * length waiting.old.items }
-    ensures clients { OnOk result (length clients.new ≡ length clients.old + 1) }
+    ensures ended { OnOk result ((c : Client) × (clients.new ≡ clients.old ++ c ∷ []) × (let i = length seats.old.items in
+        IsEnded N.objects (get_or waiting.old.items i []) (get_or stopped.now (2 * i) None) (get_or stopped.now (2 * i + 1) None) c)) }
     ensures seats { OnOk result (length seats.new.items ≡ length seats.old.items + 1) }
     ensures waiting { length waiting.new.items ≡ length waiting.old.items }
+    ensures others { (k : ℕ) → length seats.old.items < k → get_or waiting.new.items k [] ≡ get_or waiting.old.items k [] }
 {
     let i = seats.len();
     let mut locked = pair.open();
@@ -110,9 +121,10 @@ fn end_all<N: LaneName>(
     requires waiting { length waiting.old.items ≡ length pairs.items }
     requires stopped { length stopped.now ≡ 2 * length pairs.items }
     ensures clients { OnOk result (length clients.new ≡ length pairs.items) }
+    ensures ended { OnOk result (AreEnded N.objects waiting.old.items stopped.now clients.new) }
     ensures seats { OnOk result (length seats.new.items ≡ length pairs.items) }
 {
-    for pair in pairs {
+    'pairs: for pair in pairs {
         end_next(alloc, lanes, pair, waiting, stopped, clients, seats)?;
     }
     Ok(())
@@ -165,6 +177,7 @@ fn end_clients<N: LaneName>(
     requires waiting { length waiting.old.items ≡ length pairs.items }
     requires stopped { length stopped.now ≡ 2 * length pairs.items }
     ensures clients { OnOk result (length clients.new ≡ length pairs.items) }
+    ensures ended { OnOk result (AreEnded N.objects waiting.old.items stopped.now clients.new) }
     ensures words { IfOk result (λ words. (words.objects ≡ lanes.objects) × (words.clients ≡ lanes.clients)) }
 {
     let mut seats = Vec::new(alloc);
@@ -188,6 +201,7 @@ pub fn end<N: LaneName>(
     ensures values { IfOk result (λ race. race.values ≡ simulated.values) }
     ensures moves { IfOk result (λ race. race.moves ≡ simulated.moves) }
     ensures clients { IfOk result (λ race. length race.clients ≡ length pairs.items) }
+    ensures ended { IfOk result (λ race. AreEnded N.objects simulated.waiting.items stopped.now race.clients) }
     ensures words { IfOk result (λ race. (race.words.objects ≡ lanes.objects) × (race.words.clients ≡ lanes.clients)) }
 {
     let Simulated {

@@ -107,11 +107,12 @@ impl Outgoing {
 }
 
 impl Waiting {
-    ghost use Rattle.std.specs.Option.{option_to_list};
+    ghost use Rattle.std.specs.Prelude.{drop, slice_get};
 
     /// Takes the oldest; `None` exactly where none waits.
     pub fn take(&mut self) -> Option<Message>
-        ensures { self.old ≡ option_to_list result ++ self.new }
+        ensures first { result ≡ slice_get self.old 0 }
+        ensures rest { self.new ≡ drop 1 self.old }
     {
         self.messages.pop_front()
     }
