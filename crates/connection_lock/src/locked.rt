@@ -1,5 +1,5 @@
 //! What lies under the lock.
-ghost use Rattle.std.specs.Prelude.{◌≡◌, [], IfOk};
+ghost use Rattle.std.specs.Prelude.{◌≡◌, ◌+◌, [], IfOk};
 ghost use Rattle.rtrb.specs.Ring.{received, sent};
 
 use crate::line::make;
@@ -14,7 +14,8 @@ use race_messages::Message;
 use rtrb::{Consumer, Producer};
 use std::alloc::Global;
 use std::marker::Model;
-use tn_types::{Drain, Move, NoMemory};
+use std::sync::ledger::Ledger;
+use tn_types::{Drain, Move, NoMemory, Steps};
 
 /// One connection that keeps its steps, with the seat through which it reads the lanes, and the ends of the rings from and to the
 /// simulation.
@@ -110,11 +111,19 @@ impl<N: LaneName> Locked<N> {
     }
 
     /// Takes messages from the simulation, and packs. A message that doesn't meet the condition of its step is passed over. Where
-    /// the pack is refused, no message and no bit is lost, and the messages that were taken stay taken.
-    pub fn pack(&mut self, alloc: Global, lanes: &Lanes<N>) -> Result<Answer, KeepFault>
+    /// the pack is refused, no message and no bit is lost, and the messages that were taken stay taken. `packs` counts the calls, and
+    /// no other call counts there.
+    pub fn pack<L: Ledger>(
+        &mut self,
+        alloc: Global,
+        lanes: &Lanes<N>,
+        packs: &mut Steps<L>,
+    ) -> Result<Answer, KeepFault>
         ensures turn { PackTurn N.objects self.old self.new result }
+        ensures counted { packs.new ≡ packs.old + 1 }
         ensures holds { LockHolds self.new }
     {
+        packs.tick();
         let result = self.take_and_pack(alloc, lanes);
         let _holds = self.pair();
         result

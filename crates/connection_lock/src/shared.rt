@@ -1,5 +1,5 @@
 //! The lock.
-ghost use Rattle.std.specs.Prelude.{◌≡◌, []};
+ghost use Rattle.std.specs.Prelude.{◌≡◌, ◌+◌, []};
 ghost use Rattle.rtrb.specs.Ring.{received, sent};
 ghost use Rattle.connection_lock.specs.Rule.{LockHolds};
 
@@ -11,8 +11,9 @@ use kept_pair::{KeepFault, KeptPair};
 use race_messages::Message;
 use rtrb::{Consumer, Producer};
 use std::alloc::Global;
+use std::sync::ledger::Ledger;
 use std::sync::{Mutex, Wait};
-use tn_types::{Move, NoMemory};
+use tn_types::{Move, NoMemory, Steps};
 
 /// A lock round one connection. One thread packs it, and another feeds it.
 #[derive(Drop)]
@@ -39,14 +40,17 @@ impl<N: LaneName> SharedPair<N> {
         })
     }
 
-    /// Waits for the lock, and makes the call of the same name.
-    pub fn pack<R: Wait>(
+    /// Waits for the lock, and makes the call of the same name, which is the one that `packs` counts.
+    pub fn pack<R: Wait, L: Ledger>(
         &self,
         rt: &R,
         alloc: Global,
         lanes: &Lanes<N>,
-    ) -> Result<Answer, KeepFault> {
-        self.locked.lock(rt).pack(alloc, lanes)
+        packs: &mut Steps<L>,
+    ) -> Result<Answer, KeepFault>
+        ensures counted { packs.new ≡ packs.old + 1 }
+    {
+        self.locked.lock(rt).pack(alloc, lanes, packs)
     }
 
     /// Waits for the lock, and makes the call of the same name.

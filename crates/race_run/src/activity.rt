@@ -1,5 +1,7 @@
 //! The activities of a client: its packer and its net.
+ghost use Rattle.std.specs.Prelude.{◌≡◌, ◌+◌, ◌≤◌, ◌&&◌, true, false, None, is_some, is_none, count_by, if◌then◌else◌};
 ghost use Rattle.match_script.specs.Ranges.{HasRanges};
+ghost use Rattle.race_activities.specs.Asking.{is_pack_of};
 
 use crate::asked::{is_net_of, is_pack_of, net_line};
 use connection_lock::SharedPair;
@@ -9,6 +11,8 @@ use match_script::{BodyLine, Script};
 use race_sim::{Actor, Gate, Place};
 use std::alloc::Global;
 use std::sync::Wait;
+use std::sync::ledger::Ledger;
+use tn_types::Steps;
 
 /// One client of a match, as its activities have it.
 #[derive(Drop)]
@@ -29,20 +33,25 @@ pub struct Served<'a, N: LaneName, G: Gate> {
 
 impl<'a, N: LaneName, G: Gate> Served<'a, N, G> {
     // The packer comes to a line. After a fault it does no more, but comes by the places that are left.
-    fn pack_line<R: Wait>(
+    fn pack_line<R: Wait, L: Ledger>(
         &self,
         rt: &R,
         place: u32,
         line: &BodyLine,
         stopped: Option<KeepFault>,
-    ) -> Option<KeepFault> {
+        packs: &mut Steps<L>,
+    ) -> Option<KeepFault>
+        ensures one { packs.new ≡ packs.old + (if is_pack_of self.now.client line.now && is_none stopped then 1 else 0) }
+        ensures stays { is_some stopped ≡ true → result ≡ stopped }
+        ensures passed { is_pack_of self.now.client line.now ≡ false → result ≡ stopped }
+    {
         if !is_pack_of(self.client, line) {
             return stopped;
         }
         self.gate
             .pass(Actor::Packer(self.client), Place::Before(place));
         let stopped = match stopped {
-            None => self.pair.pack(rt, self.alloc, self.lanes).err(),
+            None => self.pair.pack(rt, self.alloc, self.lanes, packs).err(),
             fault => fault,
         };
         self.gate
@@ -85,13 +94,16 @@ impl<'a, N: LaneName, G: Gate> Served<'a, N, G> {
         stopped
     }
 
-    /// Does the `pack` lines of the client, in the order of the script. Gives the fault with which it stopped, if it did.
-    pub fn pack<R: Wait>(&self, rt: &R) -> Option<KeepFault>
+    /// Does the `pack` lines of the client, in the order of the script: each is one pack under the lock, which `packs` counts. Gives
+    /// the fault with which it stopped, if it did.
+    pub fn pack<R: Wait, L: Ledger>(&self, rt: &R, packs: &mut Steps<L>) -> Option<KeepFault>
         requires { HasRanges self.now.script.now }
+        ensures each { result ≡ None → packs.new ≡ packs.old + count_by (is_pack_of self.now.client) self.now.script.now.body }
+        ensures most { packs.new ≤ packs.old + count_by (is_pack_of self.now.client) self.now.script.now.body }
     {
         let mut stopped = None;
-        for (i, line) in self.script.body.as_slice().iter().enumerate() {
-            stopped = self.pack_line(rt, i as u32, line, stopped);
+        'lines: for (i, line) in self.script.body.as_slice().iter().enumerate() {
+            stopped = self.pack_line(rt, i as u32, line, stopped, packs);
         }
         stopped
     }
