@@ -1,7 +1,7 @@
 //! The activities of a client: its packer and its net.
 ghost use Rattle.std.specs.Prelude.{◌≡◌, ◌+◌, ◌≤◌, ◌&&◌, true, false, None, is_some, is_none, count_by, if◌then◌else◌};
 ghost use Rattle.match_script.specs.Ranges.{HasRanges};
-ghost use Rattle.race_activities.specs.Asking.{is_pack_of};
+ghost use Rattle.race_run.specs.Asking.{is_pack_of};
 
 use crate::asked::{is_net_of, is_pack_of, net_line};
 use connection_lock::SharedPair;

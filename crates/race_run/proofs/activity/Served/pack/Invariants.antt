@@ -1,7 +1,7 @@
 use Rattle.std.proofs.Common.{◌≡◌, ◌≤◌, ◌+◌, take}
 use Rattle.std.specs.Prelude.{count_by, None}
-use Rattle.race_activities.specs.Asking.{is_pack_of}
-use Rattle.race_activities.proofs.activity.Served.pack.Given as goal
+use Rattle.race_run.specs.Asking.{is_pack_of}
+use Rattle.race_run.proofs.activity.Served.pack.Given as goal
 
 abbrev pub invariant-lines : goal.invariant-lines
 invariant-lines g l = record {
