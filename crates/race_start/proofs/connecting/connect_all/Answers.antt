@@ -1,4 +1,4 @@
-use Rattle.std.proofs.Common.{◌≡◌, ◌+◌, ◌∙◌, ℕ, ap}
+use Rattle.std.proofs.Common.{◌+◌, ◌∙◌, ℕ, ap}
 use Rattle.race_start.proofs.connecting.connect_all.Goals as goal
 
 pub loop-preserved : goal.loop-preserved
