@@ -1,7 +1,7 @@
 //! The activities of a client: its packer and its net.
-ghost use Rattle.std.specs.Prelude.{◌≡◌, ◌+◌, ◌≤◌, ◌&&◌, true, false, None, is_some, is_none, count_by, if◌then◌else◌};
+ghost use Rattle.std.specs.Prelude.{◌≡◌, ◌+◌, ◌≤◌, ◌&&◌, false, None, IsSome, IsNone, is_none, count_by, if◌then◌else◌};
 ghost use Rattle.match_script.specs.Ranges.{HasRanges};
-ghost use Rattle.race_run.specs.Asking.{is_pack_of};
+ghost use Rattle.race_run.specs.Asking.{is_pack_of, net_line};
 
 use crate::asked::{is_net_of, is_pack_of, net_line};
 use connection_lock::SharedPair;
@@ -42,8 +42,8 @@ impl<'a, N: LaneName, G: Gate> Served<'a, N, G> {
         packs: &mut Steps<L>,
     ) -> Option<KeepFault>
         ensures one { packs.new ≡ packs.old + (if is_pack_of self.now.client line.now && is_none stopped then 1 else 0) }
-        ensures stays { is_some stopped ≡ true → result ≡ stopped }
-        ensures passed { is_pack_of self.now.client line.now ≡ false → result ≡ stopped }
+        ensures other { is_pack_of self.now.client line.now ≡ false → result ≡ stopped }
+        ensures still { IsSome stopped → result ≡ stopped }
     {
         if !is_pack_of(self.client, line) {
             return stopped;
@@ -80,7 +80,10 @@ impl<'a, N: LaneName, G: Gate> Served<'a, N, G> {
         place: u32,
         line: &BodyLine,
         stopped: Option<KeepFault>,
-    ) -> Option<KeepFault> {
+    ) -> Option<KeepFault>
+        ensures other { IsNone (net_line self.now.client line.now) → result ≡ stopped }
+        ensures still { IsSome stopped → result ≡ stopped }
+    {
         if !is_net_of(self.client, line) {
             return stopped;
         }

@@ -8,4 +8,4 @@ mod run;
 mod start;
 
 pub use race_sim::{Actor, FreeGate, Gate, Place};
-pub use run::{race, race_in_turn};
+pub use run::race;
