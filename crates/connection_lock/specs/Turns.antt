@@ -1,5 +1,5 @@
 -- What a pack and a client line do to a locked connection.
-use Rattle.std.specs.Prelude.{◌≡◌, ℕ, ◌<◌, ◌≤◌, ◌%◌, ◌^◌, ◌&&◌, not, min, List, [], ◌∷◌, ◌++◌, length, map, OnOk, OnErr, IfOk, Result, Ok, Err}
+use Rattle.std.specs.Prelude.{◌≡◌, ℕ, ◌<◌, ◌≤◌, ◌%◌, ◌^◌, min, List, [], ◌∷◌, ◌++◌, length, map, OnOk, OnErr, IfOk, Result, Ok, Err}
 use Rattle.tn_types.specs.declared.choices.Drain.{Drain}
 use Rattle.tn_types.specs.declared.choices.Read.{Read}
 use Rattle.tn_types.specs.declared.moves.Move.{Move}
@@ -22,7 +22,6 @@ use Rattle.lane_periods.specs.Periods.{PeriodList}
 use Rattle.lane_periods.specs.Views.{Drains, entries}
 use Rattle.dirty_lanes.specs.declared.view.PackStep.{PackStep}
 use Rattle.dirty_lanes.specs.Views.{drains}
-use Rattle.std.specs.List.{AllByRecursion}
 use Rattle.pair_periods.specs.pair_steps.Steps.{up_in, traits_in}
 use Rattle.pair_periods.specs.Agreement.{server_log}
 use Rattle.race_messages.specs.declared.message.Message.{Message}
