@@ -15,7 +15,8 @@ use Rattle.pair_core.specs.History.{PairStep, history}
 use Rattle.pair_core.specs.Stands.{StandsFor as PairStandsFor}
 use Rattle.pair_steps.specs.Steps.{shows_in, is_hidden_in, up_in}
 use Rattle.pair_steps.proofs.Journals.{up_to}
-use Rattle.own_lists.specs.Own.{OwnItem, client_named}
+use Rattle.match_script.specs.Named.{client_named}
+use Rattle.own_lists.specs.Own.{OwnItem}
 use Rattle.own_lists.specs.Kept.{kept, undrained}
 use Rattle.own_lists.specs.Past.{Past, client_terms, start}
 use Rattle.own_lists.proofs.Meeting.{all_up}

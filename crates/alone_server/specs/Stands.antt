@@ -5,7 +5,8 @@ use Rattle.match_script.specs.declared.types.BodyLine.TheVariants as script
 use Rattle.match_report.specs.declared.told.Told.{Told}
 use Rattle.world_rules.specs.Kinds.{match_kinds}
 use Rattle.stream_manager.specs.Limits.{Terms, IsConfig}
-use Rattle.own_lists.specs.Own.{OwnItem, Line, Scan, client_named}
+use Rattle.match_script.specs.Named.{client_named}
+use Rattle.own_lists.specs.Own.{OwnItem, Line, Scan}
 use Rattle.own_lists.specs.Kept.{kept, undrained}
 use Rattle.own_lists.specs.Conditions.{AreOwn, MayFollow}
 use Rattle.own_items.specs.client_seat.Stands.{SeatState, StandsFor as SeatStandsFor}

@@ -13,7 +13,8 @@ use Rattle.world_scope.specs.declared.viewer.Seen.{Seen}
 use Rattle.client_scope.specs.Scans.{shown}
 use Rattle.client_scope.specs.StandsFor.{Table}
 use Rattle.dirty_lanes.specs.Words.{Words}
-use Rattle.match_laws.specs.own_lists.Own.{OwnItem, Line, client_named, StandsAlone}
+use Rattle.match_script.specs.Named.{client_named}
+use Rattle.match_laws.specs.own_lists.Own.{OwnItem, Line, StandsAlone}
 use Rattle.match_laws.specs.own_lists.Counted.{counted, counted_in}
 use Rattle.match_laws.specs.own_lists.Kept.{Kept, kept, follows, put}
 use Rattle.match_laws.specs.own_lists.Past.{Past, client_terms, kept_by, after}

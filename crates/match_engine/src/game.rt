@@ -5,7 +5,7 @@ ghost use Rattle.match_script.specs.Ranges.{HeadFits};
 ghost use Rattle.stream_manager.specs.Limits.{IsConfig};
 ghost use Rattle.client_scope.specs.StandsFor.{Table, StandsFor as ScopeStandsFor};
 ghost use Rattle.match_laws.specs.own_lists.Counted.{counted};
-ghost use Rattle.match_laws.specs.own_lists.Own.{client_named};
+ghost use Rattle.match_script.specs.Named.{client_named};
 ghost use Rattle.match_laws.specs.own_lists.Course.{beginning};
 ghost use Rattle.match_laws.specs.own_lists.Past.{client_terms};
 ghost use Rattle.match_laws.specs.client_seat.Stands.{SeatState, StandsFor as SeatStandsFor};
@@ -62,33 +62,6 @@ impl<'a> Model for Game<'a> {
       lanes = m.lanes;
       done = m.done;
     } };
-}
-
-/// The client that a line names, if it names one.
-pub fn client_named(line: &BodyLine) -> Option<u8>
-    ensures { result ≡ client_named line.now }
-{
-    match line {
-        BodyLine::Post {
-            client,
-            class: _,
-            payload: _,
-        } => Some(*client),
-        BodyLine::ClientPost {
-            client,
-            class: _,
-            payload: _,
-        } => Some(*client),
-        BodyLine::Pack { client } => Some(*client),
-        BodyLine::ClientPack { client } => Some(*client),
-        BodyLine::Scan { client } => Some(*client),
-        BodyLine::Down { client, k: _ } => Some(*client),
-        BodyLine::Up { client, k: _ } => Some(*client),
-        BodyLine::Raw { client, bytes: _ } => Some(*client),
-        BodyLine::Move { client, m: _ } => Some(*client),
-        BodyLine::Show { client } => Some(*client),
-        BodyLine::Tick | BodyLine::World => None,
-    }
 }
 
 // 1 for a line of those that are counted.
@@ -259,7 +232,7 @@ impl<'a> Game<'a> {
         ensures head { self.new.head ≡ self.old.head }
         ensures keeps { OnOk result (KeepAll self.old.seats → KeepAll self.new.seats) }
     {
-        match client_named(line) {
+        match line.client() {
             Some(client) => self.serve(alloc, client, line),
             None => self.of_world(alloc, line),
         }

@@ -11,7 +11,6 @@ mod serving;
 mod ticking;
 mod values;
 
-pub use game::client_named;
 pub use lines::line_on;
 pub use match_laws;
 pub use match_laws::client_seat;

@@ -2,7 +2,7 @@
 ghost use Rattle.std.specs.Prelude.{◌≡◌, true, ℕ, ◌<◌, ◌∷◌, List, IfOk, OnOk, Some, length};
 ghost use Rattle.match_script.specs.declared.types.Head.{Head};
 ghost use Rattle.stream_manager.specs.Limits.{Terms};
-ghost use Rattle.match_laws.specs.own_lists.Own.{client_named};
+ghost use Rattle.match_script.specs.Named.{client_named};
 ghost use Rattle.match_laws.specs.own_lists.Kept.{Kept, after_line};
 ghost use Rattle.match_laws.specs.own_lists.Past.{Past, client_terms, kept_by};
 ghost use Rattle.match_laws.specs.client_seat.Stands.{Stands, StandsFor};

@@ -7,7 +7,8 @@ use Rattle.match_script.specs.declared.types.BodyLine.{BodyLine}
 use Rattle.match_script.specs.declared.types.BodyLine.TheVariants as script
 use Rattle.match_script.specs.declared.types.Head.{Head}
 use Rattle.world_scope.specs.Scope.{visible_list}
-use Rattle.client_seat.specs.own_lists.Own.{OwnItem, Line, Scan, Tick, client_named}
+use Rattle.match_script.specs.Named.{client_named}
+use Rattle.client_seat.specs.own_lists.Own.{OwnItem, Line, Scan, Tick}
 use Rattle.client_seat.specs.own_lists.Kept.{put}
 use Rattle.client_seat.specs.own_lists.Past.{Past, happens, after, scan_item}
 use Rattle.match_laws.specs.Others.{IsLeft, NamesClient, NonInterference}

@@ -14,7 +14,8 @@ use Rattle.client_seat.specs.pair_core.LooseEvents.{LooseDown, LooseUp}
 use Rattle.client_seat.specs.pair_core.Refusals.{IsOldAtClient, IsOldAtServer}
 use Rattle.match_report.specs.declared.told.Told.{Told}
 use Rattle.match_report.specs.declared.told.Told.TheVariants.{ServerRefused, ClientRefused}
-use Rattle.client_seat.specs.own_lists.Own.{OwnItem, Line, client_named}
+use Rattle.match_script.specs.Named.{client_named}
+use Rattle.client_seat.specs.own_lists.Own.{OwnItem, Line}
 use Rattle.client_seat.specs.own_lists.Kept.{kept, journal}
 use Rattle.client_seat.specs.own_lists.Past.{client_terms, after}
 use Rattle.client_seat.specs.Told.{pack_told}

@@ -5,7 +5,8 @@ use Rattle.std.specs.Prelude.{◌≡◌, ◌≢◌, ℕ, List, ◌∷◌, Some}
 use Rattle.std.specs.List.{AllByRecursion}
 use Rattle.match_script.specs.declared.types.BodyLine.{BodyLine}
 use Rattle.match_script.specs.declared.types.Head.{Head}
-use Rattle.client_seat.specs.own_lists.Own.{OwnItem, Line, Scan, Tick, client_named}
+use Rattle.match_script.specs.Named.{client_named}
+use Rattle.client_seat.specs.own_lists.Own.{OwnItem, Line, Scan, Tick}
 use Rattle.client_seat.specs.own_lists.Past.{Past, after}
 
 -- what a match knows of a client is as it was

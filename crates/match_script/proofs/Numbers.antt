@@ -1,11 +1,11 @@
 -- What is read is in its range; the digits one by one.
-use Rattle.std.proofs.Common.{◌≡◌, ℕ, suc, ◌+◌, ◌-◌, ◌*◌, ◌^◌, ◌<◌, ◌≤◌, Bool, true, false, List, [], ◌∷◌, length, take, drop, get_or, min, arith, Ok, nat_eq, ◌&&◌, cond, refl}
+use Rattle.std.proofs.Common.{◌≡◌, ℕ, ◌+◌, ◌-◌, ◌*◌, ◌^◌, ◌<◌, ◌≤◌, true, List, length, take, drop, get_or, min, arith, Ok, refl}
 use Rattle.std.specs.List.{list_all}
 use Rattle.std.specs.Char.{digit_value}
 use Rattle.std.specs.Str.Parse.{digits_value}
 use Rattle.std.proofs.lemmas.Int.Digits.{digits_value_more}
 use Rattle.std.proofs.lemmas.List.{drop_more}
-use Rattle.match_script.specs.Words.{number, number_from, is_number, is_digit}
+use Rattle.match_script.specs.Words.{number, number_from, is_digit}
 
 pub number_below : (limit : ℕ) (word : List ℕ) (n : ℕ) → number limit word ≡ Ok n → n < limit
 unfolding number

@@ -1,9 +1,9 @@
 -- The first line of a text, word by word.
-use Rattle.std.proofs.Common.{◌≡◌, ℕ, suc, ◌+◌, ◌<◌, ◌≤◌, Bool, true, false, List, [], ◌∷◌, ◌++◌, length, take, drop, get_or, nat_eq, nat_le, nat_lt, Err, refl, sym, ap, subst, ◌∙◌, cond, not, Some, None, arith, add-one}
+use Rattle.std.proofs.Common.{◌≡◌, ℕ, suc, ◌+◌, ◌<◌, ◌≤◌, Bool, true, false, List, [], ◌∷◌, ◌++◌, length, take, drop, get_or, nat_eq, nat_lt, Err, refl, sym, ap, ◌∙◌, cond, not, Some, None, arith, add-one}
 use Rattle.std.specs.List.{list_all, position, position_or_len}
 use Rattle.std.proofs.lemmas.List.{take_all, drop_all, length-drop}
 use Rattle.std.proofs.lemmas.List.Sums.{split_at_first}
-use Rattle.match_script.specs.Text.{lines_of, words_of, with_first, is_text, is_text_byte}
+use Rattle.match_script.specs.Text.{lines_of, words_of, is_text, is_text_byte}
 use Rattle.match_script.specs.Shape.{AreWords, has_shape, is_word_byte, first_line, after_line, words_at, words_line}
 use Rattle.match_script.specs.declared.words.Words.{Words}
 use Rattle.match_script.specs.declared.words.Words.TheVariants.{One, Two, Three, Four, Six, Other}

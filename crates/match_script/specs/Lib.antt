@@ -1,4 +1,5 @@
 pub mod Text
+pub mod Named
 pub mod Words
 pub mod Steps
 pub mod Shape

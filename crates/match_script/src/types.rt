@@ -64,6 +64,77 @@ pub enum BodyLine {
     World,
 }
 
+impl BodyLine {
+    ghost use Rattle.match_script.specs.Named.{client_named};
+
+    /// The client that the line names, if it names one.
+    pub fn client(&self) -> Option<u8>
+        ensures { result ≡ client_named self.now }
+    {
+        match self {
+            BodyLine::Post { client, .. }
+            | BodyLine::ClientPost { client, .. }
+            | BodyLine::Pack { client }
+            | BodyLine::ClientPack { client }
+            | BodyLine::Scan { client }
+            | BodyLine::Down { client, .. }
+            | BodyLine::Up { client, .. }
+            | BodyLine::Raw { client, .. }
+            | BodyLine::Move { client, .. }
+            | BodyLine::Show { client } => Some(*client),
+            BodyLine::Tick | BodyLine::World => None,
+        }
+    }
+
+    /// The same line again.
+    pub fn copy(&self, alloc: Global) -> Result<BodyLine, NoMemory>
+        ensures { IfOk result (λ line. line ≡ self.now) }
+    {
+        Ok(match self {
+            BodyLine::Tick => BodyLine::Tick,
+            BodyLine::Scan { client } => BodyLine::Scan { client: *client },
+            BodyLine::Post {
+                client,
+                class,
+                payload,
+            } => BodyLine::Post {
+                client: *client,
+                class: *class,
+                payload: payload.copy(alloc)?,
+            },
+            BodyLine::ClientPost {
+                client,
+                class,
+                payload,
+            } => BodyLine::ClientPost {
+                client: *client,
+                class: *class,
+                payload: payload.copy(alloc)?,
+            },
+            BodyLine::Pack { client } => BodyLine::Pack { client: *client },
+            BodyLine::ClientPack { client } => BodyLine::ClientPack { client: *client },
+            BodyLine::Down { client, k } => BodyLine::Down {
+                client: *client,
+                k: *k,
+            },
+            BodyLine::Up { client, k } => BodyLine::Up {
+                client: *client,
+                k: *k,
+            },
+            BodyLine::Raw { client, bytes } => BodyLine::Raw {
+                client: *client,
+                bytes: bytes.copy(alloc)?,
+            },
+            BodyLine::Move { client, m } => BodyLine::Move {
+                client: *client,
+                m: *m,
+            },
+            BodyLine::Show { client } => BodyLine::Show { client: *client },
+            BodyLine::World => BodyLine::World,
+        })
+    }
+}
+
 /// Why a line can't stand where it stands (docs/formats.md, "Faults of a script").
 #[derive(Clone, Copy, Debug, PartialEq, Eq)]
 pub enum ScriptFault {

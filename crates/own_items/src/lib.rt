@@ -1,7 +1,6 @@
 //! The items of a client's own list, and the list of a match, made item by item.
 #![tactic(auto)]
 
-mod again;
 mod items;
 mod making;
 mod source;

@@ -1,13 +1,14 @@
 //! The own list of one client, item by item, as a match makes it.
-ghost use Rattle.std.specs.Prelude.{◌≡◌, ◌<◌, ◌+◌, ◌∷◌, List, IfOk, OnOk, Ok, Some, true, false, if◌then◌else◌, length, slice_get};
+ghost use Rattle.std.specs.Prelude.{◌≡◌, ◌<◌, ◌+◌, ◌∷◌, List, IfOk, OnOk, Ok, Some, None, true, false, if◌then◌else◌, length, slice_get};
 ghost use Rattle.match_script.specs.declared.types.BodyLine.{BodyLine as OneLine};
+ghost use Rattle.match_script.specs.Named.{client_named};
 ghost use Rattle.match_script.specs.Ranges.{HasRanges};
+ghost use Rattle.own_lists.specs.Own.{is_named};
 ghost use Rattle.own_lists.specs.Past.{after, taken_from};
 ghost use Rattle.match_engine.specs.Match.{StandsFor as MatchStandsFor};
 ghost use Rattle.own_items.specs.Items.{item_of};
 ghost use Rattle.own_items.specs.Source.{Stands, StandsFor, Added, made, whole_own};
 
-use crate::again::named_again;
 use crate::items::OwnItem;
 use crate::making::{scan_item, tick_item};
 use match_engine::Match;
@@ -51,6 +52,20 @@ impl<'a> Model for OwnSource<'a> {
       game = s.game;
       place = s.place;
     } };
+}
+
+// The same line again, where it names this client.
+fn named_again(
+    alloc: Global,
+    line: &BodyLine,
+    client: u8,
+) -> Result<Option<BodyLine>, NoMemory>
+    ensures { IfOk result (λ l. l ≡ (if is_named client (client_named line.now) then Some line.now else None)) }
+{
+    if line.client() != Some(client) {
+        return Ok(None);
+    }
+    Ok(Some(line.copy(alloc)?))
 }
 
 /// What the last line adds to the client's own list. As a tick it took so many moves from the client.

@@ -24,21 +24,7 @@ pub data OwnItem : Type 0 where
   Scan : (hides : List ℕ) (nears : List Near) (shows : List OwnShow) → OwnItem
   Tick : (writes : List OwnWrite) (taken : ℕ) → OwnItem
 
--- the client that a line names, if it names one
-abbrev pub client_named : BodyLine → Option ℕ
-client_named script.Tick = None
-client_named (script.Scan c) = Some c
-client_named (script.Post c class payload) = Some c
-client_named (script.ClientPost c class payload) = Some c
-client_named (script.Pack c) = Some c
-client_named (script.ClientPack c) = Some c
-client_named (script.Down c k) = Some c
-client_named (script.Up c k) = Some c
-client_named (script.Raw c bytes) = Some c
-client_named (script.Move c m) = Some c
-client_named (script.Show c) = Some c
-client_named script.World = None
-
+-- a client is named, and it is this one
 abbrev pub is_named : ℕ → Option ℕ → Bool
 is_named c None = false
 is_named c (Some d) = d == c

@@ -16,7 +16,8 @@ use Rattle.kept_pair.specs.Kept.{KeptState, accepted_by}
 use Rattle.connection_lock.specs.declared.message.Message.{Message}
 use Rattle.connection_lock.specs.declared.message.Message.TheVariants as message
 use Rattle.connection_lock.specs.Taking.{step_for}
-use Rattle.own_lists.specs.Own.{client_named, is_named}
+use Rattle.match_script.specs.Named.{client_named}
+use Rattle.own_lists.specs.Own.{is_named}
 use Rattle.race_history.specs.Moves.{moves_taken}
 
 -- these are all of them, or where the client is full the first of them

@@ -7,7 +7,7 @@ use Rattle.match_script.specs.declared.types.BodyLine.{BodyLine}
 use Rattle.match_script.specs.declared.types.BodyLine.TheVariants as script
 use Rattle.match_script.specs.declared.types.Head.{Head}
 use Rattle.match_report.specs.declared.told.Told.{Told}
-use Rattle.own_lists.specs.Own.{client_named}
+use Rattle.match_script.specs.Named.{client_named}
 use Rattle.relay_script.specs.declared.entries.Entry.{Entry}
 use Rattle.relay_script.specs.declared.entries.Entry.TheVariants.{OfRelay}
 use Rattle.relay_script.specs.declared.types.RelayLine.{RelayLine}

@@ -83,7 +83,7 @@ fn feed_both(
 
 impl Spectator {
     ghost use Rattle.std.specs.Prelude.{[], ◌∷◌, Some, IfOk, filter_map};
-    ghost use Rattle.own_lists.specs.Own.{client_named};
+    ghost use Rattle.match_script.specs.Named.{client_named};
     ghost use Rattle.alone_server.specs.Stands.{terms_of, HeaderFits};
     ghost use Rattle.relay_spectator.specs.Spectators.{Follows, Takes, MayTake, MayScan, ScansOf, TellsScan, IsAsked, MayDo, Does, TellsLine, MayShow, TellsShow, Stays, payloads_of};
     ghost use Rattle.relay_spectator.specs.Watches.{period_at, write_at};

@@ -2,7 +2,7 @@ use Rattle.std.proofs.Common.{◌≡◌, ◌∙◌, ℕ, List, Some, Ok, Err, ap
 use Rattle.std.specs.Prelude.{Result, IfOk}
 use Rattle.match_script.specs.declared.types.BodyLine.{BodyLine}
 use Rattle.match_script.specs.declared.types.BodyLine.TheVariants as script
-use Rattle.match_laws.specs.own_lists.Own.{client_named}
+use Rattle.match_script.specs.Named.{client_named}
 use Rattle.match_laws.specs.own_lists.Past.{client_terms, kept_by}
 use Rattle.match_laws.specs.client_seat.Stands.{StandsFor}
 use Rattle.match_laws.specs.client_seat.Told.{raw_told}

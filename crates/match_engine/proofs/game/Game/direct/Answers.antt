@@ -6,7 +6,7 @@ use Rattle.match_script.specs.Ranges.{LineFits}
 use Rattle.match_report.specs.declared.told.Told.{Told}
 use Rattle.client_scope.specs.StandsFor.{Table}
 use Rattle.stream_manager.specs.Limits.{Terms}
-use Rattle.match_laws.specs.own_lists.Own.{client_named}
+use Rattle.match_script.specs.Named.{client_named}
 use Rattle.match_laws.specs.own_lists.Counted.{counted}
 use Rattle.match_laws.specs.own_lists.Kept.{Kept, after_line}
 use Rattle.match_laws.specs.own_lists.Past.{Past, client_terms, kept_by, after}

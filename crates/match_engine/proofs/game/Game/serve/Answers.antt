@@ -2,7 +2,7 @@ use Rattle.std.proofs.Common.{◌≡◌, ◌∙◌, ℕ, List, Option, Some, sym
 use Rattle.std.specs.Prelude.{IfOk}
 use Rattle.match_script.specs.declared.types.BodyLine.{BodyLine}
 use Rattle.match_script.specs.declared.types.BodyLine.TheVariants as script
-use Rattle.match_laws.specs.own_lists.Own.{client_named}
+use Rattle.match_script.specs.Named.{client_named}
 use Rattle.match_laws.specs.Report.{told_after}
 use Rattle.match_engine.specs.Stands.{StandsFor}
 use Rattle.match_engine.proofs.game.Game.serve.Goals as goal
