@@ -25,9 +25,12 @@ use Rattle.own_lists.specs.pair_core.Stands.{PairState}
 use Rattle.conn_packing.proofs.Absorbed.{absorbed-end, absorbed-state, absorbed-sends}
 use Rattle.own_lists.specs.pair_core.Keeping.{kept, newest}
 use Rattle.own_lists.proofs.Below.pair_core.Keeping.{newest-kept}
+use Rattle.match_report.specs.declared.told.End.{End}
+use Rattle.match_report.specs.declared.told.End.TheVariants.{Server, Client}
 use Rattle.match_report.specs.declared.told.Told.{Told}
 use Rattle.match_report.specs.declared.told.Told.TheVariants as told_as
 use Rattle.own_lists.specs.Course.{Course, with_step}
+use Rattle.client_seat.specs.Answering.{kind_made}
 use Rattle.client_seat.specs.Told.{made_told, client_made_told, packed_told, client_pack_told}
 use Rattle.client_seat.specs.Stands.{SeatState, StandsFor, Becomes, Packs}
 use Rattle.client_seat.proofs.Making.{with_pair}
@@ -36,11 +39,11 @@ at-end : (b : Bool) (ds left : List (List ℕ)) (bytes : List ℕ) → left ≡ 
 at-end b ds left bytes f = ap newest f ∙ newest-kept b ds bytes
 
 -- what is told where nothing was made, and where the newest datagram of this list was
-abbrev IfWorn : Result Told NoMemory → Answer → Bool → ℕ → Type 0
-IfWorn r a up c = (life : ℕ) → a ≡ says.Worn life → IfOk r (λ told. told ≡ told_as.PackWorn up c life)
+abbrev IfWorn : Result Told NoMemory → Answer → End → ℕ → Type 0
+IfWorn r a end c = (life : ℕ) → a ≡ says.Worn life → IfOk r (λ told. told ≡ told_as.PackWorn end c life)
 
-abbrev IfMade : Result Told NoMemory → Answer → Bool → ℕ → List (List ℕ) → Type 0
-IfMade r a up c l = (ping : Bool) (place : ℕ) (bytes : List ℕ) → a ≡ says.Packed ping place → newest l ≡ Some bytes → IfOk r (λ told. told ≡ told_as.Packed up c place ping bytes)
+abbrev IfMade : Result Told NoMemory → Answer → End → ℕ → List (List ℕ) → Type 0
+IfMade r a end c l = (ping : Bool) (place : ℕ) (bytes : List ℕ) → a ≡ says.Packed ping place → newest l ≡ Some bytes → IfOk r (λ told. told ≡ told_as.Packed end c place (kind_made ping) bytes)
 
 module _ (t : Terms) (steps : List PairStep) (c : ℕ) (r : Result Told NoMemory) (a : Answer) (l : List (List ℕ)) (b : Bool) (drains : List Drain) (reads : List Read) where
   -- what was sent before
@@ -50,7 +53,7 @@ module _ (t : Terms) (steps : List PairStep) (c : ℕ) (r : Result Told NoMemory
   abbrev absorbed : List ServerEvent
   absorbed = absorbing drains (history t steps).server
 
-  pub server-packs : a ≡ answer t steps (Pack drains []) → l ≡ kept b (server_datagrams t (history t (Pack drains reads ∷ steps)).server) → IfWorn r a false c → IfMade r a false c l → IfOk r (λ told. told ≡ packed_told c t steps drains reads)
+  pub server-packs : a ≡ answer t steps (Pack drains []) → l ≡ kept b (server_datagrams t (history t (Pack drains reads ∷ steps)).server) → IfWorn r a Server c → IfMade r a Server c l → IfOk r (λ told. told ≡ packed_told c t steps drains reads)
   server-packs e sent worn there =
       go (server_state t.config (history t steps).server) e (sent ∙ ap (λ (state : SendState). kept b (server_datagrams t (server_log.packed_onto t absorbed (values_of reads) state))) (absorbed-state t.config drains (history t steps).server))
     where
@@ -66,7 +69,7 @@ module _ (t : Terms) (steps : List PairStep) (c : ℕ) (r : Result Told NoMemory
           (sent ∙ ap (λ (ds : List (List ℕ)). kept b (ds ++ bytes_down t (server_packet.Body (next_body t absorbed (values_of reads))) ∷ [])) (absorbed-sends t drains (history t steps).server)))
 
 module _ (t : Terms) (steps : List PairStep) (c : ℕ) (r : Result Told NoMemory) (a : Answer) (l : List (List ℕ)) where
-  pub client-packs : a ≡ answer t steps ClientPack → l ≡ client_datagrams t.config (history t (ClientPack ∷ steps)).client → IfWorn r a true c → IfMade r a true c l → IfOk r (λ told. told ≡ client_pack_told c t steps)
+  pub client-packs : a ≡ answer t steps ClientPack → l ≡ client_datagrams t.config (history t (ClientPack ∷ steps)).client → IfWorn r a Client c → IfMade r a Client c l → IfOk r (λ told. told ≡ client_pack_told c t steps)
   client-packs e sent worn there = go (client_state t.config (history t steps).client) e sent
     where
       go : (state : SendState) → a ≡ made state t.config.life (length (client_datagrams t.config (history t steps).client)) → l ≡ client_datagrams t.config (with_event (client_log.pack_event t.config (history t steps).client state) (history t steps).client) → IfOk r (λ told. told ≡ client_made_told t.config (history t steps).client c state)

@@ -14,6 +14,8 @@ use Rattle.own_lists.specs.pair_core.declared.step.Answer.{Answer}
 use Rattle.own_lists.specs.pair_core.declared.step.Answer.TheVariants as says
 use Rattle.own_lists.specs.pair_core.History.{PairStep, Post, ClientPost, history}
 use Rattle.own_lists.specs.pair_core.Answers.{answer, post_answer, accepted_in}
+use Rattle.match_report.specs.declared.told.End.{End}
+use Rattle.match_report.specs.declared.told.End.TheVariants.{Server, Client}
 use Rattle.match_report.specs.declared.told.Told.{Told}
 use Rattle.match_report.specs.declared.told.Told.TheVariants as told_as
 use Rattle.client_seat.specs.Told.{post_told, client_post_told}
@@ -27,14 +29,14 @@ none_by_post Guaranteed v t steps = by (is_ok (posted_at_server t.config (histor
     by false = refl
 
 -- what `posted` tells of an answer
-abbrev pub Tells : Bool → ℕ → Answer → Told → Type 0
-Tells up c a told = ((r : Result ℕ PostFault) → a ≡ post_answer r → told ≡ told_as.Post up c r) × ((dropped : Option (List ℕ)) → a ≡ says.Loose dropped → told ≡ told_as.PostLoose up c dropped)
+abbrev pub Tells : End → ℕ → Answer → Told → Type 0
+Tells end c a told = ((r : Result ℕ PostFault) → a ≡ post_answer r → told ≡ told_as.Post end c r) × ((dropped : Option (List ℕ)) → a ≡ says.Loose dropped → told ≡ told_as.PostLoose end c dropped)
 
 module _ (t : Terms) (steps : List PairStep) (v : List ℕ) (c : ℕ) (a : Answer) (told : Told) where
-  pub post_tells : (class : Class) → Tells false c a told → a ≡ answer t steps (Post class v) → told ≡ post_told t steps c class
+  pub post_tells : (class : Class) → Tells Server c a told → a ≡ answer t steps (Post class v) → told ≡ post_told t steps c class
   post_tells Guaranteed tells e = tells.0 (posted_at_server t.config (history t steps).server) e
   post_tells Loose tells e = tells.1 (dropped_of (server_end (history t steps).server)) e
 
-  pub client_post_tells : (class : Class) → Tells true c a told → a ≡ answer t steps (ClientPost class v) → told ≡ client_post_told t steps c class
+  pub client_post_tells : (class : Class) → Tells Client c a told → a ≡ answer t steps (ClientPost class v) → told ≡ client_post_told t steps c class
   client_post_tells Guaranteed tells e = tells.0 (posted_at_client t.config (history t steps).client) e
   client_post_tells Loose tells e = tells.1 (dropped_of (client_end (history t steps).client)) e

@@ -1,9 +1,14 @@
--- The answers that a step of each kind may have, and which steps bring something to the server.
-use Rattle.std.specs.Prelude.{ℕ}
+-- The answers that a step of each kind may have, what a pack made by its answer, and which steps bring something to the server.
+use Rattle.std.specs.Prelude.{ℕ, Bool, true, false, List}
+use Rattle.tn_types.specs.declared.choices.PacketKind.{PacketKind}
+use Rattle.tn_types.specs.declared.choices.PacketKind.TheVariants.{Ping, Body}
+use Rattle.own_lists.specs.pair_core.Stands.{PairState}
 use Rattle.own_lists.specs.pair_core.declared.step.Answer.{Answer}
 use Rattle.own_lists.specs.pair_core.declared.step.Answer.TheVariants as says
 use Rattle.own_lists.specs.pair_core.declared.step.PairStep.{PairStep as GivenStep}
 use Rattle.own_lists.specs.pair_core.declared.step.PairStep.TheVariants as given
+use Rattle.match_report.specs.declared.told.End.{End}
+use Rattle.match_report.specs.declared.told.End.TheVariants.{Server, Client}
 
 abbrev pub TellsPost : Answer → Type 0
 TellsPost (says.Posted number) = Unit {0}
@@ -20,6 +25,16 @@ abbrev pub TellsPack : Answer → Type 0
 TellsPack (says.Packed ping place) = Unit {0}
 TellsPack (says.Worn life) = Unit {0}
 TellsPack other = ⊥
+
+-- a ping, or a data packet
+abbrev pub kind_made : Bool → PacketKind
+kind_made true = Ping
+kind_made false = Body
+
+-- the datagrams that an end sent, as far as they are kept
+abbrev pub sent_by : End → PairState → List (List ℕ)
+sent_by Server pair = pair.down
+sent_by Client pair = pair.up
 
 -- of a delivery to the server
 abbrev pub TellsUp : Answer → Type 0

@@ -3,6 +3,7 @@ use Rattle.std.specs.Prelude.{ℕ, Bool, true, false, not, ◌&&◌, nat_lt, Lis
 use Rattle.std.specs.Option.{option_map_or}
 use Rattle.tn_types.specs.declared.choices.Class.{Class}
 use Rattle.tn_types.specs.declared.choices.Class.TheVariants.{Guaranteed, Loose}
+use Rattle.tn_types.specs.declared.choices.PacketKind.TheVariants.{Ping, Body}
 use Rattle.tn_types.specs.declared.choices.Drain.{Drain}
 use Rattle.tn_types.specs.declared.choices.Read.{Read}
 use Rattle.tn_types.specs.declared.limits.TheConstants.{MAX_SLOTS, MAX_FIELDS}
@@ -28,6 +29,7 @@ use Rattle.own_lists.specs.pair_core.declared.step.Answer.TheVariants as says
 use Rattle.conn_packing.specs.Packs.{absorbing, values_of}
 use Rattle.own_lists.specs.pair_core.History.{PairStep, Down, Up, Raw, history}
 use Rattle.own_lists.specs.pair_core.Answers.{answer, client_delivered, server_delivered, client_run, sampled_in, accepted_in}
+use Rattle.match_report.specs.declared.told.End.TheVariants.{Server, Client}
 use Rattle.match_report.specs.declared.told.Way.{Way}
 use Rattle.match_report.specs.declared.told.Way.TheVariants as way
 use Rattle.match_report.specs.declared.told.EventTold.{EventTold}
@@ -44,12 +46,12 @@ abbrev pub event_told : Class × List ℕ → EventTold
 event_told event = record { class = event.0; payload = event.1 }
 
 abbrev pub post_told : Terms → List PairStep → ℕ → Class → Told
-post_told t steps c Guaranteed = told_as.Post false c (posted_at_server t.config (history t steps).server)
-post_told t steps c Loose = told_as.PostLoose false c (dropped_of (server_end (history t steps).server))
+post_told t steps c Guaranteed = told_as.Post Server c (posted_at_server t.config (history t steps).server)
+post_told t steps c Loose = told_as.PostLoose Server c (dropped_of (server_end (history t steps).server))
 
 abbrev pub client_post_told : Terms → List PairStep → ℕ → Class → Told
-client_post_told t steps c Guaranteed = told_as.Post true c (posted_at_client t.config (history t steps).client)
-client_post_told t steps c Loose = told_as.PostLoose true c (dropped_of (client_end (history t steps).client))
+client_post_told t steps c Guaranteed = told_as.Post Client c (posted_at_client t.config (history t steps).client)
+client_post_told t steps c Loose = told_as.PostLoose Client c (dropped_of (client_end (history t steps).client))
 
 abbrev pub move_told : Terms → List PairStep → ℕ → Told
 move_told t steps c = told_as.Moved c (sampled_answer t.config (history t steps).client)
@@ -58,10 +60,10 @@ move_told t steps c = told_as.Moved c (sampled_answer t.config (history t steps)
 
 -- by what a pack makes: a data packet has these values, once these drains are absorbed
 abbrev pub made_told : Terms → List ServerEvent → ℕ → List Drain → List Read → SendState → Told
-made_told t log c drains reads Held = told_as.Packed false c (length (server_datagrams t log)) true (server_ping_bytes t log)
-made_told t log c drains reads Worn = told_as.PackWorn false c t.config.life
+made_told t log c drains reads Held = told_as.Packed Server c (length (server_datagrams t log)) Ping (server_ping_bytes t log)
+made_told t log c drains reads Worn = told_as.PackWorn Server c t.config.life
 made_told t log c drains reads Room =
-    told_as.Packed false c (length (server_datagrams t log)) false
+    told_as.Packed Server c (length (server_datagrams t log)) Body
     (bytes_down t (server_packet.Body (next_body t (absorbing drains log) (values_of reads))))
 
 -- what a pack of these drains and reads tells after these steps
@@ -73,9 +75,9 @@ abbrev pub pack_told : Terms → Kept → ℕ → Told
 pack_told t k c = packed_told c t k.course.steps (drains_of t k) (reads_of t k)
 
 abbrev pub client_made_told : Config → List ClientEvent → ℕ → SendState → Told
-client_made_told k log c Held = told_as.Packed true c (length (client_datagrams k log)) true (client_ping_bytes k log)
-client_made_told k log c Worn = told_as.PackWorn true c k.life
-client_made_told k log c Room = told_as.Packed true c (length (client_datagrams k log)) false (client_bytes k log)
+client_made_told k log c Held = told_as.Packed Client c (length (client_datagrams k log)) Ping (client_ping_bytes k log)
+client_made_told k log c Worn = told_as.PackWorn Client c k.life
+client_made_told k log c Room = told_as.Packed Client c (length (client_datagrams k log)) Body (client_bytes k log)
 
 abbrev pub client_pack_told : ℕ → Terms → List PairStep → Told
 client_pack_told c t steps = let log = (history t steps).client in client_made_told t.config log c (client_state t.config log)

@@ -1,18 +1,20 @@
 //! The datagrams that both ends make.
-ghost use Rattle.std.specs.Prelude.{◌≡◌, true, ℕ, Bool, ◌<◌, ◌≤◌, List, [], IfOk, IfSome, OnOk, length, if◌then◌else◌, Some};
+ghost use Rattle.std.specs.Prelude.{◌≡◌, true, ℕ, Bool, ◌<◌, ◌≤◌, List, [], IfOk, IfSome, OnOk, length, Some};
 ghost use Rattle.std.specs.Option.{option_copied};
 ghost use Rattle.tn_types.specs.declared.choices.Read.{Read};
 ghost use Rattle.own_lists.specs.pair_core.declared.step.Answer.TheVariants as says;
 ghost use Rattle.own_lists.specs.pair_core.History.{ClientPack};
 ghost use Rattle.own_lists.specs.pair_core.Keeping.{newest};
 ghost use Rattle.match_report.specs.declared.told.Told.TheVariants as told_as;
-ghost use Rattle.client_seat.specs.Answering.{TellsPack};
+ghost use Rattle.client_seat.specs.Answering.{TellsPack, kind_made, sent_by};
 
 use crate::seat::Seat;
-use match_report::Told;
+use match_report::{End, Told};
 use own_lists::pair_core::{Answer, Pair, PairStep};
 use std::alloc::Global;
-use tn_types::{Drain, MAX_DATAGRAM_BYTES, MAX_DATAGRAMS, NoMemory, RawBytes, Values};
+use tn_types::{
+    Drain, MAX_DATAGRAM_BYTES, MAX_DATAGRAMS, NoMemory, PacketKind, RawBytes, Values,
+};
 
 // These bytes, in room that was given back if there is any.
 fn refilled(alloc: Global, spare: Option<RawBytes>, bytes: &[u8]) -> Result<RawBytes, NoMemory>
@@ -28,26 +30,48 @@ fn refilled(alloc: Global, spare: Option<RawBytes>, bytes: &[u8]) -> Result<RawB
     }
 }
 
+// What a pack made, by its answer.
+fn kind_made(ping: bool) -> PacketKind
+    ensures { result ≡ kind_made ping }
+{
+    if ping {
+        PacketKind::Ping
+    } else {
+        PacketKind::Body
+    }
+}
+
+// The newest datagram that an end sent.
+fn newest_by(pair: &Pair, by: End) -> Option<&[u8]>
+    ensures value { option_copied result ≡ newest (sent_by by pair.now) }
+    ensures fits { IfSome result (λ bytes. length bytes.now ≤ MAX_DATAGRAM_BYTES) }
+{
+    match by {
+        End::Server => pair.newest(true),
+        End::Client => pair.newest(false),
+    }
+}
+
 /// What is told of a datagram that was made.
 fn packed(
     alloc: Global,
     spare: Option<RawBytes>,
-    up: bool,
+    by: End,
     client: u8,
     place: u32,
-    ping: bool,
+    kind: PacketKind,
     datagram: Option<&[u8]>,
 ) -> Result<Told, NoMemory>
     requires { IfSome datagram (λ b. length b.now ≤ MAX_DATAGRAM_BYTES) }
     ensures { IfOk result (λ told. (bytes : List ℕ) → option_copied datagram.entry ≡ Some bytes →
-        told ≡ told_as.Packed up client place ping bytes) }
+        told ≡ told_as.Packed by client place kind bytes) }
 {
     let bytes = refilled(alloc, spare, datagram.unwrap_or(&[]))?;
     Ok(Told::Packed {
-        up,
+        by,
         client,
         place,
-        ping,
+        kind,
         bytes,
     })
 }
@@ -56,27 +80,27 @@ fn packed(
 fn packed_by(
     alloc: Global,
     spare: &mut Option<RawBytes>,
-    up: bool,
+    by: End,
     client: u8,
     answer: Answer,
     pair: &Pair,
 ) -> Result<Told, NoMemory>
     requires { TellsPack answer }
-    ensures worn { (life : ℕ) → answer ≡ says.Worn life → IfOk result (λ told. told ≡ told_as.PackWorn up client life) }
+    ensures worn { (life : ℕ) → answer ≡ says.Worn life → IfOk result (λ told. told ≡ told_as.PackWorn by client life) }
     ensures made { (ping : Bool) (place : ℕ) (bytes : List ℕ) → answer ≡ says.Packed ping place
-        → newest (if up then pair.now.up else pair.now.down) ≡ Some bytes
-        → IfOk result (λ told. told ≡ told_as.Packed up client place ping bytes) }
+        → newest (sent_by by pair.now) ≡ Some bytes
+        → IfOk result (λ told. told ≡ told_as.Packed by client place (kind_made ping) bytes) }
 {
     match answer {
-        Answer::Worn { life } => Ok(Told::PackWorn { up, client, life }),
+        Answer::Worn { life } => Ok(Told::PackWorn { by, client, life }),
         Answer::Packed { ping, place } => packed(
             alloc,
             spare.take(),
-            up,
+            by,
             client,
             place,
-            ping,
-            pair.newest(!up),
+            kind_made(ping),
+            newest_by(pair, by),
         ),
         _ => unreachable!(),
     }
@@ -107,7 +131,7 @@ impl Seat {
     {
         self.pair.prepare(alloc)?;
         let answer = self.pair.pack(drains, values);
-        packed_by(alloc, &mut self.spare, false, client, answer, &self.pair)
+        packed_by(alloc, &mut self.spare, End::Server, client, answer, &self.pair)
     }
 
     /// The client makes its next datagram.
@@ -120,6 +144,6 @@ impl Seat {
     {
         self.pair.prepare(alloc)?;
         let answer = self.pair.step(&PairStep::ClientPack);
-        packed_by(alloc, &mut self.spare, true, client, answer, &self.pair)
+        packed_by(alloc, &mut self.spare, End::Client, client, answer, &self.pair)
     }
 }

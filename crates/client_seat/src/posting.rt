@@ -11,29 +11,29 @@ ghost use Rattle.own_lists.specs.Course.{with_step};
 ghost use Rattle.client_seat.specs.Told.{post_told, client_post_told, move_told};
 
 use crate::seat::Seat;
-use match_report::Told;
+use match_report::{End, Told};
 use own_lists::pair_core::{Answer, PairStep};
 use tn_types::{Class, Move, Payload};
 
 /// What is told of a post, by its answer.
-fn posted(up: bool, client: u8, answer: Answer) -> Told
+fn posted(by: End, client: u8, answer: Answer) -> Told
     requires { TellsPost answer }
-    ensures guaranteed { (r : Result ℕ PostFault) → answer ≡ post_answer r → result ≡ told_as.Post up client r }
-    ensures loose { (dropped : Option (List ℕ)) → answer ≡ says.Loose dropped → result ≡ told_as.PostLoose up client dropped }
+    ensures guaranteed { (r : Result ℕ PostFault) → answer ≡ post_answer r → result ≡ told_as.Post by client r }
+    ensures loose { (dropped : Option (List ℕ)) → answer ≡ says.Loose dropped → result ≡ told_as.PostLoose by client dropped }
 {
     match answer {
         Answer::Posted { number } => Told::Post {
-            up,
+            by,
             client,
             number: Ok(number),
         },
         Answer::PostRefused(fault) => Told::Post {
-            up,
+            by,
             client,
             number: Err(fault),
         },
         Answer::Loose { dropped } => Told::PostLoose {
-            up,
+            by,
             client,
             dropped,
         },
@@ -70,7 +70,7 @@ impl Seat {
         ensures keeping { self.new.pair.keeps_all ≡ self.old.pair.keeps_all }
     {
         let answer = self.pair.step(&PairStep::Post { class, payload });
-        posted(false, client, answer)
+        posted(End::Server, client, answer)
     }
 
     /// The client posts an event.
@@ -81,7 +81,7 @@ impl Seat {
         ensures keeping { self.new.pair.keeps_all ≡ self.old.pair.keeps_all }
     {
         let answer = self.pair.step(&PairStep::ClientPost { class, payload });
-        posted(true, client, answer)
+        posted(End::Client, client, answer)
     }
 
     /// The client samples a move of its player.

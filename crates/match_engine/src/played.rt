@@ -49,10 +49,10 @@ pub(crate) fn let_go(told: &mut Option<Told>, game: &mut Game)
     }
     if let Some(
         Told::Packed {
-            up: _,
+            by: _,
             client,
             place: _,
-            ping: _,
+            kind: _,
             bytes,
         },
     ) = told.take()

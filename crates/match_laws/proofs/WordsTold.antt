@@ -15,6 +15,8 @@ use Rattle.event_manager.specs.declared.sender.PostFault.TheVariants as post_ref
 use Rattle.event_manager.specs.Posted.{guaranteed_of}
 use Rattle.match_script.specs.Text.{words_of}
 use Rattle.match_script.specs.Print.{hex_word}
+use Rattle.match_report.specs.declared.told.End.{End}
+use Rattle.match_report.specs.declared.told.End.TheVariants.{Server, Client}
 use Rattle.match_report.specs.declared.told.Way.TheVariants as way
 use Rattle.match_report.specs.declared.told.Told.TheVariants as told_as
 use Rattle.match_report.specs.Text.{hex_text, event_word, arrival_words, posted_text, told_text}
@@ -155,11 +157,11 @@ behind-client : (c : ℕ) (text : List ℕ) → words_of (decimal c ++ codes " "
 behind-client c text =
     ap words_of (append_assoc (decimal c) (codes " ") text) ∙ word_cut (decimal c) text ∙ ap (λ l. l ++ words_of text) (word_alone (decimal c) (solid_decimal c))
 
-third : (up : Bool) (c : ℕ) (result : Result ℕ PostFault)
-    → slice_index_or (words_of (told_text (told_as.Post up c result))) 2 [] ≡ slice_index_or (words_of (posted_text result)) 0 []
-third false c result =
+third : (by : End) (c : ℕ) (result : Result ℕ PostFault)
+    → slice_index_or (words_of (told_text (told_as.Post by c result))) 2 [] ≡ slice_index_or (words_of (posted_text result)) 0 []
+third Server c result =
     ap (λ l. slice_index_or l 2 []) (post-first (decimal c ++ codes " " ++ posted_text result) ∙ ap (λ l. codes "post" ∷ l) (behind-client c (posted_text result)))
-third true c result =
+third Client c result =
     ap (λ l. slice_index_or l 2 []) (client-post-first (decimal c ++ codes " " ++ posted_text result) ∙ ap (λ l. codes "cpost" ∷ l) (behind-client c (posted_text result)))
 
 first-word : (result : Result ℕ PostFault) → bytes_eq (slice_index_or (words_of (posted_text result)) 0 []) (codes "g") ≡ is_ok result
@@ -169,8 +171,8 @@ first-word (Err (post_refused.Worn life)) = refl
 first-word (Err (post_refused.Full first last)) = refl
 
 -- the line has a number exactly where the post was not refused
-numbered : (up : Bool) (c : ℕ) (result : Result ℕ PostFault) → is_numbered (told_text (told_as.Post up c result)) ≡ is_ok result
-numbered up c result = ap (λ w. bytes_eq w (codes "g")) (third up c result) ∙ first-word result
+numbered : (by : End) (c : ℕ) (result : Result ℕ PostFault) → is_numbered (told_text (told_as.Post by c result)) ≡ is_ok result
+numbered by c result = ap (λ w. bytes_eq w (codes "g")) (third by c result) ∙ first-word result
 
 -- the events of a list, as a script spells them
 abbrev pub script_words : List (List ℕ) → List (List ℕ)
@@ -180,10 +182,10 @@ abbrev pub if_numbered : Bool → List ℕ → List (List ℕ)
 if_numbered b v = if b then hex_word v ∷ [] else []
 
 pub server_post_adds : (t : Terms) (s : List ServerEvent) (c : ℕ) (v : List ℕ)
-    → script_words (posted_at (server_end s)) ++ if_numbered (is_numbered (told_text (told_as.Post false c (posted_at_server t.config s)))) v
+    → script_words (posted_at (server_end s)) ++ if_numbered (is_numbered (told_text (told_as.Post Server c (posted_at_server t.config s)))) v
     ≡ script_words (posted_at (server_end (server_posts t.config Guaranteed v s)))
 server_post_adds t s c v =
-    ap (λ b. script_words (posted_at (server_end s)) ++ if_numbered b v) (numbered false c (posted_at_server t.config s))
+    ap (λ b. script_words (posted_at (server_end s)) ++ if_numbered b v) (numbered Server c (posted_at_server t.config s))
     ∙ go (is_ok (posted_at_server t.config s))
   where
     go : (b : Bool) → script_words (posted_at (server_end s)) ++ if_numbered b v
@@ -192,10 +194,10 @@ server_post_adds t s c v =
     go false = append-nil (script_words (posted_at (server_end s)))
 
 pub client_post_adds : (t : Terms) (u : List ClientEvent) (c : ℕ) (v : List ℕ)
-    → script_words (posted_at (client_end u)) ++ if_numbered (is_numbered (told_text (told_as.Post true c (posted_at_client t.config u)))) v
+    → script_words (posted_at (client_end u)) ++ if_numbered (is_numbered (told_text (told_as.Post Client c (posted_at_client t.config u)))) v
     ≡ script_words (posted_at (client_end (client_posts t.config Guaranteed v u)))
 client_post_adds t u c v =
-    ap (λ b. script_words (posted_at (client_end u)) ++ if_numbered b v) (numbered true c (posted_at_client t.config u))
+    ap (λ b. script_words (posted_at (client_end u)) ++ if_numbered b v) (numbered Client c (posted_at_client t.config u))
     ∙ go (is_ok (posted_at_client t.config u))
   where
     go : (b : Bool) → script_words (posted_at (client_end u)) ++ if_numbered b v

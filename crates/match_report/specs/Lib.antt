@@ -1,3 +1,4 @@
 pub mod Drafts
+pub mod Groups
 pub mod Replays
 pub mod Text

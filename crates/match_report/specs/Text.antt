@@ -6,6 +6,8 @@ use Rattle.std.specs.Fmt.{decimal, signed_decimal}
 use Rattle.hex.specs.Hex.{encode_lower}
 use Rattle.tn_types.specs.declared.choices.Class.{Class}
 use Rattle.tn_types.specs.declared.choices.Class.TheVariants.{Guaranteed, Loose}
+use Rattle.tn_types.specs.declared.choices.PacketKind.{PacketKind}
+use Rattle.tn_types.specs.declared.choices.PacketKind.TheVariants.{Ping, Body}
 use Rattle.event_manager.specs.declared.sender.PostFault.{PostFault}
 use Rattle.event_manager.specs.Said.{post_fault_text}
 use Rattle.move_manager.specs.declared.faults.MoveFault.{MoveFault}
@@ -15,6 +17,8 @@ use Rattle.world_rules.specs.Kinds.{kind_word}
 use Rattle.match_report.specs.declared.living.LivingObject.{LivingObject}
 use Rattle.match_report.specs.declared.copies.FieldTold.{FieldTold}
 use Rattle.match_report.specs.declared.copies.CopyTold.{CopyTold}
+use Rattle.match_report.specs.declared.told.End.{End}
+use Rattle.match_report.specs.declared.told.End.TheVariants.{Server, Client}
 use Rattle.match_report.specs.declared.told.Way.{Way}
 use Rattle.match_report.specs.declared.told.Way.TheVariants.{Down, Up, Raw}
 use Rattle.match_report.specs.declared.told.EventTold.{EventTold}
@@ -27,13 +31,13 @@ abbrev pub hex_text : List ℕ → List ℕ
 hex_text bytes = if length bytes == 0 then codes "-" else encode_lower bytes
 
 -- `c` in front of what a client does
-abbrev pub end_word : Bool → List ℕ
-end_word true = codes "c"
-end_word false = codes ""
+abbrev pub end_word : End → List ℕ
+end_word Server = codes ""
+end_word Client = codes "c"
 
-abbrev pub ping_word : Bool → List ℕ
-ping_word true = codes " ping "
-ping_word false = codes " data "
+abbrev pub packet_word : PacketKind → List ℕ
+packet_word Ping = codes " ping "
+packet_word Body = codes " data "
 
 abbrev pub class_word : Class → List ℕ
 class_word Guaranteed = codes "g"
@@ -105,11 +109,11 @@ came_text Up moves events = codes " " ++ decimal moves ++ flat_map event_word ev
 came_text Raw moves events = codes " " ++ decimal moves ++ flat_map event_word events
 
 abbrev pub told_text : Told → List ℕ
-told_text (Post up c number) = end_word up ++ codes "post " ++ decimal c ++ codes " " ++ posted_text number
-told_text (PostLoose up c dropped) = end_word up ++ codes "post " ++ decimal c ++ codes " " ++ dropped_text dropped
-told_text (Packed up c place ping bytes) =
-    end_word up ++ two_numbers (codes "pack ") c place ++ ping_word ping ++ hex_text bytes
-told_text (PackWorn up c life) = end_word up ++ codes "pack " ++ decimal c ++ codes " worn " ++ decimal life
+told_text (Post by c number) = end_word by ++ codes "post " ++ decimal c ++ codes " " ++ posted_text number
+told_text (PostLoose by c dropped) = end_word by ++ codes "post " ++ decimal c ++ codes " " ++ dropped_text dropped
+told_text (Packed by c place kind bytes) =
+    end_word by ++ two_numbers (codes "pack ") c place ++ packet_word kind ++ hex_text bytes
+told_text (PackWorn by c life) = end_word by ++ codes "pack " ++ decimal c ++ codes " worn " ++ decimal life
 told_text (Moved c number) = codes "move " ++ decimal c ++ codes " " ++ moved_text number
 told_text (Came way c k moves events) = arrival_words way c k ++ codes "ok" ++ came_text way moves events
 told_text (NotSent way c k sent) = arrival_words way c k ++ codes "notsent " ++ decimal sent

@@ -8,7 +8,16 @@ use move_manager::MoveFault;
 use std::alloc::Global;
 use std::marker::Model;
 use stream_manager::{ArriveFault, ClientFault};
-use tn_types::{Class, NoMemory, Payload, RawBytes};
+use tn_types::{Class, NoMemory, PacketKind, Payload, RawBytes};
+
+/// An end of a connection.
+#[derive(Clone, Copy, Debug, PartialEq, Eq)]
+pub enum End {
+    /// It shows objects, and sends what they are.
+    Server,
+    /// It has copies of what it was sent, and sends moves.
+    Client,
+}
 
 /// How a datagram came.
 #[derive(Clone, Copy, Debug, PartialEq, Eq)]
@@ -95,30 +104,29 @@ pub enum Told {
         nears: usize,
         shows: usize,
     },
-    /// A guaranteed event was posted at the server, or `up` at the client, or was refused.
+    /// A guaranteed event was posted at an end, or was refused.
     Post {
-        up: bool,
+        by: End,
         client: u8,
         number: Result<u32, PostFault>,
     },
-    /// An unguaranteed event was posted at the server, or `up` at the client, where the oldest waiting one may have been
-    /// dropped.
+    /// An unguaranteed event was posted at an end, where the oldest waiting one may have been dropped.
     PostLoose {
-        up: bool,
+        by: End,
         client: u8,
         dropped: Option<Payload>,
     },
-    /// The server, or `up` the client, made its datagram number `place` (from 0).
+    /// An end made its datagram number `place` (from 0).
     Packed {
-        up: bool,
+        by: End,
         client: u8,
         place: u32,
-        ping: bool,
+        kind: PacketKind,
         bytes: RawBytes,
     },
     /// A pack made nothing: as many data packets as the connection's life were sent.
     PackWorn {
-        up: bool,
+        by: End,
         client: u8,
         life: u32,
     },

@@ -342,10 +342,10 @@ impl<'a> Server<'a> {
     {
         if let Some(
             Told::Packed {
-                up: _,
+                by: _,
                 client: _,
                 place: _,
-                ping: _,
+                kind: _,
                 bytes,
             },
         ) = self.game.told()

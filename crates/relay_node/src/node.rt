@@ -239,10 +239,10 @@ impl<'a> Node<'a> {
         ensures keeps { Keeps self.old self.new }
     {
         if let Told::Packed {
-            up: _,
+            by: _,
             client,
             place: _,
-            ping: _,
+            kind: _,
             bytes,
         } = told
         {

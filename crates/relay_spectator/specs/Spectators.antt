@@ -44,7 +44,7 @@ payloads_of events = filter_map (λ event. guaranteed_payload event.class event.
 
 -- it tells that a post was refused
 abbrev pub is_refused : Option Told → Bool
-is_refused (Some (told_as.Post up c number)) = not (is_ok number)
+is_refused (Some (told_as.Post by c number)) = not (is_ok number)
 is_refused other = false
 
 -- what a spectator's lines tell, by what it met before

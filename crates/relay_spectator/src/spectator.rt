@@ -43,7 +43,7 @@ fn is_refused(told: &Option<Told>) -> bool
     match told {
         Some(
             Told::Post {
-                up: _,
+                by: _,
                 client: _,
                 number,
             },
