@@ -12,9 +12,7 @@ use crate::seat::Seat;
 use match_report::{End, Told};
 use own_lists::pair_core::{Answer, Pair, PairStep};
 use std::alloc::Global;
-use tn_types::{
-    Drain, MAX_DATAGRAM_BYTES, MAX_DATAGRAMS, NoMemory, PacketKind, RawBytes, Values,
-};
+use tn_types::{Drain, MAX_DATAGRAM_BYTES, MAX_DATAGRAMS, NoMemory, PacketKind, RawBytes, Values};
 
 // These bytes, in room that was given back if there is any.
 fn refilled(alloc: Global, spare: Option<RawBytes>, bytes: &[u8]) -> Result<RawBytes, NoMemory>
@@ -131,7 +129,14 @@ impl Seat {
     {
         self.pair.prepare(alloc)?;
         let answer = self.pair.pack(drains, values);
-        packed_by(alloc, &mut self.spare, End::Server, client, answer, &self.pair)
+        packed_by(
+            alloc,
+            &mut self.spare,
+            End::Server,
+            client,
+            answer,
+            &self.pair,
+        )
     }
 
     /// The client makes its next datagram.
@@ -144,6 +149,13 @@ impl Seat {
     {
         self.pair.prepare(alloc)?;
         let answer = self.pair.step(&PairStep::ClientPack);
-        packed_by(alloc, &mut self.spare, End::Client, client, answer, &self.pair)
+        packed_by(
+            alloc,
+            &mut self.spare,
+            End::Client,
+            client,
+            answer,
+            &self.pair,
+        )
     }
 }
