@@ -13,19 +13,20 @@ use Rattle.pair_steps.specs.Steps.{shows_in, is_hidden_in, up_in, traits_in}
 use Rattle.own_lists.specs.Own.{OwnShow, OwnWrite}
 use Rattle.own_lists.specs.Course.{Course, onto, hide_step, near_step, scan_steps, with_steps}
 use Rattle.own_lists.specs.Kept.{Kept, begins, all_begin, wrote, wrote_all, with_course, undrained}
+use Rattle.own_items.proofs.Below.match_engine.Rising.{in_turn, has_up}
 use Rattle.own_lists.proofs.ScanFacts.{RiseTo, below_rising}
 use Rattle.own_lists.proofs.ScanChanges.{has, has_not}
 use Rattle.own_lists.proofs.Standing.{onto_on, shows_hides, hidden_hides, traits_hides, up_hides, shows_nears, hidden_nears, up_nears, traits_nears, all_weaker}
 use Rattle.alone_server.specs.declared.periods.OwnPeriod.{OwnPeriod}
 use Rattle.alone_server.specs.Periods.{numbers, Rise, period_in, HasField, is_among, drain_of, unwritten, Table, IsHeld, Holds, MayWrite}
-use Rattle.alone_server.proofs.Numbers.{up_rises, in_turn, has_up}
+use Rattle.alone_server.proofs.Numbers.{up_rises}
 
 -- the numbers rise
 pub holds_rise : (x : Table) (k : Kept) → Holds x k → RiseTo 0 x.shows (numbers x.periods)
 holds_rise x k h = rw (h.numbers, h.shows) (up_rises k.course.steps)
 
 pub holds_rising : (x : Table) (k : Kept) → Holds x k → Rise x.periods
-holds_rising x k h = in_turn 0 x.shows x.periods (holds_rise x k h)
+holds_rising x k h = in_turn (λ (p : OwnPeriod). p.n) 0 x.shows x.periods (holds_rise x k h)
 
 -- where nothing that is held of periods is another thing
 pub held_same : (k j : Kept) → ((n : ℕ) → (traits_in j.course.steps n).kind ≡ (traits_in k.course.steps n).kind)

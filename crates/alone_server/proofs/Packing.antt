@@ -33,7 +33,7 @@ use Rattle.alone_server.specs.declared.periods.OwnPeriod.{OwnPeriod}
 use Rattle.alone_server.specs.Periods.{numbers, Rise, period_in, drain_of, left_by, Table, IsHeld, Holds}
 use Rattle.alone_server.specs.Values.{range_of, range_in, ranges, IsOwnRead}
 use Rattle.alone_server.specs.Stands.{counted_in, Serves}
-use Rattle.alone_server.proofs.Numbers.{has_up}
+use Rattle.own_items.proofs.Below.match_engine.Rising.{has_up}
 use Rattle.alone_server.proofs.Holding.{held_in, holds_same, holds_rising, holds_drained, undrained_is}
 use Rattle.alone_server.proofs.Sending.{few_down}
 

@@ -33,103 +33,31 @@ use Rattle.own_lists.specs.Kept.{Kept, after_line, follows, kept, journal}
 use Rattle.own_lists.specs.declared.showing.Showing.{Showing}
 use Rattle.own_lists.proofs.KeptValues.{wrote_course}
 use Rattle.own_lists.proofs.Meeting.{scan_journal}
-use Rattle.own_lists.proofs.Counting.{sent_down, sent_up, step_down, step_up}
+use Rattle.own_lists.proofs.Counting.{sent_down, sent_up, sends_most, item_sends}
 use Rattle.alone_server.specs.Stands.{is_counted, counted_in}
 
--- ---- steps that send nothing
+-- ---- datagrams
 
-server-posts : (t : Terms) (class : Class) (v : List ℕ) (s : List ServerEvent)
-    → server_datagrams t (server_posts t.config class v s) ≡ server_datagrams t s
-server-posts t Loose v s = refl
-server-posts t Guaranteed v s = go (is_ok (posted_at_server t.config s))
-  where
-    go : (b : Bool) → server_datagrams t (if b then server_log.Posted Guaranteed v ∷ s else s) ≡ server_datagrams t s
-    go true = refl
-    go false = refl
+abbrev count_of : OwnItem → ℕ
+count_of item = if is_counted item then 1 else 0
 
-client-posts : (c : Config) (class : Class) (v : List ℕ) (u : List ClientEvent)
-    → client_datagrams c (client_posts c class v u) ≡ client_datagrams c u
-client-posts c Loose v u = refl
-client-posts c Guaranteed v u = go (is_ok (posted_at_client c u))
-  where
-    go : (b : Bool) → client_datagrams c (if b then client_log.Posted Guaranteed v ∷ u else u) ≡ client_datagrams c u
-    go true = refl
-    go false = refl
-
-client-samples : (c : Config) (m : Move) (u : List ClientEvent) → client_datagrams c (client_samples c m u) ≡ client_datagrams c u
-client-samples c m u = go (is_ok (sampled_answer c u))
-  where
-    go : (b : Bool) → client_datagrams c (if b then client_log.Sampled m ∷ u else u) ≡ client_datagrams c u
-    go true = refl
-    go false = refl
+sends_counted : (item : OwnItem) → sends_most item ≤ count_of item
+sends_counted (Line script.Tick) = omega arith
+sends_counted (Line (script.Scan c)) = omega arith
+sends_counted (Line (script.Pack c)) = omega arith
+sends_counted (Line (script.ClientPack c)) = omega arith
+sends_counted (Line (script.Post c class v)) = omega arith
+sends_counted (Line (script.ClientPost c class v)) = omega arith
+sends_counted (Line (script.Down c k)) = omega arith
+sends_counted (Line (script.Up c k)) = omega arith
+sends_counted (Line (script.Raw c bytes)) = omega arith
+sends_counted (Line (script.Move c m)) = omega arith
+sends_counted (Line (script.Show c)) = omega arith
+sends_counted (Line script.World) = omega arith
+sends_counted (Scan hides nears shows) = omega arith
+sends_counted (Tick writes taken) = omega arith
 
 module _ (t : Terms) where
-  -- so many more are sent at the most
-  record SendsMost (most : ℕ) (old new : List PairStep) : Type 0 where
-    pub down : sent_down t new ≤ most + sent_down t old
-    pub up : sent_up t new ≤ most + sent_up t old
-
-  sends_none : (old new : List PairStep) → sent_down t new ≡ sent_down t old → sent_up t new ≡ sent_up t old → SendsMost 0 old new
-  sends_none old new d u = record { down = omega (arith, d); up = omega (arith, u) }
-
-  sends_one : (step : PairStep) (steps : List PairStep) → SendsMost 1 steps (step ∷ steps)
-  sends_one step steps = record { down = omega (arith, step_down t step steps); up = omega (arith, step_up t step steps) }
-
-  abbrev count_of : OwnItem → ℕ
-  count_of item = if is_counted item then 1 else 0
-
-  line_sends : (line : BodyLine) (k : Kept) → SendsMost (count_of (Line line)) k.course.steps (after_line t line k).course.steps
-  line_sends script.Tick k = sends_none k.course.steps k.course.steps refl refl
-  line_sends (script.Scan c) k = sends_none k.course.steps k.course.steps refl refl
-  line_sends (script.Show c) k = sends_none k.course.steps k.course.steps refl refl
-  line_sends script.World k = sends_none k.course.steps k.course.steps refl refl
-  line_sends (script.Pack c) k = sends_one _ k.course.steps
-  line_sends (script.ClientPack c) k = sends_one _ k.course.steps
-  line_sends (script.Post c class v) k =
-      sends_none k.course.steps _ (ap length (server-posts t class v (history t k.course.steps).server)) refl
-  line_sends (script.ClientPost c class v) k =
-      sends_none k.course.steps _ refl (ap length (client-posts t.config class v (history t k.course.steps).client))
-  line_sends (script.Move c m) k =
-      sends_none k.course.steps _ refl (ap length (client-samples t.config m (history t k.course.steps).client))
-  line_sends (script.Down c place) k =
-      let h = history t k.course.steps in
-      sends_none k.course.steps _ refl (ap length (gets_sends_up t (slice_get (server_datagrams t h.server) place) h.client))
-  line_sends (script.Up c place) k =
-      let h = history t k.course.steps in
-      sends_none k.course.steps _ (ap length (gets_sends_down t _ (slice_get (client_datagrams t.config h.client) place) h.server)) refl
-  line_sends (script.Raw c bytes) k =
-      sends_none k.course.steps _ (ap length (gets_sends_down t _ (Some bytes) (history t k.course.steps).server)) refl
-
-  -- ---- a scan sends none
-
-  record SendNone (more : List PairStep) : Type 0 where
-    pub down : (steps : List PairStep) → sent_down t (onto more steps) ≡ sent_down t steps
-    pub up : (steps : List PairStep) → sent_up t (onto more steps) ≡ sent_up t steps
-
-  shows-send-none : (shows : List Showing) → SendNone (map show_step shows)
-  shows-send-none [] = record { down = λ steps. refl; up = λ steps. refl }
-  shows-send-none (s ∷ shows) =
-      let r = shows-send-none shows in record { down = λ steps. r.down (show_step s ∷ steps); up = λ steps. r.up (show_step s ∷ steps) }
-
-  nears-send-none : (nears : List NearPeriod) (shows : List Showing) → SendNone (map near_step nears ++ map show_step shows)
-  nears-send-none [] shows = shows-send-none shows
-  nears-send-none (p ∷ nears) shows =
-      let r = nears-send-none nears shows in record { down = λ steps. r.down (near_step p ∷ steps); up = λ steps. r.up (near_step p ∷ steps) }
-
-  scan-sends-none : (hides : List ℕ) (nears : List NearPeriod) (shows : List Showing) → SendNone (scan_steps hides nears shows)
-  scan-sends-none [] nears shows = nears-send-none nears shows
-  scan-sends-none (n ∷ hides) nears shows =
-      let r = scan-sends-none hides nears shows in record { down = λ steps. r.down (hide_step n ∷ steps); up = λ steps. r.up (hide_step n ∷ steps) }
-
-  item_sends : (item : OwnItem) (k : Kept) → SendsMost (count_of item) k.course.steps (follows t item k).course.steps
-  item_sends (Line line) k = line_sends line k
-  item_sends (Scan hides nears shows) k =
-      let r = scan-sends-none hides nears (map (λ (s : OwnShow). s.how) shows) in
-      subst (SendsMost 1 k.course.steps) (sym (scan_journal hides nears shows k))
-      (record { down = omega (arith, r.down k.course.steps); up = omega (arith, r.up k.course.steps) })
-  item_sends (Tick writes taken) k =
-      subst (λ c. SendsMost 0 k.course.steps c.steps) (sym (wrote_course t writes k)) (sends_none k.course.steps k.course.steps refl refl)
-
   counted_more : (item : OwnItem) (items : List OwnItem) → counted_in (item ∷ items) ≡ count_of item + counted_in items
   counted_more item items = go (is_counted item)
     where
@@ -139,11 +67,11 @@ module _ (t : Terms) where
 
   pub few_down : (items : List OwnItem) → sent_down t (journal t items) ≤ counted_in items
   few_down [] = omega arith
-  few_down (item ∷ items) = omega (arith, few_down items, (item_sends item (kept t items)).down, counted_more item items)
+  few_down (item ∷ items) = omega (arith, few_down items, (item_sends t item (kept t items)).down, sends_counted item, counted_more item items)
 
   pub few_up : (items : List OwnItem) → sent_up t (journal t items) ≤ counted_in items
   few_up [] = omega arith
-  few_up (item ∷ items) = omega (arith, few_up items, (item_sends item (kept t items)).up, counted_more item items)
+  few_up (item ∷ items) = omega (arith, few_up items, (item_sends t item (kept t items)).up, sends_counted item, counted_more item items)
 
   -- ---- accepted moves
 

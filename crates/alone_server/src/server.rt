@@ -138,11 +138,11 @@ impl AloneServer {
         ensures told { IfOk result (Tells self.old (item_of item.now)) }
     {
         self.counted += AloneServer::count_of(item);
-        self.serve(alloc, item)
+        self.feed_uncounted(alloc, item)
     }
 
     // The same without the count.
-    fn serve(&mut self, alloc: Global, item: &OwnItem) -> Result<Option<Told>, NoMemory>
+    fn feed_uncounted(&mut self, alloc: Global, item: &OwnItem) -> Result<Option<Told>, NoMemory>
         requires { MayServe self.old (item_of item.now) }
         ensures goes { OnOk result (Goes self.old (item_of item.now) self.new) }
         ensures counted { self.new.counted ≡ self.old.counted }

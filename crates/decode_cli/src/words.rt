@@ -115,39 +115,44 @@ fn read_version(word: &str) -> Result<u8, Refusal> {
     }
 }
 
+/// An option that was named: the next word says what it is to be.
+#[derive(Clone, Copy, Debug, PartialEq, Eq)]
+enum Named {
+    Version,
+    Held,
+}
+
 /// Reads the options among the words from this place on.
 fn read_options(words: &[String], from: usize) -> Result<Options, Refusal> {
     let mut read = Options {
         version: 1,
         slots: Slots::new(),
     };
-    let mut asked = None;
+    let mut named = None;
     for place in from..words.len() {
         let word = words[place].as_str();
-        match asked {
+        match named {
             None => {
-                if word == "--version" {
-                    asked = Some(true);
-                } else if word == "--held" {
-                    asked = Some(false);
-                } else {
-                    return Err(Refusal::NoOption);
-                }
+                named = match word {
+                    "--version" => Some(Named::Version),
+                    "--held" => Some(Named::Held),
+                    _ => return Err(Refusal::NoOption),
+                };
             }
-            Some(is_version) => {
-                if is_version {
-                    read.version = read_version(word)?;
-                } else {
-                    read_held(word, &mut read.slots)?;
-                }
-                asked = None;
+            Some(Named::Version) => {
+                read.version = read_version(word)?;
+                named = None;
+            }
+            Some(Named::Held) => {
+                read_held(word, &mut read.slots)?;
+                named = None;
             }
         }
     }
-    match asked {
+    match named {
         None => Ok(read),
-        Some(true) => Err(Refusal::NoVersion),
-        Some(false) => Err(Refusal::NoHeld),
+        Some(Named::Version) => Err(Refusal::NoVersion),
+        Some(Named::Held) => Err(Refusal::NoHeld),
     }
 }
 

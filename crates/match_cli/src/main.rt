@@ -49,8 +49,9 @@ fn serve_over_link<R: Net + SystemTimes, K: Sink>(
     top_net(alloc, words, &mut link, &mut clock, sink)
 }
 
-/// Serves the words: `threads` in threads, `serve` and `join` over a link, and all others on one thread, each by its own call.
-fn serve<R: Threads + Wait + Net + SystemTimes + Sync, S: Source, K: Sink>(
+/// Carries out what the words ask for: `threads` in threads, `serve` and `join` over a link, and all others on one thread, each by its
+/// own call.
+fn carry_out<R: Threads + Wait + Net + SystemTimes + Sync, S: Source, K: Sink>(
     rt: &R,
     alloc: Global,
     words: &Vec<String>,
@@ -76,7 +77,7 @@ fn main(rt: HostRuntime) -> ExitCode {
         Some(words) => {
             let mut source = StdSource::new(rt.reader());
             match BufWriter::with_capacity(rt.alloc(), GATHERED_BYTES, io::writer(&rt)) {
-                Ok(out) => serve(&rt, rt.alloc(), &words, &mut source, &mut StdSink::new(out)),
+                Ok(out) => carry_out(&rt, rt.alloc(), &words, &mut source, &mut StdSink::new(out)),
                 Err(_) => Status::NoMemory,
             }
         }

@@ -1,21 +1,19 @@
 -- The counts of a report. Each is a sum over the lines of the report, as values: what one line adds follows from what it
 -- tells alone.
-use Rattle.std.specs.Prelude.{◌≡◌, ℕ, Bool, true, false, ◌&&◌, not, ◌+◌, if◌then◌else◌, List, [], ◌∷◌, ◌++◌, length, reverse, sum_by, count_by}
+use Rattle.std.specs.Prelude.{◌≡◌, ℕ, Bool, true, false, ◌+◌, List, [], ◌∷◌, ◌++◌, length, reverse, sum_by, count_by}
 use Rattle.std.specs.List.{flat_map}
 use Rattle.tn_types.specs.declared.choices.Class.{Class}
 use Rattle.tn_types.specs.declared.choices.Class.TheVariants.{Guaranteed, Loose}
+use Rattle.tn_types.specs.declared.choices.PacketKind.TheVariants.{Ping, Body}
 use Rattle.match_script.specs.declared.types.BodyLine.{BodyLine}
 use Rattle.match_script.specs.declared.types.Head.{Head}
 use Rattle.match_script.specs.declared.types.Script.{Script}
-use Rattle.stream_manager.specs.declared.fault.ArriveFault.{ArriveFault}
-use Rattle.stream_manager.specs.declared.fault.ClientFault.{ClientFault}
 use Rattle.stream_manager.specs.declared.fault.ArriveFault.TheVariants as server
 use Rattle.stream_manager.specs.declared.fault.ClientFault.TheVariants as client
 use Rattle.match_report.specs.declared.told.Told.{Told}
 use Rattle.match_report.specs.declared.told.Told.TheVariants.{Packed, Came, ServerRefused, ClientRefused}
-use Rattle.match_report.specs.declared.told.Way.{Way}
+use Rattle.tn_types.specs.declared.choices.End.TheVariants.{Server, Client}
 use Rattle.match_report.specs.declared.told.Way.TheVariants.{Down, Up, Raw}
-use Rattle.match_report.specs.declared.told.EventTold.{EventTold}
 use Rattle.match_report.specs.Text.{report_line}
 use Rattle.match_engine.specs.match_laws.Report.{told_after, report}
 use Rattle.match_count.specs.declared.counts.Counts.{Counts}
@@ -37,66 +35,44 @@ TellingsAreReport = (s : Script) → flat_map report_line (tellings s) ≡ repor
 
 -- ---- what a line adds to each count
 
-abbrev pub one_if : Bool → ℕ
-one_if true = 1
-one_if false = 0
-
-abbrev pub is_down : Way → Bool
-is_down Down = true
-is_down Up = false
-is_down Raw = false
-
-abbrev pub is_up : Way → Bool
-is_up Down = false
-is_up Up = true
-is_up Raw = false
-
-abbrev pub is_old_at_server : ArriveFault → Bool
-is_old_at_server (server.Old seq horizon) = true
-is_old_at_server other = false
-
-abbrev pub is_old_at_client : ClientFault → Bool
-is_old_at_client (client.Old seq horizon) = true
-is_old_at_client other = false
-
 abbrev pub is_guaranteed : Class → Bool
 is_guaranteed Guaranteed = true
 is_guaranteed Loose = false
 
 -- `pack` lines that print `data`
 abbrev pub data_in : Told → ℕ
-data_in (Packed up c place ping bytes) = one_if (not up && not ping)
+data_in (Packed Server c place Body bytes) = 1
 data_in other = 0
 
 -- `pack` lines that print `ping`
 abbrev pub pings_in : Told → ℕ
-pings_in (Packed up c place ping bytes) = one_if (not up && ping)
+pings_in (Packed Server c place Ping bytes) = 1
 pings_in other = 0
 
 -- `down` lines that print `ok`
 abbrev pub down_in : Told → ℕ
-down_in (Came way c k moves events) = one_if (is_down way)
+down_in (Came Down c k moves events) = 1
 down_in other = 0
 
 -- `down` and `up` lines that print `old`
 abbrev pub old_in : Told → ℕ
-old_in (ServerRefused way c k fault) = one_if (is_up way && is_old_at_server fault)
-old_in (ClientRefused c k fault) = one_if (is_old_at_client fault)
+old_in (ServerRefused Up c k (server.Old seq horizon)) = 1
+old_in (ClientRefused c k (client.Old seq horizon)) = 1
 old_in other = 0
 
 -- words of guaranteed events on `down` lines
 abbrev pub events_in : Told → ℕ
-events_in (Came way c k moves events) = if is_down way then count_by (λ e. is_guaranteed e.class) events else 0
+events_in (Came Down c k moves events) = count_by (λ e. is_guaranteed e.class) events
 events_in other = 0
 
 -- the moves that `up` lines print behind `ok`
 abbrev pub moves_in : Told → ℕ
-moves_in (Came way c k moves events) = if is_up way then moves else 0
+moves_in (Came Up c k moves events) = moves
 moves_in other = 0
 
 -- bytes of the datagrams that `pack` lines print
 abbrev pub bytes_in : Told → ℕ
-bytes_in (Packed up c place ping bytes) = if up then 0 else length bytes
+bytes_in (Packed Server c place kind bytes) = length bytes
 bytes_in other = 0
 
 -- ---- the counts

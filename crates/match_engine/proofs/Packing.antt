@@ -43,7 +43,7 @@ use Rattle.match_laws.proofs.Below.own_lists.Agreeing.{own_lists_agree}
 use Rattle.match_laws.proofs.Below.own_lists.Meeting.{are_met, all_up, reads_forced}
 use Rattle.match_laws.proofs.Below.own_lists.Below.pair_steps.Journals.{up_from, up_to, kind_told}
 use Rattle.match_laws.proofs.Below.own_lists.ScanFacts.{AreShown, AreDifferent, IsNone, objects, numbers, shown_are_shown}
-use Rattle.match_laws.proofs.Below.own_lists.ScanChanges.{has, has_itself}
+use Rattle.match_laws.proofs.Below.own_lists.ScanChanges.{has}
 use Rattle.match_laws.proofs.Below.own_lists.WorldFacts.{scans_are_sights}
 use Rattle.match_laws.specs.client_seat.Stands.{SeatState, Packs, StandsFor as SeatStandsFor}
 use Rattle.match_laws.specs.client_seat.Told.{packed_told, pack_told}
@@ -55,7 +55,7 @@ use Rattle.match_engine.specs.Stands.{ClientHolds, IsMarked}
 use Rattle.match_engine.specs.Serving.{Serves, OthersStay, AreApart, marked}
 use Rattle.match_engine.specs.Values.{period_of, Rise, range_in, range_at, ranges, IsNewest}
 use Rattle.match_engine.proofs.Marks.{marked_is}
-use Rattle.match_engine.proofs.Rising.{in_turn}
+use Rattle.match_engine.proofs.Rising.{in_turn, has_up}
 use Rattle.match_engine.proofs.Fed.{own_few, own_line, more_lines}
 
 -- different objects, one by one
@@ -74,40 +74,6 @@ below_all most (q ∷ qs) h = (h.0, below_all most qs h.1)
 not_true : (b : Bool) → not b ≡ true → b ≡ false
 not_true true h = absurd (cc)
 not_true false h = refl
-
-has_front : (n : ℕ) (xs ys : List ℕ) → has n xs ≡ true → has n (xs ++ ys) ≡ true
-has_front n [] ys h = absurd (cc)
-has_front n (x ∷ xs) ys h = by (λ rest. has_front n xs ys rest) (x == n) h
-  where
-    by : (has n xs ≡ true → has n (xs ++ ys) ≡ true) → (b : Bool) → (b || has n xs) ≡ true → (b || has n (xs ++ ys)) ≡ true
-    by more true h = refl
-    by more false h = more h
-
-has_back : (n : ℕ) (xs ys : List ℕ) → has n ys ≡ true → has n (xs ++ ys) ≡ true
-has_back n [] ys h = h
-has_back n (x ∷ xs) ys h = by (has_back n xs ys h) (x == n)
-  where
-    by : has n (xs ++ ys) ≡ true → (b : Bool) → (b || has n (xs ++ ys)) ≡ true
-    by rest true = refl
-    by rest false = rest
-
-has_upto : (n m : ℕ) → n < m → has n (upto m) ≡ true
-unfolding upto
-has_upto n zero lt = absurd (omega (arith, lt))
-has_upto n (suc m) lt = elim (cases_eq n m) [
-  | inl same ↦ has_back n (upto m) (m ∷ []) (subst (λ j. has j (m ∷ []) ≡ true) (sym same) (has_itself m []))
-  | inr apart ↦ has_front n (upto m) (m ∷ []) (has_upto n m (omega (arith, lt, apart)))
-]
-
-has_filter : (n : ℕ) (p : ℕ → Bool) (xs : List ℕ) → p n ≡ true → has n xs ≡ true → has n (filter p xs) ≡ true
-has_filter n p [] good h = absurd (cc)
-has_filter n p (x ∷ xs) good h = by (λ rest. has_filter n p xs good rest) (x == n) refl (p x) refl h
-  where
-    by : (has n xs ≡ true → has n (filter p xs) ≡ true) → (b : Bool) → (x == n) ≡ b → (q : Bool) → p x ≡ q → (b || has n xs) ≡ true → has n (cond q (x ∷ filter p xs) (filter p xs)) ≡ true
-    by more true is true px h = ap (λ b. b || has n (filter p xs)) is
-    by more true is false px h = absurd (let same : x ≡ n = grind (arith, nat_tests) in let no : p n ≡ false = ap p (sym same) ∙ px in cc)
-    by more false is true px h = ap (λ b. b || has n (filter p xs)) is ∙ more h
-    by more false is false px h = more h
 
 -- the range of a field by its kind
 range_by : (o : Option Kind) (f : ℕ) (spec : FieldSpec) → slice_get (fields_in o) f ≡ Some spec → option_and_then (range_in f) o ≡ Some (spec.lo, spec.hi)
@@ -134,7 +100,7 @@ module _ (seat : SeatState) (scope : Table) (w : Worlds) (lanes : Words) (c : �
   are_shown = shown_are_shown ((after head past).scans c) (scans_are_sights head past c s.lines.fits)
 
   pub shown_rises : Rise scope.shown
-  shown_rises = subst Rise (sym s.holds.periods.shown) (in_turn 0 (length (periods ((after head past).scans c))) ps are_shown.rising)
+  shown_rises = subst Rise (sym s.holds.periods.shown) (in_turn (λ (p : ShownPeriod). p.n) 0 (length (periods ((after head past).scans c))) ps are_shown.rising)
 
   -- what the masks tell is what was written and not drained
   pub written_is : marked lanes c scope.shown ≡ undrained k
@@ -179,7 +145,7 @@ module _ (seat : SeatState) (scope : Table) (w : Worlds) (lanes : Words) (c : �
   pub shown_up : (n : ℕ) → IsUp (ghost_log (history t k.course.steps).server) n → has n (numbers ps) ≡ true
   shown_up n up =
       let told = up_from t k.course.steps n up in
-      ap (has n) (sym agreed.1.up) ∙ has_filter n (λ m. not (is_hidden_in k.course.steps m)) (upto (shows_in k.course.steps)) (ap not told.1) (has_upto n (shows_in k.course.steps) told.0)
+      ap (has n) (sym agreed.1.up) ∙ has_up k.course.steps n told.0 told.1
 
   pub in_ranges : HasRanges t (ghost_log (history t k.course.steps).server) (ranges w scope.shown)
   in_ranges n f spec up field =

@@ -1,5 +1,5 @@
 -- The tie between a match and the lines that were done, the newest first.
-use Rattle.std.specs.Prelude.{◌≡◌, true, ℕ, ◌<◌, ◌^◌, ◌-◌, List, length, slice_index_or}
+use Rattle.std.specs.Prelude.{◌≡◌, Bool, true, false, ℕ, ◌<◌, ◌^◌, ◌-◌, List, length, slice_index_or}
 use Rattle.std.specs.List.{All}
 use Rattle.tn_types.specs.Histories as histories
 use Rattle.tn_types.specs.declared.limits.TheConstants.{MAX_OBJECTS, MAX_CLIENTS}
@@ -18,6 +18,8 @@ use Rattle.match_laws.specs.own_lists.Kept.{Kept}
 use Rattle.match_laws.specs.own_lists.Past.{client_terms, kept_by, after}
 use Rattle.match_laws.specs.own_lists.Agreement.{AreLines}
 use Rattle.match_laws.specs.client_seat.Stands.{SeatState, StandsFor as SeatStandsFor}
+use Rattle.match_engine.specs.declared.game.Keeps.{Keeps}
+use Rattle.match_engine.specs.declared.game.Keeps.TheVariants as keeping
 
 pub record GameState : Type 0 where
   pub head : Head
@@ -70,6 +72,10 @@ IsDirect line = Unit {0}
 abbrev pub IsDown : BodyLine → Type 0
 IsDown (script.Down c k) = Unit {0}
 IsDown line = ⊥
+
+abbrev pub keeps_all : Keeps → Bool
+keeps_all keeping.All = true
+keeps_all keeping.Newest = false
 
 -- each connection keeps every datagram that its server sent
 abbrev pub KeepAll : List SeatState → Type 0

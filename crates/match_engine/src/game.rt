@@ -9,6 +9,7 @@ ghost use Rattle.match_script.specs.Named.{client_named};
 ghost use Rattle.match_laws.specs.own_lists.Course.{beginning};
 ghost use Rattle.match_laws.specs.own_lists.Past.{client_terms};
 ghost use Rattle.match_laws.specs.client_seat.Stands.{SeatState, StandsFor as SeatStandsFor};
+ghost use Rattle.match_engine.specs.Stands.{keeps_all};
 
 use crate::lanes::raise_all;
 use crate::lines::line_on;
@@ -64,6 +65,15 @@ impl<'a> Model for Game<'a> {
     } };
 }
 
+/// Which datagrams of its server a connection keeps.
+#[derive(Clone, Copy, Debug, PartialEq, Eq)]
+pub(crate) enum Keeps {
+    /// All, for lines `down`.
+    All,
+    /// The newest alone: the others were handed on.
+    Newest,
+}
+
 // 1 for a line of those that are counted.
 fn counted(line: &BodyLine) -> u32
     ensures value { result ≡ counted line.now }
@@ -78,34 +88,33 @@ fn counted(line: &BodyLine) -> u32
     }
 }
 
-// A connection, which keeps each datagram or hands it on.
+// A connection, which keeps these datagrams.
 fn seat_of(
     alloc: Global,
     config: Config,
     kinds: &KindTable,
     blocks: &[BlockBytes],
-    keeps_all: bool,
+    keeps: Keeps,
 ) -> Result<Seat, NoMemory>
     requires config { IsConfig config }
     requires few { length blocks.now ≤ MAX_BLOCKS }
     ensures stands { IfOk result
         (λ s. SeatStandsFor s (record { config = config; kinds = kinds.now; blocks = blocks.now }) beginning) }
-    ensures keeps { IfOk result (λ s. s.pair.keeps_all ≡ keeps_all) }
+    ensures keeps { IfOk result (λ s. s.pair.keeps_all ≡ keeps_all keeps) }
 {
-    if keeps_all {
-        Seat::new(alloc, config, kinds, blocks)
-    } else {
-        Seat::passing(alloc, config, kinds, blocks)
+    match keeps {
+        Keeps::All => Seat::new(alloc, config, kinds, blocks),
+        Keeps::Newest => Seat::passing(alloc, config, kinds, blocks),
     }
 }
 
 // The connection of each client.
-fn seats_of(alloc: Global, head: &Head, keeps_all: bool) -> Result<Vec<Seat>, NoMemory>
+fn seats_of(alloc: Global, head: &Head, keeps: Keeps) -> Result<Vec<Seat>, NoMemory>
     requires { HeadFits head.now }
     ensures stands { IfOk result (λ seats. (length seats.items ≡ head.now.clients) × ((c : ℕ) (d : SeatState) → c < head.now.clients
         → SeatStandsFor (slice_index_or seats.items c d) (client_terms head.now c) beginning)) }
     ensures keeps { IfOk result (λ seats. (c : ℕ) (d : SeatState) → c < head.now.clients
-        → (slice_index_or seats.items c d).pair.keeps_all ≡ keeps_all) }
+        → (slice_index_or seats.items c d).pair.keeps_all ≡ keeps_all keeps) }
 {
     let kinds = match_kinds();
     let mut seats = Vec::new(alloc);
@@ -116,7 +125,7 @@ fn seats_of(alloc: Global, head: &Head, keeps_all: bool) -> Result<Vec<Seat>, No
             size: head.size,
             version: head.version,
         };
-        let seat = seat_of(alloc, config, &kinds, head.blocks.as_slice(), keeps_all)?;
+        let seat = seat_of(alloc, config, &kinds, head.blocks.as_slice(), keeps)?;
         if seats.push(seat).is_err() {
             return Err(NoMemory);
         }
@@ -146,14 +155,14 @@ impl<'a> Game<'a> {
     ghost use Rattle.match_laws.specs.Report.{told_after};
     ghost use Rattle.match_engine.specs.Stands.{StandsFor, Does, Answers, IsDirect, IsDown, KeepAll};
 
-    /// A match of this header, of which no line was done. Its connections keep each datagram that their servers send, or hand it on.
-    pub(crate) fn new(alloc: Global, head: &'a Head, keeps_all: bool) -> Result<Game<'a>, NoMemory>
+    /// A match of this header, of which no line was done. Its connections keep these datagrams of those that their servers send.
+    pub(crate) fn new(alloc: Global, head: &'a Head, keeps: Keeps) -> Result<Game<'a>, NoMemory>
         requires { HeadFits head.now }
         ensures stands { IfOk result (λ m. StandsFor m []) }
         ensures head { IfOk result (λ m. m.head ≡ head.now) }
-        ensures keeps { IfOk result (λ m. keeps_all ≡ true → KeepAll m.seats) }
+        ensures keeps { IfOk result (λ m. keeps_all keeps ≡ true → KeepAll m.seats) }
     {
-        let seats = seats_of(alloc, head, keeps_all)?;
+        let seats = seats_of(alloc, head, keeps)?;
         let scopes = scopes_of(alloc, head.clients)?;
         let lanes = PlainLanes::new(alloc, MAX_OBJECTS as u32, u32::from(MAX_CLIENTS))?;
         let world = World::new(alloc, head.seed, &head.setup)?;
@@ -233,13 +242,13 @@ impl<'a> Game<'a> {
         ensures keeps { OnOk result (KeepAll self.old.seats → KeepAll self.new.seats) }
     {
         match line.client() {
-            Some(client) => self.serve(alloc, client, line),
+            Some(client) => self.of_client(alloc, client, line),
             None => self.of_world(alloc, line),
         }
     }
 
-    // Does a line on the connection of the client that it names.
-    fn serve(&mut self, alloc: Global, client: u8, line: &BodyLine) -> Result<Told, NoMemory>
+    // Does a line that names this client.
+    fn of_client(&mut self, alloc: Global, client: u8, line: &BodyLine) -> Result<Told, NoMemory>
         requires named { client_named line.now ≡ Some client }
         requires stands { (past : List OneLine) × StandsFor self.old past }
         requires fits { LineFits self.old.head.clients line.now }
@@ -317,8 +326,7 @@ impl<'a> Game<'a> {
             &self.world,
             &mut self.lanes,
             client,
-            &mut self.room.drains,
-            &mut self.room.places,
+            &mut self.room,
         )
     }
 

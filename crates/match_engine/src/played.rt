@@ -5,7 +5,7 @@ ghost use Rattle.match_script.specs.Ranges.{HeadFits, HasRanges, LineFits};
 ghost use Rattle.client_scope.specs.StandsFor.{Table};
 ghost use Rattle.match_laws.specs.client_seat.Stands.{SeatState};
 
-use crate::game::Game;
+use crate::game::{Game, Keeps};
 use client_scope::Scope;
 use match_laws::pair_core::Pair;
 use match_report::Told;
@@ -90,7 +90,7 @@ impl<'a> Match<'a> {
         ensures script { IfOk result (λ m. m.script ≡ script.now) }
         ensures place { IfOk result (λ m. m.place ≡ 0) }
     {
-        let game = Game::new(alloc, &script.head, true)?;
+        let game = Game::new(alloc, &script.head, Keeps::All)?;
         Ok(Match {
             script,
             game,

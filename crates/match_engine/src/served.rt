@@ -3,7 +3,7 @@ ghost use Rattle.std.specs.Prelude.{◌≡◌, ◌<◌, List, [], IfOk, OnOk, na
 ghost use Rattle.std.specs.Option.{option_copied};
 ghost use Rattle.match_script.specs.Ranges.{HeadFits, LineFits};
 
-use crate::game::Game;
+use crate::game::{Game, Keeps};
 use crate::played::let_go;
 use match_report::Told;
 use match_script::{BodyLine, Script};
@@ -58,7 +58,7 @@ impl<'a> Served<'a> {
         ensures stands { IfOk result (λ m. StandsFor m []) }
         ensures script { IfOk result (λ m. m.script ≡ script.now) }
     {
-        let game = Game::new(alloc, &script.head, false)?;
+        let game = Game::new(alloc, &script.head, Keeps::Newest)?;
         Ok(Served {
             script,
             game,

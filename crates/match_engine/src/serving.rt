@@ -57,8 +57,7 @@ pub(crate) fn pack_for(
     world: &World,
     lanes: &mut PlainLanes,
     client: u8,
-    drains: &mut Vec<Drain>,
-    places: &mut PlaceNotes,
+    room: &mut Room,
 ) -> Result<Told, NoMemory>
     requires serves { (h : Head) × (past : List OneLine) × Serves seat.old scope.now world.now lanes.old client h past
         × (counted_in past < MAX_COUNTED_LINES) }
@@ -69,17 +68,17 @@ pub(crate) fn pack_for(
     ensures others { OnOk result (OthersStay client lanes.old lanes.new) }
     ensures keeping { seat.new.pair.keeps_all ≡ seat.old.pair.keeps_all }
 {
-    let Ok(()) = drains_for(seat, scope, lanes, client, drains) else {
+    let Ok(()) = drains_for(seat, scope, lanes, client, &mut room.drains) else {
         return Err(NoMemory);
     };
     let shown = scope.shown();
-    note_all(places, shown);
+    note_all(&mut room.places, shown);
     let mut values = WorldValues {
         world,
         shown,
-        places,
+        places: &room.places,
     };
-    seat.pack(alloc, client, drains, &mut values)
+    seat.pack(alloc, client, &room.drains, &mut values)
 }
 
 /// What a client has is told.

@@ -1,5 +1,6 @@
 pub mod Below
 pub mod Grown
+pub mod ClientEnd
 pub mod Isolated
 pub mod Others
 pub mod InOrder

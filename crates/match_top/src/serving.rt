@@ -100,8 +100,8 @@ fn write_text<K: Sink>(
     }
 }
 
-/// Serves a command.
-fn serve<S: Source, K: Sink>(
+/// Carries out a command.
+fn carry_out<S: Source, K: Sink>(
     alloc: Global,
     command: Command,
     source: &mut S,
@@ -163,7 +163,7 @@ pub fn top<S: Source, K: Sink>(
     laws_of_matches();
     laws_of_reports();
     match command_of(words) {
-        Ok(command) => serve(alloc, command, source, sink),
+        Ok(command) => carry_out(alloc, command, source, sink),
         Err(place) => Status::Usage(place),
     }
 }

@@ -55,11 +55,7 @@ impl<'a> Model for OwnSource<'a> {
 }
 
 // The same line again, where it names this client.
-fn named_again(
-    alloc: Global,
-    line: &BodyLine,
-    client: u8,
-) -> Result<Option<BodyLine>, NoMemory>
+fn named_again(alloc: Global, line: &BodyLine, client: u8) -> Result<Option<BodyLine>, NoMemory>
     ensures { IfOk result (λ l. l ≡ (if is_named client (client_named line.now) then Some line.now else None)) }
 {
     if line.client() != Some(client) {

@@ -62,6 +62,30 @@ pub counted_few : (past : List BodyLine) → counted_in past ≤ length past
 counted_few [] = omega arith
 counted_few (line ∷ past) = let h = counted_few past in let one = one_counted line in omega (arith, h, one)
 
+-- ---- only a pack sends a datagram
+
+-- how many datagrams an item makes an end send, at the most
+abbrev pub sends_most : OwnItem → ℕ
+sends_most (Line (script.Pack c)) = 1
+sends_most (Line (script.ClientPack c)) = 1
+sends_most item = 0
+
+sends_counted : (item : OwnItem) → sends_most item ≤ counted_item item
+sends_counted (Line script.Tick) = omega arith
+sends_counted (Line (script.Scan c)) = omega arith
+sends_counted (Line (script.Pack c)) = omega arith
+sends_counted (Line (script.ClientPack c)) = omega arith
+sends_counted (Line (script.Post c class v)) = omega arith
+sends_counted (Line (script.ClientPost c class v)) = omega arith
+sends_counted (Line (script.Down c k)) = omega arith
+sends_counted (Line (script.Up c k)) = omega arith
+sends_counted (Line (script.Raw c bytes)) = omega arith
+sends_counted (Line (script.Move c m)) = omega arith
+sends_counted (Line (script.Show c)) = omega arith
+sends_counted (Line script.World) = omega arith
+sends_counted (Scan hides nears shows) = omega arith
+sends_counted (Tick writes taken) = omega arith
+
 -- ---- one step sends one datagram at most
 
 server-posts : (t : Terms) (class : Class) (v : List ℕ) (s : List ServerEvent)
@@ -168,7 +192,7 @@ module _ (t : Terms) where
   -- ---- items
 
   -- so many more are sent at the most
-  record SendMost (most : ℕ) (old new : List PairStep) : Type 0 where
+  pub record SendMost (most : ℕ) (old new : List PairStep) : Type 0 where
     pub down : sent_down new ≤ most + sent_down old
     pub up : sent_up new ≤ most + sent_up old
 
@@ -178,12 +202,9 @@ module _ (t : Terms) where
   send-one : (step : PairStep) (steps : List PairStep) → SendMost 1 steps (step ∷ steps)
   send-one step steps = record { down = omega (arith, step_down step steps); up = omega (arith, step_up step steps) }
 
-  send-more : (old new : List PairStep) → SendMost 0 old new → SendMost 1 old new
-  send-more old new h = record { down = omega (arith, h.down); up = omega (arith, h.up) }
-
-  line-sends : (line : BodyLine) (k : Kept) → SendMost (counted line) k.course.steps (after_line t line k).course.steps
-  line-sends script.Tick k = send-more k.course.steps k.course.steps (send-none k.course.steps k.course.steps refl refl)
-  line-sends (script.Scan c) k = send-more k.course.steps k.course.steps (send-none k.course.steps k.course.steps refl refl)
+  line-sends : (line : BodyLine) (k : Kept) → SendMost (sends_most (Line line)) k.course.steps (after_line t line k).course.steps
+  line-sends script.Tick k = send-none k.course.steps k.course.steps refl refl
+  line-sends (script.Scan c) k = send-none k.course.steps k.course.steps refl refl
   line-sends (script.Show c) k = send-none k.course.steps k.course.steps refl refl
   line-sends script.World k = send-none k.course.steps k.course.steps refl refl
   line-sends (script.Pack c) k = send-one _ k.course.steps
@@ -203,23 +224,19 @@ module _ (t : Terms) where
   line-sends (script.Raw c bytes) k =
       send-none k.course.steps _ (ap length (gets_sends_down t _ (Some bytes) (history t k.course.steps).server)) refl
 
-  item-sends : (item : OwnItem) (k : Kept) → SendMost (counted_item item) k.course.steps (follows t item k).course.steps
-  item-sends (Line line) k = line-sends line k
-  item-sends (Scan hides nears shows) k =
+  pub item_sends : (item : OwnItem) (k : Kept) → SendMost (sends_most item) k.course.steps (follows t item k).course.steps
+  item_sends (Line line) k = line-sends line k
+  item_sends (Scan hides nears shows) k =
       let r = scan-sends-none hides nears (map (λ (s : OwnShow). s.how) shows) in
-      subst (SendMost 1 k.course.steps) (sym (scan_journal hides nears shows k)) (record {
-        down =
-            omega (arith, r.down k.course.steps);
-        up = omega (arith, r.up k.course.steps);
-      })
-  item-sends (Tick writes taken) k =
-      subst (λ c. SendMost 1 k.course.steps c.steps) (sym (wrote_course t writes k))
-      (send-more k.course.steps k.course.steps (send-none k.course.steps k.course.steps refl refl))
+      subst (SendMost 0 k.course.steps) (sym (scan_journal hides nears shows k))
+      (send-none k.course.steps _ (r.down k.course.steps) (r.up k.course.steps))
+  item_sends (Tick writes taken) k =
+      subst (λ c. SendMost 0 k.course.steps c.steps) (sym (wrote_course t writes k)) (send-none k.course.steps k.course.steps refl refl)
 
   pub few_down : (items : List OwnItem) → length (server_datagrams t (history t (journal t items)).server) ≤ counted_items items
   few_down [] = omega arith
-  few_down (item ∷ items) = omega (arith, few_down items, (item-sends item (kept t items)).down)
+  few_down (item ∷ items) = omega (arith, few_down items, (item_sends item (kept t items)).down, sends_counted item)
 
   pub few_up : (items : List OwnItem) → length (client_datagrams t.config (history t (journal t items)).client) ≤ counted_items items
   few_up [] = omega arith
-  few_up (item ∷ items) = omega (arith, few_up items, (item-sends item (kept t items)).up)
+  few_up (item ∷ items) = omega (arith, few_up items, (item_sends item (kept t items)).up, sends_counted item)

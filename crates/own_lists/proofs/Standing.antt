@@ -16,7 +16,7 @@ use Rattle.own_lists.specs.Course.{onto, hide_step, near_step}
 use Rattle.own_lists.specs.Kept.{Kept}
 use Rattle.own_lists.specs.Conditions.{MeetEach}
 use Rattle.own_lists.specs.Agreement.{IsPeriodOf}
-use Rattle.pair_steps.proofs.Journals.{up_to}
+use Rattle.pair_steps.proofs.Journals.{up_to, filter_twice}
 use Rattle.own_lists.proofs.ScanFacts.{RiseTo, IsNone, AreShown, numbers, none_less, all_on}
 use Rattle.own_lists.proofs.ScanChanges.{has}
 
@@ -92,18 +92,6 @@ hidden_hides (h ∷ hs) steps n = hidden_hides hs (Hide h ∷ steps) n ∙ turne
 pub traits_hides : (hs : List ℕ) (steps : List PairStep) (n : ℕ) → traits_in (onto (map hide_step hs) steps) n ≡ traits_in steps n
 traits_hides [] steps n = refl
 traits_hides (h ∷ hs) steps n = traits_hides hs (Hide h ∷ steps) n
-
-filter_twice : (a b : ℕ → Bool) (xs : List ℕ) → filter (λ n. not (a n || b n)) xs ≡ filter (λ n. not (a n)) (filter (λ n. not (b n)) xs)
-filter_twice a b [] = refl
-filter_twice a b (x ∷ xs) = by (a x) (b x) refl (filter_twice a b xs)
-  where
-    by : (c d : Bool) → a x ≡ c → filter (λ n. not (a n || b n)) xs ≡ filter (λ n. not (a n)) (filter (λ n. not (b n)) xs)
-        → cond (not (c || d)) (x ∷ filter (λ n. not (a n || b n)) xs) (filter (λ n. not (a n || b n)) xs) ≡ filter (λ n. not (a n))
-        (cond (not d) (x ∷ filter (λ n. not (b n)) xs) (filter (λ n. not (b n)) xs))
-    by true true e r = r
-    by true false e r = rw e r
-    by false true e r = r
-    by false false e r = rw e (ap (λ (ns : List ℕ). x ∷ ns) r)
 
 pub up_hides : (hs : List ℕ) (steps : List PairStep) → up_in (onto (map hide_step hs) steps) ≡ filter (λ n. not (has n hs)) (up_in steps)
 up_hides hs steps =

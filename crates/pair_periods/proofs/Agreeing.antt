@@ -4,6 +4,7 @@ use Rattle.std.proofs.Common.{◌≡◌, ⊎_elim, ℕ, zero, suc, ◌<◌, ◌=
 use Rattle.std.specs.Prelude.{slice_get, slice_index, option_map}
 use Rattle.std.specs.Option.{option_and_then}
 use Rattle.std.proofs.lemmas.Bool.{eqb-true, eq-eqb, ne_eqb, cases_eq, lt-ltb}
+use Rattle.std.proofs.lemmas.List.Elements.{filter_agree}
 use Rattle.std.proofs.lemmas.List.Folds.{list_any-append}
 use Rattle.quantised_fields.specs.declared.field.FieldSpec.{FieldSpec}
 use Rattle.quantised_fields.specs.declared.kind.Kind.{Kind}
@@ -21,29 +22,13 @@ use Rattle.lane_periods.specs.Views.{ranges}
 use Rattle.pair_steps.specs.Steps.{shows_in, is_hidden_in, up_in, traits_in}
 use Rattle.pair_periods.specs.Agreement.{Agree}
 use Rattle.lane_periods.proofs.Numbers.{or-cases, or-second}
-use Rattle.pair_steps.proofs.Journals.{IsQuiet, up_from, up_to, kind_told}
+use Rattle.pair_steps.proofs.Journals.{IsQuiet, filter_twice, up_from, up_to, kind_told}
 
 -- ---- what is up
-
-filter-same : (f g : ℕ → Bool) → ((n : ℕ) → f n ≡ g n) → (ns : List ℕ) → filter f ns ≡ filter g ns
-filter-same f g same [] = refl
-filter-same f g same (x ∷ xs) = let rest = filter-same f g same xs in (λ j. cond (same x j) (x ∷ rest j) (rest j))
 
 eqb-turned : (m n : ℕ) → (m == n) ≡ (n == m)
 eqb-turned m n =
     ⊎_elim (λ (same : m ≡ n). eq-eqb m n same ∙ sym (eq-eqb n m (sym same))) (λ (apart : m ≡ n → ⊥). ne_eqb m n apart ∙ sym (ne_eqb n m (λ e. apart (sym e)))) (cases_eq m n)
-
-filter-twice : (a b : ℕ → Bool) (xs : List ℕ) → filter (λ n. not (a n || b n)) xs ≡ filter (λ n. not (a n)) (filter (λ n. not (b n)) xs)
-filter-twice a b [] = refl
-filter-twice a b (x ∷ xs) = by (a x) (b x) refl (filter-twice a b xs)
-  where
-    by : (c d : Bool) → a x ≡ c → filter (λ n. not (a n || b n)) xs ≡ filter (λ n. not (a n)) (filter (λ n. not (b n)) xs)
-        → cond (not (c || d)) (x ∷ filter (λ n. not (a n || b n)) xs) (filter (λ n. not (a n || b n)) xs) ≡ filter (λ n. not (a n))
-        (cond (not d) (x ∷ filter (λ n. not (b n)) xs) (filter (λ n. not (b n)) xs))
-    by true true e r = r
-    by true false e r = rw e r
-    by false true e r = r
-    by false false e r = rw e (ap (λ (ns : List ℕ). x ∷ ns) r)
 
 -- only what was shown was hidden
 pub hidden-below : (t : Terms) (steps : List PairStep) → AreMet t steps → (n : ℕ) → is_hidden_in steps n ≡ true → n < shows_in steps
@@ -141,8 +126,8 @@ agree-hide steps p q n a objects kinds up = record {
   count = ap length objects ∙ a.count;
   up =
       up ∙ ap (filter (λ m. not (m == n))) a.up
-      ∙ sym (filter-twice (λ m. m == n) (is_hidden_in steps) (upto (shows_in steps)))
-      ∙ filter-same (λ m. not ((m == n) || is_hidden_in steps m)) (λ m. not ((n == m) || is_hidden_in steps m)) (λ m. ap (λ b. not (b || is_hidden_in steps m)) (eqb-turned m n)) (upto (shows_in steps));
+      ∙ sym (filter_twice (λ m. m == n) (is_hidden_in steps) (upto (shows_in steps)))
+      ∙ filter_agree (λ m. not ((m == n) || is_hidden_in steps m)) (λ m. not ((n == m) || is_hidden_in steps m)) (λ m. ap (λ b. not (b || is_hidden_in steps m)) (eqb-turned m n)) (upto (shows_in steps));
   kinds = λ m lt. ap (λ l. slice_get l m) kinds ∙ a.kinds m lt;
 }
 

@@ -199,3 +199,17 @@ module _ (t : Terms) (steps : List PairStep) where
   control_told =
       (λ j. list_any (λ n. (traits_told t steps n j).control && up_told n j) (upto (shows_told t steps j)))
       ∙ any-both (λ n. (traits_in steps n).control) (λ n. not (is_hidden_in steps n)) (upto (shows_in steps))
+
+-- ---- what is up once more is hidden
+
+pub filter_twice : (a b : ℕ → Bool) (xs : List ℕ) → filter (λ n. not (a n || b n)) xs ≡ filter (λ n. not (a n)) (filter (λ n. not (b n)) xs)
+filter_twice a b [] = refl
+filter_twice a b (x ∷ xs) = by (a x) (b x) refl (filter_twice a b xs)
+  where
+    by : (c d : Bool) → a x ≡ c → filter (λ n. not (a n || b n)) xs ≡ filter (λ n. not (a n)) (filter (λ n. not (b n)) xs)
+        → cond (not (c || d)) (x ∷ filter (λ n. not (a n || b n)) xs) (filter (λ n. not (a n || b n)) xs) ≡ filter (λ n. not (a n))
+        (cond (not d) (x ∷ filter (λ n. not (b n)) xs) (filter (λ n. not (b n)) xs))
+    by true true e r = r
+    by true false e r = rw e r
+    by false true e r = r
+    by false false e r = rw e (ap (λ (ns : List ℕ). x ∷ ns) r)

@@ -41,6 +41,7 @@ use Rattle.own_lists.proofs.Meeting.{scan_journal}
 use Rattle.own_lists.proofs.KeptValues.{wrote_course}
 use Rattle.own_lists.proofs.Standing.{onto_on}
 use Rattle.match_laws.proofs.Grown.{put_own}
+use Rattle.match_laws.proofs.ClientEnd.{at_end, scan_quiet, named_case}
 use Rattle.predict_lines.specs.declared.changes.EndChange.TheVariants.{Came, Sampled, Nothing}
 use Rattle.predict_lines.specs.Lines.{end_of}
 use Rattle.predict_lines.specs.Changes.{TellsNothing, IsChange, change_of, is_taken, is_sampled}
@@ -54,57 +55,30 @@ posts : (ok : Bool) (class_payload : ClientEvent) (log : List ClientEvent) → T
 posts true e log h = h
 posts false e log h = nothing log log refl
 
--- ---- steps of a scan happen at the server
-
 module _ (t : Terms) where
-  -- what happened at the client's end of a connection after these steps
-  abbrev at_end : List PairStep → List ClientEvent
-  at_end steps = (history t steps).client
-
-  hides_quiet : (hides : List ℕ) (steps : List PairStep) → at_end (onto (map hide_step hides) steps) ≡ at_end steps
-  hides_quiet [] steps = refl
-  hides_quiet (n ∷ hides) steps = hides_quiet hides (Hide n ∷ steps)
-
-  shows_quiet : (shows : List Showing) (steps : List PairStep) → at_end (onto (map show_step shows) steps) ≡ at_end steps
-  shows_quiet [] steps = refl
-  shows_quiet (s ∷ shows) steps = shows_quiet shows (show_step s ∷ steps)
-
-  nears_quiet : (nears : List NearPeriod) (steps : List PairStep) → at_end (onto (map near_step nears) steps) ≡ at_end steps
-  nears_quiet [] steps = refl
-  nears_quiet (p ∷ nears) steps = nears_quiet nears (near_step p ∷ steps)
-
-  pub scan_quiet : (hides : List ℕ) (nears : List NearPeriod) (shows : List Showing) (steps : List PairStep)
-      → at_end (onto (scan_steps hides nears shows) steps) ≡ at_end steps
-  scan_quiet hides nears shows steps =
-      let hs : List PairStep = map hide_step hides in
-      let ns : List PairStep = map near_step nears in
-      let ss : List PairStep = map show_step shows in
-      ap at_end (onto_on hs (ns ++ ss) steps ∙ onto_on ns ss (onto hs steps))
-      ∙ shows_quiet shows (onto ns (onto hs steps)) ∙ nears_quiet nears (onto hs steps) ∙ hides_quiet hides steps
-
   -- ---- items of an own list
 
   abbrev Quiet : List OwnItem → List OwnItem → Type 0
-  Quiet old new = TellsNothing (at_end (journal t old)) (at_end (journal t new))
+  Quiet old new = TellsNothing (at_end t (journal t old)) (at_end t (journal t new))
 
   same_items : (items : List OwnItem) → Quiet items items
-  same_items items = nothing (at_end (journal t items)) (at_end (journal t items)) refl
+  same_items items = nothing (at_end t (journal t items)) (at_end t (journal t items)) refl
 
   tick_quiet : (writes : List OwnWrite) (taken : ℕ) (items : List OwnItem) → Quiet items (Tick writes taken ∷ items)
   tick_quiet writes taken items =
-      nothing (at_end (journal t items)) (at_end (journal t (Tick writes taken ∷ items)))
-      (ap (λ (k : Course). at_end k.steps) (wrote_course t writes (kept t items)))
+      nothing (at_end t (journal t items)) (at_end t (journal t (Tick writes taken ∷ items)))
+      (ap (λ (k : Course). at_end t k.steps) (wrote_course t writes (kept t items)))
 
   scan_item_quiet : (hides : List ℕ) (nears : List NearPeriod) (shows : List OwnShow) (items : List OwnItem)
       → Quiet items (Scan hides nears shows ∷ items)
   scan_item_quiet hides nears shows items =
-      nothing (at_end (journal t items)) (at_end (journal t (Scan hides nears shows ∷ items)))
-      (ap at_end (scan_journal hides nears shows (kept t items)) ∙ scan_quiet hides nears (map (λ (s : OwnShow). s.how) shows) (journal t items))
+      nothing (at_end t (journal t items)) (at_end t (journal t (Scan hides nears shows ∷ items)))
+      (ap (at_end t) (scan_journal hides nears shows (kept t items)) ∙ scan_quiet t hides nears (map (λ (s : OwnShow). s.how) shows) (journal t items))
 
   client_post_quiet : (c : ℕ) (class : Class) (payload : List ℕ) (items : List OwnItem)
       → Quiet items (Line (script.ClientPost c class payload) ∷ items)
   client_post_quiet c Guaranteed payload items =
-      let log = at_end (journal t items) in
+      let log = at_end t (journal t items) in
       posts (is_ok (posted_at_client t.config log)) (client.Posted Guaranteed payload) log (record { told = refl; base = refl; pending = refl })
   client_post_quiet c Loose payload items = record { told = refl; base = refl; pending = refl }
 
@@ -114,7 +88,7 @@ module _ (t : Terms) where
   made_quiet log Room = record { told = refl; base = refl; pending = refl }
 
   client_pack_quiet : (c : ℕ) (items : List OwnItem) → Quiet items (Line (script.ClientPack c) ∷ items)
-  client_pack_quiet c items = let log = at_end (journal t items) in made_quiet log (client_state t.config log)
+  client_pack_quiet c items = let log = at_end t (journal t items) in made_quiet log (client_state t.config log)
 
   -- ---- a datagram comes
 
@@ -136,17 +110,6 @@ module _ (t : Terms) where
   sampled_is c m log (Err fault) = nothing log log refl
 
 -- ---- lines
-
--- of a line that names a client, for itself or for another one
-named_case : (P : Bool → Bool → ℕ → Type 0) (c d : ℕ) → P true true c → ((d : ℕ) → P false false d) → P (d == c) (c == d) d
-named_case P c d own other = by_same (cases_eq c d)
-  where
-    by_same : (c ≡ d) ⊎ (c ≢ d) → P (d == c) (c == d) d
-    by_same (inl e) = subst (λ (x : ℕ). P (x == c) (c == x) x) e (let yes : (c == c) ≡ true = grind (arith, nat_tests) in rw yes own)
-    by_same (inr apart) =
-        let here : (d == c) ≡ false = grind (arith, nat_tests) in
-        let there : (c == d) ≡ false = grind (arith, nat_tests) in
-        rw (here, there) (other d)
 
 pub line_changes : (head : Head) (past : List BodyLine) (c : ℕ) (line : BodyLine)
     → IsChange (change_of c line (told_after head past line)) (end_of head past c) (end_of head (line ∷ past) c)

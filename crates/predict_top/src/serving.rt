@@ -13,8 +13,8 @@ use script_input::{Status, read_script};
 use std::alloc::Global;
 use tn_outside::{RunFault, Sink, Source};
 
-// Serves the command.
-fn serve<S: Source, K: Sink>(alloc: Global, client: u8, source: &mut S, sink: &mut K) -> Status
+// Carries out the command.
+fn carry_out<S: Source, K: Sink>(alloc: Global, client: u8, source: &mut S, sink: &mut K) -> Status
     ensures outcome { PredictOutcome (Ok client)
         (seen (S.held source.old) (S.held source.new) (S.faults source.old) (S.faults source.new))
         (seen (K.written sink.old) (K.written sink.new) (K.faults sink.old) (K.faults sink.new)) result }
@@ -71,7 +71,7 @@ pub fn top_predict<S: Source, K: Sink>(
     offset_settles();
     value_is_servers();
     match client_of(words) {
-        Ok(client) => serve(alloc, client, source, sink),
+        Ok(client) => carry_out(alloc, client, source, sink),
         Err(place) => Status::Usage(place),
     }
 }

@@ -46,7 +46,7 @@ module _ (kinds : List Kind) where
   copies_fit (Scans ∷ events) c = copies_fit events c
   copies_fit (Own line ∷ events) c = copies_fit events c
 
-few_shows : (events : List WatchEvent) → (watched events).shows ≤ MAX_SLOTS * length events
+pub few_shows : (events : List WatchEvent) → (watched events).shows ≤ MAX_SLOTS * length events
 few_shows [] = omega arith
 few_shows (Took p ∷ events) = let rest = few_shows events in omega (arith, rest)
 few_shows (Scans ∷ events) =

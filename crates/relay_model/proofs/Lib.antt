@@ -1,6 +1,7 @@
 pub mod Mapped
 pub mod Stretches
 pub mod Written
+pub mod Begun
 pub mod Shown
 pub mod Following
 pub mod Taken

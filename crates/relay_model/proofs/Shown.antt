@@ -22,13 +22,10 @@ use Rattle.own_lists.proofs.Standing.{onto_on, meet_on}
 use Rattle.relay_model.specs.Watching.{Watched, is_unwatched, begun_below, all_watched}
 use Rattle.relay_model.specs.Items.{show_of}
 use Rattle.relay_model.specs.Laws.{IsCopy}
+use Rattle.relay_model.specs.Beginning.{begun_at, begun_up_to, shown_in}
 use Rattle.relay_model.proofs.Mapped.{some_is}
+use Rattle.relay_model.proofs.Begun.{shows_mid, not_yet, all_periods}
 use Rattle.relay_model.proofs.Stretches.{IsWatched, HasSlot, Watches, same_watch, few_up}
-
-count_on : (p : ℕ → Bool) (xs : List ℕ) (x : ℕ) → count_by p (xs ++ x ∷ []) ≡ count_by p xs + (if p x then 1 else 0)
-count_on p xs x =
-    let one : 0 + (if p x then 1 else 0) ≡ (if p x then 1 else 0) = omega arith in
-    sum_by-append (λ y. cond (p y) 1 0) xs (x ∷ []) ∙ ap (λ n. count_by p xs + n) one
 
 pub length-upto : (n : ℕ) → length (upto n) ≡ n
 unfolding upto
@@ -38,28 +35,16 @@ length-upto (suc n) = length-append (upto n) (n ∷ []) ∙ (let rest = length-u
 both : (p : Option ℕ) (k : ℕ) → p ≡ None → p ≡ Some k → ⊥
 both p k e f = cc (e, f)
 
--- a number below the next one is this one or below it
-below_next : (s m : ℕ) → (s == m) ≡ false → nat_lt s (suc m) ≡ nat_lt s m
-below_next s m other = by (nat_lt s m) refl
-  where
-    by : (b : Bool) → nat_lt s m ≡ b → nat_lt s (suc m) ≡ b
-    by true e = grind (arith, nat_tests)
-    by false e = grind (arith, nat_tests)
-
 module _ (t : Terms) (steps : List PairStep) (w : Watched) (copies : ℕ → Option GhostCopy) where
   abbrev begun : ℕ → Option OwnShow
-  begun slot = if is_unwatched copies w slot then option_map (show_of t.kinds) (copies slot) else None
+  begun slot = shown_in t.kinds copies w slot
 
   abbrev pub hows : List ℕ → List PairStep
   hows xs = map show_step (map (λ (s : OwnShow). s.how) (filter_map begun xs))
 
-  abbrev next : ℕ → Watched → Watched
-  next m v = record { period = λ s. cond (s == m) (Some v.shows) (v.period s); shows = v.shows + 1 }
-
   -- after the slots below one: what is watched, and the steps
   abbrev pub mid : ℕ → Watched
-  mid zero = w
-  mid (suc m) = if is_unwatched copies w m then next m (mid m) else mid m
+  mid m = begun_up_to copies w m
 
   abbrev pub after : ℕ → List PairStep
   after m = onto (hows (upto m)) steps
@@ -78,73 +63,6 @@ module _ (t : Terms) (steps : List PairStep) (w : Watched) (copies : ℕ → Opt
       by None a p b e = absurd (cc)
       by (Some c) a (Some n) b e = absurd (cc)
       by (Some c) a None b e = record { copy = c; there = a; free = b }
-
-  -- ---- what is watched on the way
-
-  shows_mid : (m : ℕ) → (mid m).shows ≡ w.shows + begun_below copies w m
-  unfolding upto
-  shows_mid zero = omega arith
-  shows_mid (suc m) = by (shows_mid m) (is_unwatched copies w m) refl
-    where
-      more : count_by (is_unwatched copies w) (upto m ++ m ∷ []) ≡ begun_below copies w m + (if is_unwatched copies w m then 1 else 0)
-      more = count_on (is_unwatched copies w) (upto m) m
-
-      by : (mid m).shows ≡ w.shows + begun_below copies w m → (b : Bool) → is_unwatched copies w m ≡ b
-          → (if b then next m (mid m) else mid m).shows ≡ w.shows + count_by (is_unwatched copies w) (upto m ++ m ∷ [])
-      by so_far true e = let one : (if is_unwatched copies w m then 1 else 0) ≡ 1 = ap {B = ℕ} (λ (b : Bool). if b then 1 else 0) e in omega (arith, so_far, more, one)
-      by so_far false e = let one : (if is_unwatched copies w m then 1 else 0) ≡ 0 = ap {B = ℕ} (λ (b : Bool). if b then 1 else 0) e in omega (arith, so_far, more, one)
-
-  abbrev watched_below : ℕ → ℕ → Option ℕ
-  watched_below m s = if nat_lt s m && is_unwatched copies w s then Some (w.shows + begun_below copies w s) else w.period s
-
-  abbrev shown_if : ℕ → Bool → Option ℕ
-  shown_if s b = if b && is_unwatched copies w s then Some (w.shows + begun_below copies w s) else w.period s
-
-  period_mid : (m s : ℕ) → (mid m).period s ≡ watched_below m s
-  period_mid zero s =
-      let none : nat_lt s 0 ≡ false = grind (arith, nat_tests) in
-      sym (ap (λ (b : Bool). if b && is_unwatched copies w s then Some (w.shows + begun_below copies w s) else w.period s) none)
-  period_mid (suc m) s = by (period_mid m s) (is_unwatched copies w m) refl
-    where
-      -- of another slot
-      other : (mid m).period s ≡ watched_below m s → (s == m) ≡ false → (mid m).period s ≡ watched_below (suc m) s
-      other so_far differs = so_far ∙ sym (ap (shown_if s) (below_next s m differs))
-
-      here : (s == m) ≡ true → is_unwatched copies w m ≡ true → Some (mid m).shows ≡ watched_below (suc m) s
-      here equal free =
-          let same : s ≡ m = eqb-true s m equal in
-          let below : nat_lt s (suc m) ≡ true = grind (arith, nat_tests) in
-          ap (λ (n : ℕ). Some n) (shows_mid m) ∙ ap (λ (n : ℕ). Some (w.shows + begun_below copies w n)) (sym same)
-          ∙ sym (ap (shown_if s) below ∙ ap (λ (b : Bool). if b then Some (w.shows + begun_below copies w s) else w.period s) (ap (is_unwatched copies w) same ∙ free))
-
-      not_free : (mid m).period s ≡ watched_below m s → (s == m) ≡ true → is_unwatched copies w m ≡ false
-          → (mid m).period s ≡ watched_below (suc m) s
-      not_free so_far equal full =
-          let same : s ≡ m = eqb-true s m equal in
-          let none : is_unwatched copies w s ≡ false = ap (is_unwatched copies w) same ∙ full in
-          so_far ∙ nothing (nat_lt s m) (is_unwatched copies w s) none ∙ sym (nothing (nat_lt s (suc m)) (is_unwatched copies w s) none)
-        where
-          nothing : (a b : Bool) → b ≡ false → (if a && b then Some (w.shows + begun_below copies w s) else w.period s) ≡ w.period s
-          nothing true b e = ap (λ (c : Bool). if c then Some (w.shows + begun_below copies w s) else w.period s) e
-          nothing false b e = refl
-
-      by : (mid m).period s ≡ watched_below m s → (b : Bool) → is_unwatched copies w m ≡ b
-          → (if b then next m (mid m) else mid m).period s ≡ watched_below (suc m) s
-      by so_far true e = at (s == m) refl
-        where
-          at : (c : Bool) → (s == m) ≡ c → cond c (Some (mid m).shows) ((mid m).period s) ≡ watched_below (suc m) s
-          at true equal = here equal e
-          at false differs = other so_far differs
-      by so_far false e = at (s == m) refl
-        where
-          at : (c : Bool) → (s == m) ≡ c → (mid m).period s ≡ watched_below (suc m) s
-          at true equal = not_free so_far equal e
-          at false differs = other so_far differs
-
-  not_yet : (m : ℕ) → w.period m ≡ None → (mid m).period m ≡ None
-  not_yet m free =
-      let differs : nat_lt m m ≡ false = grind (arith, nat_tests) in
-      period_mid m m ∙ ap (λ (b : Bool). if b && is_unwatched copies w m then Some (w.shows + begun_below copies w m) else w.period m) differs ∙ free
 
   -- ---- one more
 
@@ -200,7 +118,7 @@ module _ (t : Terms) (steps : List PairStep) (w : Watched) (copies : ℕ → Opt
       apart s r k false true a b e f = absurd (never s k f e)
       apart s r k false false a b e f = h.apart s r k e f
 
-      all : (k : ℕ) → k < count + 1 → is_hidden_in (after m) k ≡ false → (b : Bool) → (k == count) ≡ b → HasSlot (next m (mid m)) k
+      all : (k : ℕ) → k < count + 1 → is_hidden_in (after m) k ≡ false → (b : Bool) → (k == count) ≡ b → HasSlot (begun_at m (mid m)) k
       all k lt up true at =
           let one : (m == m) ≡ true = grind (arith, nat_tests) in
           record {
@@ -215,11 +133,11 @@ module _ (t : Terms) (steps : List PairStep) (w : Watched) (copies : ℕ → Opt
         where
           elsewhere : (was : HasSlot (mid m) k) → (b : Bool) → (was.slot == m) ≡ b → cond b (Some (mid m).shows) ((mid m).period was.slot) ≡ Some k
           elsewhere was true equal =
-              let none : (mid m).period was.slot ≡ None = ap (mid m).period (eqb-true was.slot m equal) ∙ not_yet m o.free in
+              let none : (mid m).period was.slot ≡ None = ap (mid m).period (eqb-true was.slot m equal) ∙ not_yet copies w m ∙ o.free in
               absurd (both ((mid m).period was.slot) k none was.watches)
           elsewhere was false differs = was.watches
 
-      more : Watches (show ∷ after m) (next m (mid m)) copies
+      more : Watches (show ∷ after m) (begun_at m (mid m)) copies
       more = record {
         shows = ap (λ n. n + 1) h.shows;
         each = λ s k e. each s k (s == m) refl e;
@@ -236,7 +154,7 @@ module _ (t : Terms) (steps : List PairStep) (w : Watched) (copies : ℕ → Opt
             few = (let told = up_count_told t (after m) in let few = few_up (after m) (mid m) copies h in omega (arith, told, few));
             numbers = (let told = shows_told t (after m) in
                 let same = h.shows in
-                let mine = shows_mid m in
+                let mine = shows_mid copies w m in
                 let some = count_by-le-length (is_unwatched copies w) (upto m) in
                 let long = length-upto m in
                 omega (arith, told, same, mine, some, long, room, in_slots));
@@ -275,7 +193,7 @@ module _ (t : Terms) (steps : List PairStep) (w : Watched) (copies : ℕ → Opt
             let last : List PairStep = Show o.copy.kind o.copy.block 0 false ∷ [] in
             let stepped : onto (hows (upto m ++ m ∷ [])) steps ≡ Show o.copy.kind o.copy.block 0 false ∷ after m =
             ap (λ (l : List PairStep). onto l steps) all ∙ onto_on (hows (upto m)) last steps in
-            let watch : mid (suc m) ≡ next m (mid m) = ap (λ (b : Bool). if b then next m (mid m) else mid m) e in
+            let watch : mid (suc m) ≡ begun_at m (mid m) = ap (λ (b : Bool). if b then begun_at m (mid m) else mid m) e in
             record {
               watches = subst (λ (z : List PairStep × Watched). Watches z.0 z.1 copies) (sym (λ j. (stepped j, watch j))) (more m in_slots h.watches o);
               met = subst (λ (l : List PairStep). MeetEach t l steps) (sym all)
@@ -284,7 +202,7 @@ module _ (t : Terms) (steps : List PairStep) (w : Watched) (copies : ℕ → Opt
         by false e =
             let is : begun m ≡ None = ap (λ (b : Bool). if b then option_map (show_of t.kinds) (copies m) else None) e in
             let all = with_steps None is ∙ append-nil (hows (upto m)) in
-            let watch : mid (suc m) ≡ mid m = ap (λ (b : Bool). if b then next m (mid m) else mid m) e in
+            let watch : mid (suc m) ≡ mid m = ap (λ (b : Bool). if b then begun_at m (mid m) else mid m) e in
             let stepped : onto (hows (upto m ++ m ∷ [])) steps ≡ after m = ap (λ (l : List PairStep). onto l steps) all in
             record {
               watches = subst (λ (z : List PairStep × Watched). Watches z.0 z.1 copies) (sym (λ j. (stepped j, watch j))) h.watches;
@@ -302,13 +220,5 @@ module _ (t : Terms) (steps : List PairStep) (w : Watched) (copies : ℕ → Opt
 
       pub all_shown : Watches (after MAX_SLOTS) (all_watched copies w) copies
       all_shown =
-          same_watch (after MAX_SLOTS) (mid MAX_SLOTS) (all_watched copies w) copies (sym (shows_mid MAX_SLOTS)) (λ s. sym (period_mid MAX_SLOTS s ∙ by s (nat_lt s MAX_SLOTS) refl))
+          same_watch (after MAX_SLOTS) (mid MAX_SLOTS) (all_watched copies w) copies (sym (shows_mid copies w MAX_SLOTS)) (λ s. sym (all_periods copies w within s))
           (begun_to MAX_SLOTS (omega arith) h).watches
-        where
-          by : (s : ℕ) (b : Bool) → nat_lt s MAX_SLOTS ≡ b
-              → (if b && is_unwatched copies w s then Some (w.shows + begun_below copies w s) else w.period s)
-              ≡ (if is_unwatched copies w s then Some (w.shows + begun_below copies w s) else w.period s)
-          by s true e = refl
-          by s false e =
-              let none : copies s ≡ None = within s (grind (arith, nat_tests)) in
-              sym (ap (λ (o : Option GhostCopy). if is_some o && not (is_some (w.period s)) then Some (w.shows + begun_below copies w s) else w.period s) none)

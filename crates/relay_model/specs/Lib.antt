@@ -1,4 +1,5 @@
 pub mod Watching
 pub mod Items
+pub mod Beginning
 pub mod Laws
 pub mod Posts

@@ -35,6 +35,7 @@ use Rattle.own_lists.proofs.Standing.{onto_on}
 use Rattle.match_engine.specs.client_seat.Told.{event_told, brought_told, handed_down}
 use Rattle.match_engine.specs.match_laws.Report.{told_after}
 use Rattle.match_engine.proofs.Below.match_laws.Grown.{IsMadeBy, grows}
+use Rattle.match_engine.proofs.Below.match_laws.ClientEnd.{at_end, scan_quiet, named_case}
 use Rattle.stream_manager.proofs.Packets.{shows-alike}
 use Rattle.relay_report.specs.Met.{end_of}
 use Rattle.relay_node.specs.Node.{came_with, events_taken}
@@ -66,33 +67,8 @@ quiet_made line q (Scan hides nears shows) made = tt
 quiet_made line q (Tick writes taken) made = tt
 
 module _ (t : Terms) where
-  -- what happened at the client's end of a connection after these steps
-  abbrev at_end : List PairStep → List ClientEvent
-  at_end steps = (history t steps).client
-
-  hides_quiet : (hides : List ℕ) (steps : List PairStep) → at_end (onto (map hide_step hides) steps) ≡ at_end steps
-  hides_quiet [] steps = refl
-  hides_quiet (n ∷ hides) steps = hides_quiet hides (Hide n ∷ steps)
-
-  shows_quiet : (shows : List Showing) (steps : List PairStep) → at_end (onto (map show_step shows) steps) ≡ at_end steps
-  shows_quiet [] steps = refl
-  shows_quiet (s ∷ shows) steps = shows_quiet shows (show_step s ∷ steps)
-
-  nears_quiet : (nears : List NearPeriod) (steps : List PairStep) → at_end (onto (map near_step nears) steps) ≡ at_end steps
-  nears_quiet [] steps = refl
-  nears_quiet (p ∷ nears) steps = nears_quiet nears (near_step p ∷ steps)
-
-  scan_quiet : (hides : List ℕ) (nears : List NearPeriod) (shows : List Showing) (steps : List PairStep)
-      → at_end (onto (scan_steps hides nears shows) steps) ≡ at_end steps
-  scan_quiet hides nears shows steps =
-      let hs : List PairStep = map hide_step hides in
-      let ns : List PairStep = map near_step nears in
-      let ss : List PairStep = map show_step shows in
-      ap at_end (onto_on hs (ns ++ ss) steps ∙ onto_on ns ss (onto hs steps))
-      ∙ shows_quiet shows (onto ns (onto hs steps)) ∙ nears_quiet nears (onto hs steps) ∙ hides_quiet hides steps
-
   abbrev Quiet : List OwnItem → List OwnItem → Type 0
-  Quiet old new = packets_at (at_end (journal t new)) ≡ packets_at (at_end (journal t old))
+  Quiet old new = packets_at (at_end t (journal t new)) ≡ packets_at (at_end t (journal t old))
 
   same_items : (items : List OwnItem) → Quiet items items
   same_items items = refl
@@ -103,29 +79,29 @@ module _ (t : Terms) where
 
   item_quiet : (items : List OwnItem) (item : OwnItem) → IsQuietItem item → Quiet items (item ∷ items)
   item_quiet items (Scan hides nears shows) q =
-      ap packets_at (ap at_end (scan_journal hides nears shows (kept t items)) ∙ scan_quiet hides nears (map (λ (s : OwnShow). s.how) shows) (journal t items))
-  item_quiet items (Tick writes taken) q = ap (λ (k : Course). packets_at (at_end k.steps)) (wrote_course t writes (kept t items))
+      ap packets_at (ap (at_end t) (scan_journal hides nears shows (kept t items)) ∙ scan_quiet t hides nears (map (λ (s : OwnShow). s.how) shows) (journal t items))
+  item_quiet items (Tick writes taken) q = ap (λ (k : Course). packets_at (at_end t k.steps)) (wrote_course t writes (kept t items))
   item_quiet items (Line script.Tick) q = refl
   item_quiet items (Line (script.Scan c)) q = refl
   item_quiet items (Line (script.Post c class payload)) q = refl
   item_quiet items (Line (script.ClientPost c class payload)) q = by class
     where
       by : (class : Class) → Quiet items (Line (script.ClientPost c class payload) ∷ items)
-      by Guaranteed = if_posted (is_ok (posted_at_client t.config (at_end (journal t items)))) Guaranteed payload (at_end (journal t items))
+      by Guaranteed = if_posted (is_ok (posted_at_client t.config (at_end t (journal t items)))) Guaranteed payload (at_end t (journal t items))
       by Loose = refl
   item_quiet items (Line (script.Pack c)) q = refl
-  item_quiet items (Line (script.ClientPack c)) q = by (client_state t.config (at_end (journal t items)))
+  item_quiet items (Line (script.ClientPack c)) q = by (client_state t.config (at_end t (journal t items)))
     where
-      by : (state : SendState) → packets_at (with_event (pack_event t.config (at_end (journal t items)) state) (at_end (journal t items))) ≡ packets_at (at_end (journal t items))
+      by : (state : SendState) → packets_at (with_event (pack_event t.config (at_end t (journal t items)) state) (at_end t (journal t items))) ≡ packets_at (at_end t (journal t items))
       by Held = refl
       by Worn = refl
       by Room = refl
   item_quiet items (Line (script.Down c k)) q = absurd q
   item_quiet items (Line (script.Up c k)) q = refl
   item_quiet items (Line (script.Raw c bytes)) q = refl
-  item_quiet items (Line (script.Move c m)) q = by (is_ok (sampled_answer t.config (at_end (journal t items))))
+  item_quiet items (Line (script.Move c m)) q = by (is_ok (sampled_answer t.config (at_end t (journal t items))))
     where
-      by : (b : Bool) → packets_at (if b then client.Sampled m ∷ at_end (journal t items) else at_end (journal t items)) ≡ packets_at (at_end (journal t items))
+      by : (b : Bool) → packets_at (if b then client.Sampled m ∷ at_end t (journal t items) else at_end t (journal t items)) ≡ packets_at (at_end t (journal t items))
       by true = refl
       by false = refl
   item_quiet items (Line (script.Show c)) q = refl
@@ -147,17 +123,6 @@ module _ (t : Terms) where
   brought_is c k events h (Some bytes) news = by_answer c k events h.client (client_answer t.config t.kinds h.client bytes) news
 
 -- ---- lines
-
--- of a line that names a client, for itself or for another one
-named_case : (P : Bool → Bool → ℕ → Type 0) (c d : ℕ) → P true true c → ((d : ℕ) → P false false d) → P (d == c) (c == d) d
-named_case P c d own other = by_same (cases_eq c d)
-  where
-    by_same : (c ≡ d) ⊎ (c ≢ d) → P (d == c) (c == d) d
-    by_same (inl e) = subst (λ (x : ℕ). P (x == c) (c == x) x) e (let yes : (c == c) ≡ true = grind (arith, nat_tests) in rw yes own)
-    by_same (inr apart) =
-        let here : (d == c) ≡ false = grind (arith, nat_tests) in
-        let there : (c == d) ≡ false = grind (arith, nat_tests) in
-        rw (here, there) (other d)
 
 module _ (head : Head) (past : List BodyLine) (c : ℕ) where
   abbrev own : List OwnItem

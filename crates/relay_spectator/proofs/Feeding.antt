@@ -16,7 +16,7 @@ use Rattle.own_lists.specs.Kept.{kept}
 use Rattle.own_lists.specs.Conditions.{MayFollow}
 use Rattle.relay_model.specs.Watching.{WatchEvent, Took, Scans, Own, Watched, is_unwatched, all_watched, watched, copy_at}
 use Rattle.relay_model.specs.Items.{shown_of, hidden_of, writes_of, is_stopped, hide_item, write_item, show_item, items_of}
-use Rattle.relay_model.proofs.Shown.{length-upto}
+use Rattle.relay_model.proofs.Following.{few_shows}
 use Rattle.relay_model.proofs.Following.{items_may_follow}
 use Rattle.relay_board.specs.declared.board.Change.{Change}
 use Rattle.alone_server.specs.declared.server.AloneServer.{AloneServer}
@@ -61,16 +61,6 @@ not_refused t items (script.Show c) a = absurd a
 not_refused t items script.World a = absurd a
 
 -- ---- counts
-
-pub few_shows : (events : List WatchEvent) → (watched events).shows ≤ MAX_SLOTS * length events
-few_shows [] = omega arith
-few_shows (Took p ∷ events) = let rest = few_shows events in omega (arith, rest)
-few_shows (Scans ∷ events) =
-    let rest = few_shows events in
-    let some = count_by-le-length (is_unwatched (copy_at events) (watched events)) (upto MAX_SLOTS) in
-    let long = length-upto MAX_SLOTS in
-    omega (arith, rest, some, long)
-few_shows (Own line ∷ events) = let rest = few_shows events in omega (arith, rest)
 
 pub few_changed : (t : Terms) (p : ServerPacket) (events : List WatchEvent) → counted_in (changed_items t p events) ≤ length events + 1
 few_changed t p events =

@@ -39,8 +39,8 @@ fn relay_of(words: &Vec<String>) -> Result<(), u32>
     }
 }
 
-// Serves the command.
-fn serve<S: Source, K: Sink>(alloc: Global, source: &mut S, sink: &mut K) -> Status
+// Carries out the command.
+fn carry_out<S: Source, K: Sink>(alloc: Global, source: &mut S, sink: &mut K) -> Status
     ensures outcome { RelayOutcome (Ok tt)
         (seen (S.held source.old) (S.held source.new) (S.faults source.old) (S.faults source.new))
         (seen (K.written sink.old) (K.written sink.new) (K.faults sink.old) (K.faults sink.new)) result }
@@ -106,7 +106,7 @@ pub fn top_relay<S: Source, K: Sink>(
     settled_shows_the_relays();
     spectators_deliver_what_was_posted();
     match relay_of(words) {
-        Ok(()) => serve(alloc, source, sink),
+        Ok(()) => carry_out(alloc, source, sink),
         Err(place) => Status::Usage(place),
     }
 }

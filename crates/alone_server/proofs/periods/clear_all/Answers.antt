@@ -2,7 +2,7 @@ use Rattle.std.proofs.Common.{◌∙◌, ◌++◌, ◌≤◌, List, length, map,
 use Rattle.std.proofs.lemmas.List.{take_all, drop_all}
 use Rattle.alone_server.specs.declared.periods.OwnPeriod.{OwnPeriod}
 use Rattle.alone_server.specs.Periods.{unwritten}
-use Rattle.alone_server.proofs.Mapped.{next_is, mapped_more}
+use Rattle.own_items.proofs.Below.match_engine.Taking.{next_is, mapped_more}
 use Rattle.alone_server.proofs.periods.clear_all.Goals as goal
 
 pub loop-i-preserved : goal.loop-i-preserved

@@ -5,15 +5,16 @@ use mir.Syntax.{w64}
 use mir.Val.{to_z, of_z, SFits}
 use Rattle.alone_server.specs.declared.periods.OwnPeriod.{OwnPeriod}
 use Rattle.own_items.specs.Items.{write_of}
-use Rattle.alone_server.proofs.Numbers.{here, number_is, found_same}
+use Rattle.own_items.proofs.Below.match_engine.Rising.{here, number_is, found_same}
 use Rattle.alone_server.proofs.Holding.{holds_wrote}
 use Rattle.alone_server.proofs.periods.write_one.Goals as goal
 
 pub write-requires : goal.write-requires
 write-requires c =
     let f = c.requires.field in
+    let at = c.in-Some.ensures.found in
     subst (λ (p : OwnPeriod). c.args.write.now.field < length p.values.items)
-    (found_same c.args.periods.now c.requires.rising c.args.write.now.n c.in-Some.at c.in-Some.ensures.found c.index-periods-at.result f.period f.found) f.value
+    (found_same (λ (p : OwnPeriod). p.n) c.args.periods.now c.requires.rising c.args.write.now.n c.in-Some.at at.period at.there at.number c.index-periods-at.result f.period f.found) f.value
 
 pub returns : goal.returns
 returns c = λ shows k h.
@@ -24,5 +25,6 @@ returns c = λ shows k h.
     let fits : SFits w64 c.args.write.now.value = search rules in
     let same : to_z w64 (of_z w64 c.args.write.now.value) ≡ c.args.write.now.value = to_z-of_z w64 c.args.write.now.value fits in
     holds_wrote (record { shows = shows; periods = ps }) k h (write_of c.args.write.now) c.in-Some.at _ c.write.new.self
-    (here ps c.requires.rising n c.in-Some.at at d) (number_is ps c.requires.rising n c.in-Some.at at d)
+    (here (λ (p : OwnPeriod). p.n) ps c.requires.rising n c.in-Some.at at.period at.there at.number d)
+    (number_is (λ (p : OwnPeriod). p.n) ps c.requires.rising n c.in-Some.at at.period at.there at.number d)
     c.write.ensures.n c.write.ensures.kind (c.write.ensures.values ∙ ap (slice_set _ c.args.write.now.field) same) c.write.ensures.written

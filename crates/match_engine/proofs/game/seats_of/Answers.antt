@@ -5,6 +5,7 @@ use Rattle.quantised_fields.specs.declared.kind.Kind.{Kind}
 use Rattle.match_laws.specs.own_lists.Course.{beginning}
 use Rattle.match_laws.specs.own_lists.Past.{client_terms}
 use Rattle.match_laws.specs.client_seat.Stands.{SeatState, StandsFor}
+use Rattle.match_engine.specs.Stands.{keeps_all}
 use Rattle.match_engine.proofs.Growing.{one_more}
 use Rattle.match_engine.proofs.game.seats_of.Goals as goal
 
@@ -23,6 +24,6 @@ seats-preserved c =
       count = ap (length {A = SeatState}) grown ∙ length_push seats new ∙ ap (λ (m : ℕ). m + 1) c.seats.invariant.count;
       stands = subst (λ (ss : List SeatState). (k : ℕ) (d : SeatState) → k < n + 1 → StandsFor (slice_index_or ss k d) (client_terms head k) beginning) (sym grown)
           (one_more (λ s k. StandsFor s (client_terms head k) beginning) seats new n c.seats.invariant.count c.seats.invariant.stands stands);
-      keeps = subst (λ (ss : List SeatState). (k : ℕ) (d : SeatState) → k < n + 1 → (slice_index_or ss k d).pair.keeps_all ≡ c.args.keeps_all) (sym grown)
-          (one_more (λ (s : SeatState) (k : ℕ). s.pair.keeps_all ≡ c.args.keeps_all) seats new n c.seats.invariant.count c.seats.invariant.keeps c.in_ok-seat.ensures.keeps);
+      keeps = subst (λ (ss : List SeatState). (k : ℕ) (d : SeatState) → k < n + 1 → (slice_index_or ss k d).pair.keeps_all ≡ keeps_all c.args.keeps) (sym grown)
+          (one_more (λ (s : SeatState) (k : ℕ). s.pair.keeps_all ≡ keeps_all c.args.keeps) seats new n c.seats.invariant.count c.seats.invariant.keeps c.in_ok-seat.ensures.keeps);
     }

@@ -3,8 +3,8 @@ use Rattle.match_top.proofs.Isolated.{alone_is_of_run}
 use Rattle.match_top.proofs.Rule.{rule, fits}
 use Rattle.match_top.proofs.serving.top.Goals as goal
 
-pub serve-requires : goal.serve-requires
-serve-requires g c = fits (map string_bytes c.args.words.now.items) c.in-Ok.command c.in-Ok.ensures
+pub carry_out-requires : goal.carry_out-requires
+carry_out-requires g c = fits (map string_bytes c.args.words.now.items) c.in-Ok.command c.in-Ok.ensures
 
 pub returns-in-Ok-clause-words : goal.returns-in-Ok-clause-words
 returns-in-Ok-clause-words g c = rule (map string_bytes c.args.words.now.items)

@@ -6,7 +6,7 @@ use Rattle.alone_server.specs.own_items.Items.{show_of}
 use Rattle.ghost_client.specs.State.{copy_in}
 use Rattle.ghost_model.specs.Words.{upto}
 use Rattle.relay_spectator.specs.Watches.{IsWatch}
-use Rattle.relay_spectator.specs.Beginning.{begun_up_to, shown_in, shown_up_to}
+use Rattle.relay_model.specs.Beginning.{begun_up_to, shown_in, shown_up_to}
 use Rattle.relay_spectator.proofs.Watching.{upto_more, all_begun}
 use Rattle.relay_spectator.proofs.watch.Watch.begin.Goals as goal
 

@@ -3,7 +3,7 @@ use Rattle.ghost_client.specs.State.{copy_in}
 use Rattle.alone_server.specs.own_items.Items.{show_of}
 use Rattle.relay_model.specs.Watching.{Watched}
 use Rattle.relay_spectator.specs.Watches.{IsWatch}
-use Rattle.relay_spectator.specs.Beginning.{begun_up_to, shown_up_to}
+use Rattle.relay_model.specs.Beginning.{begun_up_to, shown_up_to}
 use Rattle.relay_spectator.proofs.watch.Watch.begin.Given as goal
 
 abbrev pub invariant-loop-slot : goal.invariant-loop-slot

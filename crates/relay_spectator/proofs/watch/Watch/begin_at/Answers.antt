@@ -8,7 +8,7 @@ use Rattle.alone_server.specs.own_items.Items.{show_of as told_of}
 use Rattle.ghost_client.specs.State.{copy_in}
 use Rattle.relay_model.specs.Items.{show_of}
 use Rattle.relay_spectator.specs.Watches.{WatchState, IsWatch}
-use Rattle.relay_spectator.specs.Beginning.{begun_up_to, shown_in}
+use Rattle.relay_model.specs.Beginning.{begun_up_to, shown_in}
 use Rattle.relay_spectator.proofs.Watching.{is_watched, is_free, stays, begins}
 use Rattle.relay_spectator.proofs.watch.Watch.begin_at.Goals as goal
 

@@ -4,7 +4,7 @@ use Rattle.tn_outside.proofs.Totals.{whole_front}
 use Rattle.script_input.specs.Reading.{Seen, seen}
 use Rattle.match_top.specs.Outcome.{text_of}
 use Rattle.match_top.proofs.Ends.{done, write_fault, rose_later}
-use Rattle.match_top.proofs.serving.serve.Goals as goal
+use Rattle.match_top.proofs.serving.carry_out.Goals as goal
 
 pub returns-in-Ok-flush-clause-outcome : goal.returns-in-Ok-flush-clause-outcome
 returns-in-Ok-flush-clause-outcome g c =

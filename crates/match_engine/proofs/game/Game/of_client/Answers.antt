@@ -5,7 +5,7 @@ use Rattle.match_script.specs.declared.types.BodyLine.TheVariants as script
 use Rattle.match_script.specs.Named.{client_named}
 use Rattle.match_laws.specs.Report.{told_after}
 use Rattle.match_engine.specs.Stands.{StandsFor}
-use Rattle.match_engine.proofs.game.Game.serve.Goals as goal
+use Rattle.match_engine.proofs.game.Game.of_client.Goals as goal
 
 pub returns-in-Pack-clause-told : goal.returns-in-Pack-clause-told
 returns-in-Pack-clause-told c =

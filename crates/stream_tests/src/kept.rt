@@ -49,7 +49,7 @@ fn posts_of_new(alloc: Global) -> Result<(Option<(u32, KeepFault)>, u32), Fail> 
 }
 
 #[test]
-fn usage_and_limits(rt: HostRuntime) -> Result<(), Fail> {
+fn steps_are_kept_up_to_the_limit(rt: HostRuntime) -> Result<(), Fail> {
     let (fault, kept) = posts_of_new(rt.alloc())?;
     assert_eq!(rt; fault, Some((65_536, KeepFault::NoRoom { kept: 65_536 })));
     assert_eq!(rt; kept, 65_536);
