@@ -2,7 +2,6 @@
 //! rings from and to the simulation.
 #![tactic(auto)]
 
-mod events;
 mod line;
 mod locked;
 mod net_line;

@@ -5,7 +5,6 @@ ghost use Rattle.kept_pair.specs.Kept.{terms_in};
 ghost use Rattle.connection_lock.specs.Rule.{IsQuiet};
 ghost use Rattle.connection_lock.specs.Turns.{line_given, StepsLine, MadeLine};
 
-use crate::events::drop_events;
 use crate::net_line::NetLine;
 use kept_pair::KeptPair;
 use kept_pair::pair_core::{Answer, PairStep};
@@ -53,7 +52,7 @@ fn step_line(pair: &mut KeptPair, line: NetLine, room: u32) -> Answer
     ensures terms { terms_in pair.new ≡ terms_in pair.old }
 {
     let answer = pair.step(step_of(line, room));
-    drop_events(pair);
+    pair.drop_events();
     answer
 }
 

@@ -4,6 +4,7 @@
 #![tactic(auto)]
 
 mod entry;
+mod events;
 mod fault;
 mod given;
 mod may;

@@ -1,7 +1,7 @@
 //! What is kept of one client.
 ghost use Rattle.std.specs.Prelude.{◌≡◌, ◌<◌, [], IfOk};
 ghost use Rattle.kept_pair.specs.Kept.{terms_in};
-ghost use Rattle.match_script.specs.Ranges.{HasRanges, HeadFits};
+ghost use Rattle.match_script.specs.Ranges.{HasRanges};
 ghost use Rattle.own_lists.specs.Past.{client_terms};
 ghost use Rattle.race_course.specs.Course.{all_messages};
 ghost use Rattle.plain_race.specs.Idle.{idle_in};
@@ -10,32 +10,13 @@ ghost use Rattle.plain_race.specs.Done.{IsPlain, IsEnded};
 use crate::lines::do_lines;
 use crate::messages::take_all;
 use lane_periods::Objects;
-use match_script::{Head, Script};
-use pair_core::Pair;
+use match_script::Script;
+use race_course::new_pair;
 use race_history::RaceClient;
 use race_history::kept_pair::KeptPair;
 use race_messages::Message;
 use std::alloc::Global;
-use stream_manager::Config;
 use tn_types::NoMemory;
-use world_rules::match_kinds;
-
-// A pair on which no step was made.
-fn new_pair(alloc: Global, head: &Head, client: u8) -> Result<KeptPair, NoMemory>
-    requires head { HeadFits head.now }
-    requires client { client < head.now.clients }
-    ensures steps { IfOk result (λ pair. pair.steps ≡ []) }
-    ensures terms { IfOk result (λ pair. terms_in pair ≡ client_terms head.now client) }
-{
-    let config = Config {
-        client,
-        life: head.life,
-        size: head.size,
-        version: head.version,
-    };
-    let pair = Pair::new(alloc, config, &match_kinds(), head.blocks.as_slice())?;
-    Ok(KeptPair::new(alloc, pair))
-}
 
 // Does the lines of a client and takes its messages; `false` where there was room for all.
 fn serve(

@@ -15,38 +15,6 @@ use race_history::kept_pair::{KeepFault, KeptPair};
 use std::alloc::Global;
 use tn_types::{MAX_WAITING_MOVES, NoMemory};
 
-// Drops the events that wait at the client.
-fn drop_client_events(pair: &mut KeptPair)
-    ensures none { pair.new.pair.client.common.receiver.ready ≡ [] }
-    ensures server { pair.new.pair.conn ≡ pair.old.pair.conn }
-    ensures steps { pair.new.steps ≡ pair.old.steps }
-{
-    let _waiting = pair.pair().client_waiting();
-    'out: while pair.pop_client_event().is_some() {}
-}
-
-// Drops the events that wait at the server.
-fn drop_server_events(pair: &mut KeptPair)
-    ensures none { pair.new.pair.conn.common.receiver.ready ≡ [] }
-    ensures client { pair.new.pair.client ≡ pair.old.pair.client }
-    ensures steps { pair.new.steps ≡ pair.old.steps }
-    ensures terms { terms_in pair.new ≡ terms_in pair.old }
-{
-    let _waiting = pair.pair().server_waiting();
-    'out: while pair.pop_server_event().is_some() {}
-}
-
-// Drops all events that wait.
-fn drop_events(pair: &mut KeptPair)
-    ensures client { pair.new.pair.client.common.receiver.ready ≡ [] }
-    ensures server { pair.new.pair.conn.common.receiver.ready ≡ [] }
-    ensures steps { pair.new.steps ≡ pair.old.steps }
-    ensures terms { terms_in pair.new ≡ terms_in pair.old }
-{
-    drop_client_events(pair);
-    drop_server_events(pair);
-}
-
 // Makes room for a step that drains nothing; `false` exactly where as many are kept as can be.
 fn make_room(alloc: Global, pair: &mut KeptPair) -> Result<bool, NoMemory>
     ensures prepared { IfOk result (λ b. b ≡ true → pair.new.prepared ≡ true) }
@@ -69,7 +37,7 @@ pub(crate) fn act(alloc: Global, pair: &mut KeptPair, step: PairStep) -> Result<
     ensures refused { IfOk result (λ b. b ≡ false → IsRefused pair.old pair.new) }
     ensures terms { terms_in pair.new ≡ terms_in pair.old }
 {
-    drop_events(pair);
+    pair.drop_events();
     if !make_room(alloc, pair)? {
         return Ok(false);
     }

@@ -10,15 +10,13 @@ ghost use Rattle.race_sim.specs.Ports.{IsNewPort};
 use connection_lock::SharedPair;
 use dirty_lanes::{LaneName, PackSeat, PackSeats};
 use kept_pair::KeptPair;
-use kept_pair::pair_core::Pair;
 use match_script::Head;
+use race_course::new_pair;
 use race_messages::Message;
 use race_sim::Port;
 use rtrb::{Consumer, Producer, RingBuffer};
 use std::alloc::Global;
-use stream_manager::Config;
 use tn_types::{MAX_TAKEN_MESSAGES, Move, NoMemory};
-use world_rules::match_kinds;
 
 // How many messages the ring to a connection has places for, and how many accepted moves the ring from it.
 const INBOX_PLACES: usize = MAX_TAKEN_MESSAGES as usize;
@@ -40,23 +38,6 @@ struct Rings {
     inbox: Consumer<Message>,
     outbox: Producer<Move>,
     from_pair: Consumer<Move>,
-}
-
-// A pair on which no step was made, with what the header says of the client's connection.
-fn new_pair(alloc: Global, head: &Head, client: u8) -> Result<KeptPair, NoMemory>
-    requires head { HeadFits head.now }
-    requires client { client < head.now.clients }
-    ensures steps { IfOk result (λ pair. pair.steps ≡ []) }
-    ensures terms { IfOk result (λ pair. terms_in pair ≡ client_terms head.now client) }
-{
-    let config = Config {
-        client,
-        life: head.life,
-        size: head.size,
-        version: head.version,
-    };
-    let pair = Pair::new(alloc, config, &match_kinds(), head.blocks.as_slice())?;
-    Ok(KeptPair::new(alloc, pair))
 }
 
 // The rings of a connection, into which nothing was put.

@@ -1,6 +1,6 @@
 use Rattle.std.proofs.Common.{◌≡◌, ◌≤◌, length}
 use Rattle.event_manager.specs.declared.TheConstants.{MAX_READY_EVENTS}
-use Rattle.plain_race.proofs.steps.drop_client_events.Given as goal
+use Rattle.kept_pair.proofs.events.drop_client_events.Given as goal
 
 abbrev pub invariant-out : goal.invariant-out
 invariant-out l = record {

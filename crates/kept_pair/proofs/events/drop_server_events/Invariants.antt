@@ -1,7 +1,7 @@
 use Rattle.std.proofs.Common.{◌≡◌, ◌≤◌, length}
 use Rattle.event_manager.specs.declared.TheConstants.{MAX_READY_EVENTS}
 use Rattle.kept_pair.specs.Kept.{terms_in}
-use Rattle.plain_race.proofs.steps.drop_server_events.Given as goal
+use Rattle.kept_pair.proofs.events.drop_server_events.Given as goal
 
 abbrev pub invariant-out : goal.invariant-out
 invariant-out l = record {
