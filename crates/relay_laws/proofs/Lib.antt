@@ -3,6 +3,7 @@ pub mod Taking
 pub mod Meeting
 pub mod Fine
 pub mod Lasting
+pub mod Scanning
 pub mod Told
 pub mod Ever
 pub mod Match

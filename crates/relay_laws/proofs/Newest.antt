@@ -28,7 +28,7 @@ use Rattle.relay_model.specs.Watching.{WatchEvent, Took, Scans, Own, Watched, is
 use Rattle.relay_model.specs.Items.{shown_at, values_of, show_of, is_changed, write_of, writes_between, writes_of, hide_item, write_item, news_by, posting, is_stopped, items_of}
 use Rattle.relay_model.specs.Laws.{IsCopy, IsChange, AreCopies, IsSpectators, AreSpectators}
 use Rattle.relay_model.proofs.Following.{follow}
-use Rattle.relay_laws.proofs.Told.{has_some}
+use Rattle.relay_laws.proofs.Scanning.{up_to, scanned_to}
 use Rattle.relay_laws.proofs.Meeting.{kept_watch, fit_at}
 
 -- ---- writes of one field
@@ -259,18 +259,8 @@ module _ (t : Terms) (events : List WatchEvent) (k0 : Kept) (many0 : shows_in k0
   abbrev IsRight : ℕ → List ℤ → Type 0
   IsRight n vs = (at : ℕ) (copy : GhostCopy) → (watched (Scans ∷ events)).period at ≡ Some n → copy_at events at ≡ Some copy → IsOf t.kinds vs copy
 
-  abbrev is_new : ℕ → Bool
-  is_new slot = is_unwatched (copy_at events) (watched events) slot
-
-  abbrev new_show : ℕ → Option OwnShow
-  new_show slot = if is_new slot then option_map (show_of t.kinds) (copy_at events slot) else None
-
-  abbrev up_to : ℕ → Kept
-  up_to m = all_begin (filter_map new_show (upto m)) k0
-
-  record Scanned (m : ℕ) (k : Kept) : Type 0 where
-    many : shows_in k.course.steps ≡ (watched events).shows + count_by is_new (upto m)
-    all : (n : ℕ) → n < shows_in k.course.steps → IsRight n (k.values n)
+  abbrev AreRight : Kept → Type 0
+  AreRight k = (n : ℕ) → n < shows_in k.course.steps → IsRight n (k.values n)
 
   values_right : (m n : ℕ) (copy : GhostCopy) → (watched (Scans ∷ events)).period m ≡ Some n → copy_at events m ≡ Some copy → IsRight n (values_of t.kinds copy)
   values_right m n copy watch is at b e there =
@@ -281,8 +271,7 @@ module _ (t : Terms) (events : List WatchEvent) (k0 : Kept) (many0 : shows_in k0
       })
 
   begun : (m : ℕ) (copy : GhostCopy) (k : Kept) → (watched (Scans ∷ events)).period m ≡ Some (shows_in k.course.steps) → copy_at events m ≡ Some copy
-      → ((n : ℕ) → n < shows_in k.course.steps → IsRight n (k.values n))
-      → (n : ℕ) → n < shows_in k.course.steps + 1 → IsRight n ((begins (show_of t.kinds copy) k).values n)
+      → AreRight k → AreRight (begins (show_of t.kinds copy) k)
   begun m copy k watch is all n lt = go (n == shows_in k.course.steps) refl
     where
       go : (b : Bool) → (n == shows_in k.course.steps) ≡ b → IsRight n (cond b (values_of t.kinds copy) (k.values n))
@@ -297,53 +286,11 @@ module _ (t : Terms) (events : List WatchEvent) (k0 : Kept) (many0 : shows_in k0
             | inr apart ↦ omega (arith, lt, apart)
           ]
 
-  begin_append : (xs ys : List OwnShow) (k : Kept) → all_begin (xs ++ ys) k ≡ all_begin ys (all_begin xs k)
-  begin_append [] ys k = refl
-  begin_append (x ∷ xs) ys k = begin_append xs ys (begins x k)
-
-  counted : (m : ℕ) (b : Bool) → is_new m ≡ b → count_by is_new (upto (suc m)) ≡ count_by is_new (upto m) + cond b 1 0
-  unfolding upto
-  counted m b e = sum_by_push (λ x. cond (is_new x) 1 0) (upto m) m ∙ ap (λ (b : Bool). count_by is_new (upto m) + cond b 1 0) e
-
-  abbrev opened : Option OwnShow → Kept → Kept
-  opened o k = all_begin (cons_option o []) k
-
-  one_slot : (m : ℕ) (k : Kept) → Scanned m k → (b : Bool) → is_new m ≡ b → Scanned (suc m) (opened (new_show m) k)
-  one_slot m k h false e =
-      let none : new_show m ≡ None = ap (λ (b : Bool). if b then option_map (show_of t.kinds) (copy_at events m) else None) e in
-      subst (λ (o : Option OwnShow). Scanned (suc m) (opened o k)) (sym none) (record { many = omega (arith, h.many, counted m false e); all = h.all })
-  one_slot m k h true e =
-      let there = has_some (copy_at events m) (and_parts (is_some (copy_at events m)) (not (is_some ((watched events).period m))) e).0 in
-      let some : new_show m ≡ Some (show_of t.kinds there.0) =
-      ap (λ (b : Bool). if b then option_map (show_of t.kinds) (copy_at events m) else None) e ∙ ap (option_map (show_of t.kinds)) there.1 in
-      let period : (watched (Scans ∷ events)).period m ≡ Some ((watched events).shows + count_by is_new (upto m)) =
-      ap (λ (b : Bool). if b then Some ((watched events).shows + count_by is_new (upto m)) else (watched events).period m) e in
-      subst (λ (o : Option OwnShow). Scanned (suc m) (opened o k)) (sym some) (record {
-        many = omega (arith, h.many, counted m true e);
-        all = begun m there.0 k (period ∙ ap (λ (n : ℕ). Some n) (sym h.many)) there.1 h.all;
-      })
-
-  up_to_more : (m : ℕ) → up_to (suc m) ≡ opened (new_show m) (up_to m)
-  unfolding upto
-  up_to_more m =
-      ap (λ l. all_begin l k0) (filter_map-append new_show (upto m) (m ∷ []))
-      ∙ begin_append (filter_map new_show (upto m)) (cons_option (new_show m) []) k0
-
-  nothing_new : Scanned zero (up_to zero)
-  unfolding upto
-  nothing_new = record {
-    many = omega (arith, many0);
-    all = λ n lt at copy e there. right0 at n copy (kept_watch Scans events at n (omega (arith, lt, many0)) e) there;
-  }
-
-  scanned_to : (m : ℕ) → Scanned m (up_to m)
-  scanned_to zero = nothing_new
-  scanned_to (suc m) = subst (Scanned (suc m)) (sym (up_to_more m)) (one_slot m (up_to m) (scanned_to m) (is_new m) refl)
-
   after_scan : ((at n : ℕ) → (watched (Scans ∷ events)).period at ≡ Some n → n < (watched (Scans ∷ events)).shows)
-      → Right t.kinds (up_to MAX_SLOTS).values (watched (Scans ∷ events)) (copy_at events)
+      → Right t.kinds (up_to t.kinds events k0 AreRight MAX_SLOTS).values (watched (Scans ∷ events)) (copy_at events)
   after_scan began at n copy e there =
-      let all = scanned_to MAX_SLOTS in
+      let all = scanned_to t.kinds events k0 AreRight begun many0
+      (λ n lt at copy e there. right0 at n copy (kept_watch Scans events at n (omega (arith, lt, many0)) e) there) MAX_SLOTS in
       let lt = began at n e in
       let many = all.many in
       all.all n (omega (arith, lt, many)) at copy e there

@@ -26,6 +26,7 @@ use Rattle.own_lists.proofs.KeptValues.{wrote_course}
 use Rattle.relay_model.specs.Watching.{WatchEvent, Took, Scans, Own, watched, is_unwatched, copy_at}
 use Rattle.relay_model.specs.Items.{shown_at, values_of, show_of, write_of, writes_between, writes_of, hidden_of, is_changed, hide_item, write_item, news_by, posting, is_stopped, items_of}
 use Rattle.relay_model.specs.Laws.{AreSpectators, IsSpectators}
+use Rattle.relay_laws.proofs.Scanning.{up_to, scanned_to}
 
 -- at some place, the relay's copy in the slot that period n watched showed this value of the field
 pub record WasShown (kinds : List Kind) (events : List WatchEvent) (n f : ℕ) (value : ℤ) : Type 0 where
@@ -37,10 +38,6 @@ pub record WasShown (kinds : List Kind) (events : List WatchEvent) (n f : ℕ) (
   pub copy : GhostCopy
   pub there : copy_at earlier slot ≡ Some copy
   pub shows : value ≡ shown_at kinds copy f
-
-pub has_some : {A : Type 0} (o : Option A) → is_some o ≡ true → (a : A) × (o ≡ Some a)
-has_some None e = absurd cc
-has_some (Some a) e = (a, refl)
 
 module _ (t : Terms) where
   abbrev pub Shown : List WatchEvent → ℕ → ℕ → ℤ → Type 0
@@ -101,64 +98,15 @@ module _ (t : Terms) where
           ]
 
   module _ (events : List WatchEvent) (k0 : Kept) (before : Tells events k0) where
-    abbrev is_new : ℕ → Bool
-    is_new slot = is_unwatched (copy_at events) (watched events) slot
+    -- what was shown so far, as it is seen behind the scan
+    abbrev AreShown : Kept → Type 0
+    AreShown k = AllShown (Scans ∷ events) k.values (shows_in k.course.steps)
 
-    abbrev new_show : ℕ → Option OwnShow
-    new_show slot = if is_new slot then option_map (show_of t.kinds) (copy_at events slot) else None
-
-    abbrev up_to : ℕ → Kept
-    up_to m = all_begin (filter_map new_show (upto m)) k0
-
-    record Scanned (m : ℕ) (k : Kept) : Type 0 where
-      many : shows_in k.course.steps ≡ (watched events).shows + count_by is_new (upto m)
-      all : AllShown (Scans ∷ events) k.values (shows_in k.course.steps)
-
-    begin_append : (xs ys : List OwnShow) (k : Kept) → all_begin (xs ++ ys) k ≡ all_begin ys (all_begin xs k)
-    begin_append [] ys k = refl
-    begin_append (x ∷ xs) ys k = begin_append xs ys (begins x k)
-
-    counted : (m : ℕ) (b : Bool) → is_new m ≡ b → count_by is_new (upto (suc m)) ≡ count_by is_new (upto m) + cond b 1 0
-    unfolding upto
-    counted m b e = sum_by_push (λ x. cond (is_new x) 1 0) (upto m) m ∙ ap (λ (b : Bool). count_by is_new (upto m) + cond b 1 0) e
-
-    abbrev opened : ℕ → Option OwnShow → Kept → Kept
-    opened m o k = all_begin (cons_option o []) k
-
-    one_slot : (m : ℕ) (k : Kept) → Scanned m k → (b : Bool) → is_new m ≡ b → Scanned (suc m) (opened m (new_show m) k)
-    one_slot m k h false e =
-        let none : new_show m ≡ None = ap (λ (b : Bool). if b then option_map (show_of t.kinds) (copy_at events m) else None) e in
-        subst (λ (o : Option OwnShow). Scanned (suc m) (opened m o k)) (sym none) (record {
-          many = omega (arith, h.many, counted m false e);
-          all = h.all;
-        })
-    one_slot m k h true e =
-        let there = has_some (copy_at events m) (and_parts (is_some (copy_at events m)) (not (is_some ((watched events).period m))) e).0 in
-        let some : new_show m ≡ Some (show_of t.kinds there.0) =
-        ap (λ (b : Bool). if b then option_map (show_of t.kinds) (copy_at events m) else None) e ∙ ap (option_map (show_of t.kinds)) there.1 in
-        let period : (watched (Scans ∷ events)).period m ≡ Some ((watched events).shows + count_by is_new (upto m)) =
-        ap (λ (b : Bool). if b then Some ((watched events).shows + count_by is_new (upto m)) else (watched events).period m) e in
-        subst (λ (o : Option OwnShow). Scanned (suc m) (opened m o k)) (sym some) (record {
-          many = omega (arith, h.many, counted m true e);
-          all = begins_shown (Scans ∷ events) m there.0 k (period ∙ ap (λ (n : ℕ). Some n) (sym h.many), there.1) h.all;
-        })
-
-    up_to_more : (m : ℕ) → up_to (suc m) ≡ opened m (new_show m) (up_to m)
-    unfolding upto
-    up_to_more m =
-        ap (λ l. all_begin l k0) (filter_map-append new_show (upto m) (m ∷ []))
-        ∙ begin_append (filter_map new_show (upto m)) (cons_option (new_show m) []) k0
-
-    nothing_new : Scanned zero (up_to zero)
-    unfolding upto
-    nothing_new = record { many = omega (arith, before.many); all = λ n f lt within. one_later Scans events n f (slice_index_or (k0.values n) f (pos 0)) (before.all n f lt within) }
-
-    scanned_to : (m : ℕ) → Scanned m (up_to m)
-    scanned_to zero = nothing_new
-    scanned_to (suc m) = subst (Scanned (suc m)) (sym (up_to_more m)) (one_slot m (up_to m) (scanned_to m) (is_new m) refl)
-
-    scan_tells : Tells (Scans ∷ events) (up_to MAX_SLOTS)
-    scan_tells = record { many = (scanned_to MAX_SLOTS).many; all = (scanned_to MAX_SLOTS).all }
+    scan_tells : Tells (Scans ∷ events) (up_to t.kinds events k0 AreShown MAX_SLOTS)
+    scan_tells =
+        let all = scanned_to t.kinds events k0 AreShown (λ slot copy k watch is shown. begins_shown (Scans ∷ events) slot copy k (watch, is) shown) before.many
+        (λ n f lt within. one_later Scans events n f (slice_index_or (k0.values n) f (pos 0)) (before.all n f lt within)) MAX_SLOTS in
+        record { many = all.many; all = all.all }
 
   -- ---- a packet
 
