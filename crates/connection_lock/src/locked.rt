@@ -85,6 +85,7 @@ impl<N: LaneName> Locked<N> {
         ensures sent { IfOk result (λ l. l.sent ≡ []) }
         ensures holds { IfOk result LockHolds }
     {
+        // for its clauses
         let _steps = pair.steps();
         let periods = Periods::new(alloc, pair.pair().conn().kinds());
         let locked = Locked {
@@ -95,6 +96,7 @@ impl<N: LaneName> Locked<N> {
             periods,
             drains: Vec::new(alloc),
         };
+        // for its clauses
         let _holds = locked.pair();
         Ok(locked)
     }
@@ -105,6 +107,7 @@ impl<N: LaneName> Locked<N> {
         ensures value { result.now ≡ self.now.kept }
         ensures holds { LockHolds self.now }
     {
+        // for its clauses
         let _steps = self.pair.steps();
         self.periods.are_periods();
         &self.pair
@@ -125,6 +128,7 @@ impl<N: LaneName> Locked<N> {
     {
         packs.tick();
         let result = self.take_and_pack(alloc, lanes);
+        // for its clauses
         let _holds = self.pair();
         result
     }
@@ -136,6 +140,7 @@ impl<N: LaneName> Locked<N> {
         ensures holds { LockHolds self.new }
     {
         let result = self.make_line(alloc, line);
+        // for its clauses
         let _holds = self.pair();
         result
     }
@@ -147,6 +152,7 @@ impl<N: LaneName> Locked<N> {
         ensures holds { LockHolds self.new }
     {
         let result = self.empty_ring(alloc, lanes);
+        // for its clauses
         let _holds = self.pair();
         result
     }
@@ -162,6 +168,7 @@ impl<N: LaneName> Locked<N> {
         ensures holds { LockHolds self.new }
     {
         let result = self.make_step(alloc, lanes, message);
+        // for its clauses
         let _holds = self.pair();
         result
     }
@@ -244,6 +251,7 @@ impl<N: LaneName> Locked<N> {
         ensures sent { sent result.outbox ≡ self.sent }
         ensures holds { LockHolds self }
     {
+        // for its clauses
         let _holds = self.pair();
         let Locked {
             pair,

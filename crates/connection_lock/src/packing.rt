@@ -58,6 +58,7 @@ fn drain<N: LaneName>(
         periods.now seat.old.steps seat.new.steps drains.new.items }
     ensures client { seat.new.client ≡ seat.old.client }
 {
+    // for its clauses
     let _steps = pair.steps();
     match pair.pair().conn().pack_state() {
         SendState::Room => drain_all(seat, lanes, periods, drains),
@@ -110,12 +111,14 @@ pub(crate) fn pack<N: LaneName>(
     ensures terms { terms_in pair.new ≡ terms_in pair.old }
     ensures client { seat.new.client ≡ seat.old.client }
 {
+    // for its clauses
     let _objects = lanes.objects();
     let _steps = pair.steps();
     periods.are_periods();
     drains.clear();
     drain(pair, seat, lanes, periods, drains);
     let answer = pack_read(pair, seat, lanes, periods, drains.as_slice());
+    // for its clauses
     let _after = pair.steps();
     answer
 }

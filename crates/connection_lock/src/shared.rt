@@ -69,6 +69,7 @@ impl<N: LaneName> SharedPair<N> {
     {
         let SharedPair { locked } = self;
         let locked = locked.into_inner();
+        // for its clauses
         let _holds = locked.pair();
         locked
     }

@@ -18,22 +18,25 @@ use rtrb::Consumer;
 use std::alloc::Global;
 use tn_types::{Class, MAX_TAKEN_MESSAGES, Payload};
 
-/// Whether a show is taken: a period may begin so, and its object is one of the lanes that no period has which is shown and not
-/// hidden.
-fn may_take_show(
-    pair: &KeptPair,
-    periods: &Periods,
-    objects: u32,
+/// What a show says of its period.
+#[derive(Clone, Copy)]
+struct Shown {
     object: u32,
     kind: u8,
     block: u8,
     level: u8,
     control: bool,
-) -> bool
-    ensures { IsTrue result ↔ (MayStep pair.now (Show kind block level control) × (object < objects)
-        × (has_object periods.now.objects periods.now.up object ≡ false)) }
+}
+
+/// Whether a show is taken: a period may begin so, and its object is one of the lanes that no period has which is shown and not
+/// hidden.
+fn may_take_show(pair: &KeptPair, periods: &Periods, objects: u32, show: Shown) -> bool
+    ensures { IsTrue result ↔ (MayStep pair.now (Show show.kind show.block show.level show.control) × (show.object < objects)
+        × (has_object periods.now.objects periods.now.up show.object ≡ false)) }
 {
-    object < objects && !periods.has_object(object) && pair.may_show(kind, block, level, control)
+    show.object < objects
+        && !periods.has_object(show.object)
+        && pair.may_show(show.kind, show.block, show.level, show.control)
 }
 
 /// Takes a show.
@@ -42,31 +45,28 @@ fn take_show<N: LaneName>(
     seat: &mut PackSeat<N>,
     lanes: &Lanes<N>,
     periods: &mut Periods,
-    object: u32,
-    kind: u8,
-    block: u8,
-    level: u8,
-    control: bool,
+    show: Shown,
 )
     requires locked { AreLocked N.objects pair.old seat.old periods.old }
     requires prepared { pair.old.prepared ≡ true }
     requires room { periods.old.has_room ≡ true }
-    ensures { TakesLocked N.objects pair.old seat.old periods.old (OneMessage.Show object kind block level control)
-        pair.new seat.new periods.new }
+    ensures { TakesLocked N.objects pair.old seat.old periods.old
+        (OneMessage.Show show.object show.kind show.block show.level show.control) pair.new seat.new periods.new }
 {
+    // for its clauses
     let _steps = pair.steps();
     periods.are_periods();
     let objects = lanes.objects();
-    let may = may_take_show(pair, periods, objects, object, kind, block, level, control);
+    let may = may_take_show(pair, periods, objects, show);
     if may {
-        let _discarded = seat.drain(lanes, object);
+        let _discarded = seat.drain(lanes, show.object);
         let _answer = pair.step(PairStep::Show {
-            kind,
-            block,
-            level,
-            control,
+            kind: show.kind,
+            block: show.block,
+            level: show.level,
+            control: show.control,
         });
-        periods.show(object, kind);
+        periods.show(show.object, show.kind);
     }
 }
 
@@ -76,6 +76,7 @@ fn take_hide<N: LaneName>(pair: &mut KeptPair, seat: &PackSeat<N>, periods: &mut
     requires prepared { pair.old.prepared ≡ true }
     ensures { TakesLocked N.objects pair.old seat.now periods.old (OneMessage.Hide n) pair.new seat.now periods.new }
 {
+    // for its clauses
     let _client = seat.client();
     let may = pair.may_hide(n);
     if may {
@@ -96,6 +97,7 @@ fn take_near<N: LaneName>(
     requires prepared { pair.old.prepared ≡ true }
     ensures { TakesLocked N.objects pair.old seat.now periods.now (OneMessage.Near n level) pair.new seat.now periods.now }
 {
+    // for its clauses
     let _client = seat.client();
     let _up = periods.up();
     let may = pair.may_come_near(n, level);
@@ -116,6 +118,7 @@ fn take_post<N: LaneName>(
     requires prepared { pair.old.prepared ≡ true }
     ensures { TakesLocked N.objects pair.old seat.now periods.now (OneMessage.Post class payload) pair.new seat.now periods.now }
 {
+    // for its clauses
     let _client = seat.client();
     let _up = periods.up();
     let _answer = pair.step(PairStep::Post { class, payload });
@@ -141,9 +144,16 @@ fn take<N: LaneName>(
             block,
             level,
             control,
-        } => take_show(
-            pair, seat, lanes, periods, object, kind, block, level, control,
-        ),
+        } => {
+            let show = Shown {
+                object,
+                kind,
+                block,
+                level,
+                control,
+            };
+            take_show(pair, seat, lanes, periods, show)
+        }
         Message::Hide { n } => take_hide(pair, seat, periods, n),
         Message::Near { n, level } => take_near(pair, seat, periods, n, level),
         Message::Post { class, payload } => take_post(pair, seat, periods, class, payload),

@@ -12,6 +12,7 @@ use kept_pair::KeptPair;
 pub(crate) fn shows(pair: &KeptPair) -> u32
     ensures { result ≡ shows_in (newest_first pair.now.steps) }
 {
+    // for its clauses
     let _steps = pair.steps();
     pair.pair().conn().shows()
 }
@@ -20,6 +21,7 @@ pub(crate) fn shows(pair: &KeptPair) -> u32
 pub(crate) fn is_up(pair: &KeptPair, n: u32) -> bool
     ensures { result ≡ has n (up_in (newest_first pair.now.steps)) }
 {
+    // for its clauses
     let _steps = pair.steps();
     pair.pair().conn().is_up(n)
 }
@@ -29,6 +31,7 @@ pub(crate) fn due_bits(pair: &KeptPair, n: u32) -> u32
     requires { has n (up_in (newest_first pair.now.steps)) ≡ true }
     ensures { (field : ℕ) → has_bit result field ≡ is_field_due (terms_in pair.now) (newest_first pair.now.steps) n field }
 {
+    // for its clauses
     let _steps = pair.steps();
     pair.pair().conn().due_bits(n)
 }

@@ -19,6 +19,7 @@ pub(crate) fn learn_fields(values: &History)
     ensures { (object : ℕ) → length (fields_told values.now object) ≤ MAX_FIELDS }
 {
     for object in 0..values.objects() {
+        // for its clauses
         let _few = values.fields(object);
     }
 }

@@ -50,6 +50,7 @@ fn is_same_at(a: &KindTable, b: &KindTable, k: u8) -> bool
 fn learn_few(table: &KindTable)
     ensures { length table.now ≤ MAX_KINDS }
 {
+    // for its clauses
     let _kind = table.kind(0);
 }
 

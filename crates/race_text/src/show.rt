@@ -51,6 +51,7 @@ fn told_of(
 fn learn_steps(pair: &KeptPair)
     ensures { Replays pair.now.pair pair.now.steps }
 {
+    // for its clauses
     let _steps = pair.steps();
 }
 
