@@ -1,5 +1,5 @@
 -- The answers that a step of each kind may have, what a pack made by its answer, and which steps bring something to the server.
-use Rattle.std.specs.Prelude.{Bool, true, false}
+use Rattle.std.specs.Prelude.{ℕ, Bool, true, false}
 use Rattle.tn_types.specs.declared.choices.PacketKind.{PacketKind}
 use Rattle.tn_types.specs.declared.choices.PacketKind.TheVariants.{Ping, Body}
 use Rattle.own_lists.specs.pair_core.declared.step.Answer.{Answer}
