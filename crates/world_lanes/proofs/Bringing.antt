@@ -58,6 +58,15 @@ module _ (w : Worlds) (first second both : ℕ → ℕ → Bool) (a b c : List S
       (record { versions = y.versions o f; values = y.values o f; others = y.others o f })) in
       record { versions = λ o f. (at o f).versions; values = λ o f. (at o f).values; others = λ o f. (at o f).others }
 
+-- one choice does what another does that has the same of what the lanes are behind in
+pub brings_by : (w : Worlds) (first second : ℕ → ℕ → Bool) (a b : List SimStep) → ((o f : ℕ) → (first o f && is_behind w a o f) ≡ (second o f && is_behind w a o f))
+    → Brings w first a b → Brings w second a b
+brings_by w first second a b same x = record {
+  versions = λ o f. x.versions o f ∙ ap (λ (t : Bool). if t then newest a o f + 1 else newest a o f) (same o f);
+  values = λ o f e. x.values o f (same o f ∙ e);
+  others = λ o f e. x.others o f (same o f ∙ e);
+}
+
 -- nothing was chosen
 pub brings_none : (w : Worlds) (chosen : ℕ → ℕ → Bool) (a : List SimStep) → ((o f : ℕ) → chosen o f ≡ false) → Brings w chosen a a
 brings_none w chosen a none =

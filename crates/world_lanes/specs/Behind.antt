@@ -41,6 +41,10 @@ fields_below object most o f = (o == object) && nat_lt f most
 abbrev pub objects_below : ℕ → ℕ → ℕ → Bool
 objects_below most o f = nat_lt o most && nat_lt f MAX_FIELDS
 
+-- the lanes are behind in no field of the world
+abbrev pub IsBrought : Worlds → List SimStep → Type 0
+IsBrought w steps = (object field : ℕ) → is_behind w steps object field ≡ false
+
 -- of the chosen fields, those in which the lanes were behind were written once, and no other field
 pub record Brings (w : Worlds) (chosen : ℕ → ℕ → Bool) (old new : List SimStep) : Type 0 where
   pub versions : (object field : ℕ) → newest new object field

@@ -1,2 +1,4 @@
 pub mod Behind
+pub mod Storing
+pub mod Ticked
 pub mod Told
