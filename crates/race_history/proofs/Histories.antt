@@ -38,7 +38,7 @@ by_option : (xs : List ℤ) (now : Option ℤ) → versions (xs ++ cons_option n
 by_option xs None = ap versions (append-nil xs)
 by_option xs (Some now) = versions_grow xs now
 
-history_grows : (worlds : List Worlds) (w : Worlds) (object field : ℕ) → field_history (worlds ++ w ∷ []) object field ≡ with_item grown (field_history worlds object field) (value_at w object field)
+pub history_grows : (worlds : List Worlds) (w : Worlds) (object field : ℕ) → field_history (worlds ++ w ∷ []) object field ≡ with_item grown (field_history worlds object field) (value_at w object field)
 history_grows worlds w object field =
     ap versions (filter_map-append (field_in object field) worlds (w ∷ [])) ∙ by_option (filter_map (field_in object field) worlds) (value_at w object field)
 
@@ -77,10 +77,10 @@ counts_grow [] (row ∷ now) h = ap suc (counts_grow [] now tt)
 counts_grow (t ∷ values) [] h = absurd h
 counts_grow (t ∷ values) (row ∷ now) h = ap suc (counts_grow values now h.1)
 
-abbrev length_of_fields : Option (List (List ℤ)) → Option ℕ
+abbrev pub length_of_fields : Option (List (List ℤ)) → Option ℕ
 length_of_fields told = option_map (λ (t : List (List ℤ)). length t) told
 
-abbrev length_of_row : Option (List ℤ) → Option ℕ
+abbrev pub length_of_row : Option (List ℤ) → Option ℕ
 length_of_row row = option_map (λ (r : List ℤ). length r) row
 
 fields_grow : (values : Values) (now : List (List ℤ)) (k : ℕ) → AreWithin values now → length_of_fields (slice_get (with_rows values now) k) ≡ length_of_row (slice_get now k)

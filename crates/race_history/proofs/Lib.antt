@@ -1,3 +1,4 @@
 pub mod GrowLaws
 pub mod Extending
 pub mod Histories
+pub mod Writing

@@ -1,6 +1,7 @@
 -- How told values grow by those of one more world: each field by its value, and each object by its fields. A field or an
 -- object that was not there begins from nothing.
-use Rattle.std.specs.Prelude.{ℕ, ℤ, zero, suc, pos, ◌-◌, ◌==◌, ◌||◌, Bool, List, [], ◌∷◌, length, slice_index_or, if◌then◌else◌}
+use Rattle.std.specs.Prelude.{ℕ, ℤ, zero, suc, pos, ◌-◌, ◌==◌, ◌||◌, Bool, List, [], ◌∷◌, ◌++◌, length, map, drop, slice_index_or, if◌then◌else◌}
+use Rattle.world_sim.specs.declared.rows.Write.{Write}
 use Rattle.world_sim.specs.Rows.{differs}
 use Rattle.race_history.specs.History.{Values}
 
@@ -30,6 +31,28 @@ with_row fields now = extended grown [] fields now
 -- the objects with one more row of each
 abbrev pub with_rows : Values → List (List ℤ) → Values
 with_rows values now = extended with_row [] values now
+
+-- a list with what stands at a place changed
+abbrev pub changed_at : {A : Type 0} → ℕ → (A → A) → List A → List A
+changed_at i change [] = []
+changed_at zero change (x ∷ xs) = change x ∷ xs
+changed_at (suc i) change (x ∷ xs) = x ∷ changed_at i change xs
+
+-- the fields of an object with the value of a write
+abbrev pub with_value : Write → List (List ℤ) → List (List ℤ)
+with_value w fields = changed_at w.field (λ told. grown told w.value) fields
+
+-- the objects with the value of a write, and with those of several
+abbrev pub with_write : Write → Values → Values
+with_write w values = changed_at w.object (with_value w) values
+
+abbrev pub with_writes : List Write → Values → Values
+with_writes [] values = values
+with_writes (w ∷ ws) values = with_writes ws (with_write w values)
+
+-- the objects with those that are new, of which these are the rows of all
+abbrev pub with_new : Values → List (List ℤ) → Values
+with_new values rows = values ++ map (with_row []) (drop (length values) rows)
 
 -- a list that has a place i, where it had all places below it
 abbrev pub reached : {A : Type 0} → A → List A → ℕ → List A

@@ -5,7 +5,7 @@ use Rattle.std.specs.List.{filter_map}
 use Rattle.std.specs.Option.{unwrap_or}
 use Rattle.tn_types.specs.declared.moves.Move.{Move}
 use Rattle.world_sim.specs.Rows.{differs}
-use Rattle.world_sim.specs.Worlds.{Worlds, next, values_at, value_at}
+use Rattle.world_sim.specs.Worlds.{Worlds, AreOfFields, next, values_at, value_at}
 
 -- the worlds of a match: this one, and then one for the moves of each tick
 abbrev pub worlds_from : Worlds → List (List (Option Move)) → List Worlds
@@ -53,6 +53,10 @@ version_told values object field v = slice_get (versions_told values object fiel
 -- the number of the newest version
 abbrev pub newest : Values → ℕ → ℕ → ℕ
 newest values object field = length (versions_told values object field) - 1
+
+-- each field of each object of a world has its version
+abbrev pub HasVersions : Worlds → Type 0
+HasVersions w = AreOfFields w.objects w.versions
 
 -- the values are those of these worlds, of which this is the last: of each object and field that was made, all versions
 pub record IsHistory (worlds : List Worlds) (last : Worlds) (values : Values) : Type 0 where

@@ -4,14 +4,14 @@ ghost use Rattle.tn_types.specs.declared.moves.Move.{Move as OneMove};
 ghost use Rattle.world_sim.specs.Rows.{values_of};
 ghost use Rattle.world_sim.specs.Worlds.{Worlds, next};
 ghost use Rattle.race_history.specs.Deciding.{Decides};
-ghost use Rattle.race_history.specs.Growing.{reached, with_rows};
-ghost use Rattle.race_history.specs.History.{IsHistoryOf, fields_told, versions_told, world_after};
+ghost use Rattle.race_history.specs.Growing.{reached, with_new, with_row, with_rows, with_write, with_writes};
+ghost use Rattle.race_history.specs.History.{HasVersions, IsHistoryOf, fields_told, versions_told, world_after};
 
 use crate::object::ObjectValues;
 use std::alloc::{AllocError, Global};
 use std::marker::Model;
 use tn_types::{MAX_FIELDS, MAX_OBJECTS, NoMemory};
-use world_sim::World;
+use world_sim::{World, Write};
 
 /// The values that each field of each object had, by version: a field's first value is version 0, and each that differs from
 /// the one before is the next version. A clause sees them as a list by object, field and version.
@@ -65,6 +65,55 @@ fn add_world(
     Ok(())
 }
 
+// Adds the value of a write, if its object is there.
+#[tactic(auto, using(crate::proofs::Writing::changed_there, crate::proofs::Writing::unchanged_past))]
+fn add_write(objects: &mut Vec<ObjectValues>, write: &Write) -> Result<(), AllocError>
+    ensures value { OnOk result (objects.new.items ≡ with_write write.now objects.old.items) }
+    ensures many { length objects.new.items ≡ length objects.old.items }
+{
+    let i = write.object as usize;
+    if i >= objects.len() {
+        return Ok(());
+    }
+    objects[i].add_to(write.field, &write.value)
+}
+
+// Adds the values of writes.
+fn add_writes(objects: &mut Vec<ObjectValues>, writes: &[Write]) -> Result<(), AllocError>
+    ensures value { OnOk result (objects.new.items ≡ with_writes writes.now objects.old.items) }
+    ensures many { length objects.new.items ≡ length objects.old.items }
+{
+    for write in writes {
+        add_write(objects, write)?;
+    }
+    Ok(())
+}
+
+// The first value of each field of an object.
+fn first_values(alloc: Global, now: &[i64]) -> Result<ObjectValues, AllocError>
+    requires { length now.now ≤ MAX_FIELDS }
+    ensures { IfOk result (λ told. told ≡ with_row [] now.now) }
+{
+    let mut told = ObjectValues::new(alloc);
+    told.add(alloc, now)?;
+    Ok(told)
+}
+
+// Adds the objects that are new in a world.
+fn add_new(alloc: Global, objects: &mut Vec<ObjectValues>, world: &World) -> Result<(), AllocError>
+    requires few { length objects.old.items ≤ MAX_OBJECTS }
+    ensures value { OnOk result (objects.new.items ≡ with_new objects.old.items (map values_of world.now.objects)) }
+    ensures few { length objects.new.items ≤ MAX_OBJECTS }
+{
+    let all = world.objects();
+    let from = (objects.len() as u32).min(all);
+    for object in from..all {
+        let told = first_values(alloc, world.values(object))?;
+        objects.push(told)?;
+    }
+    Ok(())
+}
+
 impl History {
     /// The values of no world.
     pub fn new(alloc: Global) -> History
@@ -84,6 +133,22 @@ impl History {
             → IsHistoryOf first (ticks ++ moves ∷ []) self.new) }
     {
         let Ok(()) = add_world(alloc, &mut self.objects, world) else {
+            return Err(NoMemory);
+        };
+        Ok(())
+    }
+
+    /// Adds the values of the world after a tick by what the tick wrote and the objects that it made, and looks at no other: the same
+    /// as `add` where each field of the world before it has its version. After an `Err` the history may hold a part of them.
+    pub fn add_tick(&mut self, alloc: Global, world: &World) -> Result<(), NoMemory>
+        ensures next { OnOk result ((first : Worlds) (ticks : List (List (Option OneMove))) (moves : List (Option OneMove))
+            → HasVersions (world_after first ticks) → IsHistoryOf first ticks self.old → world.now ≡ next (world_after first ticks) moves
+            → IsHistoryOf first (ticks ++ moves ∷ []) self.new) }
+    {
+        let Ok(()) = add_writes(&mut self.objects, world.writes()) else {
+            return Err(NoMemory);
+        };
+        let Ok(()) = add_new(alloc, &mut self.objects, world) else {
             return Err(NoMemory);
         };
         Ok(())

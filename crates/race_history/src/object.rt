@@ -3,7 +3,7 @@ ghost use Rattle.std.specs.Prelude.{◌≡◌, ◌<◌, ◌≤◌, ◌∷◌, �
 ghost use Rattle.std.specs.Option.{unwrap_or};
 ghost use Rattle.world_sim.specs.Rows.{differs};
 ghost use Rattle.race_history.specs.Deciding.{Decides};
-ghost use Rattle.race_history.specs.Growing.{grown, is_new, reached, with_row};
+ghost use Rattle.race_history.specs.Growing.{changed_at, grown, is_new, reached, with_row};
 
 use std::alloc::{AllocError, Global};
 use std::marker::Model;
@@ -148,6 +148,18 @@ impl ObjectValues {
         ensures { OnOk result (self.new ≡ with_row self.old now.now) }
     {
         add_row(alloc, &mut self.fields, now)
+    }
+
+    // One more value of one field, if it is there.
+    #[tactic(auto, using(crate::proofs::Writing::changed_there, crate::proofs::Writing::unchanged_past))]
+    pub(crate) fn add_to(&mut self, field: u8, now: &i64) -> Result<(), AllocError>
+        ensures { OnOk result (self.new ≡ changed_at field (λ told. grown told now.now) self.old) }
+    {
+        let i = field as usize;
+        if i >= self.fields.len() {
+            return Ok(());
+        }
+        self.fields[i].add(now)
     }
 
     // How many fields these are.
