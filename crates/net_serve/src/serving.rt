@@ -5,7 +5,6 @@ ghost use Rattle.tn_outside.specs.Causes.{Rose};
 ghost use Rattle.tn_outside.specs.Totals.{Adds, AddsFront};
 ghost use Rattle.match_script.specs.Ranges.{HasRanges, HeadFits};
 ghost use Rattle.script_maker.specs.Made.{made};
-ghost use Rattle.net_rules.specs.declared.limits.TheConstants.{MAX_RECEIVED_BYTES};
 ghost use Rattle.net_rules.specs.Turns.{Event, TurnsAreOne};
 ghost use Rattle.net_rules.specs.Places.{IsPlace};
 ghost use Rattle.net_rules.specs.Faults.{HasCause, IsDoneOrFull};
@@ -16,11 +15,11 @@ ghost use Rattle.net_serve.specs.Points.{point, Turns, TurnsFront};
 ghost use Rattle.net_serve.specs.Stages.{Serves, IsAt, Went, Served, ServedFront, ServedSome};
 
 use crate::laws::{is_read_again, packs_are_sent, raws_are_arrivals, ticks_are_turns};
-use crate::listening::listen;
+use crate::listening::{Deadline, listen};
 use crate::server::Server;
 use crate::watch::Watch;
 use match_script::{Body, Head, Script, print_head};
-use net_rules::{MAX_RECEIVED_BYTES, NetFault, TURN_MILLISECONDS, turns_are_one};
+use net_rules::{NetFault, TURN_MILLISECONDS, turns_are_one};
 use script_maker::make;
 use std::alloc::Global;
 use tn_outside::{Clock, Link, Sink, write_all};
@@ -56,25 +55,31 @@ fn write_header<K: Sink>(alloc: Global, head: &Head, sink: &mut K) -> Result<(),
     }
 }
 
+/// A turn of a run, which began with this answer of the clock.
+#[derive(Clone, Copy, Debug, PartialEq, Eq)]
+struct Turn {
+    /// The clock's answer at the start.
+    start: u64,
+    /// How many turns come before it.
+    t: u32,
+}
+
 /// One turn: its listening, and then a tick and a datagram for each client.
 fn turn<L: Link, C: Clock, K: Sink, W: Watch>(
     alloc: Global,
     server: &mut Server,
-    buf: &mut [u8],
-    start: u64,
-    t: u32,
+    at: Turn,
     link: &mut L,
     clock: &mut C,
     sink: &mut K,
     watch: &mut W,
 ) -> Result<(), NetFault>
     requires stands { (past : List Event) × Serves server.old past }
-    requires buffer { length buf.old ≡ MAX_RECEIVED_BYTES }
     ensures stands { OnOk result ((past : List Event) × Serves server.new past) }
-    ensures done { OnOk result (Turns start t
+    ensures done { OnOk result (Turns at.start at.t
         (point server.old (L.ahead link.old) (C.ahead clock.old) (K.written sink.old) (L.sent link.old))
         (point server.new (L.ahead link.new) (C.ahead clock.new) (K.written sink.new) (L.sent link.new))) }
-    ensures front { OnErr result (TurnsFront start t
+    ensures front { OnErr result (TurnsFront at.start at.t
         (point server.old (L.ahead link.old) (C.ahead clock.old) (K.written sink.old) (L.sent link.old))
         (point server.new (L.ahead link.new) (C.ahead clock.new) (K.written sink.new) (L.sent link.new))) }
     ensures went { OnOk result ((o : Begun) (n : ℕ) → Went o server.old (K.written sink.old) (L.sent link.old) n
@@ -86,32 +91,36 @@ fn turn<L: Link, C: Clock, K: Sink, W: Watch>(
     ensures clock_later { C.faults clock.old ≤ C.faults clock.new }
     ensures sink_later { K.faults sink.old ≤ K.faults sink.new }
 {
-    let due = TURN_MILLISECONDS * u64::from(t);
-    listen(alloc, server, buf, start, due, link, clock, sink, watch)?;
+    let due = TURN_MILLISECONDS * u64::from(at.t);
+    let until = Deadline {
+        start: at.start,
+        due,
+    };
+    listen(alloc, server, until, link, clock, sink, watch)?;
     server.turn(alloc, link, sink)
 }
 
-/// All turns.
+/// All turns before this one.
 fn serve_turns<L: Link, C: Clock, K: Sink, W: Watch>(
     alloc: Global,
     server: &mut Server,
-    start: u64,
-    turns: u32,
+    end: Turn,
     link: &mut L,
     clock: &mut C,
     sink: &mut K,
     watch: &mut W,
 ) -> Result<(), NetFault>
     requires stands { (past : List Event) × Serves server.old past }
-    ensures done { OnOk result ((o : Begun) → start ≡ answer_at o.clock 0 → IsPlace o.ahead o.clock (L.ahead link.old) (C.ahead clock.old) 0
-        → IsAt o server.old (K.written sink.old) (L.sent link.old) []
-        → Served server.old.script.head turns o (K.written sink.new) (L.sent link.new)) }
-    ensures front { OnErr result ((o : Begun) → start ≡ answer_at o.clock 0
+    ensures done { OnOk result ((o : Begun) → end.start ≡ answer_at o.clock 0
         → IsPlace o.ahead o.clock (L.ahead link.old) (C.ahead clock.old) 0
         → IsAt o server.old (K.written sink.old) (L.sent link.old) []
-        → ServedFront server.old.script.head turns o (K.written sink.new) (L.sent link.new)) }
+        → Served server.old.script.head end.t o (K.written sink.new) (L.sent link.new)) }
+    ensures front { OnErr result ((o : Begun) → end.start ≡ answer_at o.clock 0
+        → IsPlace o.ahead o.clock (L.ahead link.old) (C.ahead clock.old) 0
+        → IsAt o server.old (K.written sink.old) (L.sent link.old) []
+        → ServedFront server.old.script.head end.t o (K.written sink.new) (L.sent link.new)) }
     ensures went { OnOk result ((o : Begun) → IsAt o server.old (K.written sink.old) (L.sent link.old) []
-        → Went o server.new (K.written sink.new) (L.sent link.new) turns) }
+        → Went o server.new (K.written sink.new) (L.sent link.new) end.t) }
     ensures script { OnOk result (server.new.script ≡ server.old.script) }
     ensures cause { IfErr result (HasCause (Rose (L.faults link.old) (L.faults link.new)) (Rose (C.faults clock.old) (C.faults clock.new))
         (Rose (K.faults sink.old) (K.faults sink.new))) }
@@ -119,9 +128,12 @@ fn serve_turns<L: Link, C: Clock, K: Sink, W: Watch>(
     ensures clock_later { C.faults clock.old ≤ C.faults clock.new }
     ensures sink_later { K.faults sink.old ≤ K.faults sink.new }
 {
-    let mut buf = [0u8; MAX_RECEIVED_BYTES];
-    'turns: for t in 0..turns {
-        turn(alloc, server, &mut buf, start, t, link, clock, sink, watch)?;
+    'turns: for t in 0..end.t {
+        let at = Turn {
+            start: end.start,
+            t,
+        };
+        turn(alloc, server, at, link, clock, sink, watch)?;
     }
     Ok(())
 }
@@ -170,16 +182,11 @@ fn serve_match<L: Link, C: Clock, K: Sink, W: Watch>(
         return Err(NetFault::ClockFault);
     };
     write_header(alloc, &script.head, sink)?;
-    serve_turns(
-        alloc,
-        &mut server,
+    let end = Turn {
         start,
-        offer.turns,
-        link,
-        clock,
-        sink,
-        watch,
-    )
+        t: offer.turns,
+    };
+    serve_turns(alloc, &mut server, end, link, clock, sink, watch)
 }
 
 /// Serves a match: what comes over the link is done, the script of it is written line by line, and each client that joined gets its
