@@ -5,11 +5,9 @@ use Rattle.std.proofs.lemmas.List.Sums.{sum_by-append}
 use Rattle.std.specs.List.{flat_map}
 use Rattle.match_script.specs.declared.types.BodyLine.{BodyLine}
 use Rattle.match_script.specs.declared.types.Head.{Head}
-use Rattle.match_script.specs.declared.types.Script.{Script}
 use Rattle.match_report.specs.declared.told.Told.{Told}
 use Rattle.match_report.specs.Text.{report_line}
 use Rattle.match_engine.specs.match_laws.Report.{told_after, told_lines, text_behind, line_text, report_so_far, report}
-use Rattle.match_count.specs.declared.counts.Counts.{Counts}
 use Rattle.match_count.specs.Counting.{tellings_so_far, tellings, TellingsAreReport, counts_of, with_line, data_in, pings_in, down_in, old_in, events_in, moves_in, bytes_in}
 
 so_far : (head : Head) (past : List BodyLine) → flat_map report_line (tellings_so_far head past) ≡ report_so_far head past

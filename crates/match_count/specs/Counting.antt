@@ -12,8 +12,8 @@ use Rattle.stream_manager.specs.declared.fault.ArriveFault.TheVariants as server
 use Rattle.stream_manager.specs.declared.fault.ClientFault.TheVariants as client
 use Rattle.match_report.specs.declared.told.Told.{Told}
 use Rattle.match_report.specs.declared.told.Told.TheVariants.{Packed, Came, ServerRefused, ClientRefused}
-use Rattle.tn_types.specs.declared.choices.End.TheVariants.{Server, Client}
-use Rattle.match_report.specs.declared.told.Way.TheVariants.{Down, Up, Raw}
+use Rattle.tn_types.specs.declared.choices.End.TheVariants.{Server}
+use Rattle.match_report.specs.declared.told.Way.TheVariants.{Down, Up}
 use Rattle.match_report.specs.Text.{report_line}
 use Rattle.match_engine.specs.match_laws.Report.{told_after, report}
 use Rattle.match_count.specs.declared.counts.Counts.{Counts}

@@ -1,5 +1,5 @@
 -- What the command `big` writes: its words, and a line for each count.
-use Rattle.std.specs.Prelude.{ℕ, List, [], ◌∷◌, ◌++◌, codes}
+use Rattle.std.specs.Prelude.{ℕ, List, ◌++◌, codes}
 use Rattle.std.specs.Fmt.{decimal}
 use Rattle.match_count.specs.declared.counts.Counts.{Counts}
 

@@ -1,4 +1,4 @@
-use Rattle.std.proofs.Common.{◌≡◌, ◌∙◌, ◌≤◌, ℕ, length, reverse, take, Ok, sym, ap, subst}
+use Rattle.std.proofs.Common.{◌∙◌, ◌≤◌, ℕ, length, reverse, take, Ok, sym, ap, subst}
 use Rattle.match_script.specs.declared.types.Script.{Script}
 use Rattle.match_engine.specs.Match.{StandsFor}
 use Rattle.match_count.specs.Bounds.{AreCounts}

@@ -1,8 +1,7 @@
-use Rattle.std.proofs.Common.{◌≡◌, ◌∙◌, ◌+◌, ◌<◌, ◌≤◌, length, Bool, true, Ok, Some, None, Option, sym, ap, inl, inr, arith}
+use Rattle.std.proofs.Common.{◌≡◌, ◌∙◌, ◌<◌, length, Ok, ap, inl, inr}
 use Rattle.std.specs.Option.{option_copied}
 use Rattle.std.proofs.lemmas.Bool.{cases_lt}
-use Rattle.match_report.specs.declared.told.Told.{Told}
-use Rattle.match_engine.specs.Match.{IsPlayed, last_told}
+use Rattle.match_engine.specs.Match.{IsPlayed}
 use Rattle.match_engine.proofs.Continued.{few_done}
 use Rattle.match_count.proofs.Counted.{lines_before, told_at, last_is, counted_more}
 use Rattle.match_count.proofs.counting.count_next.Goals as goal
