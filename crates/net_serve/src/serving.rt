@@ -55,9 +55,9 @@ fn write_header<K: Sink>(alloc: Global, head: &Head, sink: &mut K) -> Result<(),
     }
 }
 
-/// A turn of a run, which began with this answer of the clock.
+/// A moment of a run, between two turns.
 #[derive(Clone, Copy, Debug, PartialEq, Eq)]
-struct Turn {
+struct Moment {
     /// The clock's answer at the start.
     start: u64,
     /// How many turns come before it.
@@ -68,7 +68,7 @@ struct Turn {
 fn turn<L: Link, C: Clock, K: Sink, W: Watch>(
     alloc: Global,
     server: &mut Server,
-    at: Turn,
+    at: Moment,
     link: &mut L,
     clock: &mut C,
     sink: &mut K,
@@ -100,11 +100,11 @@ fn turn<L: Link, C: Clock, K: Sink, W: Watch>(
     server.turn(alloc, link, sink)
 }
 
-/// All turns before this one.
+/// All turns before this moment.
 fn serve_turns<L: Link, C: Clock, K: Sink, W: Watch>(
     alloc: Global,
     server: &mut Server,
-    end: Turn,
+    end: Moment,
     link: &mut L,
     clock: &mut C,
     sink: &mut K,
@@ -129,7 +129,7 @@ fn serve_turns<L: Link, C: Clock, K: Sink, W: Watch>(
     ensures sink_later { K.faults sink.old ≤ K.faults sink.new }
 {
     'turns: for t in 0..end.t {
-        let at = Turn {
+        let at = Moment {
             start: end.start,
             t,
         };
@@ -182,7 +182,7 @@ fn serve_match<L: Link, C: Clock, K: Sink, W: Watch>(
         return Err(NetFault::ClockFault);
     };
     write_header(alloc, &script.head, sink)?;
-    let end = Turn {
+    let end = Moment {
         start,
         t: offer.turns,
     };
