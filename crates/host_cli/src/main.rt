@@ -8,7 +8,7 @@ ghost use Rattle.std.specs.Prelude.{◌≤◌};
 ghost use Rattle.tn_types.specs.declared.limits.TheConstants.{MAX_CLIENTS};
 
 use file::FileSink;
-use host_link::net_serve::serve;
+use host_link::net_serve::{Offer, serve};
 use host_link::{Counters, HostClock, HostLink};
 use net_rules::NetFault;
 use std::env;
@@ -57,9 +57,11 @@ fn host(rt: &HostRuntime, hosting: &Hosting) -> Result<(), Refusal>
     };
     let done = serve(
         rt.alloc(),
-        hosting.seed,
-        hosting.clients,
-        hosting.turns,
+        Offer {
+            seed: hosting.seed,
+            clients: hosting.clients,
+            turns: hosting.turns,
+        },
         &mut link,
         &mut clock,
         &mut sink,

@@ -75,14 +75,6 @@ heard_all nonce from behind (suc n) past =
 
 -- ---- turns
 
-pub due_at : (times counts : List ℕ) (start due t : ℕ) → start ≡ answer_at times 0 → due ≡ TURN_MILLISECONDS * t → length counts ≡ t → IsDueAt times start due (length counts)
-due_at times counts start due t begun is len = record { begun = begun; wait = is ∙ ap (λ (n : ℕ). TURN_MILLISECONDS * n) (sym len) }
-
-pub place_next : (from : Ahead) (times : List ℕ) (a a' : Option Ahead) (c : Option (List ℕ)) (behind n : ℕ) → a' ≡ a → IsPlace from times a c (behind + n) → IsPlace from times a' c (n + behind)
-place_next from times a a' c behind n same p =
-    subst (λ (z : Option Ahead). IsPlace from times z c (n + behind)) (sym same)
-    (subst (λ (k : ℕ). IsPlace from times a c k) (let e : behind + n ≡ n + behind = omega arith in e) p)
-
 -- the end of a turn, behind what was heard in it
 module _ (mid new : JoinerState) (d d' : Option (List Datagram)) (same : new.nonce ≡ mid.nonce)
     (joins : (past : List Event) → Joins mid past → Joins new (Turned ∷ past))
@@ -127,21 +119,6 @@ stopped o j turns nonce d d' counts are le at same still =
     }
 
 -- ---- the start
-
-pub starts_place : (o : Begun) (a : Option Ahead) (c c' : Option (List ℕ)) (start : ℕ) → a ≡ Some o.ahead → c ≡ Some o.clock → Tells c c' (Ok start)
-    → (start ≡ answer_at o.clock 0) × IsPlace o.ahead o.clock a c' 0
-starts_place o a c c' start ahead_is clock_is told =
-    let t = subst (λ (x : Option (List ℕ)). Tells x c' (Ok start)) clock_is told in (
-      t.0,
-      record {
-        rest = o.ahead;
-        ahead_is = ahead_is;
-        behind = λ i. ap (found o.ahead) (let e : i ≡ 0 + i = omega arith in e);
-        answers = later o.clock;
-        clock_is = t.1;
-        asked = λ i. answer_later o.clock i ∙ ap (answer_at o.clock) (let e : suc i ≡ suc 0 + i = omega arith in e);
-      },
-    )
 
 -- nothing was added
 pub nothing_front : {A : Type 0} (first now : Option (List A)) (whole : List A) → now ≡ first → AddsFront first now whole

@@ -1,3 +1,4 @@
 pub mod Joining
 pub mod Playing
 pub mod Stages
+pub mod Points

@@ -10,6 +10,7 @@ ghost use Rattle.net_rules.specs.Turns.{Event, turned, total, AreTurns, events, 
 ghost use Rattle.net_rules.specs.Places.{IsPlace};
 ghost use Rattle.net_join.specs.Joining.{ending};
 ghost use Rattle.net_join.specs.Playing.{Joins};
+ghost use Rattle.net_join.specs.Points.{point, Turns};
 ghost use Rattle.net_join.specs.Stages.{IsAt, Went, Sent, SentFront, Joined, JoinedFront, JoinedSome};
 
 use crate::joiner::Joiner;
@@ -29,12 +30,9 @@ fn turn<L: Link, C: Clock>(
     clock: &mut C,
 ) -> Result<(), NetFault>
     requires buffer { length buf.old ≡ MAX_RECEIVED_BYTES }
-    ensures done { OnOk result ((o : Begun) (counts : List ℕ) → start ≡ answer_at o.clock 0 → length counts ≡ t
-        → AreTurns o.ahead o.clock counts → IsPlace o.ahead o.clock (L.ahead link.old) (C.ahead clock.old) (total counts)
-        → IsAt o.sent joiner.old (L.sent link.old) (events o.ahead counts)
-        → (n : ℕ) × AreTurns o.ahead o.clock (n ∷ counts)
-        × IsPlace o.ahead o.clock (L.ahead link.new) (C.ahead clock.new) (total (n ∷ counts))
-        × IsAt o.sent joiner.new (L.sent link.new) (events o.ahead (n ∷ counts))) }
+    ensures done { OnOk result (Turns start t
+        (point joiner.old (L.ahead link.old) (C.ahead clock.old) (L.sent link.old))
+        (point joiner.new (L.ahead link.new) (C.ahead clock.new) (L.sent link.new))) }
     ensures went { OnOk result (Went joiner.old (L.sent link.old) joiner.new (L.sent link.new)) }
     ensures unsent { OnErr result (L.sent link.new ≡ L.sent link.old) }
     ensures nonce { joiner.new.nonce ≡ joiner.old.nonce }

@@ -119,21 +119,6 @@ found_front o s w d k past at =
 
 -- ---- the start
 
-pub starts_place : (o : Begun) (a : Option Ahead) (c c' : Option (List ℕ)) (start : ℕ) → a ≡ Some o.ahead → c ≡ Some o.clock → Tells c c' (Ok start)
-    → (start ≡ answer_at o.clock 0) × IsPlace o.ahead o.clock a c' 0
-starts_place o a c c' start ahead_is clock_is told =
-    let t = subst (λ (x : Option (List ℕ)). Tells x c' (Ok start)) clock_is told in (
-      t.0,
-      record {
-        rest = o.ahead;
-        ahead_is = ahead_is;
-        behind = λ i. ap (found o.ahead) (let e : i ≡ 0 + i = omega arith in e);
-        answers = later o.clock;
-        clock_is = t.1;
-        asked = λ i. answer_later o.clock i ∙ ap (answer_at o.clock) (let e : suc i ≡ suc 0 + i = omega arith in e);
-      },
-    )
-
 nothing_sent : (first now : Option (List Datagram)) → now ≡ first → Adds first now []
 nothing_sent first now e = subst (λ (x : Option (List Datagram)). Adds first x []) (sym e) (adds_nothing first)
 

@@ -13,5 +13,5 @@ mod watch;
 
 pub use laws::{is_read_again, packs_are_sent, raws_are_arrivals, ticks_are_turns};
 pub use match_engine::match_laws;
-pub use serving::serve;
+pub use serving::{Offer, serve};
 pub use watch::{Nobody, Watch};

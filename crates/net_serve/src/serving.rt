@@ -5,21 +5,21 @@ ghost use Rattle.tn_outside.specs.Causes.{Rose};
 ghost use Rattle.tn_outside.specs.Totals.{Adds, AddsFront};
 ghost use Rattle.match_script.specs.Ranges.{HasRanges, HeadFits};
 ghost use Rattle.script_maker.specs.Made.{made};
-ghost use Rattle.net_rules.specs.declared.limits.TheConstants.{MAX_RECEIVED_BYTES};
-ghost use Rattle.net_rules.specs.Turns.{Event, total, AreTurns, events, heard, TurnsAreOne};
+ghost use Rattle.net_rules.specs.Turns.{Event, TurnsAreOne};
 ghost use Rattle.net_rules.specs.Places.{IsPlace};
 ghost use Rattle.net_rules.specs.Faults.{HasCause, IsDoneOrFull};
 ghost use Rattle.net_serve.specs.Laws.{PacksAreSent, RawsAreArrivals, TicksAreTurns, IsReadAgain};
 ghost use Rattle.net_serve.specs.Lines.{text_so_far};
 ghost use Rattle.net_rules.specs.Runs.{Begun, Begins};
-ghost use Rattle.net_serve.specs.Stages.{Serves, IsAt, IsFront, Went, Served, ServedFront, ServedSome};
+ghost use Rattle.net_serve.specs.Points.{point, Turns, TurnsFront};
+ghost use Rattle.net_serve.specs.Stages.{Serves, IsAt, Went, Served, ServedFront, ServedSome};
 
 use crate::laws::{is_read_again, packs_are_sent, raws_are_arrivals, ticks_are_turns};
-use crate::listening::listen;
+use crate::listening::{Deadline, listen};
 use crate::server::Server;
 use crate::watch::Watch;
 use match_script::{Body, Head, Script, print_head};
-use net_rules::{MAX_RECEIVED_BYTES, NetFault, TURN_MILLISECONDS, turns_are_one};
+use net_rules::{NetFault, TURN_MILLISECONDS, turns_are_one};
 use script_maker::make;
 use std::alloc::Global;
 use tn_outside::{Clock, Link, Sink, write_all};
@@ -55,32 +55,33 @@ fn write_header<K: Sink>(alloc: Global, head: &Head, sink: &mut K) -> Result<(),
     }
 }
 
+/// A moment of a run, between two turns.
+#[derive(Clone, Copy, Debug, PartialEq, Eq)]
+struct Moment {
+    /// The clock's answer at the start.
+    start: u64,
+    /// How many turns come before it.
+    t: u32,
+}
+
 /// One turn: its listening, and then a tick and a datagram for each client.
 fn turn<L: Link, C: Clock, K: Sink, W: Watch>(
     alloc: Global,
     server: &mut Server,
-    buf: &mut [u8],
-    start: u64,
-    t: u32,
+    at: Moment,
     link: &mut L,
     clock: &mut C,
     sink: &mut K,
     watch: &mut W,
 ) -> Result<(), NetFault>
     requires stands { (past : List Event) × Serves server.old past }
-    requires buffer { length buf.old ≡ MAX_RECEIVED_BYTES }
     ensures stands { OnOk result ((past : List Event) × Serves server.new past) }
-    ensures done { OnOk result ((o : Begun) (counts : List ℕ) → start ≡ answer_at o.clock 0 → length counts ≡ t
-        → AreTurns o.ahead o.clock counts → IsPlace o.ahead o.clock (L.ahead link.old) (C.ahead clock.old) (total counts)
-        → IsAt o server.old (K.written sink.old) (L.sent link.old) (events o.ahead counts)
-        → (n : ℕ) × AreTurns o.ahead o.clock (n ∷ counts)
-        × IsPlace o.ahead o.clock (L.ahead link.new) (C.ahead clock.new) (total (n ∷ counts))
-        × IsAt o server.new (K.written sink.new) (L.sent link.new) (events o.ahead (n ∷ counts))) }
-    ensures front { OnErr result ((o : Begun) (counts : List ℕ) → start ≡ answer_at o.clock 0 → length counts ≡ t
-        → AreTurns o.ahead o.clock counts → IsPlace o.ahead o.clock (L.ahead link.old) (C.ahead clock.old) (total counts)
-        → IsAt o server.old (K.written sink.old) (L.sent link.old) (events o.ahead counts)
-        → (n : ℕ) × AreTurns o.ahead o.clock (n ∷ counts)
-        × IsFront o server.old.script.head (K.written sink.new) (L.sent link.new) (events o.ahead (n ∷ counts))) }
+    ensures done { OnOk result (Turns at.start at.t
+        (point server.old (L.ahead link.old) (C.ahead clock.old) (K.written sink.old) (L.sent link.old))
+        (point server.new (L.ahead link.new) (C.ahead clock.new) (K.written sink.new) (L.sent link.new))) }
+    ensures front { OnErr result (TurnsFront at.start at.t
+        (point server.old (L.ahead link.old) (C.ahead clock.old) (K.written sink.old) (L.sent link.old))
+        (point server.new (L.ahead link.new) (C.ahead clock.new) (K.written sink.new) (L.sent link.new))) }
     ensures went { OnOk result ((o : Begun) (n : ℕ) → Went o server.old (K.written sink.old) (L.sent link.old) n
         → Went o server.new (K.written sink.new) (L.sent link.new) (suc n)) }
     ensures script { server.new.script ≡ server.old.script }
@@ -90,32 +91,36 @@ fn turn<L: Link, C: Clock, K: Sink, W: Watch>(
     ensures clock_later { C.faults clock.old ≤ C.faults clock.new }
     ensures sink_later { K.faults sink.old ≤ K.faults sink.new }
 {
-    let due = TURN_MILLISECONDS * u64::from(t);
-    listen(alloc, server, buf, start, due, link, clock, sink, watch)?;
+    let due = TURN_MILLISECONDS * u64::from(at.t);
+    let until = Deadline {
+        start: at.start,
+        due,
+    };
+    listen(alloc, server, until, link, clock, sink, watch)?;
     server.turn(alloc, link, sink)
 }
 
-/// All turns.
+/// All turns before this moment.
 fn serve_turns<L: Link, C: Clock, K: Sink, W: Watch>(
     alloc: Global,
     server: &mut Server,
-    start: u64,
-    turns: u32,
+    end: Moment,
     link: &mut L,
     clock: &mut C,
     sink: &mut K,
     watch: &mut W,
 ) -> Result<(), NetFault>
     requires stands { (past : List Event) × Serves server.old past }
-    ensures done { OnOk result ((o : Begun) → start ≡ answer_at o.clock 0 → IsPlace o.ahead o.clock (L.ahead link.old) (C.ahead clock.old) 0
-        → IsAt o server.old (K.written sink.old) (L.sent link.old) []
-        → Served server.old.script.head turns o (K.written sink.new) (L.sent link.new)) }
-    ensures front { OnErr result ((o : Begun) → start ≡ answer_at o.clock 0
+    ensures done { OnOk result ((o : Begun) → end.start ≡ answer_at o.clock 0
         → IsPlace o.ahead o.clock (L.ahead link.old) (C.ahead clock.old) 0
         → IsAt o server.old (K.written sink.old) (L.sent link.old) []
-        → ServedFront server.old.script.head turns o (K.written sink.new) (L.sent link.new)) }
+        → Served server.old.script.head end.t o (K.written sink.new) (L.sent link.new)) }
+    ensures front { OnErr result ((o : Begun) → end.start ≡ answer_at o.clock 0
+        → IsPlace o.ahead o.clock (L.ahead link.old) (C.ahead clock.old) 0
+        → IsAt o server.old (K.written sink.old) (L.sent link.old) []
+        → ServedFront server.old.script.head end.t o (K.written sink.new) (L.sent link.new)) }
     ensures went { OnOk result ((o : Begun) → IsAt o server.old (K.written sink.old) (L.sent link.old) []
-        → Went o server.new (K.written sink.new) (L.sent link.new) turns) }
+        → Went o server.new (K.written sink.new) (L.sent link.new) end.t) }
     ensures script { OnOk result (server.new.script ≡ server.old.script) }
     ensures cause { IfErr result (HasCause (Rose (L.faults link.old) (L.faults link.new)) (Rose (C.faults clock.old) (C.faults clock.new))
         (Rose (K.faults sink.old) (K.faults sink.new))) }
@@ -123,31 +128,43 @@ fn serve_turns<L: Link, C: Clock, K: Sink, W: Watch>(
     ensures clock_later { C.faults clock.old ≤ C.faults clock.new }
     ensures sink_later { K.faults sink.old ≤ K.faults sink.new }
 {
-    let mut buf = [0u8; MAX_RECEIVED_BYTES];
-    'turns: for t in 0..turns {
-        turn(alloc, server, &mut buf, start, t, link, clock, sink, watch)?;
+    'turns: for t in 0..end.t {
+        let at = Moment {
+            start: end.start,
+            t,
+        };
+        turn(alloc, server, at, link, clock, sink, watch)?;
     }
     Ok(())
 }
 
-/// Serves the match of a number.
+/// The match of a number, to be served to so many clients in so many turns.
+#[derive(Clone, Copy, Debug, PartialEq, Eq)]
+pub struct Offer {
+    /// The number of which the match is made.
+    pub seed: u32,
+    /// How many clients it has: 1 to 16.
+    pub clients: u8,
+    /// How many turns it takes.
+    pub turns: u32,
+}
+
+/// Serves a match.
 fn serve_match<L: Link, C: Clock, K: Sink, W: Watch>(
     alloc: Global,
-    seed: u32,
-    clients: u8,
-    turns: u32,
+    offer: Offer,
     link: &mut L,
     clock: &mut C,
     sink: &mut K,
     watch: &mut W,
 ) -> Result<(), NetFault>
-    requires clients_least { 1 ≤ clients }
-    requires clients { clients ≤ MAX_CLIENTS }
+    requires clients_least { 1 ≤ offer.clients }
+    requires clients { offer.clients ≤ MAX_CLIENTS }
     ensures done { OnOk result ((o : Begun) → Begins o (L.ahead link.old) (C.ahead clock.old) (K.written sink.old) (L.sent link.old)
-        → Served (made seed clients 0).head turns o (K.written sink.new) (L.sent link.new)) }
+        → Served (made offer.seed offer.clients 0).head offer.turns o (K.written sink.new) (L.sent link.new)) }
     ensures front { OnErr result ((o : Begun) → Begins o (L.ahead link.old) (C.ahead clock.old) (K.written sink.old) (L.sent link.old)
-        → ServedFront (made seed clients 0).head turns o (K.written sink.new) (L.sent link.new)) }
-    ensures heard { OnOk result (ServedSome (made seed clients 0).head turns (K.written sink.old) (K.written sink.new)
+        → ServedFront (made offer.seed offer.clients 0).head offer.turns o (K.written sink.new) (L.sent link.new)) }
+    ensures heard { OnOk result (ServedSome (made offer.seed offer.clients 0).head offer.turns (K.written sink.old) (K.written sink.new)
         (L.sent link.old) (L.sent link.new)) }
     ensures cause { IfErr result (HasCause (Rose (L.faults link.old) (L.faults link.new)) (Rose (C.faults clock.old) (C.faults clock.new))
         (Rose (K.faults sink.old) (K.faults sink.new))) }
@@ -155,7 +172,7 @@ fn serve_match<L: Link, C: Clock, K: Sink, W: Watch>(
     ensures clock_later { C.faults clock.old ≤ C.faults clock.new }
     ensures sink_later { K.faults sink.old ≤ K.faults sink.new }
 {
-    let Ok(script) = header(alloc, seed, clients) else {
+    let Ok(script) = header(alloc, offer.seed, offer.clients) else {
         return Err(NetFault::NoMemory);
     };
     let Ok(mut server) = Server::new(alloc, &script) else {
@@ -165,33 +182,35 @@ fn serve_match<L: Link, C: Clock, K: Sink, W: Watch>(
         return Err(NetFault::ClockFault);
     };
     write_header(alloc, &script.head, sink)?;
-    serve_turns(alloc, &mut server, start, turns, link, clock, sink, watch)
+    let end = Moment {
+        start,
+        t: offer.turns,
+    };
+    serve_turns(alloc, &mut server, end, link, clock, sink, watch)
 }
 
-/// Serves the match of a number to so many clients in so many turns: what comes over the link is done, the script of it is
-/// written line by line, and each client that joined gets its datagrams. Who looks on is told of each arrival.
+/// Serves a match: what comes over the link is done, the script of it is written line by line, and each client that joined gets its
+/// datagrams. Who looks on is told of each arrival.
 pub fn serve<L: Link, C: Clock, K: Sink, W: Watch>(
     alloc: Global,
-    seed: u32,
-    clients: u8,
-    turns: u32,
+    offer: Offer,
     link: &mut L,
     clock: &mut C,
     sink: &mut K,
     watch: &mut W,
 ) -> Result<(), NetFault>
-    requires clients_least { 1 ≤ clients }
-    requires clients { clients ≤ MAX_CLIENTS }
+    requires clients_least { 1 ≤ offer.clients }
+    requires clients { offer.clients ≤ MAX_CLIENTS }
     // Where the link and the clock tell what they have ahead, the script written and the datagrams sent are those that the rules
     // ask for over the two lists; after a fault a front of each.
     ensures done { OnOk result ((o : Begun) → Begins o (L.ahead link.old) (C.ahead clock.old) (K.written sink.old) (L.sent link.old)
-        → Served (made seed clients 0).head turns o (K.written sink.new) (L.sent link.new)) }
+        → Served (made offer.seed offer.clients 0).head offer.turns o (K.written sink.new) (L.sent link.new)) }
     ensures front { OnErr result ((o : Begun) → Begins o (L.ahead link.old) (C.ahead clock.old) (K.written sink.old) (L.sent link.old)
-        → ServedFront (made seed clients 0).head turns o (K.written sink.new) (L.sent link.new)) }
+        → ServedFront (made offer.seed offer.clients 0).head offer.turns o (K.written sink.new) (L.sent link.new)) }
     // There is one run of so many turns.
     ensures one_run { TurnsAreOne }
     // Whatever the link and the clock tell, the text is the script of some datagrams that were heard in so many turns.
-    ensures heard { OnOk result (ServedSome (made seed clients 0).head turns (K.written sink.old) (K.written sink.new)
+    ensures heard { OnOk result (ServedSome (made offer.seed offer.clients 0).head offer.turns (K.written sink.old) (K.written sink.new)
         (L.sent link.old) (L.sent link.new)) }
     // Each fault comes only where the count of what failed rose in this call.
     ensures cause { IfErr result (HasCause (Rose (L.faults link.old) (L.faults link.new)) (Rose (C.faults clock.old) (C.faults clock.new))
@@ -215,5 +234,5 @@ pub fn serve<L: Link, C: Clock, K: Sink, W: Watch>(
     raws_are_arrivals();
     ticks_are_turns();
     is_read_again();
-    serve_match(alloc, seed, clients, turns, link, clock, sink, watch)
+    serve_match(alloc, offer, link, clock, sink, watch)
 }

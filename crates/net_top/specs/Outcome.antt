@@ -116,6 +116,10 @@ pub record CanBeDone (command : Result NetCommand ℕ) (m : Met) : Type 0 where
   pub clock : HasFailed m.clock → ⊥
   pub sink : HasFailed m.sink → ⊥
 
+-- all was done then, or no memory for it
+abbrev pub IsComplete : Result NetCommand ℕ → Met → Status → Type 0
+IsComplete command m s = CanBeDone command m → (s ≡ Done) ⊎ (s ≡ NoMemory)
+
 -- ---- a fault of a server, as an answer
 
 abbrev pub status_of : NetFault → Status

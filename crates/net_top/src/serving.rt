@@ -1,17 +1,19 @@
 //! The commands over a link.
-ghost use Rattle.std.specs.Prelude.{◌≡◌, ◌⊎◌, [], map, string_bytes, Ok};
+ghost use Rattle.std.specs.Prelude.{◌≡◌, [], map, string_bytes, Ok};
 ghost use Rattle.net_serve.specs.match_laws.Laws.{Isolation};
 ghost use Rattle.net_rules.specs.Turns.{TurnsAreOne};
 ghost use Rattle.net_serve.specs.Laws.{PacksAreSent, RawsAreArrivals, TicksAreTurns, IsReadAgain};
 ghost use Rattle.net_top.specs.declared.command.NetCommand.TheVariants.{Serve, Join};
 ghost use Rattle.net_top.specs.Command.{command_of, CommandFits, Says};
-ghost use Rattle.net_top.specs.Outcome.{told, met, NetOutcome, IsWanted, CanBeDone, status_of};
+ghost use Rattle.net_top.specs.Outcome.{told, met, NetOutcome, IsWanted, IsComplete, status_of};
 
 use crate::command::{NetCommand, command_of};
 use net_join::join;
 use net_rules::{NetFault, turns_are_one};
 use net_serve::match_laws::isolation;
-use net_serve::{Nobody, is_read_again, packs_are_sent, raws_are_arrivals, serve, ticks_are_turns};
+use net_serve::{
+    Nobody, Offer, is_read_again, packs_are_sent, raws_are_arrivals, serve, ticks_are_turns,
+};
 use script_input::Status;
 use std::alloc::Global;
 use tn_outside::{Clock, Link, Sink};
@@ -46,7 +48,12 @@ fn serve_match<L: Link, C: Clock, K: Sink>(
         (L.sent link.old) (L.sent link.new)) result }
     ensures handed { result ≡ Status.Done → K.gathered sink.new ≡ [] }
 {
-    match serve(alloc, seed, clients, turns, link, clock, sink, &mut Nobody) {
+    let offer = Offer {
+        seed,
+        clients,
+        turns,
+    };
+    match serve(alloc, offer, link, clock, sink, &mut Nobody) {
         Ok(()) => match sink.flush() {
             Ok(()) => Status::Done,
             Err(_) => Status::WriteFault,
@@ -105,12 +112,11 @@ pub fn top_net<L: Link, C: Clock, K: Sink>(
         (told (K.written sink.old) (K.written sink.new) (K.faults sink.old) (K.faults sink.new))
         (L.sent link.old) (L.sent link.new)) result }
     // A command and no fault: all was done, or no memory for it.
-    ensures complete { CanBeDone (command_of (map string_bytes words.now.items))
+    ensures complete { IsComplete (command_of (map string_bytes words.now.items))
         (met (told (L.ahead link.old) (L.ahead link.new) (L.faults link.old) (L.faults link.new))
         (told (C.ahead clock.old) (C.ahead clock.new) (C.faults clock.old) (C.faults clock.new))
         (told (K.written sink.old) (K.written sink.new) (K.faults sink.old) (K.faults sink.new))
-        (L.sent link.old) (L.sent link.new))
-        → (result ≡ Status.Done) ⊎ (result ≡ Status.NoMemory) }
+        (L.sent link.old) (L.sent link.new)) result }
     // The rules ask for one run of so many turns.
     ensures one_run { TurnsAreOne }
     // The datagrams that were sent to a client, welcomes aside, are those of its `pack` lines in the report of the script, which are a

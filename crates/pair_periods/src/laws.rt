@@ -1,20 +1,18 @@
 //! What is proved of the definitions. Each law is the clause of a function with an empty body.
-ghost use Rattle.std.specs.Prelude.{◌≡◌, ℕ, ◌<◌, ◌||◌, true, false, None, List, ◌∷◌};
-ghost use Rattle.quantised_fields.specs.Kinds.{table_fault};
+ghost use Rattle.std.specs.Prelude.{◌≡◌, ℕ, ◌||◌, true, List, ◌∷◌};
 ghost use Rattle.tn_types.specs.declared.choices.Drain.{Drain};
 ghost use Rattle.tn_types.specs.declared.choices.Read.{Read};
 ghost use Rattle.ghost_model.specs.Scope.{shows};
 ghost use Rattle.ghost_model.specs.Ghosts.{scope_log};
-ghost use Rattle.ghost_model.specs.Legal.{IsUp, IsLegal};
-ghost use Rattle.ghost_masks.specs.Plan.{kind_of, sizes};
+ghost use Rattle.ghost_model.specs.Legal.{IsUp};
+ghost use Rattle.ghost_masks.specs.Plan.{kind_of};
 ghost use Rattle.stream_manager.specs.Limits.{Terms};
 ghost use Rattle.stream_manager.specs.Server.{ghost_log};
 ghost use Rattle.pair_steps.specs.pair_core.History.{PairStep, Pack};
-ghost use Rattle.pair_steps.specs.pair_core.Conditions.{IsMet};
 ghost use Rattle.lane_periods.specs.Periods.{has};
-ghost use Rattle.lane_periods.specs.Views.{is_read, is_drained};
+ghost use Rattle.lane_periods.specs.Views.{is_drained};
 ghost use Rattle.pair_steps.specs.Steps.{shows_in, up_in, traits_in, IsNoPack};
-ghost use Rattle.pair_periods.specs.Agreement.{server_log, is_due_after, HasField};
+ghost use Rattle.pair_periods.specs.Agreement.{server_log, is_due_after, LeavesUnread};
 
 /// What a list of steps says of periods is what the server's list says.
 pub fn steps_tell_periods()
@@ -28,8 +26,7 @@ pub fn steps_tell_periods()
 pub fn fields_stay_due()
     ensures steps { (t : Terms) (steps : List PairStep) (step : PairStep) (n field : ℕ) → IsNoPack step
         → is_due_after t steps n field ≡ true → is_due_after t (step ∷ steps) n field ≡ true }
-    ensures packs { (t : Terms) (steps : List PairStep) (drains : List Drain) (reads : List Read) (n field : ℕ) → table_fault t.kinds ≡ None
-        → IsLegal (sizes t.kinds) (ghost_log (server_log t steps)) → IsMet t steps (Pack drains reads) → HasField t steps n field
-        → is_read reads n field ≡ false → (is_due_after t steps n field || is_drained drains n field) ≡ true
+    ensures packs { (t : Terms) (steps : List PairStep) (drains : List Drain) (reads : List Read) (n field : ℕ)
+        → LeavesUnread t steps drains reads n field → (is_due_after t steps n field || is_drained drains n field) ≡ true
         → is_due_after t (Pack drains reads ∷ steps) n field ≡ true }
 {}

@@ -2,7 +2,8 @@ use Rattle.std.proofs.Common.{◌≡◌, ◌∙◌, ap}
 use Rattle.tn_outside.specs.Links.{answer_at}
 use Rattle.net_rules.proofs.ByAnswer.{on_ok, on_err}
 use Rattle.net_join.specs.Stages.{nonce_of}
-use Rattle.net_join.proofs.Rounds.{not_begun, starts_place, all_joined, part_joined}
+use Rattle.net_rules.proofs.Rounds.{starts_place}
+use Rattle.net_join.proofs.Rounds.{not_begun, all_joined, part_joined}
 use Rattle.net_join.proofs.joining.join.Goals as goal
 
 pub returns-in_default-clause-front : goal.returns-in_default-clause-front

@@ -3,7 +3,8 @@ use Rattle.tn_outside.specs.Links.{Datagram}
 use Rattle.net_rules.specs.Turns.{total, events}
 use Rattle.net_rules.proofs.ByAnswer.{on_ok2}
 use Rattle.net_join.specs.Stages.{IsAt}
-use Rattle.net_join.proofs.Rounds.{due_at, place_next, turn_at, turn_went}
+use Rattle.net_rules.proofs.Rounds.{due_at, place_next}
+use Rattle.net_join.proofs.Rounds.{turn_at, turn_went}
 use Rattle.net_join.proofs.joining.turn.Goals as goal
 
 pub returns-clause-done : goal.returns-clause-done
