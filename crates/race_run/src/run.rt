@@ -1,5 +1,5 @@
 //! A match in threads.
-ghost use Rattle.std.specs.Prelude.{◌≡◌, ◌<◌, ◌*◌, ◌/◌, ◌%◌, ◌==◌, [], Ok, Some, IfOk, length, slice_get};
+ghost use Rattle.std.specs.Prelude.{◌≡◌, ◌<◌, ◌*◌, ◌/◌, ◌%◌, ◌==◌, [], Ok, IfOk, length};
 ghost use Rattle.match_script.specs.Ranges.{HasRanges};
 ghost use Rattle.world_sim.specs.Worlds.{first_world};
 ghost use Rattle.race_history.specs.History.{IsHistoryOf};
@@ -38,7 +38,8 @@ fn packs(i: usize) -> bool
     i % 2 == 0
 }
 
-// The client whom the activity of this place serves, with its connection.
+// The client whom the activity of this place serves, with the connection of that number. All locks are one to a clause, so this call
+// alone chooses among them.
 fn served<'a, N: LaneName, G: Gate>(
     alloc: Global,
     script: &'a Script,
@@ -50,16 +51,16 @@ fn served<'a, N: LaneName, G: Gate>(
     requires place { i < 2 * length pairs.now }
     requires few { length pairs.now < 17 }
     ensures client { result.client ≡ i / 2 }
-    ensures pair { slice_get pairs.now (i / 2) ≡ Some result.pair.now }
     ensures script { result.script.now ≡ script.now }
 {
+    let client = client_of(i);
     Served {
         alloc,
         script,
         lanes,
         gate,
-        pair: &pairs[i / 2],
-        client: client_of(i),
+        pair: &pairs[client as usize],
+        client,
     }
 }
 
