@@ -1,12 +1,10 @@
 //! What no clause says of serving and joining over a link: rows of what comes and what is sent and written, that all of it comes whole
-//! where there is memory, that `run` makes the datagrams of a served match again, and real sockets. It has no code but its tests, and
-//! nothing stands on it.
+//! where there is memory, and that `run` makes the datagrams of a served match again. It has no code but its tests, and nothing stands
+//! on it.
 #![tactic(auto)]
 
 #[cfg(test)]
 mod again;
-#[cfg(test)]
-mod both;
 #[cfg(test)]
 mod failing;
 #[cfg(test)]
@@ -17,5 +15,3 @@ mod joining;
 mod rows;
 #[cfg(test)]
 mod served;
-#[cfg(test)]
-mod sockets;

@@ -1,10 +1,12 @@
 //! Sockets of one machine. Where the port of a server is taken, or no socket can be made, these show nothing.
 
-use crate::rows::HELLO;
 use net_top::top_net;
 use script_input::Status;
 use std::test::Fail;
 use tn_outside::{Clock, Link, MemSink, Peer, SERVER_PORT, SystemClock, UdpLink};
+
+// A hello, whose nonce is 1.
+const HELLO: [u8; 5] = [2, 1, 0, 0, 0];
 
 // The length of the next datagram from the server, or 0 where none came in time.
 fn next_length(client: &mut UdpLink<'_, HostRuntime>) -> usize {
