@@ -91,7 +91,7 @@ impl<'a> Values for WorldValues<'a> {
       q.0 ∙ p.0,
       q.1 ∙ p.1,
       All-append (IsNewest x.world.now x.shown.now) first later p.2
-          (subst (λ w. All (IsNewest w x.shown.now) later) p.0 (subst (λ shown. All (IsNewest y.world.now shown) later) p.1 q.2)),
+          (subst (λ w. All (IsNewest w x.shown.now) later) p.0 (subst (λ ps. All (IsNewest y.world.now ps) later) p.1 q.2)),
     ) };
 
     ghost asks_ranges = { λ x y reads n f p j. ranges_of (p.0 j) (p.1 j) n f };
