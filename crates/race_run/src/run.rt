@@ -95,7 +95,8 @@ fn serve<N: LaneName, R: Wait, G: Gate>(
 {
     let served = served(alloc, script, lanes, gate, pairs, i);
     if packs(i) {
-        pack_all::<N, R, G, Brand>(rt, &served, Blank::new(1))
+        let blank = Blank::new(1);
+        pack_all::<N, R, G, Brand>(rt, &served, blank)
     } else {
         served.bring(rt)
     }
