@@ -18,11 +18,7 @@ pub record Point : Type 0 where
 abbrev pub point : ServerState → Option Ahead → Option (List ℕ) → Option (List ℕ) → Option (List Datagram) → Point
 point server ahead clock written sent = record { server = server; ahead = ahead; clock = clock; written = written; sent = sent }
 
--- so many calls were made since, and of all that happened the script was written, and what it asks for sent
-abbrev pub IsReached : Begun → ℕ → List Event → Point → Type 0
-IsReached o calls past p = IsPlace o.ahead o.clock p.ahead p.clock calls × IsAt o p.server p.written p.sent past
-
--- a front was
+-- a front of the script was written since, and a front of what is to be sent was sent
 abbrev pub IsFrontAt : Begun → List Event → Point → Point → Type 0
 IsFrontAt o past old new = IsFront o old.server.script.head new.written new.sent past
 
@@ -31,7 +27,7 @@ IsFrontAt o past old new = IsFront o old.server.script.head new.written new.sent
 abbrev pub Receives : Point → Point → Type 0
 Receives old new =
     (o : Begun) (k : ℕ) (past : List Event) → IsPlace o.ahead o.clock old.ahead old.clock k → IsAt o old.server old.written old.sent past
-    → IsReached o (suc k) (with_found (found o.ahead k) past) new
+    → IsPlace o.ahead o.clock new.ahead new.clock (suc k) × IsAt o new.server new.written new.sent (with_found (found o.ahead k) past)
 
 abbrev pub ReceivesFront : Point → Point → Type 0
 ReceivesFront old new =
@@ -44,7 +40,8 @@ abbrev pub Hears : ℕ → ℕ → Point → Point → Type 0
 Hears start due old new =
     (o : Begun) (behind t : ℕ) (past : List Event) → IsPlace o.ahead o.clock old.ahead old.clock behind → IsDueAt o.clock start due t
     → IsAt o old.server old.written old.sent past
-    → (n : ℕ) × IsTurn o.ahead o.clock t behind n × IsReached o (behind + n) (heard o.ahead behind n past) new
+    → (n : ℕ) × IsTurn o.ahead o.clock t behind n × IsPlace o.ahead o.clock new.ahead new.clock (behind + n)
+    × IsAt o new.server new.written new.sent (heard o.ahead behind n past)
 
 abbrev pub HearsFront : ℕ → ℕ → Point → Point → Type 0
 HearsFront start due old new =
@@ -58,7 +55,8 @@ abbrev pub Turns : ℕ → ℕ → Point → Point → Type 0
 Turns start t old new =
     (o : Begun) (counts : List ℕ) → start ≡ answer_at o.clock 0 → length counts ≡ t → AreTurns o.ahead o.clock counts
     → IsPlace o.ahead o.clock old.ahead old.clock (total counts) → IsAt o old.server old.written old.sent (events o.ahead counts)
-    → (n : ℕ) × AreTurns o.ahead o.clock (n ∷ counts) × IsReached o (total (n ∷ counts)) (events o.ahead (n ∷ counts)) new
+    → (n : ℕ) × AreTurns o.ahead o.clock (n ∷ counts) × IsPlace o.ahead o.clock new.ahead new.clock (total (n ∷ counts))
+    × IsAt o new.server new.written new.sent (events o.ahead (n ∷ counts))
 
 abbrev pub TurnsFront : ℕ → ℕ → Point → Point → Type 0
 TurnsFront start t old new =
