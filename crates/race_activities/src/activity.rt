@@ -1,5 +1,7 @@
 //! The activities of a client: its packer and its net.
+ghost use Rattle.std.specs.Prelude.{◌≡◌, false, IsSome, IsNone};
 ghost use Rattle.match_script.specs.Ranges.{HasRanges};
+ghost use Rattle.race_activities.specs.Asking.{is_pack_of, net_line};
 
 use crate::asked::{is_net_of, is_pack_of, net_line};
 use dirty_lanes::{LaneName, Lanes};
@@ -35,7 +37,10 @@ impl<'a, N: LaneName, G: Gate> Served<'a, N, G> {
         place: u32,
         line: &BodyLine,
         stopped: Option<KeepFault>,
-    ) -> Option<KeepFault> {
+    ) -> Option<KeepFault>
+        ensures other { is_pack_of self.now.client line.now ≡ false → result ≡ stopped }
+        ensures still { IsSome stopped → result ≡ stopped }
+    {
         if !is_pack_of(self.client, line) {
             return stopped;
         }
@@ -71,7 +76,10 @@ impl<'a, N: LaneName, G: Gate> Served<'a, N, G> {
         place: u32,
         line: &BodyLine,
         stopped: Option<KeepFault>,
-    ) -> Option<KeepFault> {
+    ) -> Option<KeepFault>
+        ensures other { IsNone (net_line self.now.client line.now) → result ≡ stopped }
+        ensures still { IsSome stopped → result ≡ stopped }
+    {
         if !is_net_of(self.client, line) {
             return stopped;
         }

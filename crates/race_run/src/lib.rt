@@ -4,4 +4,4 @@
 mod run;
 
 pub use race_activities::race_sim::{Actor, FreeGate, Gate, Place};
-pub use run::{race, race_in_turn};
+pub use run::race;

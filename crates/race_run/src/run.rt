@@ -1,15 +1,17 @@
-//! A match, in threads or on one.
-ghost use Rattle.std.specs.Prelude.{◌≡◌, ◌<◌, ◌*◌, Ok, IfOk, length};
+//! A match in threads.
+ghost use Rattle.std.specs.Prelude.{◌≡◌, ◌<◌, ◌*◌, ◌/◌, ◌%◌, ◌==◌, [], Ok, IfOk, length};
 ghost use Rattle.match_script.specs.Ranges.{HasRanges};
 ghost use Rattle.world_sim.specs.Worlds.{first_world};
 ghost use Rattle.race_history.specs.History.{IsHistoryOf};
-ghost use Rattle.race_activities.specs.race_sim.Simulating.{Follows, AreFew};
+ghost use Rattle.race_history.specs.Moves.{MovesFit};
+ghost use Rattle.race_activities.specs.race_sim.race_course.Messages.{ticks_in};
+ghost use Rattle.race_activities.specs.race_sim.Simulating.{HasDone, AreRests};
 
 use dirty_lanes::{FreshLanes, LaneName, Lanes};
 use match_script::Script;
 use race_activities::Served;
 use race_activities::connection_lock::SharedPair;
-use race_activities::race_sim::{FreeGate, Gate, Simulated, Simulation, simulate};
+use race_activities::race_sim::{Gate, Simulated, Simulation, simulate};
 use race_ending::end;
 use race_ending::kept_pair::KeepFault;
 use race_ending::race_record::Race;
@@ -20,11 +22,45 @@ use std::sync::Wait;
 use std::thread::{Threads, join, map_indices};
 use tn_types::{MAX_OBJECTS, NoMemory};
 
-// Whose packer or net this is: the packer of client c has place 2c, and its net the next one.
+// Whom the activity of this place serves: the packer of client c has place 2c, and its net the next one.
 fn client_of(i: usize) -> u8
     requires { i < 32 }
+    ensures { result ≡ i / 2 }
 {
     (i / 2) as u8
+}
+
+// Whether the activity of this place packs: those of even places do, and the others are nets.
+fn packs(i: usize) -> bool
+    ensures { result ≡ (i % 2 == 0) }
+{
+    i % 2 == 0
+}
+
+// The client whom the activity of this place serves, with the connection of that number. All locks are one to a clause, so this call
+// alone chooses among them.
+fn served<'a, N: LaneName, G: Gate>(
+    alloc: Global,
+    script: &'a Script,
+    lanes: &'a Lanes<N>,
+    gate: &'a G,
+    pairs: &'a [SharedPair<N>],
+    i: usize,
+) -> Served<'a, N, G>
+    requires place { i < 2 * length pairs.now }
+    requires few { length pairs.now < 17 }
+    ensures client { result.client ≡ i / 2 }
+    ensures script { result.script.now ≡ script.now }
+{
+    let client = client_of(i);
+    Served {
+        alloc,
+        script,
+        lanes,
+        gate,
+        pair: &pairs[client as usize],
+        client,
+    }
 }
 
 // One activity of a client, by its place.
@@ -41,15 +77,8 @@ fn serve<N: LaneName, R: Wait, G: Gate>(
     requires place { i < 2 * length pairs.now }
     requires few { length pairs.now < 17 }
 {
-    let served = Served {
-        alloc,
-        script,
-        lanes,
-        gate,
-        pair: &pairs[i / 2],
-        client: client_of(i),
-    };
-    if i % 2 == 0 {
+    let served = served(alloc, script, lanes, gate, pairs, i);
+    if packs(i) {
         served.pack(rt)
     } else {
         served.bring(rt)
@@ -75,26 +104,6 @@ fn serve_all<N: LaneName + Send + Sync, R: Threads + Wait + Sync, G: Gate + Sync
         2 * pairs.len(),
         &|i| { serve(rt, alloc, script, lanes, gate, pairs, i) },
     )
-}
-
-// All activities of the clients, one after another.
-fn serve_in_turn<N: LaneName, R: Wait, G: Gate>(
-    rt: &R,
-    alloc: Global,
-    script: &Script,
-    lanes: &Lanes<N>,
-    gate: &G,
-    pairs: &[SharedPair<N>],
-) -> Result<Vec<Option<KeepFault>>, AllocError>
-    requires ranges { HasRanges script.now }
-    requires few { length pairs.now < 17 }
-    ensures { IfOk result (λ stopped. length stopped.items ≡ 2 * length pairs.now) }
-{
-    let mut stopped = Vec::new(alloc);
-    for i in 0..2 * pairs.len() {
-        stopped.push(serve(rt, alloc, script, lanes, gate, pairs, i))?;
-    }
-    Ok(stopped)
 }
 
 // What the simulation and the other activities leave, where memory was not wanting.
@@ -124,49 +133,26 @@ fn run_beside<N: LaneName + Send + Sync, R: Threads + Wait + Sync, G: Gate + Syn
     requires objects { lanes.now.objects ≡ MAX_OBJECTS }
     requires few { length pairs.now < 17 }
     requires ports { length sim.ports ≡ script.now.head.clients }
-    requires first { Follows (first_world script.now.head.seed script.now.head.setup) sim }
-    requires lines { AreFew 0 sim }
+    requires begun { HasDone (first_world script.now.head.seed script.now.head.setup) [] sim }
     ensures values { IfOk result (λ r. IsHistoryOf (first_world script.now.head.seed script.now.head.setup) r.0.moves r.0.values) }
-    ensures waiting { IfOk result (λ r. length r.0.waiting.items ≡ script.now.head.clients) }
+    ensures moves { IfOk result (λ r. MovesFit (ticks_in script.now.body) script.now.head.clients r.0.moves) }
+    ensures waiting { IfOk result (λ r. AreRests script.now r.0.moves r.0.waiting.items) }
     ensures stopped { IfOk result (λ r. length r.1.items ≡ 2 * length pairs.now) }
 {
     let (simulated, stopped) = join(
         rt,
         move || -> Result<Simulated<N>, NoMemory>
             requires { HasRanges script.now × (lanes.now.objects ≡ MAX_OBJECTS) × (length sim.ports ≡ script.now.head.clients)
-                × Follows (first_world script.now.head.seed script.now.head.setup) sim × AreFew 0 sim }
+                × HasDone (first_world script.now.head.seed script.now.head.setup) [] sim }
             ensures { IfOk result (λ s. IsHistoryOf (first_world script.entry.now.head.seed script.entry.now.head.setup) s.moves s.values)
-                × IfOk result (λ s. length s.waiting.items ≡ script.entry.now.head.clients) }
+                × IfOk result (λ s. MovesFit (ticks_in script.entry.now.body) script.entry.now.head.clients s.moves)
+                × IfOk result (λ s. AreRests script.entry.now s.moves s.waiting.items) }
         { simulate(alloc, script, lanes, gate, sim) },
         move || -> Result<Vec<Option<KeepFault>>, AllocError>
             requires { HasRanges script.now × (length pairs.now < 17) }
             ensures { IfOk result (λ stopped. length stopped.items ≡ 2 * length pairs.entry.now) }
         { serve_all(rt, alloc, script, lanes, gate, pairs) },
     );
-    both(simulated, stopped)
-}
-
-// All activities of the clients, and then the simulation.
-fn run_in_turn<N: LaneName, R: Wait>(
-    rt: &R,
-    alloc: Global,
-    script: &Script,
-    lanes: &Lanes<N>,
-    pairs: &[SharedPair<N>],
-    sim: Simulation<N>,
-) -> Result<(Simulated<N>, Vec<Option<KeepFault>>), NoMemory>
-    requires ranges { HasRanges script.now }
-    requires objects { lanes.now.objects ≡ MAX_OBJECTS }
-    requires few { length pairs.now < 17 }
-    requires ports { length sim.ports ≡ script.now.head.clients }
-    requires first { Follows (first_world script.now.head.seed script.now.head.setup) sim }
-    requires lines { AreFew 0 sim }
-    ensures values { IfOk result (λ r. IsHistoryOf (first_world script.now.head.seed script.now.head.setup) r.0.moves r.0.values) }
-    ensures waiting { IfOk result (λ r. length r.0.waiting.items ≡ script.now.head.clients) }
-    ensures stopped { IfOk result (λ r. length r.1.items ≡ 2 * length pairs.now) }
-{
-    let stopped = serve_in_turn(rt, alloc, script, lanes, &FreeGate, pairs);
-    let simulated = simulate(alloc, script, lanes, &FreeGate, sim);
     both(simulated, stopped)
 }
 
@@ -183,31 +169,12 @@ fn race_on<N: LaneName + Send + Sync, R: Threads + Wait + Sync, G: Gate + Sync>(
     requires objects { fresh.objects ≡ MAX_OBJECTS }
     requires clients { fresh.clients ≡ script.now.head.clients }
     ensures values { IfOk result (λ race. IsHistoryOf (first_world script.now.head.seed script.now.head.setup) race.moves race.values) }
+    ensures moves { IfOk result (λ race. MovesFit (ticks_in script.now.body) script.now.head.clients race.moves) }
     ensures clients { IfOk result (λ race. length race.clients ≡ script.now.head.clients) }
     ensures words { IfOk result (λ race. (race.words.objects ≡ MAX_OBJECTS) × (race.words.clients ≡ script.now.head.clients)) }
 {
     let Ready { lanes, pairs, sim } = make_ready::<N>(alloc, script, fresh)?;
     let (simulated, stopped) = run_beside(rt, alloc, script, &lanes, gate, &pairs, sim)?;
-    end(alloc, lanes, simulated, pairs, &stopped)
-}
-
-// A match on one thread, on lanes of this name.
-fn race_in_turn_on<N: LaneName, R: Wait>(
-    rt: &R,
-    alloc: Global,
-    script: &Script,
-    fresh: FreshLanes,
-) -> Result<Race, NoMemory>
-    requires ranges { HasRanges script.now }
-    requires named { (fresh.table ≡ N.table) × (fresh.objects ≡ N.objects) }
-    requires objects { fresh.objects ≡ MAX_OBJECTS }
-    requires clients { fresh.clients ≡ script.now.head.clients }
-    ensures values { IfOk result (λ race. IsHistoryOf (first_world script.now.head.seed script.now.head.setup) race.moves race.values) }
-    ensures clients { IfOk result (λ race. length race.clients ≡ script.now.head.clients) }
-    ensures words { IfOk result (λ race. (race.words.objects ≡ MAX_OBJECTS) × (race.words.clients ≡ script.now.head.clients)) }
-{
-    let Ready { lanes, pairs, sim } = make_ready::<N>(alloc, script, fresh)?;
-    let (simulated, stopped) = run_in_turn(rt, alloc, script, &lanes, &pairs, sim)?;
     end(alloc, lanes, simulated, pairs, &stopped)
 }
 
@@ -221,21 +188,10 @@ pub fn race<R: Threads + Wait + Sync, G: Gate + Sync>(
 ) -> Result<Race, NoMemory>
     requires { HasRanges script.now }
     ensures values { IfOk result (λ race. IsHistoryOf (first_world script.now.head.seed script.now.head.setup) race.moves race.values) }
+    ensures moves { IfOk result (λ race. MovesFit (ticks_in script.now.body) script.now.head.clients race.moves) }
     ensures clients { IfOk result (λ race. length race.clients ≡ script.now.head.clients) }
     ensures words { IfOk result (λ race. (race.words.objects ≡ MAX_OBJECTS) × (race.words.clients ≡ script.now.head.clients)) }
 {
     let fresh = FreshLanes::new(alloc, MAX_OBJECTS as u32, u32::from(script.head.clients))?;
     race_on::<Brand, R, G>(rt, alloc, script, gate, fresh)
-}
-
-/// Makes the same match on one thread: first the activities of each client, and then the simulation, so that each message becomes a
-/// step behind all lines of its client.
-pub fn race_in_turn<R: Wait>(rt: &R, alloc: Global, script: &Script) -> Result<Race, NoMemory>
-    requires { HasRanges script.now }
-    ensures values { IfOk result (λ race. IsHistoryOf (first_world script.now.head.seed script.now.head.setup) race.moves race.values) }
-    ensures clients { IfOk result (λ race. length race.clients ≡ script.now.head.clients) }
-    ensures words { IfOk result (λ race. (race.words.objects ≡ MAX_OBJECTS) × (race.words.clients ≡ script.now.head.clients)) }
-{
-    let fresh = FreshLanes::new(alloc, MAX_OBJECTS as u32, u32::from(script.head.clients))?;
-    race_in_turn_on::<Brand, R>(rt, alloc, script, fresh)
 }

@@ -1,9 +1,13 @@
 //! The lines of the simulation, one after another.
-ghost use Rattle.std.specs.Prelude.{◌≡◌, ◌<◌, ◌≤◌, ◌+◌, true, false, IfOk, length};
-ghost use Rattle.match_script.specs.Ranges.{HasRanges, LineFits};
-ghost use Rattle.world_sim.specs.Worlds.{Worlds, first_world};
+ghost use Rattle.std.specs.Prelude.{◌≡◌, [], true, false, IfOk, length, map};
+ghost use Rattle.match_script.specs.Ranges.{HasRanges};
+ghost use Rattle.world_sim.specs.Worlds.{first_world};
 ghost use Rattle.race_history.specs.History.{IsHistoryOf};
-ghost use Rattle.race_sim.specs.Simulating.{Follows, AreFew};
+ghost use Rattle.race_history.specs.Moves.{MovesFit};
+ghost use Rattle.race_course.specs.Messages.{ticks_in};
+ghost use Rattle.race_sim.specs.Ports.{waiting_for};
+ghost use Rattle.race_sim.specs.Simulating.{HasDone, MayDo, Does, AreRests, is_own};
+ghost use Rattle.race_sim.specs.Telling.{LanesAfter};
 
 use crate::gate::{Actor, Gate, Place};
 use crate::outgoing::Waiting;
@@ -13,7 +17,7 @@ use dirty_lanes::{LaneName, Lanes, SimSeat};
 use match_script::{BodyLine, Script};
 use race_history::{History, TickMoves};
 use std::alloc::{AllocError, Global};
-use tn_types::{MAX_BODY_LINES, MAX_OBJECTS, NoMemory};
+use tn_types::{MAX_OBJECTS, NoMemory};
 
 /// What a simulation leaves.
 #[derive(Drop)]
@@ -29,7 +33,9 @@ pub struct Simulated<N: LaneName> {
 }
 
 // Whether the simulation does such lines.
-fn is_own(line: &BodyLine) -> bool {
+fn is_own(line: &BodyLine) -> bool
+    ensures { result ≡ is_own line.now }
+{
     matches!(
         line,
         BodyLine::Tick
@@ -44,7 +50,7 @@ fn is_own(line: &BodyLine) -> bool {
 
 // What still waits for each client.
 fn waiting_of(alloc: Global, ports: Vec<Port>) -> Result<Vec<Waiting>, AllocError>
-    ensures { IfOk result (λ waiting. length waiting.items ≡ length ports.items) }
+    ensures { IfOk result (λ waiting. waiting.items ≡ map waiting_for ports.items) }
 {
     let mut waiting = Vec::new(alloc);
     for port in ports {
@@ -58,7 +64,7 @@ fn finish<N: LaneName>(alloc: Global, sim: Simulation<N>) -> Result<Simulated<N>
     ensures seat { IfOk result (λ s. s.seat ≡ sim.seat) }
     ensures values { IfOk result (λ s. s.values ≡ sim.values) }
     ensures moves { IfOk result (λ s. s.moves ≡ sim.moves) }
-    ensures waiting { IfOk result (λ s. length s.waiting.items ≡ length sim.ports) }
+    ensures waiting { IfOk result (λ s. s.waiting.items ≡ map waiting_for sim.ports) }
 {
     let (seat, ports, values, moves) = sim.into_parts();
     match waiting_of(alloc, ports) {
@@ -72,7 +78,31 @@ fn finish<N: LaneName>(alloc: Global, sim: Simulation<N>) -> Result<Simulated<N>
     }
 }
 
-// Does a line between its places at the gate. Whether memory was wanting, in this line or before: then no more is done.
+// Does a line, unless memory was wanting before. Whether it was, or is now.
+fn try_line<N: LaneName, G: Gate>(
+    alloc: Global,
+    lanes: &Lanes<N>,
+    gate: &G,
+    sim: &mut Simulation<N>,
+    place: u32,
+    line: &BodyLine,
+    failed: bool,
+) -> bool
+    requires objects { lanes.now.objects ≡ MAX_OBJECTS }
+    requires may { failed ≡ false → MayDo line.now sim.old }
+    ensures still { failed ≡ true → result ≡ true }
+    ensures does { result ≡ false → Does line.now sim.old sim.new }
+    ensures lanes { result ≡ false → LanesAfter line.now lanes.now.clients sim.old sim.new }
+    ensures ports { length sim.new.ports ≡ length sim.old.ports }
+{
+    if failed {
+        return true;
+    }
+    sim.line(alloc, lanes, gate, place, line).is_err()
+}
+
+// Does a line between its places at the gate, if it is the simulation's, and then passes on what waits. Whether memory was wanting, in
+// this line or before: then no more is done.
 fn gated<N: LaneName, G: Gate>(
     alloc: Global,
     lanes: &Lanes<N>,
@@ -83,19 +113,18 @@ fn gated<N: LaneName, G: Gate>(
     failed: bool,
 ) -> bool
     requires objects { lanes.now.objects ≡ MAX_OBJECTS }
-    requires place { place < MAX_BODY_LINES }
-    requires few { failed ≡ false → AreFew place sim.old }
-    requires fits { LineFits (length sim.old.ports) line.now }
+    requires may { failed ≡ false → MayDo line.now sim.old }
     ensures still { failed ≡ true → result ≡ true }
-    ensures follows { result ≡ false → (first : Worlds) → Follows first sim.old → Follows first sim.new }
-    ensures few { result ≡ false → AreFew (place + 1) sim.new }
+    ensures does { result ≡ false → Does line.now sim.old sim.new }
+    ensures lanes { result ≡ false → LanesAfter line.now lanes.now.clients sim.old sim.new }
+    ensures other { is_own line.now ≡ false → (result ≡ failed) × (sim.new ≡ sim.old) }
     ensures ports { length sim.new.ports ≡ length sim.old.ports }
 {
     if !is_own(line) {
         return failed;
     }
     gate.pass(Actor::Sim, Place::Before(place));
-    let failed = failed || sim.line(alloc, lanes, gate, place, line).is_err();
+    let failed = try_line(alloc, lanes, gate, sim, place, line, failed);
     sim.pass_on();
     gate.pass(Actor::Sim, Place::After(place));
     failed
@@ -113,10 +142,10 @@ pub fn simulate<N: LaneName, G: Gate>(
     requires ranges { HasRanges script.now }
     requires objects { lanes.now.objects ≡ MAX_OBJECTS }
     requires clients { length sim.ports ≡ script.now.head.clients }
-    requires first { Follows (first_world script.now.head.seed script.now.head.setup) sim }
-    requires few { AreFew 0 sim }
+    requires begun { HasDone (first_world script.now.head.seed script.now.head.setup) [] sim }
+    ensures moves { IfOk result (λ s. MovesFit (ticks_in script.now.body) script.now.head.clients s.moves) }
     ensures values { IfOk result (λ s. IsHistoryOf (first_world script.now.head.seed script.now.head.setup) s.moves s.values) }
-    ensures waiting { IfOk result (λ s. length s.waiting.items ≡ script.now.head.clients) }
+    ensures waiting { IfOk result (λ s. AreRests script.now s.moves s.waiting.items) }
 {
     let mut sim = sim;
     let mut failed = sim.begin(lanes).is_err();

@@ -1,7 +1,7 @@
 //! Messages on their way to a connection.
-ghost use Rattle.std.specs.Prelude.{◌≡◌, ◌≤◌, List, [], ◌++◌, OnOk, length};
+ghost use Rattle.std.specs.Prelude.{◌≡◌, ◌≤◌, ◌+◌, [], ◌++◌, OnOk, length};
 ghost use Rattle.rtrb.specs.Ring.{sent, known_free};
-ghost use Rattle.race_course.specs.connection_lock.declared.message.Message.{Message as OneMessage};
+ghost use Rattle.race_sim.specs.Ports.{PassesOn, all_given, with_more};
 
 use race_course::connection_lock::Message;
 use rtrb::Producer;
@@ -25,8 +25,7 @@ impl Model for Waiting {
     ghost view = { λ w. w.messages.items };
 }
 
-/// What was given to one connection: into its ring, or to wait here until there is room. A clause sees all messages that were
-/// given, in order.
+/// What was given to one connection: into its ring, or to wait here until there is room. A clause sees `OutgoingState`.
 #[derive(Drop)]
 pub(crate) struct Outgoing {
     ring: Producer<Message>,
@@ -34,20 +33,25 @@ pub(crate) struct Outgoing {
 }
 
 impl Model for Outgoing {
-    ghost use Rattle.std.specs.Prelude.{List, ◌++◌};
-    ghost use Rattle.rtrb.specs.Ring.{sent};
-    ghost use Rattle.race_course.specs.connection_lock.declared.message.Message.{Message};
+    ghost use Rattle.rtrb.specs.Ring.{sent, known_free};
+    ghost use Rattle.race_sim.specs.Ports.{OutgoingState};
 
-    ghost Value = { List Message };
+    ghost Value = { OutgoingState };
 
-    ghost view = { λ o. sent o.ring ++ o.waiting.items };
+    ghost view = { λ o. record {
+      sent = sent o.ring;
+      waiting = o.waiting.items;
+      free = known_free o.ring;
+    } };
 }
 
 // Puts the first of these into the ring, as many as it has places.
 fn pass_on(ring: &mut Producer<Message>, waiting: &mut VecDeque<Message>, count: usize)
     requires room { count ≤ known_free ring.old }
     requires there { count ≤ length waiting.old.items }
-    ensures { sent ring.new ++ waiting.new.items ≡ sent ring.old ++ waiting.old.items }
+    ensures same { sent ring.new ++ waiting.new.items ≡ sent ring.old ++ waiting.old.items }
+    ensures places { known_free ring.new + count ≡ known_free ring.old }
+    ensures left { length waiting.new.items + count ≡ length waiting.old.items }
 {
     for _ in 0..count {
         let Some(message) = waiting.pop_front() else {
@@ -73,7 +77,7 @@ impl Outgoing {
     // Nothing was given yet.
     pub(crate) fn new(alloc: Global, ring: Producer<Message>) -> Outgoing
         requires { sent ring ≡ [] }
-        ensures { result ≡ [] }
+        ensures { all_given result ≡ [] }
     {
         Outgoing {
             ring,
@@ -83,14 +87,14 @@ impl Outgoing {
 
     // Gives these messages, which wait until they are passed on.
     pub(crate) fn give(&mut self, messages: Vec<Message>) -> Result<(), NoMemory>
-        ensures { OnOk result (self.new ≡ self.old ++ messages.items) }
+        ensures { OnOk result (self.new ≡ with_more self.old messages.items) }
     {
         add(&mut self.waiting, messages)
     }
 
     // Passes on what waits, the oldest first, until the ring is full.
     pub(crate) fn pass_on(&mut self)
-        ensures { self.new ≡ self.old }
+        ensures { PassesOn self.old self.new }
     {
         let room = self.ring.slots();
         let count = room.min(self.waiting.len());
@@ -99,7 +103,7 @@ impl Outgoing {
 
     // What still waits: the rest of what was given.
     pub(crate) fn into_waiting(self) -> Waiting
-        ensures { (passed : List OneMessage) × (self ≡ passed ++ result) }
+        ensures { result ≡ self.waiting }
     {
         let Outgoing { ring: _, waiting } = self;
         Waiting { messages: waiting }

@@ -1,12 +1,12 @@
 //! What the simulation has of one client.
-ghost use Rattle.std.specs.Prelude.{◌≡◌, ◌<◌, ◌≤◌, ◌+◌, ◌^◌, List, [], ◌∷◌, ◌++◌, IfOk, OnOk};
-ghost use Rattle.std.specs.Option.{option_to_list};
+ghost use Rattle.std.specs.Prelude.{◌≡◌, ◌<◌, ◌≤◌, ◌+◌, ◌^◌, List, [], ◌∷◌, IfOk, OnOk};
 ghost use Rattle.rtrb.specs.Ring.{sent, received};
 ghost use Rattle.world_scope.specs.declared.viewer.Seen.{Seen};
 ghost use Rattle.world_scope.specs.Scope.{visible_list};
 ghost use Rattle.client_scope.specs.StandsFor.{StandsFor};
 ghost use Rattle.race_course.specs.connection_lock.declared.message.Message.TheVariants as message;
-ghost use Rattle.race_course.specs.connection_lock.declared.message.Message.{Message as OneMessage};
+ghost use Rattle.race_course.specs.Messages.{scan_messages};
+ghost use Rattle.race_sim.specs.Ports.{with_more, IsNewPort, TakesOne, HasPassedOn};
 
 use crate::outgoing::{Outgoing, Waiting};
 use client_scope::Scope;
@@ -20,7 +20,7 @@ use world_sim::World;
 
 /// The scope of a client, the way to its connection, and its accepted moves that come back.
 ///
-/// A clause sees the scope, all messages that were given, and all moves that were taken, in order.
+/// A clause sees `PortState`.
 #[derive(Drop)]
 pub struct Port {
     scope: Scope,
@@ -29,22 +29,19 @@ pub struct Port {
 }
 
 impl Model for Port {
-    ghost use Rattle.rtrb.specs.Ring.{received};
-    ghost use Rattle.race_sim.specs.Simulating.{PortState, IsScope};
+    ghost use Rattle.rtrb.specs.Ring.{received, known_items};
+    ghost use Rattle.race_sim.specs.Ports.{PortState, IsScope};
 
     ghost Value = { PortState };
 
-    ghost view = { λ p. record { scope = p.scope; given = p.outgoing; taken = received p.incoming } };
+    ghost view = { λ p. record {
+      scope = p.scope;
+      outgoing = p.outgoing;
+      taken = received p.incoming;
+      known = known_items p.incoming;
+    } };
 
     ghost invariant = { λ p. IsScope p.scope };
-}
-
-// The scope of a client before its first scan.
-fn new_scope(alloc: Global) -> Result<Scope, NoMemory>
-    ensures none { IfOk result (λ s. StandsFor s []) }
-    ensures count { IfOk result (λ s. s.count ≡ 0) }
-{
-    Scope::new(alloc)
 }
 
 impl Port {
@@ -56,11 +53,9 @@ impl Port {
     ) -> Result<Port, NoMemory>
         requires none_sent { sent outbox ≡ [] }
         requires none_received { received incoming ≡ [] }
-        ensures count { IfOk result (λ p. p.scope.count ≡ 0) }
-        ensures given { IfOk result (λ p. p.given ≡ []) }
-        ensures taken { IfOk result (λ p. p.taken ≡ []) }
+        ensures { IfOk result IsNewPort }
     {
-        let scope = new_scope(alloc)?;
+        let scope = Scope::new(alloc)?;
         Ok(Port {
             scope,
             outgoing: Outgoing::new(alloc, outbox),
@@ -70,9 +65,7 @@ impl Port {
 
     /// Takes the oldest accepted move that has come, if one has.
     pub(crate) fn take_move(&mut self) -> Option<Move>
-        ensures taken { self.new.taken ≡ self.old.taken ++ option_to_list result }
-        ensures scope { self.new.scope ≡ self.old.scope }
-        ensures given { self.new.given ≡ self.old.given }
+        ensures { TakesOne result self.old self.new }
     {
         self.incoming.pop().ok()
     }
@@ -80,6 +73,10 @@ impl Port {
     /// A scan of the client, which has this number: what it changes is given to the connection.
     pub(crate) fn scan(&mut self, alloc: Global, world: &World, client: u8) -> Result<(), NoMemory>
         requires few { self.old.scope.count + MAX_OBJECTS < 2 ^ 32 }
+        ensures scope { OnOk result ((scans : List (List Seen)) → StandsFor self.old.scope scans
+            → StandsFor self.new.scope (visible_list world.now client ∷ scans)) }
+        ensures given { OnOk result ((scans : List (List Seen)) → StandsFor self.old.scope scans
+            → self.new.outgoing ≡ with_more self.old.outgoing (scan_messages world.now client (visible_list world.now client ∷ scans))) }
         ensures count { self.new.scope.count ≤ self.old.scope.count + MAX_OBJECTS }
         ensures taken { self.new.taken ≡ self.old.taken }
     {
@@ -95,7 +92,7 @@ impl Port {
         class: Class,
         payload: Payload,
     ) -> Result<(), NoMemory>
-        ensures given { OnOk result (self.new.given ≡ self.old.given ++ message.Post class payload ∷ []) }
+        ensures given { OnOk result (self.new.outgoing ≡ with_more self.old.outgoing (message.Post class payload ∷ [])) }
         ensures scope { self.new.scope ≡ self.old.scope }
         ensures taken { self.new.taken ≡ self.old.taken }
     {
@@ -108,14 +105,14 @@ impl Port {
 
     /// Passes on what waits, as far as the ring to the connection has places.
     pub(crate) fn pass_on(&mut self)
-        ensures { self.new ≡ self.old }
+        ensures { HasPassedOn self.old self.new }
     {
         self.outgoing.pass_on();
     }
 
     /// What still waits, once the simulation has ended.
     pub(crate) fn into_waiting(self) -> Waiting
-        ensures { (passed : List OneMessage) × (self.given ≡ passed ++ result) }
+        ensures { result ≡ self.outgoing.waiting }
     {
         let Port {
             scope: _,

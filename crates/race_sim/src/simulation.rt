@@ -1,11 +1,13 @@
 //! The simulation, line by line.
-ghost use Rattle.std.specs.Prelude.{◌≡◌, ◌<◌, ◌≤◌, ◌+◌, ◌-◌, ◌*◌, ◌^◌, [], IfOk, OnOk, length};
+ghost use Rattle.std.specs.Prelude.{◌≡◌, ◌<◌, ◌≤◌, ◌+◌, ◌-◌, ◌^◌, ◌++◌, ◌∷◌, [], IfOk, OnOk, OnErr, length};
 ghost use Rattle.std.specs.List.{All};
-ghost use Rattle.dirty_lanes.specs.Named.{no_steps};
-ghost use Rattle.match_script.specs.Ranges.{HeadFits, LineFits};
+ghost use Rattle.match_script.specs.declared.types.BodyLine.TheVariants as script;
+ghost use Rattle.match_script.specs.Ranges.{HeadFits};
 ghost use Rattle.world_sim.specs.Worlds.{Worlds, first_world};
 ghost use Rattle.race_history.specs.History.{world_after, IsHistoryOf};
-ghost use Rattle.race_sim.specs.Simulating.{Follows, AreFew, HaveFew};
+ghost use Rattle.race_sim.specs.Ports.{IsNewPort, HaveAllPassedOn, TakesEach};
+ghost use Rattle.race_sim.specs.Simulating.{HasDone, MayDo, Does};
+ghost use Rattle.race_sim.specs.Telling.{IsTold, LanesAfter};
 
 use crate::gate::{Actor, Gate, Place};
 use crate::port::Port;
@@ -15,7 +17,7 @@ use quantised_fields::KindTable;
 use race_history::{History, TickMoves};
 use std::alloc::{AllocError, Global};
 use std::marker::Model;
-use tn_types::{Class, MAX_BODY_LINES, MAX_OBJECTS, Move, NoMemory, Payload};
+use tn_types::{Class, MAX_OBJECTS, Move, NoMemory, Payload};
 use world_lanes::{Changed, raise_all, store_world};
 use world_rules::match_kinds;
 use world_sim::World;
@@ -56,8 +58,7 @@ impl<N: LaneName> Model for Simulation<N> {
 // The oldest move of each client that has come.
 fn take_moves(ports: &mut Vec<Port>, taken: &mut Vec<Option<Move>>) -> Result<(), AllocError>
     ensures ports { length ports.new.items ≡ length ports.old.items }
-    ensures periods { HaveFew ports.old.items ports.new.items }
-    ensures each { OnOk result (length taken.new.items ≡ length ports.old.items) }
+    ensures each { OnOk result (TakesEach taken.new.items ports.old.items ports.new.items) }
 {
     taken.clear();
     for i in 0..ports.len() {
@@ -76,6 +77,7 @@ fn advance(
 ) -> Result<(), NoMemory>
     requires { world.old.ticks < 2 ^ 32 - 1 }
     ensures ticks { OnOk result (world.new.ticks ≡ world.old.ticks + 1) }
+    ensures moves { OnOk result (moves.new ≡ moves.old ++ taken.now ∷ []) }
     ensures world { OnOk result ((first : Worlds) → world.old ≡ world_after first moves.old → world.new ≡ world_after first moves.new) }
     ensures values { OnOk result ((first : Worlds) → world.old ≡ world_after first moves.old → IsHistoryOf first moves.old values.old
         → IsHistoryOf first moves.new values.new) }
@@ -88,7 +90,7 @@ fn advance(
 
 // Passes on what waits for each client.
 fn pass_on_all(ports: &mut Vec<Port>)
-    ensures { ports.new.items ≡ ports.old.items }
+    ensures { HaveAllPassedOn ports.old.items ports.new.items }
 {
     for i in 0..ports.len() {
         ports[i].pass_on();
@@ -104,10 +106,8 @@ impl<N: LaneName> Simulation<N> {
         ports: Vec<Port>,
     ) -> Result<Simulation<N>, NoMemory>
         requires head { HeadFits head.now }
-        requires fresh { All (λ p. p.scope.count ≡ 0) ports.items }
-        ensures follows { IfOk result (Follows (first_world head.now.seed head.now.setup)) }
-        ensures few { IfOk result (AreFew 0) }
-        ensures none { IfOk result (λ s. s.moves ≡ []) }
+        requires fresh { All IsNewPort ports.items }
+        ensures begun { IfOk result (HasDone (first_world head.now.seed head.now.setup) []) }
         ensures seat { IfOk result (λ s. s.seat ≡ seat) }
         ensures ports { IfOk result (λ s. s.ports ≡ ports.items) }
     {
@@ -126,7 +126,7 @@ impl<N: LaneName> Simulation<N> {
         })
     }
 
-    /// Stores the values that the lanes lack, and then tells every client of them.
+    /// Stores the values that the lanes lack, and then tells every client of them. For want of memory nothing was stored.
     fn tell<G: Gate>(
         &mut self,
         lanes: &Lanes<N>,
@@ -135,7 +135,8 @@ impl<N: LaneName> Simulation<N> {
     ) -> Result<(), NoMemory>
         requires objects { lanes.now.objects ≡ MAX_OBJECTS }
         requires ticks { self.old.world.ticks < 2 ^ 32 - 1 }
-        ensures { self.new ≡ record self.old { seat = self.new.seat } }
+        ensures told { OnOk result (IsTold self.old.world lanes.now.clients self.old.seat.steps self.new.seat.steps) }
+        ensures rest { self.new ≡ record self.old { seat = self.new.seat } }
     {
         let _few = self.world.objects();
         store_world(
@@ -156,18 +157,18 @@ impl<N: LaneName> Simulation<N> {
     pub(crate) fn begin(&mut self, lanes: &Lanes<N>) -> Result<(), NoMemory>
         requires objects { lanes.now.objects ≡ MAX_OBJECTS }
         requires ticks { self.old.world.ticks < 2 ^ 32 - 1 }
-        ensures { self.new ≡ record self.old { seat = self.new.seat } }
+        ensures told { OnOk result (IsTold self.old.world lanes.now.clients self.old.seat.steps self.new.seat.steps) }
+        ensures rest { self.new ≡ record self.old { seat = self.new.seat } }
     {
         self.tell(lanes, &crate::gate::FreeGate, None)
     }
 
     // The world makes a tick, which takes at most one accepted move of each client.
     fn step(&mut self, alloc: Global) -> Result<(), NoMemory>
-        requires ticks { self.old.world.ticks < 2 ^ 32 - 1 }
-        ensures follows { OnOk result ((first : Worlds) → Follows first self.old → Follows first self.new) }
-        ensures ticks { OnOk result (self.new.world.ticks ≡ self.old.world.ticks + 1) }
+        requires may { MayDo script.Tick self.old }
+        ensures does { OnOk result (Does script.Tick self.old self.new) }
+        ensures seat { self.new.seat ≡ self.old.seat }
         ensures ports { length self.new.ports ≡ length self.old.ports }
-        ensures periods { HaveFew self.old.ports self.new.ports }
     {
         let Ok(()) = take_moves(&mut self.ports, &mut self.taken) else {
             return Err(NoMemory);
@@ -190,10 +191,9 @@ impl<N: LaneName> Simulation<N> {
         place: u32,
     ) -> Result<(), NoMemory>
         requires objects { lanes.now.objects ≡ MAX_OBJECTS }
-        requires place { place < MAX_BODY_LINES }
-        requires few { AreFew place self.old }
-        ensures follows { OnOk result ((first : Worlds) → Follows first self.old → Follows first self.new) }
-        ensures few { OnOk result (AreFew (place + 1) self.new) }
+        requires may { MayDo script.Tick self.old }
+        ensures does { OnOk result (Does script.Tick self.old self.new) }
+        ensures lanes { OnOk result (LanesAfter script.Tick lanes.now.clients self.old self.new) }
         ensures ports { length self.new.ports ≡ length self.old.ports }
     {
         self.step(alloc)?;
@@ -201,15 +201,12 @@ impl<N: LaneName> Simulation<N> {
     }
 
     // A scan of a client.
-    fn scan(&mut self, alloc: Global, client: u8, place: u32) -> Result<(), NoMemory>
-        requires client { client < length self.old.ports }
-        requires place { place < MAX_BODY_LINES }
-        requires few { AreFew place self.old }
-        ensures follows { OnOk result ((first : Worlds) → Follows first self.old → Follows first self.new) }
-        ensures few { OnOk result (AreFew (place + 1) self.new) }
+    fn scan(&mut self, alloc: Global, client: u8) -> Result<(), NoMemory>
+        requires may { MayDo (script.Scan client) self.old }
+        ensures does { OnOk result (Does (script.Scan client) self.old self.new) }
+        ensures seat { self.new.seat ≡ self.old.seat }
         ensures ports { length self.new.ports ≡ length self.old.ports }
     {
-        let _place = place;
         self.ports[client as usize].scan(alloc, &self.world, client)
     }
 
@@ -220,16 +217,12 @@ impl<N: LaneName> Simulation<N> {
         client: u8,
         class: Class,
         payload: Payload,
-        place: u32,
     ) -> Result<(), NoMemory>
-        requires client { client < length self.old.ports }
-        requires place { place < MAX_BODY_LINES }
-        requires few { AreFew place self.old }
-        ensures follows { OnOk result ((first : Worlds) → Follows first self.old → Follows first self.new) }
-        ensures few { OnOk result (AreFew (place + 1) self.new) }
+        requires may { MayDo (script.Post client class payload) self.old }
+        ensures does { OnOk result (Does (script.Post client class payload) self.old self.new) }
+        ensures seat { self.new.seat ≡ self.old.seat }
         ensures ports { length self.new.ports ≡ length self.old.ports }
     {
-        let _place = place;
         self.ports[client as usize].post(alloc, class, payload)
     }
 
@@ -243,28 +236,27 @@ impl<N: LaneName> Simulation<N> {
         line: &BodyLine,
     ) -> Result<(), NoMemory>
         requires objects { lanes.now.objects ≡ MAX_OBJECTS }
-        requires place { place < MAX_BODY_LINES }
-        requires few { AreFew place self.old }
-        requires fits { LineFits (length self.old.ports) line.now }
-        ensures follows { OnOk result ((first : Worlds) → Follows first self.old → Follows first self.new) }
-        ensures few { OnOk result (AreFew (place + 1) self.new) }
+        requires may { MayDo line.now self.old }
+        ensures does { OnOk result (Does line.now self.old self.new) }
+        ensures lanes { OnOk result (LanesAfter line.now lanes.now.clients self.old self.new) }
         ensures ports { length self.new.ports ≡ length self.old.ports }
     {
         match line {
             BodyLine::Tick => self.tick(alloc, lanes, gate, place),
-            BodyLine::Scan { client } => self.scan(alloc, *client, place),
+            BodyLine::Scan { client } => self.scan(alloc, *client),
             BodyLine::Post {
                 client,
                 class,
                 payload,
-            } => self.post(alloc, *client, *class, payload.payload(), place),
+            } => self.post(alloc, *client, *class, payload.payload()),
             _ => Ok(()),
         }
     }
 
     /// Passes on what waits for each client, as far as the rings have places.
     pub(crate) fn pass_on(&mut self)
-        ensures { self.new ≡ self.old }
+        ensures ports { HaveAllPassedOn self.old.ports self.new.ports }
+        ensures rest { self.new ≡ record self.old { ports = self.new.ports } }
     {
         pass_on_all(&mut self.ports);
     }

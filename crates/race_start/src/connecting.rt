@@ -1,8 +1,11 @@
 //! The connections of a match before its first line.
 ghost use Rattle.std.specs.Prelude.{◌≡◌, ◌<◌, ◌+◌, ◌++◌, ◌∷◌, [], IfOk, OnOk, length};
 ghost use Rattle.std.specs.List.{All};
-ghost use Rattle.rtrb.specs.Ring.{received, sent};
+ghost use Rattle.rtrb.specs.Ring.{received, sent, consumer_capacity, producer_capacity, IsPair};
+ghost use Rattle.kept_pair.specs.Kept.{terms_in};
 ghost use Rattle.match_script.specs.Ranges.{HeadFits};
+ghost use Rattle.race_sim.specs.own_lists.Past.{client_terms};
+ghost use Rattle.race_sim.specs.Ports.{IsNewPort};
 
 use dirty_lanes::{LaneName, PackSeat, PackSeats};
 use match_script::Head;
@@ -28,19 +31,22 @@ pub(crate) struct Connections<N: LaneName> {
     pub(crate) ports: Vec<Port>,
 }
 
-// A connection's ends of its rings, and the simulation's.
+// The two rings of a connection: what the simulation puts into the first comes out at the inbox, and what the outbox takes comes
+// back to the simulation.
 #[derive(Drop)]
 struct Rings {
+    to_pair: Producer<Message>,
     inbox: Consumer<Message>,
     outbox: Producer<Move>,
-    port: Port,
+    from_pair: Consumer<Move>,
 }
 
-// A pair on which no step was made.
+// A pair on which no step was made, with what the header says of the client's connection.
 fn new_pair(alloc: Global, head: &Head, client: u8) -> Result<KeptPair, NoMemory>
     requires head { HeadFits head.now }
     requires client { client < head.now.clients }
-    ensures { IfOk result (λ pair. pair.steps ≡ []) }
+    ensures steps { IfOk result (λ pair. pair.steps ≡ []) }
+    ensures terms { IfOk result (λ pair. terms_in pair ≡ client_terms head.now client) }
 {
     let config = Config {
         client,
@@ -52,11 +58,12 @@ fn new_pair(alloc: Global, head: &Head, client: u8) -> Result<KeptPair, NoMemory
     Ok(KeptPair::new(alloc, pair))
 }
 
-// The rings of a connection.
+// The rings of a connection, into which nothing was put.
 fn new_rings(alloc: Global) -> Result<Rings, NoMemory>
-    ensures received { IfOk result (λ r. received r.inbox ≡ []) }
-    ensures sent { IfOk result (λ r. sent r.outbox ≡ []) }
-    ensures port { IfOk result (λ r. r.port.scope.count ≡ 0) }
+    ensures inbox { IfOk result (λ r. IsPair r.to_pair r.inbox × (consumer_capacity r.inbox ≡ INBOX_PLACES)) }
+    ensures outbox { IfOk result (λ r. IsPair r.outbox r.from_pair × (producer_capacity r.outbox ≡ OUTBOX_PLACES)) }
+    ensures none_sent { IfOk result (λ r. (sent r.to_pair ≡ []) × (sent r.outbox ≡ [])) }
+    ensures none_received { IfOk result (λ r. (received r.inbox ≡ []) × (received r.from_pair ≡ [])) }
 {
     let Ok((to_pair, inbox)) = RingBuffer::new(alloc, INBOX_PLACES) else {
         return Err(NoMemory);
@@ -64,31 +71,53 @@ fn new_rings(alloc: Global) -> Result<Rings, NoMemory>
     let Ok((outbox, from_pair)) = RingBuffer::new(alloc, OUTBOX_PLACES) else {
         return Err(NoMemory);
     };
-    let port = Port::new(alloc, to_pair, from_pair)?;
     Ok(Rings {
+        to_pair,
         inbox,
         outbox,
-        port,
+        from_pair,
     })
 }
 
-// The connection of one client, at its ends of the rings.
+// Puts a connection under its lock. What lies there is known by its type alone, so what it is made with is asked for here: the terms
+// of this header for the client of its seat, and rings of so many places.
+fn share<N: LaneName>(
+    alloc: Global,
+    _head: &Head,
+    pair: KeptPair,
+    seat: PackSeat<N>,
+    inbox: Consumer<Message>,
+    outbox: Producer<Move>,
+) -> Result<SharedPair<N>, NoMemory>
+    requires steps { pair.steps ≡ [] }
+    requires terms { terms_in pair ≡ client_terms _head.now seat.client }
+    requires seat { seat.steps ≡ [] }
+    requires received { received inbox ≡ [] }
+    requires inbox { consumer_capacity inbox ≡ INBOX_PLACES }
+    requires sent { sent outbox ≡ [] }
+    requires outbox { producer_capacity outbox ≡ OUTBOX_PLACES }
+{
+    SharedPair::new(alloc, pair, seat, inbox, outbox)
+}
+
+// The connection of the client of this seat, at its ends of the rings.
 fn new_shared<N: LaneName>(
     alloc: Global,
     head: &Head,
-    client: u8,
     seat: PackSeat<N>,
     inbox: Consumer<Message>,
     outbox: Producer<Move>,
 ) -> Result<SharedPair<N>, NoMemory>
     requires head { HeadFits head.now }
-    requires client { client < head.now.clients }
+    requires client { seat.client < head.now.clients }
     requires seat { seat.steps ≡ [] }
     requires received { received inbox ≡ [] }
+    requires inbox { consumer_capacity inbox ≡ INBOX_PLACES }
     requires sent { sent outbox ≡ [] }
+    requires outbox { producer_capacity outbox ≡ OUTBOX_PLACES }
 {
-    let pair = new_pair(alloc, head, client)?;
-    SharedPair::new(alloc, pair, seat, inbox, outbox)
+    let pair = new_pair(alloc, head, seat.client())?;
+    share(alloc, head, pair, seat, inbox, outbox)
 }
 
 // Adds one to these.
@@ -101,29 +130,31 @@ fn add<T: Drop>(all: &mut Vec<T>, one: T) -> Result<(), NoMemory>
     }
 }
 
-// Adds the connection of the next client.
+// Adds the connection of the next client, that of this seat.
 fn connect_next<N: LaneName>(
     alloc: Global,
     head: &Head,
-    client: u8,
     seat: PackSeat<N>,
     made: &mut Connections<N>,
 ) -> Result<(), NoMemory>
     requires head { HeadFits head.now }
-    requires client { client < head.now.clients }
+    requires client { seat.client < head.now.clients }
+    requires next { seat.client ≡ length made.old.pairs.items }
     requires seat { seat.steps ≡ [] }
-    requires none { All (λ p. p.scope.count ≡ 0) made.old.ports.items }
+    requires fresh { All IsNewPort made.old.ports.items }
     ensures pairs { OnOk result (length made.new.pairs.items ≡ length made.old.pairs.items + 1) }
     ensures ports { OnOk result (length made.new.ports.items ≡ length made.old.ports.items + 1) }
-    ensures none { OnOk result (All (λ p. p.scope.count ≡ 0) made.new.ports.items) }
+    ensures fresh { OnOk result (All IsNewPort made.new.ports.items) }
 {
     let Rings {
+        to_pair,
         inbox,
         outbox,
-        port,
+        from_pair,
     } = new_rings(alloc)?;
+    let port = Port::new(alloc, to_pair, from_pair)?;
     add(&mut made.ports, port)?;
-    let pair = new_shared(alloc, head, client, seat, inbox, outbox)?;
+    let pair = new_shared(alloc, head, seat, inbox, outbox)?;
     add(&mut made.pairs, pair)?;
     Ok(())
 }
@@ -141,13 +172,13 @@ fn connect_all<N: LaneName>(
     requires empty { (made.old.pairs.items ≡ []) × (made.old.ports.items ≡ []) }
     ensures pairs { OnOk result (length made.new.pairs.items ≡ head.now.clients) }
     ensures ports { OnOk result (length made.new.ports.items ≡ head.now.clients) }
-    ensures none { OnOk result (All (λ p. p.scope.count ≡ 0) made.new.ports.items) }
+    ensures fresh { OnOk result (All IsNewPort made.new.ports.items) }
 {
-    for client in 0..head.clients {
+    for _ in 0..head.clients {
         let Some(seat) = seats.next_seat() else {
             unreachable!()
         };
-        connect_next(alloc, head, client, seat, made)?;
+        connect_next(alloc, head, seat, made)?;
     }
     Ok(())
 }
@@ -163,7 +194,7 @@ pub(crate) fn connect<N: LaneName>(
     requires clients { seats.clients ≡ head.now.clients }
     ensures pairs { IfOk result (λ c. length c.pairs.items ≡ head.now.clients) }
     ensures ports { IfOk result (λ c. length c.ports.items ≡ head.now.clients) }
-    ensures none { IfOk result (λ c. All (λ p. p.scope.count ≡ 0) c.ports.items) }
+    ensures fresh { IfOk result (λ c. All IsNewPort c.ports.items) }
 {
     let mut seats = seats;
     let mut made = Connections {

@@ -1,8 +1,9 @@
 //! A match before its first line.
-ghost use Rattle.std.specs.Prelude.{◌≡◌, IfOk, length};
+ghost use Rattle.std.specs.Prelude.{◌≡◌, [], IfOk, length};
+ghost use Rattle.dirty_lanes.specs.Named.{no_steps};
 ghost use Rattle.match_script.specs.Ranges.{HasRanges};
 ghost use Rattle.world_sim.specs.Worlds.{first_world};
-ghost use Rattle.race_sim.specs.Simulating.{Follows, AreFew};
+ghost use Rattle.race_sim.specs.Simulating.{HasDone};
 
 use crate::connecting::{Connections, connect};
 use dirty_lanes::{FreshLanes, LaneName, Lanes};
@@ -37,8 +38,8 @@ pub fn make_ready<N: LaneName>(
     ensures clients { IfOk result (λ ready. ready.lanes.clients ≡ script.now.head.clients) }
     ensures pairs { IfOk result (λ ready. length ready.pairs.items ≡ script.now.head.clients) }
     ensures ports { IfOk result (λ ready. length ready.sim.ports ≡ script.now.head.clients) }
-    ensures first { IfOk result (λ ready. Follows (first_world script.now.head.seed script.now.head.setup) ready.sim) }
-    ensures few { IfOk result (λ ready. AreFew 0 ready.sim) }
+    ensures begun { IfOk result (λ ready. HasDone (first_world script.now.head.seed script.now.head.setup) [] ready.sim) }
+    ensures seat { IfOk result (λ ready. ready.sim.seat ≡ no_steps) }
 {
     let (lanes, seat, seats) = fresh.named::<N>();
     let Connections { pairs, ports } = connect(alloc, &script.head, seats)?;

@@ -6,7 +6,7 @@ use crate::gates::LineGate;
 use match_script::{Script, parse};
 use race_history::TickMoves;
 use race_record::Race;
-use race_run::{race, race_in_turn};
+use race_run::race;
 use std::alloc::Global;
 use std::process::Abort;
 use std::sync::Wait;
@@ -104,13 +104,15 @@ fn pack_inside_tick(rt: HostRuntime) -> Result<(), Fail> {
     Ok(())
 }
 
-// A run that does one after another can't tell that text.
+// A race that does one line after another is legal, and can't tell that text.
 #[test]
 fn threads_run_in_turn(rt: HostRuntime) -> Result<(), Fail> {
     let script = script_of(&rt, rt.alloc(), PACK_INSIDE_TICK.as_bytes());
-    let race = race_in_turn(&rt, rt.alloc(), &script)?;
+    let gate = LineGate::new(&rt, None);
+    let made = race(&rt, rt.alloc(), &script, &gate)?;
+    assert!(rt; !gate.gave_up());
     let mut text = Vec::new(rt.alloc());
-    assert_eq!(rt; tell(rt.alloc(), &script, &race, &mut text)?, true);
+    assert_eq!(rt; tell(rt.alloc(), &script, &made, &mut text)?, true);
     assert!(rt; text.as_slice() != PACK_INSIDE_TICK_TOLD.as_bytes());
     Ok(())
 }

@@ -1,11 +1,10 @@
-use Rattle.std.proofs.Common.{◌≡◌, false, length}
+use Rattle.std.proofs.Common.{◌≡◌, false, length, take, reverse}
 use Rattle.world_sim.specs.Worlds.{first_world}
-use Rattle.race_sim.specs.Simulating.{Follows, AreFew}
+use Rattle.race_sim.specs.Simulating.{HasDone}
 use Rattle.race_sim.proofs.lines.simulate.Given as goal
 
 abbrev pub invariant-loop-i : goal.invariant-loop-i
 invariant-loop-i g l = record {
   long : length l.sim.ports ≡ l.script.head.clients;
-  follows : l.failed ≡ false → Follows (first_world l.script.head.seed l.script.head.setup) l.sim;
-  few : l.failed ≡ false → AreFew l.i l.sim;
+  done : l.failed ≡ false → HasDone (first_world l.script.head.seed l.script.head.setup) (reverse (take l.i l.script.body)) l.sim;
 }

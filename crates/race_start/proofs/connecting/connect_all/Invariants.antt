@@ -1,12 +1,13 @@
 use Rattle.std.proofs.Common.{◌≡◌, length}
 use Rattle.std.specs.List.{All}
+use Rattle.race_sim.specs.Ports.{IsNewPort}
 use Rattle.race_start.proofs.connecting.connect_all.Given as goal
 
-abbrev pub invariant-loop-client : goal.invariant-loop-client
-invariant-loop-client g l = record {
-  next : l.seats.next ≡ l.client;
+abbrev pub invariant-loop : goal.invariant-loop
+invariant-loop g l = record {
+  next : l.seats.next ≡ l.counter;
   clients : l.seats.clients ≡ l.fn.head.clients;
-  pairs : length l.made.pairs.items ≡ l.client;
-  ports : length l.made.ports.items ≡ l.client;
-  none : All (λ p. p.scope.count ≡ 0) l.made.ports.items;
+  pairs : length l.made.pairs.items ≡ l.counter;
+  ports : length l.made.ports.items ≡ l.counter;
+  fresh : All IsNewPort l.made.ports.items;
 }

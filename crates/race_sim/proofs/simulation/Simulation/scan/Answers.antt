@@ -1,0 +1,15 @@
+use Rattle.std.proofs.Common.{◌<◌, length, set, subst, sym}
+use Rattle.std.specs.Prelude.{OnOk}
+use Rattle.match_script.specs.declared.types.BodyLine.TheVariants as script
+use Rattle.race_sim.specs.Simulating.{SimulationState, Does}
+use Rattle.race_sim.proofs.Doing.{scanned_by}
+use Rattle.race_sim.proofs.simulation.Simulation.scan.Goals as goal
+
+pub returns-clause-does : goal.returns-clause-does
+returns-clause-does g c =
+    let s = c.self.inside in
+    let old : SimulationState = record { world = s.world; seat = s.seat; ports = s.ports.items; values = s.values; moves = s.moves } in
+    let new : SimulationState = record old { ports = set s.ports.items c.args.client c.scan.new.self } in
+    let there : c.args.client < length s.ports.items = subst (λ (z : SimulationState). c.args.client < length z.ports) (sym c.self.view_is) c.requires.may.fits in
+    subst (λ (z : SimulationState). OnOk c.scan.result (Does (script.Scan c.args.client) z new)) c.self.view_is
+    (scanned_by c.scan.result old c.args.client c.index_mut.result.now c.scan.new.self there c.index_mut.ensures.value c.scan.ensures.scope c.scan.ensures.given c.scan.ensures.count c.scan.ensures.taken)
