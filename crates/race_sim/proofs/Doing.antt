@@ -1,6 +1,6 @@
 -- How a simulation that did some lines does one more.
 use Rattle.std.proofs.Common.{◌≡◌, ℕ, zero, suc, ◌<◌, ◌≤◌, ◌+◌, Bool, true, false, cond, List, [], ◌∷◌, ◌++◌, length, get_or, set, refl, ap, sym, subst, ◌∙◌, arith, Option, Some, None, append_assoc, ⊎_elim, map, reverse}
-use Rattle.std.specs.Prelude.{if◌then◌else◌, ◌==◌, Result, Ok, Err, OnOk}
+use Rattle.std.specs.Prelude.{if◌then◌else◌, ◌==◌, ◌&&◌, not, nat_lt, Result, Ok, Err, OnOk}
 use Rattle.std.specs.Option.{option_to_list}
 use Rattle.std.specs.List.{All, AllByRecursion, cons_option}
 use Rattle.std.proofs.lemmas.List.{append-nil, take_all, take-append-le, length_push, length-set, length-map, get_or-set_same, get_or-set_other}
@@ -14,7 +14,18 @@ use Rattle.match_script.specs.declared.types.BodyLine.{BodyLine}
 use Rattle.match_script.specs.declared.types.BodyLine.TheVariants as script
 use Rattle.match_script.specs.declared.types.Script.{Script}
 use Rattle.tn_types.specs.declared.limits.TheConstants.{MAX_OBJECTS}
-use Rattle.world_sim.specs.Worlds.{Worlds}
+use Rattle.world_sim.specs.Worlds.{Worlds, next, after, coming, first_world}
+use Rattle.world_sim.proofs.Histories.{of_fields_fresh, of_fields_next, same_fields_next}
+use Rattle.world_rules.specs.declared.setup.Setup.{Setup}
+use Rattle.world_rules.specs.Spawning.{first_objects}
+use Rattle.world_lanes.specs.Behind.{is_behind, objects_below, Brings, IsBrought}
+use Rattle.world_lanes.specs.Ticked.{IsTicked}
+use Rattle.world_lanes.specs.Told.{is_told, Tells}
+use Rattle.dirty_lanes.specs.declared.view.SimView.{SimView}
+use Rattle.world_lanes.proofs.Bringing.{behind_by}
+use Rattle.world_lanes.specs.declared.raising.Changed.{Changed}
+use Rattle.dirty_lanes.specs.declared.view.SimStep.{SimStep}
+use Rattle.dirty_lanes.specs.Views.{pending}
 use Rattle.world_scope.specs.declared.viewer.Seen.{Seen}
 use Rattle.world_scope.specs.Scope.{visible_list}
 use Rattle.client_scope.specs.StandsFor.{Table, StandsFor}
@@ -23,11 +34,11 @@ use Rattle.race_messages.specs.declared.message.Message.TheVariants as message
 use Rattle.race_course.specs.Messages.{Ticks, is_tick, ticks_in, world_at, is_scan_of, seen_at, scans_of, line_gives, messages, scan_messages}
 use Rattle.race_course.specs.Course.{world_of}
 use Rattle.race_course.proofs.Following.{ticks_reversed}
-use Rattle.race_history.specs.History.{world_after, IsHistoryOf}
+use Rattle.race_history.specs.History.{HasVersions, world_after, IsHistoryOf}
 use Rattle.race_history.specs.Moves.{HasClients, MovesFit, move_taken, moves_taken}
 use Rattle.race_sim.specs.Ports.{OutgoingState, all_given, with_more, PortState, given_to, HasPassedOn, waiting_for, IsNewPort, HaveAllPassedOn, TakesOne, TakesEach}
 use Rattle.race_sim.specs.Simulating.{SimulationState, is_own, IsPortAt, HasDone, MayDo, Does, AreRests}
-use Rattle.race_sim.specs.Telling.{LanesAfter}
+use Rattle.race_sim.specs.Telling.{is_wanting, IsTold, LanesAfter}
 
 -- ---- ticks
 
@@ -99,11 +110,15 @@ rows_more : (n : ℕ) (ticks : Ticks) (row : List (Option Move)) → AllByRecurs
 rows_more n [] row a e = (e, tt)
 rows_more n (r ∷ ticks) row a e = (a.0, rows_more n ticks row a.1 e)
 
+versions_next : (w : Worlds) (row : List (Option Move)) → HasVersions w → HasVersions (next w row)
+unfolding next
+versions_next w row h = of_fields_next w.objects (after w row) w.versions (same_fields_next w.objects row (coming w)) h
+
 ticked : (old new : SimulationState) (row : List (Option Move)) → new.world.ticks ≡ old.world.ticks + 1 → new.moves ≡ old.moves ++ row ∷ []
     → ((first : Worlds) → old.world ≡ world_after first old.moves → new.world ≡ world_after first new.moves)
-    → ((first : Worlds) → old.world ≡ world_after first old.moves → IsHistoryOf first old.moves old.values → IsHistoryOf first new.moves new.values)
-    → TakesEach row old.ports new.ports → Does script.Tick old new
-ticked old new row counted longer world values taken first past h =
+    → ((first : Worlds) → HasVersions old.world → old.world ≡ world_after first old.moves → IsHistoryOf first old.moves old.values → IsHistoryOf first new.moves new.values)
+    → new.world ≡ next old.world row → TakesEach row old.ports new.ports → Does script.Tick old new
+ticked old new row counted longer world values is taken first past h =
     let same : ticks_in past ≤ length old.moves = (let e = h.moves.each_tick in omega (arith, e)) in
     record {
       world = world first h.world;
@@ -113,7 +128,8 @@ ticked old new row counted longer world values taken first past h =
         each_client = subst (λ (n : ℕ). AllByRecursion (HasClients n) new.moves) (sym taken.count)
             (subst (λ (ts : Ticks). AllByRecursion (HasClients (length old.ports)) ts) (sym longer) (rows_more (length old.ports) old.moves row h.moves.each_client taken.long));
       };
-      values = values first h.world h.values;
+      values = values first h.versions h.world h.values;
+      versions = subst HasVersions (sym is) (versions_next old.world row h.versions);
       port = λ c d l.
           let k : c < length old.ports = (let e = taken.count in omega (arith, l, e)) in
           subst (λ (ts : Ticks). IsPortAt (get_or new.ports c d) first ts c (script.Tick ∷ past)) (sym longer)
@@ -123,10 +139,10 @@ ticked old new row counted longer world values taken first past h =
 pub ticked_by : {E : Type 0} (result : Result (Unit {0}) E) (old new : SimulationState) (row : List (Option Move)) → OnOk result (new.world.ticks ≡ old.world.ticks + 1)
     → OnOk result (new.moves ≡ old.moves ++ row ∷ [])
     → OnOk result ((first : Worlds) → old.world ≡ world_after first old.moves → new.world ≡ world_after first new.moves)
-    → OnOk result ((first : Worlds) → old.world ≡ world_after first old.moves → IsHistoryOf first old.moves old.values → IsHistoryOf first new.moves new.values)
-    → TakesEach row old.ports new.ports → OnOk result (Does script.Tick old new)
-ticked_by (Ok u) old new row counted longer world values taken = ticked old new row counted longer world values taken
-ticked_by (Err e) old new row counted longer world values taken = tt
+    → OnOk result ((first : Worlds) → HasVersions old.world → old.world ≡ world_after first old.moves → IsHistoryOf first old.moves old.values → IsHistoryOf first new.moves new.values)
+    → OnOk result (new.world ≡ next old.world row) → TakesEach row old.ports new.ports → OnOk result (Does script.Tick old new)
+ticked_by (Ok u) old new row counted longer world values is taken = ticked old new row counted longer world values is taken
+ticked_by (Err e) old new row counted longer world values is taken = tt
 
 -- ---- a line that is no tick
 
@@ -143,6 +159,7 @@ module _ (first : Worlds) (past : List BodyLine) where
       each_client = subst (λ (n : ℕ). AllByRecursion (HasClients n) old.moves) (sym count) h.moves.each_client;
     };
     values = h.values;
+    versions = h.versions;
     port = λ c d l. let k : c < length old.ports = omega (arith, l, count) in each c d k (h.port c d k);
   }
 
@@ -290,6 +307,7 @@ passed_on s ports g first past h = record {
     each_client = subst (λ (n : ℕ). AllByRecursion (HasClients n) s.moves) (sym g.count) h.moves.each_client;
   };
   values = h.values;
+  versions = h.versions;
   port = λ c d l.
       let k : c < length s.ports = (let e = g.count in omega (arith, l, e)) in
       port_passed (get_or s.ports c d) (get_or ports c d) first s.moves c past (g.each c d k) (h.port c d k);
@@ -297,8 +315,8 @@ passed_on s ports g first past h = record {
 
 -- ---- before the first line, and behind the last
 
-pub begun : (s : SimulationState) (w : Worlds) → s.world ≡ w → w.ticks ≡ 0 → s.moves ≡ [] → IsHistoryOf s.world [] s.values → All IsNewPort s.ports → HasDone w [] s
-begun s w is none no_moves values new = record {
+pub begun : (s : SimulationState) (w : Worlds) → s.world ≡ w → w.ticks ≡ 0 → s.moves ≡ [] → IsHistoryOf s.world [] s.values → HasVersions w → All IsNewPort s.ports → HasDone w [] s
+begun s w is none no_moves values versions new = record {
   world = is ∙ ap (λ (ts : Ticks). world_after w ts) (sym no_moves);
   ticks = ap (λ (v : Worlds). v.ticks) is ∙ none;
   moves = record {
@@ -306,6 +324,7 @@ begun s w is none no_moves values new = record {
     each_client = subst (λ (ts : Ticks). AllByRecursion (HasClients (length s.ports)) ts) (sym no_moves) tt;
   };
   values = subst (λ (ts : Ticks). IsHistoryOf w ts s.values) (sym no_moves) (subst (λ (v : Worlds). IsHistoryOf v [] s.values) is values);
+  versions = subst HasVersions (sym is) versions;
   port = λ c d l.
       let p = new c d l in
       record {
@@ -362,7 +381,7 @@ lanes_then line clients old mid new h rest = subst (λ (s : SimulationState). La
 reseated : (line : BodyLine) (old mid new : SimulationState) → Does line old mid → new ≡ record mid { seat = new.seat } → Does line old new
 reseated line old mid new does rest first past h =
     let k = does first past h in
-    subst (λ (s : SimulationState). HasDone first (line ∷ past) s) (sym rest) (record { world = k.world; ticks = k.ticks; moves = k.moves; values = k.values; port = k.port })
+    subst (λ (s : SimulationState). HasDone first (line ∷ past) s) (sym rest) (record { world = k.world; ticks = k.ticks; moves = k.moves; values = k.values; versions = k.versions; port = k.port })
 
 pub reseated_by : {E : Type 0} (result : Result (Unit {0}) E) (line : BodyLine) (old mid new : SimulationState) → Does line old mid → new ≡ record mid { seat = new.seat }
     → OnOk result (Does line old new)
@@ -377,3 +396,53 @@ ticks_below line s new does may =
     let few = ticks_few (line ∷ may.past) in
     let most = may.few in
     omega (arith, h, few, most)
+
+-- ---- the lanes have each field of the world
+
+pub first_versions : (seed : ℕ) (setup : Setup) → HasVersions (first_world seed setup)
+first_versions seed setup = of_fields_fresh (first_objects 0 setup.spawns)
+
+pub still_brought : (w : Worlds) (chosen : ℕ → ℕ → Bool) (clients : ℕ) (a b : List SimStep) → IsBrought w a → Tells chosen clients a b → IsBrought w b
+still_brought w chosen clients a b h t object field = behind_by w a b object field (t.versions object field) ∙ h object field
+
+pub brought_then : (line : BodyLine) (clients : ℕ) (old new : SimulationState) → IsBrought old.world old.seat.steps → LanesAfter line clients old new → IsBrought new.world new.seat.steps
+brought_then script.Tick clients old new h t = t.whole
+brought_then line clients old new h t = λ object field. (λ j. is_behind (t.1 j) (t.0 j).steps object field) ∙ h object field
+
+-- no line was done yet
+pub none_done : (first : Worlds) (s : SimulationState) → HasDone first [] s → s.world ≡ first
+none_done first s h = h.world ∙ ap (λ (ts : Ticks). world_after first ts) (none s.moves h.moves.each_tick)
+  where
+    none : (ts : Ticks) → length ts ≡ 0 → ts ≡ []
+    none [] e = refl
+    none (t ∷ ts) e = absurd (omega (arith, e))
+
+-- a tick of a world of which the lanes have each field
+pub ticked_world : (old new : SimulationState) (had : ℕ) → MayDo script.Tick old → (row : List (Option Move)) × (new.world ≡ next old.world row) → new.seat ≡ old.seat
+    → had ≡ length old.world.objects → IsTicked new.world had new.seat.steps
+ticked_world old new had may t same many = (
+  t.0,
+  (
+    old.world,
+    record {
+      next = t.1;
+      objects = sym many;
+      versions = may.done.versions;
+      brought = subst (λ (s : SimView). IsBrought old.world s.steps) (sym same) may.brought;
+    },
+  ),
+)
+
+-- what was stored of a world was told
+pub told_first : (w : Worlds) (clients : ℕ) (old stored new : List SimStep) (changed : List Changed) → Brings w (objects_below (length w.objects)) old stored
+    → ((o f : ℕ) → is_told changed o f ≡ is_wanting w old o f) → Tells (is_told changed) clients stored new → IsBrought w stored → IsTold w clients old new
+told_first w clients old stored new changed b e t h = record {
+  stored = stored;
+  brings = b;
+  tells = record {
+    versions = t.versions;
+    values = t.values;
+    waiting = λ d o f. t.waiting d o f ∙ ap (λ (chosen : Bool). pending stored d o f && not (nat_lt d clients && chosen)) (e o f);
+  };
+  whole = still_brought w (is_told changed) clients stored new h t;
+}

@@ -8,11 +8,12 @@ use Rattle.match_script.specs.declared.types.BodyLine.TheVariants as script
 use Rattle.match_script.specs.declared.types.Script.{Script}
 use Rattle.match_script.specs.Ranges.{LineFits}
 use Rattle.world_sim.specs.Worlds.{Worlds}
+use Rattle.world_lanes.specs.Behind.{IsBrought}
 use Rattle.client_scope.specs.StandsFor.{StandsFor}
 use Rattle.race_messages.specs.declared.message.Message.{Message}
 use Rattle.race_course.specs.Messages.{Ticks, ticks_in, scans_of, messages}
 use Rattle.race_course.specs.Course.{all_messages}
-use Rattle.race_history.specs.History.{Values, IsHistoryOf, world_after}
+use Rattle.race_history.specs.History.{Values, HasVersions, IsHistoryOf, world_after}
 use Rattle.race_history.specs.Moves.{MovesFit, moves_taken}
 use Rattle.race_sim.specs.Ports.{PortState, given_to}
 
@@ -43,15 +44,17 @@ pub record HasDone (first : Worlds) (past : List BodyLine) (s : SimulationState)
   pub ticks : s.world.ticks ≡ ticks_in past
   pub moves : MovesFit (ticks_in past) (length s.ports) s.moves
   pub values : IsHistoryOf first s.moves s.values
+  pub versions : HasVersions s.world
   pub port : (c : ℕ) (d : PortState) → c < length s.ports → IsPortAt (slice_index_or s.ports c d) first s.moves c past
 
--- a line that may come next
+-- a line that may come next: the lanes have each field of the world
 pub record MayDo (line : BodyLine) (s : SimulationState) : Type 0 where
   pub first : Worlds
   pub past : List BodyLine
   pub done : HasDone first past s
   pub fits : LineFits (length s.ports) line
   pub few : length past < MAX_BODY_LINES
+  pub brought : IsBrought s.world s.seat.steps
 
 -- whatever lines were done, this one is done behind them
 abbrev pub Does : BodyLine → SimulationState → SimulationState → Type 0

@@ -1,10 +1,13 @@
 //! The simulation, line by line.
-ghost use Rattle.std.specs.Prelude.{◌≡◌, ◌<◌, ◌≤◌, ◌+◌, ◌-◌, ◌^◌, ◌++◌, ◌∷◌, [], IfOk, OnOk, OnErr, length};
+ghost use Rattle.std.specs.Prelude.{◌≡◌, ◌<◌, ◌≤◌, ◌+◌, ◌-◌, ◌^◌, ◌++◌, ◌∷◌, ℕ, List, [], Option, IfOk, OnOk, OnErr, length};
 ghost use Rattle.std.specs.List.{All};
 ghost use Rattle.match_script.specs.declared.types.BodyLine.TheVariants as script;
 ghost use Rattle.match_script.specs.Ranges.{HeadFits};
-ghost use Rattle.world_sim.specs.Worlds.{Worlds, first_world};
-ghost use Rattle.race_history.specs.History.{world_after, IsHistoryOf};
+ghost use Rattle.tn_types.specs.declared.moves.Move.{Move as OneMove};
+ghost use Rattle.world_rules.specs.declared.setup.Setup.{Setup};
+ghost use Rattle.world_sim.specs.Worlds.{Worlds, first_world, next};
+ghost use Rattle.world_lanes.specs.Ticked.{IsTicked};
+ghost use Rattle.race_history.specs.History.{HasVersions, world_after, IsHistoryOf};
 ghost use Rattle.race_sim.specs.Ports.{IsNewPort, HaveAllPassedOn, TakesEach};
 ghost use Rattle.race_sim.specs.Simulating.{HasDone, MayDo, Does};
 ghost use Rattle.race_sim.specs.Telling.{IsTold, LanesAfter};
@@ -18,7 +21,7 @@ use race_history::{History, TickMoves};
 use std::alloc::{AllocError, Global};
 use std::marker::Model;
 use tn_types::{Class, MAX_OBJECTS, Move, NoMemory, Payload};
-use world_lanes::{Changed, raise_all, store_world};
+use world_lanes::{Changed, raise_all, store_world, store_writes};
 use world_rules::match_kinds;
 use world_sim::World;
 
@@ -78,13 +81,14 @@ fn advance(
     requires { world.old.ticks < 2 ^ 32 - 1 }
     ensures ticks { OnOk result (world.new.ticks ≡ world.old.ticks + 1) }
     ensures moves { OnOk result (moves.new ≡ moves.old ++ taken.now ∷ []) }
+    ensures next { OnOk result (world.new ≡ next world.old taken.now) }
     ensures world { OnOk result ((first : Worlds) → world.old ≡ world_after first moves.old → world.new ≡ world_after first moves.new) }
-    ensures values { OnOk result ((first : Worlds) → world.old ≡ world_after first moves.old → IsHistoryOf first moves.old values.old
-        → IsHistoryOf first moves.new values.new) }
+    ensures values { OnOk result ((first : Worlds) → HasVersions world.old → world.old ≡ world_after first moves.old
+        → IsHistoryOf first moves.old values.old → IsHistoryOf first moves.new values.new) }
 {
     moves.push(alloc, taken)?;
     world.tick(alloc, taken)?;
-    values.add(alloc, world)?;
+    values.add_tick(alloc, world)?;
     Ok(())
 }
 
@@ -126,15 +130,40 @@ impl<N: LaneName> Simulation<N> {
         })
     }
 
-    /// Stores the values that the lanes lack, and then tells every client of them. For want of memory nothing was stored.
+    /// Stores what a tick left of which the lanes lack the newest value, where there were so many objects before it, and then tells
+    /// every client of that. For want of memory nothing was stored.
     fn tell<G: Gate>(
         &mut self,
         lanes: &Lanes<N>,
         gate: &G,
-        inside: Option<u32>,
+        place: u32,
+        had: u32,
     ) -> Result<(), NoMemory>
         requires objects { lanes.now.objects ≡ MAX_OBJECTS }
         requires ticks { self.old.world.ticks < 2 ^ 32 - 1 }
+        requires ticked { IsTicked self.old.world had self.old.seat.steps }
+        ensures told { OnOk result (IsTold self.old.world lanes.now.clients self.old.seat.steps self.new.seat.steps) }
+        ensures rest { self.new ≡ record self.old { seat = self.new.seat } }
+    {
+        let _few = self.world.objects();
+        store_writes(
+            &self.kinds,
+            &self.world,
+            lanes,
+            &mut self.seat,
+            had,
+            &mut self.changed,
+        )?;
+        gate.pass(Actor::Sim, Place::Inside(place));
+        raise_all(lanes, &mut self.seat, &self.changed);
+        Ok(())
+    }
+
+    /// Stores the values with which the objects begin, and tells every client of them.
+    pub(crate) fn begin(&mut self, lanes: &Lanes<N>) -> Result<(), NoMemory>
+        requires objects { lanes.now.objects ≡ MAX_OBJECTS }
+        requires ticks { self.old.world.ticks < 2 ^ 32 - 1 }
+        requires first { (seed : ℕ) × ((setup : Setup) × (self.old.world ≡ first_world seed setup)) }
         ensures told { OnOk result (IsTold self.old.world lanes.now.clients self.old.seat.steps self.new.seat.steps) }
         ensures rest { self.new ≡ record self.old { seat = self.new.seat } }
     {
@@ -146,27 +175,15 @@ impl<N: LaneName> Simulation<N> {
             &mut self.seat,
             &mut self.changed,
         )?;
-        if let Some(place) = inside {
-            gate.pass(Actor::Sim, Place::Inside(place));
-        }
-        raise_all(lanes, &mut self.seat, &self.changed);
+        raise_all(lanes, &mut self.seat, self.changed.as_slice());
         Ok(())
-    }
-
-    /// Stores the values with which the objects begin, and tells every client of them.
-    pub(crate) fn begin(&mut self, lanes: &Lanes<N>) -> Result<(), NoMemory>
-        requires objects { lanes.now.objects ≡ MAX_OBJECTS }
-        requires ticks { self.old.world.ticks < 2 ^ 32 - 1 }
-        ensures told { OnOk result (IsTold self.old.world lanes.now.clients self.old.seat.steps self.new.seat.steps) }
-        ensures rest { self.new ≡ record self.old { seat = self.new.seat } }
-    {
-        self.tell(lanes, &crate::gate::FreeGate, None)
     }
 
     // The world makes a tick, which takes at most one accepted move of each client.
     fn step(&mut self, alloc: Global) -> Result<(), NoMemory>
         requires may { MayDo script.Tick self.old }
         ensures does { OnOk result (Does script.Tick self.old self.new) }
+        ensures next { OnOk result ((row : List (Option OneMove)) × (self.new.world ≡ next self.old.world row)) }
         ensures seat { self.new.seat ≡ self.old.seat }
         ensures ports { length self.new.ports ≡ length self.old.ports }
     {
@@ -196,8 +213,9 @@ impl<N: LaneName> Simulation<N> {
         ensures lanes { OnOk result (LanesAfter script.Tick lanes.now.clients self.old self.new) }
         ensures ports { length self.new.ports ≡ length self.old.ports }
     {
+        let had = self.world.objects();
         self.step(alloc)?;
-        self.tell(lanes, gate, Some(place))
+        self.tell(lanes, gate, place, had)
     }
 
     // A scan of a client.
@@ -205,6 +223,7 @@ impl<N: LaneName> Simulation<N> {
         requires may { MayDo (script.Scan client) self.old }
         ensures does { OnOk result (Does (script.Scan client) self.old self.new) }
         ensures seat { self.new.seat ≡ self.old.seat }
+        ensures world { self.new.world ≡ self.old.world }
         ensures ports { length self.new.ports ≡ length self.old.ports }
     {
         self.ports[client as usize].scan(alloc, &self.world, client)
@@ -221,6 +240,7 @@ impl<N: LaneName> Simulation<N> {
         requires may { MayDo (script.Post client class payload) self.old }
         ensures does { OnOk result (Does (script.Post client class payload) self.old self.new) }
         ensures seat { self.new.seat ≡ self.old.seat }
+        ensures world { self.new.world ≡ self.old.world }
         ensures ports { length self.new.ports ≡ length self.old.ports }
     {
         self.ports[client as usize].post(alloc, class, payload)

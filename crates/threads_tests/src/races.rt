@@ -4,6 +4,7 @@ ghost use Rattle.match_script.specs.Ranges.{HasRanges};
 
 use crate::gates::LineGate;
 use match_script::{Script, parse};
+use plain_race::plain_race;
 use race_history::{Race, TickMoves};
 use race_run::race;
 use std::alloc::Global;
@@ -13,6 +14,7 @@ use std::test::Fail;
 use std::thread::Threads;
 use threads_top::{FreeGate, Gate, run_threads, tell};
 use tn_outside::MemSink;
+use tn_types::MAX_KEPT_STEPS;
 
 /// More bytes than a text here has.
 const ALL: usize = 65_536;
@@ -52,6 +54,155 @@ m 0 0 1
 m 1 0 7
 show 0 events 0 sampled 1 accepted 1 taken 1 control - ghosts 0
 show 1 events 0 sampled 0 accepted 0 taken 0 control - ghosts 0
+";
+
+const RAW_BESIDE_TICK: &str = "tribes 1
+match 1 1 100 128 1000
+go
+raw 0 4000000000000000000000000040900800
+raw 0 -
+tick
+raw 0 -
+";
+
+// The raw bytes are the client's first packet with one move, for which 32 places are free; 31 are free until the tick takes it.
+const RAW_BESIDE_TICK_TOLD: &str = "t 1 1,0,0,0
+j 0 raw 32 4000000000000000000000000040900800
+j 0 raw 31 -
+j 0 raw 32 -
+show 0 events 0 sampled 0 accepted 1 taken 1 control - ghosts 0
+";
+
+const EVERY_LINE: &str = "tribes 1
+match 1 1 100 128 1000
+block 61
+spawn clock 0 0 0 0
+go
+scan 0
+post 0 g 6869
+pack 0
+down 0 0
+move 0 1 0 0 0
+cpost 0 u 62
+cpack 0
+up 0 0
+raw 0 -
+tick
+show 0
+world
+";
+
+// The client's lines and its pack come first, and then the messages: no tick takes the move, so it keeps its place.
+const EVERY_LINE_TOLD_PLAINLY: &str = "h 0 0 0 1
+h 0 1 0
+h 0 2 0
+t 1 -
+j 0 pack
+j 0 down 0
+j 0 move 1 0 0 0
+j 0 cpost u 62
+j 0 cpack
+j 0 up 0 32
+j 0 raw 31 -
+j 0 show 0 0 clock 0 0 0
+j 0 post g 6869
+show 0 events 0 sampled 1 accepted 1 taken 0 control - ghosts 0
+";
+
+/// A match with forged bytes from the second client, as in `examples/hostile.match`.
+const HOSTILE: &str = "tribes 1
+match 1 2 100 128 1000
+block 6d6170
+player 0 0 0 1000 1000
+player 1 0 1 5000 5000
+go
+scan 0
+scan 1
+pack 0
+pack 1
+down 0 0
+raw 1 -
+raw 1 ffff
+raw 1 40000000000000000000000000000000
+raw 1 44000040020000000000000000000000
+raw 1 4400000000000000000040010040f01f00
+raw 1 44000000000000000000000000001002010000
+raw 1 44000000000000000000000000000080
+raw 1 44000040000040000000000000000000
+raw 1 44000040000040000000000000000000
+move 0 1 0 0 0
+cpack 0
+cpack 1
+up 0 0
+up 1 0
+post 0 g 6869
+pack 0
+pack 1
+down 0 1
+down 1 1
+raw 1 8400004000004000000000000040f01800
+tick
+scan 0
+scan 1
+pack 0
+pack 1
+down 0 2
+down 1 2
+show 0
+show 1
+world
+";
+
+// Its text where each line waits for the one before it. A client's first pack has its block alone; its player is read where the block
+// is acknowledged, which forged bytes did for the second client. The tick moves both, and the second throws a disc.
+const HOSTILE_IN_TURN: &str = "h 0 0 1000 1025
+h 0 1 1000
+h 0 2 100
+h 0 3 20
+h 0 4 0
+h 1 0 5000 5175
+h 1 1 5000
+h 1 2 100
+h 1 3 20 19
+h 1 4 0
+h 2 0 5175
+h 2 1 5000
+t 1 1,0,0,0 7,0,1,0
+j 0 show 0 0 player 0 0 1
+j 0 pack
+j 0 down 0
+j 0 move 1 0 0 0
+j 0 cpack
+j 0 up 0 32
+j 0 post g 6869
+j 0 pack 0.0@0=1000 0.1@0=1000 0.2@0=100 0.3@0=20 0.4@0=0
+j 0 down 1
+j 0 pack 0:1
+j 0 down 2
+j 1 show 0 1 player 0 0 1
+j 1 pack
+j 1 raw 32 -
+j 1 raw 32 ffff
+j 1 raw 32 40000000000000000000000000000000
+j 1 raw 32 44000040020000000000000000000000
+j 1 raw 32 4400000000000000000040010040f01f00
+j 1 raw 32 44000000000000000000000000001002010000
+j 1 raw 32 44000000000000000000000000000080
+j 1 raw 32 44000040000040000000000000000000
+j 1 raw 32 44000040000040000000000000000000
+j 1 cpack
+j 1 up 0 32
+j 1 pack 0.0@0=5000 0.1@0=5000 0.2@0=100 0.3@0=20 0.4@0=0
+j 1 down 1
+j 1 raw 32 8400004000004000000000000040f01800
+j 1 show 1 2 disc 0 0 0
+j 1 pack 0:9 1.0@0=5175 1.1@0=5000
+j 1 down 2
+m 0 1 31
+m 0 2 3
+m 1 0 31
+show 0 events 1 sampled 1 accepted 1 taken 1 control - ghosts 1 | 0 player 0 1000 1000 100 20 0
+show 1 events 0 sampled 0 accepted 1 taken 1 control - ghosts 0
 ";
 
 /// The script of a text that has one.
@@ -100,6 +251,55 @@ fn pack_inside_tick(rt: HostRuntime) -> Result<(), Fail> {
     let text = written(&rt, rt.alloc(), &script, &gate)?;
     assert!(rt; !gate.gave_up());
     assert_eq!(rt; text.as_slice(), PACK_INSIDE_TICK_TOLD.as_bytes());
+    Ok(())
+}
+
+#[test]
+fn raw_bytes_under_a_gate(rt: HostRuntime) -> Result<(), Fail> {
+    for (text, told) in [
+        (RAW_BESIDE_TICK, RAW_BESIDE_TICK_TOLD),
+        (HOSTILE, HOSTILE_IN_TURN),
+    ] {
+        let script = script_of(&rt, rt.alloc(), text.as_bytes());
+        let gate = LineGate::new(&rt, None);
+        let text = written(&rt, rt.alloc(), &script, &gate)?;
+        assert!(rt; !gate.gave_up());
+        assert_eq!(rt; text.as_slice(), told.as_bytes());
+    }
+    Ok(())
+}
+
+// No gate is known to bring about a race of threads that is not legal, so what would be written then is made and told here.
+#[test]
+fn plainly(rt: HostRuntime) -> Result<(), Fail> {
+    let script = script_of(&rt, rt.alloc(), EVERY_LINE.as_bytes());
+    let made = plain_race(rt.alloc(), &script)?;
+    let mut text = Vec::new(rt.alloc());
+    assert_eq!(rt; tell(rt.alloc(), &script, &made, &mut text)?, true);
+    assert_eq!(rt; text.as_slice(), EVERY_LINE_TOLD_PLAINLY.as_bytes());
+    Ok(())
+}
+
+// The first line that has no room fills the client, and the rest is passed over.
+#[test]
+fn a_full_client(rt: HostRuntime) -> Result<(), Fail> {
+    let alloc = rt.alloc();
+    let mut text = String::from_str(alloc, EMPTY)?;
+    let mut told = String::new(alloc);
+    for _ in 0..MAX_KEPT_STEPS {
+        text.push_str("down 0 0\n")?;
+        told.push_str("j 0 down 0\n")?;
+    }
+    text.push_str("down 0 0\ncpost 0 g 61\n")?;
+    told.push_str("j 0 full 65536\n")?;
+    told.push_str("show 0 events 0 sampled 0 accepted 0 taken 0 control - ghosts 0\n")?;
+    let script = script_of(&rt, alloc, text.as_bytes());
+    let in_threads = written(&rt, alloc, &script, &FreeGate)?;
+    assert!(rt; in_threads.as_slice() == told.as_bytes());
+    let made = plain_race(alloc, &script)?;
+    let mut plain = Vec::new(alloc);
+    assert_eq!(rt; tell(alloc, &script, &made, &mut plain)?, true);
+    assert!(rt; plain.as_slice() == told.as_bytes());
     Ok(())
 }
 

@@ -13,7 +13,7 @@ use Rattle.race_history.specs.Moves.{MovesFit}
 use Rattle.race_sim.specs.declared.lines.Simulated.{Simulated}
 use Rattle.race_sim.specs.Ports.{waiting_for}
 use Rattle.race_sim.specs.Simulating.{SimulationState, HasDone, AreRests}
-use Rattle.race_sim.proofs.Doing.{rests, all_fit}
+use Rattle.race_sim.proofs.Doing.{rests, all_fit, brought_then, none_done}
 use Rattle.race_sim.proofs.lines.simulate.Goals as goal
 
 not_before : (before now : Bool) → (before ≡ true → now ≡ true) → now ≡ false → before ≡ false
@@ -42,6 +42,7 @@ gated-failed-requires-clause-may g c = λ going.
           (subst (λ (line : BodyLine). LineFits c.args.script.now.head.clients line) (sym is)
           (All-get_or (λ (line : BodyLine). LineFits c.args.script.now.head.clients line) body i c.line-item.result lt c.requires.ranges.lines));
       few = let e = past_long body i lt in let f = c.requires.ranges.few in omega (arith, e, f, lt);
+      brought = c.loop-i.invariant.brought going;
     }
 
 pub loop-i-preserved : goal.loop-i-preserved
@@ -56,7 +57,15 @@ loop-i-preserved g c = record {
       subst (λ (past : List BodyLine). HasDone (world_of c.args.script.now) past c.gated-failed.new.sim) (sym (line_more body i c.line-item.result lt is))
       (c.gated-failed.ensures.does no_error (world_of c.args.script.now) (reverse (take i body))
       (c.loop-i.invariant.done (not_before c.loop-i.failed c.gated-failed.result c.gated-failed.ensures.still no_error)));
+  brought = λ no_error.
+      brought_then c.line-item.result c.args.lanes.now.clients c.loop-i.sim c.gated-failed.new.sim
+      (c.loop-i.invariant.brought (not_before c.loop-i.failed c.gated-failed.result c.gated-failed.ensures.still no_error)) (c.gated-failed.ensures.lanes no_error);
 }
+
+pub begin-requires-clause-first : goal.begin-requires-clause-first
+begin-requires-clause-first g c =
+    let head = c.args.script.now.head in
+    (head.seed, (head.setup, none_done (world_of c.args.script.now) c.args.sim c.requires.begun))
 
 pub returns-clause-moves : goal.returns-clause-moves
 returns-clause-moves g c =

@@ -2,7 +2,7 @@ use Rattle.std.proofs.Common.{◌≡◌, ◌+◌, ◌++◌, ◌∷◌, [], ◌�
 use Rattle.std.specs.Prelude.{Option}
 use Rattle.tn_types.specs.declared.moves.Move.{Move}
 use Rattle.world_sim.specs.Worlds.{Worlds, next}
-use Rattle.race_history.specs.History.{Values, world_after, IsHistoryOf}
+use Rattle.race_history.specs.History.{Values, HasVersions, world_after, IsHistoryOf}
 use Rattle.race_history.proofs.Histories.{after_more}
 use Rattle.race_sim.proofs.simulation.advance.Goals as goal
 
@@ -27,6 +27,6 @@ values_next first w v ticks more moves values is long at made =
     subst (λ (l : List (List (Option Move))). IsHistoryOf first l values) (sym long) (made (is ∙ ap (λ (u : Worlds). next u moves) at))
 
 pub returns-clause-values : goal.returns-clause-values
-returns-clause-values c = λ first at old.
-    values_next first c.args.world.now c.tick.new.self c.args.moves.now c.push.new.self c.args.taken.now c.add.new.self c.in_ok-tick.ensures.ok c.in_ok-push.ensures.added at
-    (c.in_ok-add.ensures.next first c.args.moves.now c.args.taken.now old)
+returns-clause-values c = λ first versions at old.
+    values_next first c.args.world.now c.tick.new.self c.args.moves.now c.push.new.self c.args.taken.now c.add_tick.new.self c.in_ok-tick.ensures.ok c.in_ok-push.ensures.added at
+    (c.in_ok-add_tick.ensures.next first c.args.moves.now c.args.taken.now (subst HasVersions at versions) old)
