@@ -32,7 +32,7 @@ fn threads_of(words: &Vec<String>) -> Result<(), u32>
 }
 
 // Serves the command.
-fn serve<R: Threads + Wait + Sync, S: Source, K: Sink>(
+fn carry_out<R: Threads + Wait + Sync, S: Source, K: Sink>(
     rt: &R,
     alloc: Global,
     source: &mut S,
@@ -87,7 +87,7 @@ pub fn top_threads<R: Threads + Wait + Sync, S: Source, K: Sink>(
 {
     settled_shows_newest();
     match threads_of(words) {
-        Ok(()) => serve(rt, alloc, source, sink),
+        Ok(()) => carry_out(rt, alloc, source, sink),
         Err(place) => Status::Usage(place),
     }
 }

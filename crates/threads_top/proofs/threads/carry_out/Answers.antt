@@ -2,7 +2,7 @@ use Rattle.std.proofs.Common.{◌∙◌, sym, subst, arith, Option, List, ℕ}
 use Rattle.script_input.specs.Reading.{Seen, seen}
 use Rattle.threads_top.specs.Telling.{Tells}
 use Rattle.threads_top.proofs.Ends.{done, write_fault, whole, rose_later}
-use Rattle.threads_top.proofs.threads.serve.Goals as goal
+use Rattle.threads_top.proofs.threads.carry_out.Goals as goal
 
 pub returns-in-Ok-flush-clause-outcome : goal.returns-in-Ok-flush-clause-outcome
 returns-in-Ok-flush-clause-outcome g c =
