@@ -3,6 +3,8 @@ use Rattle.std.proofs.Common.{◌≡◌, ℕ, Bool, true, false, refl, List, [],
 use Rattle.std.specs.Prelude.{IfOk}
 use Rattle.tn_types.specs.declared.choices.Drain.{Drain}
 use Rattle.tn_types.specs.declared.choices.NoMemory.{NoMemory}
+use Rattle.tn_types.specs.declared.choices.PacketKind.{PacketKind}
+use Rattle.tn_types.specs.declared.choices.PacketKind.TheVariants.{Ping, Body}
 use Rattle.tn_types.specs.declared.choices.Read.{Read}
 use Rattle.wire_format.specs.declared.server.ServerPacket.TheVariants as server_packet
 use Rattle.notify_window.specs.declared.SendState.{SendState}
@@ -30,7 +32,6 @@ use Rattle.tn_types.specs.declared.choices.End.TheVariants.{Server, Client}
 use Rattle.match_report.specs.declared.told.Told.{Told}
 use Rattle.match_report.specs.declared.told.Told.TheVariants as told_as
 use Rattle.own_lists.specs.Course.{Course, with_step}
-use Rattle.client_seat.specs.Answering.{kind_made}
 use Rattle.client_seat.specs.Told.{made_told, client_made_told, packed_told, client_pack_told}
 use Rattle.client_seat.specs.Stands.{SeatState, StandsFor, Becomes, Packs}
 use Rattle.client_seat.proofs.Making.{with_pair}
@@ -43,7 +44,7 @@ abbrev IfWorn : Result Told NoMemory → Answer → End → ℕ → Type 0
 IfWorn r a end c = (life : ℕ) → a ≡ says.Worn life → IfOk r (λ told. told ≡ told_as.PackWorn end c life)
 
 abbrev IfMade : Result Told NoMemory → Answer → End → ℕ → List (List ℕ) → Type 0
-IfMade r a end c l = (ping : Bool) (place : ℕ) (bytes : List ℕ) → a ≡ says.Packed ping place → newest l ≡ Some bytes → IfOk r (λ told. told ≡ told_as.Packed end c place (kind_made ping) bytes)
+IfMade r a end c l = (kind : PacketKind) (place : ℕ) (bytes : List ℕ) → a ≡ says.Packed kind place → newest l ≡ Some bytes → IfOk r (λ told. told ≡ told_as.Packed end c place kind bytes)
 
 module _ (t : Terms) (steps : List PairStep) (c : ℕ) (r : Result Told NoMemory) (a : Answer) (l : List (List ℕ)) (b : Bool) (drains : List Drain) (reads : List Read) where
   -- what was sent before
@@ -59,12 +60,12 @@ module _ (t : Terms) (steps : List PairStep) (c : ℕ) (r : Result Told NoMemory
     where
       go : (state : SendState) → a ≡ made state t.config.life (length before) → l ≡ kept b (server_datagrams t (server_log.packed_onto t absorbed (values_of reads) state)) → IfOk r (λ told. told ≡ made_told t (history t steps).server c drains reads state)
       go Held e sent =
-          there true (length before) (server_ping_bytes t (history t steps).server) e
+          there Ping (length before) (server_ping_bytes t (history t steps).server) e
           (at-end b before l (server_ping_bytes t (history t steps).server)
           (sent ∙ (λ j. kept b (absorbed-sends t drains (history t steps).server j ++ bytes_down t (server_packet.Ping (ping_head t.config.client (absorbed-end drains (history t steps).server j))) ∷ []))))
       go Worn e sent = worn t.config.life e
       go Room e sent =
-          there false (length before) (bytes_down t (server_packet.Body (next_body t absorbed (values_of reads)))) e
+          there Body (length before) (bytes_down t (server_packet.Body (next_body t absorbed (values_of reads)))) e
           (at-end b before l (bytes_down t (server_packet.Body (next_body t absorbed (values_of reads))))
           (sent ∙ ap (λ (ds : List (List ℕ)). kept b (ds ++ bytes_down t (server_packet.Body (next_body t absorbed (values_of reads))) ∷ [])) (absorbed-sends t drains (history t steps).server)))
 
@@ -73,9 +74,9 @@ module _ (t : Terms) (steps : List PairStep) (c : ℕ) (r : Result Told NoMemory
   client-packs e sent worn there = go (client_state t.config (history t steps).client) e sent
     where
       go : (state : SendState) → a ≡ made state t.config.life (length (client_datagrams t.config (history t steps).client)) → l ≡ client_datagrams t.config (with_event (client_log.pack_event t.config (history t steps).client state) (history t steps).client) → IfOk r (λ told. told ≡ client_made_told t.config (history t steps).client c state)
-      go Held e sent = there true (length (client_datagrams t.config (history t steps).client)) (client_ping_bytes t.config (history t steps).client) e (at-end true (client_datagrams t.config (history t steps).client) l (client_ping_bytes t.config (history t steps).client) sent)
+      go Held e sent = there Ping (length (client_datagrams t.config (history t steps).client)) (client_ping_bytes t.config (history t steps).client) e (at-end true (client_datagrams t.config (history t steps).client) l (client_ping_bytes t.config (history t steps).client) sent)
       go Worn e sent = worn t.config.life e
-      go Room e sent = there false (length (client_datagrams t.config (history t steps).client)) (client_bytes t.config (history t steps).client) e (at-end true (client_datagrams t.config (history t steps).client) l (client_bytes t.config (history t steps).client) sent)
+      go Room e sent = there Body (length (client_datagrams t.config (history t steps).client)) (client_bytes t.config (history t steps).client) e (at-end true (client_datagrams t.config (history t steps).client) l (client_bytes t.config (history t steps).client) sent)
 
 -- ---- it brings no move
 

@@ -1,7 +1,5 @@
--- The answers that a step of each kind may have, what a pack made by its answer, and which steps bring something to the server.
-use Rattle.std.specs.Prelude.{ℕ, Bool, true, false}
-use Rattle.tn_types.specs.declared.choices.PacketKind.{PacketKind}
-use Rattle.tn_types.specs.declared.choices.PacketKind.TheVariants.{Ping, Body}
+-- The answers that a step of each kind may have, and which steps bring something to the server.
+use Rattle.std.specs.Prelude.{ℕ}
 use Rattle.own_lists.specs.pair_core.declared.step.Answer.{Answer}
 use Rattle.own_lists.specs.pair_core.declared.step.Answer.TheVariants as says
 use Rattle.own_lists.specs.pair_core.declared.step.PairStep.{PairStep as GivenStep}
@@ -19,14 +17,9 @@ TellsMove (says.MoveRefused fault) = Unit {0}
 TellsMove other = ⊥
 
 abbrev pub TellsPack : Answer → Type 0
-TellsPack (says.Packed ping place) = Unit {0}
+TellsPack (says.Packed kind place) = Unit {0}
 TellsPack (says.Worn life) = Unit {0}
 TellsPack other = ⊥
-
--- a ping, or a data packet
-abbrev pub kind_made : Bool → PacketKind
-kind_made true = Ping
-kind_made false = Body
 
 -- of a delivery to the server
 abbrev pub TellsUp : Answer → Type 0

@@ -24,6 +24,7 @@ fn client_events(alloc: Global, pair: &mut Pair) -> Result<Events, NoMemory>
     ensures keeping { pair.new.keeps_all ≡ pair.old.keeps_all }
 {
     let mut events = Events::new(alloc);
+    // for its clauses
     let _waiting = pair.client_waiting();
     'out: while let Some((class, payload)) = pair.pop_client_event() {
         events.push(EventTold { class, payload })?;
@@ -40,6 +41,7 @@ fn server_events(alloc: Global, pair: &mut Pair) -> Result<Events, NoMemory>
     ensures keeping { pair.new.keeps_all ≡ pair.old.keeps_all }
 {
     let mut events = Events::new(alloc);
+    // for its clauses
     let _waiting = pair.server_waiting();
     'out: while let Some((class, payload)) = pair.pop_server_event() {
         events.push(EventTold { class, payload })?;

@@ -1,12 +1,13 @@
 //! The datagrams that both ends make.
-ghost use Rattle.std.specs.Prelude.{◌≡◌, true, ℕ, Bool, ◌<◌, ◌≤◌, List, [], IfOk, IfSome, OnOk, length, Some};
+ghost use Rattle.std.specs.Prelude.{◌≡◌, true, ℕ, ◌<◌, ◌≤◌, List, [], IfOk, IfSome, OnOk, length, Some};
 ghost use Rattle.std.specs.Option.{option_copied};
+ghost use Rattle.tn_types.specs.declared.choices.PacketKind.{PacketKind};
 ghost use Rattle.tn_types.specs.declared.choices.Read.{Read};
 ghost use Rattle.own_lists.specs.pair_core.declared.step.Answer.TheVariants as says;
 ghost use Rattle.own_lists.specs.pair_core.History.{ClientPack};
 ghost use Rattle.own_lists.specs.pair_core.Keeping.{newest};
 ghost use Rattle.match_report.specs.declared.told.Told.TheVariants as told_as;
-ghost use Rattle.client_seat.specs.Answering.{TellsPack, kind_made};
+ghost use Rattle.client_seat.specs.Answering.{TellsPack};
 ghost use Rattle.own_lists.specs.pair_core.Stands.{sent_by};
 
 use crate::seat::Seat;
@@ -28,17 +29,6 @@ fn refilled(alloc: Global, spare: Option<RawBytes>, bytes: &[u8]) -> Result<RawB
             Ok(room)
         }
         None => RawBytes::from_slice(alloc, bytes),
-    }
-}
-
-// What a pack made, by its answer.
-fn kind_made(ping: bool) -> PacketKind
-    ensures { result ≡ kind_made ping }
-{
-    if ping {
-        PacketKind::Ping
-    } else {
-        PacketKind::Body
     }
 }
 
@@ -77,19 +67,19 @@ fn packed_by(
 ) -> Result<Told, NoMemory>
     requires { TellsPack answer }
     ensures worn { (life : ℕ) → answer ≡ says.Worn life → IfOk result (λ told. told ≡ told_as.PackWorn by client life) }
-    ensures made { (ping : Bool) (place : ℕ) (bytes : List ℕ) → answer ≡ says.Packed ping place
+    ensures made { (kind : PacketKind) (place : ℕ) (bytes : List ℕ) → answer ≡ says.Packed kind place
         → newest (sent_by by pair.now) ≡ Some bytes
-        → IfOk result (λ told. told ≡ told_as.Packed by client place (kind_made ping) bytes) }
+        → IfOk result (λ told. told ≡ told_as.Packed by client place kind bytes) }
 {
     match answer {
         Answer::Worn { life } => Ok(Told::PackWorn { by, client, life }),
-        Answer::Packed { ping, place } => packed(
+        Answer::Packed { kind, place } => packed(
             alloc,
             spare.take(),
             by,
             client,
             place,
-            kind_made(ping),
+            kind,
             pair.newest(by),
         ),
         _ => unreachable!(),

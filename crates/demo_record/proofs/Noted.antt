@@ -102,7 +102,7 @@ module _ (c : ℕ) where
   up-none d k events (says.PostRefused fault) = refl
   up-none d k events (says.Sampled n) = refl
   up-none d k events (says.MoveRefused fault) = refl
-  up-none d k events (says.Packed ping place) = refl
+  up-none d k events (says.Packed kind place) = refl
   up-none d k events (says.Worn life) = refl
   up-none d k events (says.Came moves) = refl
   up-none d k events (says.ServerRefused fault) = refl
@@ -117,7 +117,7 @@ module _ (c : ℕ) where
   raw-none d k events (says.PostRefused fault) = refl
   raw-none d k events (says.Sampled n) = refl
   raw-none d k events (says.MoveRefused fault) = refl
-  raw-none d k events (says.Packed ping place) = refl
+  raw-none d k events (says.Packed kind place) = refl
   raw-none d k events (says.Worn life) = refl
   raw-none d k events (says.Came moves) = refl
   raw-none d k events (says.ServerRefused fault) = refl
@@ -133,7 +133,7 @@ module _ (c : ℕ) where
   other-none d k events (says.PostRefused fault) e = rw e refl
   other-none d k events (says.Sampled n) e = rw e refl
   other-none d k events (says.MoveRefused fault) e = rw e refl
-  other-none d k events (says.Packed ping place) e = rw e refl
+  other-none d k events (says.Packed kind place) e = rw e refl
   other-none d k events (says.Worn life) e = rw e refl
   other-none d k events (says.Came moves) e = rw e refl
   other-none d k events (says.ServerRefused fault) e = refl

@@ -48,6 +48,7 @@ impl<N: LaneName> SimSeat<N> {
         requires not_worn { newest self.old.steps object field < u32.MAX }
         ensures { self.new ≡ sim_with self.old (a_write object field value) }
     {
+        // for its clauses
         let _objects = lanes.objects;
         let at = MAX_FIELDS * object as usize + field as usize;
         let version = self.versions[at] + 1;
@@ -66,6 +67,7 @@ impl<N: LaneName> SimSeat<N> {
         requires bits { bits < 2 ^ MAX_FIELDS }
         ensures { self.new ≡ sim_with self.old (a_raise client object bits) }
     {
+        // for its clauses
         let _clients = lanes.clients;
         lanes
             .table

@@ -168,6 +168,7 @@ impl<R: SystemTimes> Link for HostLink<'_, R> {
 
     /// What can't go out, and what may not, is lost on the way.
     fn send(&mut self, peer: Peer, bytes: &[u8]) -> Result<(), Failed> {
+        // for its clauses
         let _faults = self.faults;
         let i = peer.number as usize;
         if i < self.guests.len() {

@@ -14,9 +14,11 @@ pub(crate) fn learn_payload(step: &PairStep)
 {
     match step {
         PairStep::Post { class: _, payload } => {
+            // for its clauses
             let _bytes = payload.as_slice();
         }
         PairStep::ClientPost { class: _, payload } => {
+            // for its clauses
             let _bytes = payload.as_slice();
         }
         _ => {}

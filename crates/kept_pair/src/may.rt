@@ -40,6 +40,7 @@ impl KeptPair {
     pub fn may_hide(&self, n: u32) -> bool
         ensures { IsTrue result ↔ MayStep self.now (Hide n) }
     {
+        // what the kept steps make of a new pair
         let _steps = self.steps();
         self.pair().conn().is_up(n)
     }
@@ -48,6 +49,7 @@ impl KeptPair {
     pub fn may_come_near(&self, n: u32, level: u8) -> bool
         ensures { IsTrue result ↔ MayStep self.now (Near n level) }
     {
+        // what the kept steps make of a new pair
         let _steps = self.steps();
         self.pair().conn().is_up(n) && level <= MAX_DISTANCE_LEVEL
     }

@@ -103,6 +103,7 @@ impl Periods {
     pub fn are_periods(&self)
         ensures { ArePeriods self.now.objects self.now.kinds self.now.up }
     {
+        // for its clauses
         let _up = self.up.len();
     }
 

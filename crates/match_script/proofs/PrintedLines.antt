@@ -175,15 +175,18 @@ stop_at k line rest e = rw e refl
 -- ---- objects
 
 kind_plain : (kind : ℕ) → is_plain (kind_word kind) ≡ true
-kind_plain kind = by (nat_eq kind 0) (nat_eq kind 1) (nat_eq kind 2) (nat_eq kind 3) (nat_eq kind 4)
+kind_plain kind = by (nat_eq kind 0) (nat_eq kind 1) (nat_eq kind 2) (nat_eq kind 3) (nat_eq kind 4) (nat_eq kind 5)
   where
-    by : (a b c d e : Bool) → is_plain (cond a (codes "player") (cond b (codes "disc") (cond c (codes "mine") (cond d (codes "drone") (cond e (codes "flag") (codes "clock")))))) ≡ true
-    by true b c d e = refl
-    by false true c d e = refl
-    by false false true d e = refl
-    by false false false true e = refl
-    by false false false false true = refl
-    by false false false false false = refl
+    by : (a b c d e f : Bool)
+        → is_plain (cond a (codes "player") (cond b (codes "disc") (cond c (codes "mine") (cond d (codes "drone")
+            (cond e (codes "flag") (cond f (codes "clock") (codes "unknown"))))))) ≡ true
+    by true b c d e f = refl
+    by false true c d e f = refl
+    by false false true d e f = refl
+    by false false false true e f = refl
+    by false false false false true f = refl
+    by false false false false false true = refl
+    by false false false false false false = refl
 
 kind_back : (kind : ℕ) → 2 ≤ kind → kind ≤ 5 → kind_named (kind_word kind) ≡ Ok kind
 unfolding kind_named

@@ -49,6 +49,7 @@ fn drop_events(end: &mut Client)
     ensures stands { Becomes end.old (λ log. log) end.new }
     ensures terms { KeepsTerms end.old end.new }
 {
+    // for its clauses
     let _waiting = end.waiting();
     'events: while let Some(_) = end.pop_event() {}
 }

@@ -2,6 +2,7 @@
 use Rattle.std.specs.Prelude.{◌≡◌, refl, ℕ, List, [], length, slice_get, true, false, Option, Some, None, Result, Ok, Err}
 use Rattle.tn_types.specs.declared.choices.Class.{Class}
 use Rattle.tn_types.specs.declared.choices.Class.TheVariants.{Guaranteed, Loose}
+use Rattle.tn_types.specs.declared.choices.PacketKind.TheVariants.{Ping, Body}
 use Rattle.notify_window.specs.declared.SendState.{SendState}
 use Rattle.notify_window.specs.declared.SendState.TheVariants.{Held, Worn, Room}
 use Rattle.tn_types.specs.declared.moves.Move.{Move}
@@ -35,14 +36,14 @@ sample_answer (Err fault) = says.MoveRefused fault
 
 -- a datagram stands behind those that were made before it
 abbrev pub made : SendState → ℕ → ℕ → Answer
-made Held life place = says.Packed true place
+made Held life place = says.Packed Ping place
 made Worn life place = says.Worn life
-made Room life place = says.Packed false place
+made Room life place = says.Packed Body place
 
 -- by what a pack made
 abbrev pub of_made : Made → ℕ → Answer
-of_made (packs.Ping len) place = says.Packed true place
-of_made (packs.Body len) place = says.Packed false place
+of_made (packs.Ping len) place = says.Packed Ping place
+of_made (packs.Body len) place = says.Packed Body place
 of_made (packs.Worn life) place = says.Worn life
 
 abbrev pub came_down : Result (Unit {0}) ClientFault → Answer
@@ -116,6 +117,6 @@ first_period : answer new [] (Show 2 0 3 false) ≡ says.Period 0
 unfolding new
 first_period = refl
 
-first_packet : answer new [] (Pack [] []) ≡ says.Packed false 0
+first_packet : answer new [] (Pack [] []) ≡ says.Packed Body 0
 unfolding new
 first_packet = refl

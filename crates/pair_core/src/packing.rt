@@ -7,15 +7,21 @@ ghost use Rattle.pair_core.specs.Flat.{count_with};
 use crate::pair::Pair;
 use crate::step::Answer;
 use conn_packing::{MAX_PACKET_VALUES, Made};
-use tn_types::{Drain, MAX_DATAGRAMS, Values};
+use tn_types::{Drain, MAX_DATAGRAMS, PacketKind, Values};
 
 /// What a pack answers, by what it made: its datagram has this place.
 fn packed(made: Made, place: u32) -> Answer
     ensures { result ≡ of_made made place }
 {
     match made {
-        Made::Ping { len: _ } => Answer::Packed { ping: true, place },
-        Made::Body { len: _ } => Answer::Packed { ping: false, place },
+        Made::Ping { len: _ } => Answer::Packed {
+            kind: PacketKind::Ping,
+            place,
+        },
+        Made::Body { len: _ } => Answer::Packed {
+            kind: PacketKind::Body,
+            place,
+        },
         Made::Worn { life } => Answer::Worn { life },
     }
 }

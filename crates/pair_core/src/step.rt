@@ -3,7 +3,7 @@
 use conn_packing::stream_manager::{ArriveFault, ClientFault};
 use event_manager::PostFault;
 use move_manager::MoveFault;
-use tn_types::{Class, Move, Payload, RawBytes};
+use tn_types::{Class, Move, PacketKind, Payload, RawBytes};
 
 /// One step of a pair. Each has the condition of the call of an end that it names (docs/connection.md).
 #[derive(Drop)]
@@ -77,8 +77,8 @@ pub enum Answer {
     Sampled { number: u32 },
     /// The move was not taken up, and nothing changed.
     MoveRefused(MoveFault),
-    /// A datagram was made, of this place that way, counted from 0: a ping, or a data packet.
-    Packed { ping: bool, place: u32 },
+    /// A datagram was made, of this place that way, counted from 0.
+    Packed { kind: PacketKind, place: u32 },
     /// Nothing was made: as many data packets as the connection's life were sent.
     Worn { life: u32 },
     /// The datagram was taken, and so many moves are newly accepted.

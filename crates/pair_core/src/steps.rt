@@ -6,7 +6,7 @@ use crate::pair::Pair;
 use crate::step::Answer;
 use conn_packing::stream_manager::ClientOut;
 use event_manager::PostFault;
-use tn_types::{Class, MAX_DATAGRAM_BYTES, MAX_DATAGRAMS, Move, Payload};
+use tn_types::{Class, MAX_DATAGRAM_BYTES, MAX_DATAGRAMS, Move, PacketKind, Payload};
 
 /// What a guaranteed post answers.
 fn posted(number: Result<u32, PostFault>) -> Answer
@@ -125,12 +125,18 @@ impl Pair {
         match self.client.pack() {
             ClientOut::Ping(bytes) => {
                 self.up.push(bytes);
-                Answer::Packed { ping: true, place }
+                Answer::Packed {
+                    kind: PacketKind::Ping,
+                    place,
+                }
             }
             ClientOut::Worn { life } => Answer::Worn { life },
             ClientOut::Body(bytes) => {
                 self.up.push(bytes);
-                Answer::Packed { ping: false, place }
+                Answer::Packed {
+                    kind: PacketKind::Body,
+                    place,
+                }
             }
         }
     }

@@ -145,6 +145,7 @@ impl<N: LaneName> Simulation<N> {
         ensures told { OnOk result (IsTold self.old.world lanes.now.clients self.old.seat.steps self.new.seat.steps) }
         ensures rest { self.new ≡ record self.old { seat = self.new.seat } }
     {
+        // for its clauses
         let _few = self.world.objects();
         store_writes(
             &self.kinds,
@@ -167,6 +168,7 @@ impl<N: LaneName> Simulation<N> {
         ensures told { OnOk result (IsTold self.old.world lanes.now.clients self.old.seat.steps self.new.seat.steps) }
         ensures rest { self.new ≡ record self.old { seat = self.new.seat } }
     {
+        // for its clauses
         let _few = self.world.objects();
         store_world(
             &self.kinds,

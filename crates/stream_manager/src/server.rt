@@ -161,6 +161,7 @@ impl Conn {
         ensures log { Answers self.now (λ log. length (accepted_at self.now.common.config log)) result }
         ensures fits { result ≤ MAX_LIFE }
     {
+        // for its clauses
         let _life = self.common.config().life;
         self.moves.accepted()
     }

@@ -22,8 +22,8 @@ use std::alloc::Global;
 use std::test::Fail;
 use stream_manager::{ClientFault, Config, Conn};
 use tn_types::{
-    BlockBytes, Class, Drain, End, MAX_DATAGRAMS, MAX_FIELDS, MAX_SHOWS, Move, Payload, Read,
-    Values,
+    BlockBytes, Class, Drain, End, MAX_DATAGRAMS, MAX_FIELDS, MAX_SHOWS, Move, PacketKind, Payload,
+    Read, Values,
 };
 use world_rules::match_kinds;
 
@@ -246,7 +246,10 @@ fn client_has_place(pair: &Pair) -> bool
 /// Whether a data packet with these bytes was made by the end.
 fn made(pair: &Pair, by: End, answer: Answer, bytes: &[u8]) -> bool {
     match answer {
-        Answer::Packed { ping: false, place } => pair.datagram(by, place) == Some(bytes),
+        Answer::Packed {
+            kind: PacketKind::Body,
+            place,
+        } => pair.datagram(by, place) == Some(bytes),
         _ => false,
     }
 }

@@ -51,6 +51,7 @@ fn store_field<N: LaneName>(
     ensures told { result ≡ is_behind world.now sim.old.steps object field }
     ensures brings { Brings world.now (λ o f. (o == object) && (f == field)) sim.old.steps sim.new.steps }
 {
+    // for its clauses
     let _objects = lanes.objects();
     let Some(word) = field_word(kinds, world, object, field) else {
         return false;

@@ -49,7 +49,7 @@ clock_kind = record { fields = up_to MAX_TICK 24 ∷ up_to MAX_SCORE 8 ∷ up_to
 abbrev pub match_kinds : List Kind
 match_kinds = player_kind ∷ disc_kind ∷ mine_kind ∷ drone_kind ∷ flag_kind ∷ clock_kind ∷ []
 
--- a kind as scripts and reports name it
+-- a kind as scripts and reports name it; no script names one that is unknown
 abbrev pub kind_word : ℕ → List ℕ
 kind_word kind =
     if kind == PLAYER then codes "player"
@@ -57,4 +57,5 @@ kind_word kind =
     else if kind == MINE then codes "mine"
     else if kind == DRONE then codes "drone"
     else if kind == FLAG then codes "flag"
-    else codes "clock"
+    else if kind == CLOCK then codes "clock"
+    else codes "unknown"

@@ -20,7 +20,7 @@ pub const FLAG: u8 = 4;
 /// The number of the kind of clocks.
 pub const CLOCK: u8 = 5;
 
-/// A kind as scripts and reports name it (docs/world.md, "Kinds").
+/// A kind as scripts and reports name it, and `unknown` where no kind of a match has this number (docs/world.md, "Kinds").
 pub fn kind_word(kind: u8) -> &'static str
     ensures { result.now ≡ kind_word kind }
 {
@@ -34,8 +34,10 @@ pub fn kind_word(kind: u8) -> &'static str
         "drone"
     } else if kind == FLAG {
         "flag"
-    } else {
+    } else if kind == CLOCK {
         "clock"
+    } else {
+        "unknown"
     }
 }
 
