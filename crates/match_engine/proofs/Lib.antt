@@ -14,3 +14,4 @@ pub mod Newest
 pub mod Ticked
 pub mod Continued
 pub mod Rising
+pub mod Lent

@@ -1,5 +1,5 @@
 -- Each line that is printed is read again, and the script with it.
-use Rattle.std.proofs.Common.{◌≡◌, ℕ, zero, suc, ◌+◌, ◌^◌, ◌<◌, ◌≤◌, true, false, List, [], ◌∷◌, ◌++◌, length, map, arith, Ok, nat_lt, nat_le, nat_eq, refl, ap, sym, subst, ◌&&◌, length-append, ◌∙◌, append_assoc, Some, None, Option, Bool, cond}
+use Rattle.std.proofs.Common.{◌≡◌, ℕ, zero, suc, ◌+◌, ◌^◌, ◌<◌, ◌≤◌, true, false, List, [], ◌∷◌, ◌++◌, length, map, arith, Ok, nat_lt, nat_le, nat_eq, refl, ap, sym, subst, ◌&&◌, length-append, ◌∙◌, append_assoc, Some, None, Option, Bool}
 use Rattle.std.specs.Prelude.{codes, ℤ, pos, negsuc, ◌≤ℤ◌}
 use Rattle.std.specs.List.{list_all, All}
 use Rattle.std.proofs.lemmas.List.Elements.{All-head, All-tail}
@@ -13,6 +13,7 @@ use Rattle.tn_types.specs.declared.moves.Move.{Move as PlayerMove}
 use Rattle.world_rules.specs.declared.setup.Spawn.{Spawn}
 use Rattle.world_rules.specs.Spawning.{OwnerFits, SpawnFits}
 use Rattle.world_rules.specs.Kinds.{kind_word}
+use Rattle.world_rules.proofs.KindWords.{of_kind_word}
 use Rattle.world_rules.specs.Identity.{OwnersRise, HaveNoOwner}
 use Rattle.match_script.specs.declared.types.BodyLine.{BodyLine}
 use Rattle.match_script.specs.declared.types.BodyLine.TheVariants.{Tick, Scan, Post, ClientPost, Pack, ClientPack, Down, Up, Raw, Move, Show, World}
@@ -175,18 +176,7 @@ stop_at k line rest e = rw e refl
 -- ---- objects
 
 kind_plain : (kind : ℕ) → is_plain (kind_word kind) ≡ true
-kind_plain kind = by (nat_eq kind 0) (nat_eq kind 1) (nat_eq kind 2) (nat_eq kind 3) (nat_eq kind 4) (nat_eq kind 5)
-  where
-    by : (a b c d e f : Bool)
-        → is_plain (cond a (codes "player") (cond b (codes "disc") (cond c (codes "mine") (cond d (codes "drone")
-            (cond e (codes "flag") (cond f (codes "clock") (codes "unknown"))))))) ≡ true
-    by true b c d e f = refl
-    by false true c d e f = refl
-    by false false true d e f = refl
-    by false false false true e f = refl
-    by false false false false true f = refl
-    by false false false false false true = refl
-    by false false false false false false = refl
+kind_plain kind = of_kind_word (λ word. is_plain word ≡ true) refl refl refl refl refl refl refl kind
 
 kind_back : (kind : ℕ) → 2 ≤ kind → kind ≤ 5 → kind_named (kind_word kind) ≡ Ok kind
 unfolding kind_named

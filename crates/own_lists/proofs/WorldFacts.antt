@@ -1,9 +1,9 @@
 -- What the lines of a match keep of its world: it stays one, its objects stay what they are, and a tick's writes make the new values
 -- of the old ones. And of its scans: what a match says of periods.
 use Rattle.std.proofs.Common.{◌≡◌, ◌≢◌, ℕ, zero, suc, ◌+◌, ◌*◌, ◌<◌, ◌≤◌, Bool, true, false, cond, nat_eq, List, [], ◌∷◌, ◌++◌, length, map, replicate, Option, Some, None, refl, sym, ap, ◌∙◌, subst, arith, append_assoc, length-append, zero-add}
-use Rattle.std.specs.Prelude.{ℤ, pos, negsuc, ◌≤ℤ◌, int_lt, slice_get, slice_set}
+use Rattle.std.specs.Prelude.{ℤ, ◌≤ℤ◌, slice_get, slice_set}
 use Rattle.std.specs.List.{AllByRecursion}
-use Rattle.std.proofs.lemmas.Bool.{ne_eqb, eqb-true, eq-eqb, or_parts, ltb-false}
+use Rattle.std.proofs.lemmas.Bool.{ne_eqb, eqb-true, eq-eqb}
 use Rattle.std.proofs.lemmas.List.Elements.{All-weaker}
 use Rattle.std.proofs.Math.Seq.{set-append_seam}
 use Rattle.tn_types.specs.declared.limits.TheConstants.{MAX_OBJECTS}
@@ -33,7 +33,7 @@ use Rattle.world_sim.specs.Rows.{values_of, part_values, fresh_versions, differs
 use Rattle.world_sim.specs.Worlds.{Worlds, WasCounted, AreOfFields, IsWorld, first_world, next, coming}
 use Rattle.world_sim.specs.Worlds as worlds
 use Rattle.world_sim.specs.Facts.{AreInRange}
-use Rattle.world_sim.proofs.Histories.{HaveSameFields, of_fields_fresh, same_fields_next}
+use Rattle.world_sim.proofs.Histories.{HaveSameFields, of_fields_fresh, same_fields_next, same_value}
 use Rattle.world_sim.proofs.InRange.{fit}
 use Rattle.world_sim.proofs.WorldLaws.{world_next}
 use Rattle.client_scope.specs.world_scope.declared.viewer.Seen.{Seen}
@@ -252,21 +252,6 @@ world_by i (o ∷ os) (p ∷ after) (v ∷ vs) =
     (world_by (suc i) os after vs))
 
 -- ---- the new values
-
-same_number : (a b : ℕ) → a ≤ b → b ≤ a → a ≡ b
-same_number a b h k = omega arith
-
-never : true ≡ false → ⊥
-never e = cc
-
-neither : (x y : ℤ) → int_lt x y ≡ false → int_lt y x ≡ false → x ≡ y
-neither (pos a) (pos b) p q = ap pos (same_number a b (ltb-false b a q) (ltb-false a b p))
-neither (pos a) (negsuc b) p q = absurd (never q)
-neither (negsuc a) (pos b) p q = absurd (never p)
-neither (negsuc a) (negsuc b) p q = ap negsuc (same_number a b (ltb-false b a p) (ltb-false a b q))
-
-same_value : (x y : ℤ) → differs x y ≡ false → x ≡ y
-same_value x y e = let h = or_parts (int_lt x y) (int_lt y x) e in neither x y h.0 h.1
 
 -- one field's write, if there is one
 one_put : (object field : ℕ) (front : List ℤ) (x y : ℤ) (xs : List ℤ) (v : ℕ) → length front ≡ field

@@ -1,5 +1,5 @@
 -- What a tick makes of a client's player: one step, where it stands; and no step changes nothing.
-use Rattle.std.proofs.Common.{◌≡◌, ℕ, zero, suc, ◌≤◌, Bool, true, false, cond, List, [], ◌∷◌, ◌++◌, map, take, Option, Some, None, refl, sym, ap, ◌∙◌, subst, arith}
+use Rattle.std.proofs.Common.{◌≡◌, ℕ, zero, suc, ◌≤◌, Bool, true, false, cond, List, [], ◌∷◌, ◌++◌, map, take, Option, Some, None, refl, ap, ◌∙◌, subst, arith}
 use Rattle.std.specs.Prelude.{ℤ, pos, ◌+ℤ◌, ◌*ℤ◌, min, find, option_map, option_and_then, IfSome}
 use Rattle.std.specs.List.{AllByRecursion, filter_map}
 use Rattle.std.proofs.lemmas.Int.{ints}
@@ -8,7 +8,6 @@ use Rattle.tn_types.specs.declared.moves.Move.{Move}
 use Rattle.world_rules.specs.declared.object.Object.{Object}
 use Rattle.world_rules.specs.declared.object.State.{State}
 use Rattle.world_rules.specs.declared.object.State.TheVariants.{Player, Disc, Mine, Drone, Flag, Clock}
-use Rattle.world_rules.specs.Identity.{Identity, is_owner, owner_in}
 use Rattle.world_rules.specs.Flags.{is_player, is_player_part}
 use Rattle.world_rules.specs.Near.{is_standing}
 use Rattle.world_rules.specs.Moves.{move_of, still}
@@ -17,26 +16,12 @@ use Rattle.world_rules.specs.Next.{Moment, by_kind, object_next, discs_made}
 use Rattle.world_rules.specs.declared.object.Place.{Place}
 use Rattle.world_rules.specs.Places.{clamp}
 use Rattle.world_rules.specs.Ranges.{PlaceFits, ObjectFits}
-use Rattle.world_rules.proofs.Identities.{stays_itself}
+use Rattle.world_rules.proofs.Peopled.{same_player}
 use Rattle.world_sim.specs.Worlds.{Worlds, next, coming, IsWorld}
 use Rattle.client_predict.specs.Standing.{stepped_by}
 use Rattle.predict_laws.specs.Players.{measured, measures_of, player_in, measures_in, stands_in}
 
 -- ---- the player is found again
-
-player_by_owner : (client : ℕ) (s : State) → is_player_part client s ≡ is_owner client (owner_in s)
-player_by_owner client (Player p) = refl
-player_by_owner client (Disc d) = refl
-player_by_owner client (Mine m) = refl
-player_by_owner client (Drone d) = refl
-player_by_owner client (Flag f) = refl
-player_by_owner client (Clock c) = refl
-
-same_player : (client : ℕ) (os : List Object) (moves : List (Option Move)) (t : Moment) (o : Object) → is_player client (object_next os moves t o) ≡ is_player client o
-same_player client os moves t o =
-    player_by_owner client (object_next os moves t o).state
-    ∙ ap (λ (i : Identity). is_owner client i.owner) (stays_itself os moves t o)
-    ∙ sym (player_by_owner client o.state)
 
 -- what a player fires is no player
 fired_none : (client : ℕ) (moves : List (Option Move)) (o d : Object) → fired moves o ≡ Some d → is_player client d ≡ false

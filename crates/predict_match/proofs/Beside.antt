@@ -7,58 +7,28 @@ use Rattle.tn_outside.proofs.Totals.{adds_then, front_more}
 use Rattle.match_script.specs.declared.types.BodyLine.{BodyLine}
 use Rattle.match_script.specs.declared.types.Head.{Head}
 use Rattle.match_script.specs.declared.types.Script.{Script}
-use Rattle.own_lists.specs.Past.{client_terms, kept_by, after}
 use Rattle.own_lists.proofs.Counting.{counted_few}
-use Rattle.client_scope.specs.StandsFor.{Table}
 use Rattle.match_engine.specs.client_seat.Stands.{SeatState}
-use Rattle.match_engine.specs.match_laws.pair_core.Stands.{PairState, StandsFor as PairStandsFor}
+use Rattle.match_engine.specs.match_laws.pair_core.Stands.{PairState}
 use Rattle.match_engine.specs.match_laws.pair_core.stream_manager.Stands.{ClientState, ClientStandsFor}
-use Rattle.world_rules.specs.Kinds.{match_kinds}
 use Rattle.match_engine.specs.Match.{MatchState, StandsFor}
+use Rattle.match_engine.proofs.Lent.{seat, seat_stands, pair_stands}
 use Rattle.match_engine.proofs.Written.{reverse_next}
 use Rattle.predict_laws.specs.predict_lines.Lines.{end_of, predicted_at, predicted_so_far, predicted}
 
 -- ---- the client's end
 
-some_scope : Table
-some_scope = record { count = 0; shown = []; hides = []; nears = []; shows = []; marks = [] }
-
-some_of : {X : Type 0} (xs : List X) → 0 < length xs → X
-some_of [] lt = absurd (omega (arith, lt))
-some_of (x ∷ xs) lt = x
-
 module _ (m : MatchState) (past : List BodyLine) (c : ℕ) (stands : StandsFor m past) (below : c < m.script.head.clients) where
-  below_game : c < m.game.head.clients
-  below_game = subst (λ (h : Head). c < h.clients) (sym stands.head) below
-
-  seat : SeatState
-  seat = some_of m.game.seats (omega (arith, below_game, stands.game.seat_count))
-
-  in_game : (h : Head) → m.game.head ≡ h → PairStandsFor (get_or m.game.seats c seat).pair (client_terms h c) (kept_by h (after h past) c).course.steps
-  in_game h e =
-      subst (λ (h : Head). PairStandsFor (get_or m.game.seats c seat).pair (client_terms h c) (kept_by h (after h past) c).course.steps) e
-      (stands.game.client c seat some_scope below_game).course.holds.pair
-
-  -- the connection that a match lends
-  pair_stands : (p : PairState) → ((d : SeatState) → p ≡ (get_or m.game.seats c d).pair)
-      → PairStandsFor p (client_terms m.script.head c) (kept_by m.script.head (after m.script.head past) c).course.steps
-  pair_stands p is =
-      subst (λ (x : PairState). PairStandsFor x (client_terms m.script.head c) (kept_by m.script.head (after m.script.head past) c).course.steps)
-      (sym (is seat)) (in_game m.script.head stands.head)
-
-  pub kinds_are : (p : PairState) → ((d : SeatState) → p ≡ (get_or m.game.seats c d).pair) → p.client.copies.kinds ≡ match_kinds
-  kinds_are p is = (pair_stands p is).client_kinds
-
   pub end_stands : (p : PairState) → ((d : SeatState) → p ≡ (get_or m.game.seats c d).pair) → ClientStandsFor p.client (end_of m.script.head past c)
-  end_stands p is = (pair_stands p is).client
+  end_stands p is = (pair_stands m past c stands below p is).client
 
   -- some end stands for what happened
   pub some_end : ClientState
-  some_end = (get_or m.game.seats c seat).pair.client
+  some_end = (get_or m.game.seats c (seat m past c stands below)).pair.client
 
   pub some_stands : ClientStandsFor some_end (end_of m.script.head past c)
   unfolding some_end
-  some_stands = (in_game m.script.head stands.head).client
+  some_stands = (seat_stands m past c stands below).client
 
 -- ---- lines
 

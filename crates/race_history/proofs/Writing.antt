@@ -1,15 +1,14 @@
 -- To add what a tick wrote and made is to add all values of the world after it.
 use Rattle.std.proofs.Common.{◌≡◌, ℕ, zero, suc, ◌+◌, ◌-◌, ◌<◌, ◌≤◌, Bool, true, false, List, [], ◌∷◌, ◌++◌, length, map, drop, get_or, set, refl, ap, sym, ◌∙◌, arith, Option, Some}
-use Rattle.std.specs.Prelude.{ℤ, pos, negsuc, int_lt, slice_get, option_map, option_and_then, if◌then◌else◌}
+use Rattle.std.specs.Prelude.{ℤ, pos, negsuc, slice_get, option_map, option_and_then, if◌then◌else◌}
 use Rattle.std.specs.Option.{unwrap_or}
 use Rattle.std.specs.List.{AllByRecursion}
-use Rattle.std.proofs.lemmas.Bool.{or_parts, ltb-false}
 use Rattle.tn_types.specs.declared.moves.Move.{Move}
 use Rattle.world_rules.specs.declared.object.Object.{Object}
 use Rattle.world_sim.specs.declared.rows.Write.{Write}
 use Rattle.world_sim.specs.Rows.{differs, values_of, row_writes, world_writes}
 use Rattle.world_sim.specs.Worlds.{Worlds, AreOfFields, next, after, coming, value_at}
-use Rattle.world_sim.proofs.Histories.{HaveSameFields, same_fields_next}
+use Rattle.world_sim.proofs.Histories.{HaveSameFields, same_fields_next, same_value}
 use Rattle.race_history.specs.History.{Values, HasVersions, worlds_from, world_after, versions_told, field_history, IsHistoryOf}
 use Rattle.race_history.specs.Growing.{grown, grown_later, changed_at, with_value, with_write, with_writes, with_row, with_rows, with_new}
 use Rattle.race_history.proofs.Extending.{with_item}
@@ -61,21 +60,6 @@ module _ {A : Type 0} (key : Write → ℕ) (step : Write → A → A) where
       ap (λ (k : ℕ). applied i (changed_at k (step w) (x ∷ xs)) ws) z ∙ skip i x (changed_at (key w - suc i) (step w) xs) ws h.1
 
 -- ---- one field
-
-same_number : (a b : ℕ) → a ≤ b → b ≤ a → a ≡ b
-same_number a b h k = omega arith
-
-never : true ≡ false → ⊥
-never e = cc
-
-neither : (x y : ℤ) → int_lt x y ≡ false → int_lt y x ≡ false → x ≡ y
-neither (pos a) (pos b) p q = ap pos (same_number a b (ltb-false b a q) (ltb-false a b p))
-neither (pos a) (negsuc b) p q = absurd (never q)
-neither (negsuc a) (pos b) p q = absurd (never p)
-neither (negsuc a) (negsuc b) p q = ap negsuc (same_number a b (ltb-false b a p) (ltb-false a b q))
-
-same_value : (x y : ℤ) → differs x y ≡ false → x ≡ y
-same_value x y e = let h = or_parts (int_lt x y) (int_lt y x) e in neither x y h.0 h.1
 
 -- a value that came last is no version when it comes again
 differs_not : (x : ℤ) → differs x x ≡ false

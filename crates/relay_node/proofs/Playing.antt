@@ -1,5 +1,5 @@
 -- What a relay stands for when a line of its match is done.
-use Rattle.std.proofs.Common.{◌≡◌, ◌∙◌, ℕ, ◌+◌, ◌<◌, ◌≤◌, List, [], ◌∷◌, ◌++◌, drop, length, get_or, Option, Some, None, sym, ap, subst, arith, inl, inr}
+use Rattle.std.proofs.Common.{◌≡◌, ◌∙◌, ℕ, ◌+◌, ◌<◌, ◌≤◌, List, ◌∷◌, ◌++◌, drop, length, get_or, Option, Some, None, sym, ap, subst, arith, inl, inr}
 use Rattle.std.proofs.lemmas.Bool.{cases_lt}
 use Rattle.wire_format.specs.declared.server.ServerPacket.{ServerPacket}
 use Rattle.wire_format.specs.declared.ghosts.GhostItem.{GhostItem}
@@ -11,15 +11,15 @@ use Rattle.match_script.specs.declared.types.BodyLine.{BodyLine}
 use Rattle.match_script.specs.declared.types.Head.{Head}
 use Rattle.match_script.specs.declared.types.Script.{Script}
 use Rattle.match_report.specs.declared.told.EventTold.{EventTold}
-use Rattle.client_scope.specs.StandsFor.{Table}
 use Rattle.match_engine.specs.client_seat.Stands.{SeatState}
 use Rattle.match_engine.specs.match_laws.Report.{told_after}
 use Rattle.match_engine.specs.Match.{MatchState, StandsFor as MatchStandsFor}
-use Rattle.own_lists.specs.pair_core.Stands.{PairState, StandsFor as PairStandsFor}
+use Rattle.match_engine.proofs.Lent.{kinds_are, pair_stands}
+use Rattle.own_lists.specs.pair_core.Stands.{PairState}
 use Rattle.own_lists.specs.pair_core.stream_manager.Client.{ghosts_came}
 use Rattle.own_lists.specs.pair_core.stream_manager.Packets.{ghosts_seen, delivered_to}
 use Rattle.own_lists.specs.pair_core.stream_manager.Limits.{Terms}
-use Rattle.own_lists.specs.Past.{client_terms, kept_by, after}
+use Rattle.own_lists.specs.Past.{client_terms, after}
 use Rattle.match_engine.specs.match_laws.Values.{steps_of}
 use Rattle.event_manager.specs.Posted.{guaranteed_of}
 use Rattle.relay_model.proofs.Copies.{all_kept}
@@ -39,43 +39,13 @@ use Rattle.relay_node.proofs.Meeting.{table_none, one_more, IsMet, line_met, met
 
 -- ---- the connection that a match lends
 
-some_scope : Table
-some_scope = record { count = 0; shown = []; hides = []; nears = []; shows = []; marks = [] }
-
-some_of : {X : Type 0} (xs : List X) → 0 < length xs → X
-some_of [] lt = absurd (omega (arith, lt))
-some_of (x ∷ xs) lt = x
-
 module _ (m : MatchState) (past : List BodyLine) (c : ℕ) (stands : MatchStandsFor m past) (below : c < m.script.head.clients) where
-  below_game : c < m.game.head.clients
-  below_game = subst (λ (h : Head). c < h.clients) (sym stands.head) below
-
-  pub has_seat : c < length m.game.seats
-  has_seat = omega (arith, below_game, stands.game.seat_count)
-
-  seat : SeatState
-  seat = some_of m.game.seats (omega (arith, below_game, stands.game.seat_count))
-
-  in_game : (h : Head) → m.game.head ≡ h → PairStandsFor (get_or m.game.seats c seat).pair (client_terms h c) (kept_by h (after h past) c).course.steps
-  in_game h e =
-      subst (λ (h : Head). PairStandsFor (get_or m.game.seats c seat).pair (client_terms h c) (kept_by h (after h past) c).course.steps) e
-      (stands.game.client c seat some_scope below_game).course.holds.pair
-
-  pair_stands : (p : PairState) → ((d : SeatState) → p ≡ (get_or m.game.seats c d).pair)
-      → PairStandsFor p (client_terms m.script.head c) (kept_by m.script.head (after m.script.head past) c).course.steps
-  pair_stands p is =
-      subst (λ (x : PairState). PairStandsFor x (client_terms m.script.head c) (kept_by m.script.head (after m.script.head past) c).course.steps)
-      (sym (is seat)) (in_game m.script.head stands.head)
-
   module _ (p : PairState) (is : (d : SeatState) → p ≡ (get_or m.game.seats c d).pair) where
-    pub kinds_are : p.client.copies.kinds ≡ match_kinds
-    kinds_are = (pair_stands p is).client_kinds
-
     -- its copies are those of the packets that the client took
     pub copies_are : (slot : ℕ) → slot < 256 → copy_in p.client.copies.slots slot ≡ copy_of (ghosts_seen (taken_by m.script.head c past)) slot
     copies_are slot lt =
         let log = end_of m.script.head c past in
-        let came : CopiesStandFor p.client.copies (ghosts_came log) = (pair_stands p is).client.copies in
+        let came : CopiesStandFor p.client.copies (ghosts_came log) = (pair_stands m past c stands below p is).client.copies in
         came.copies slot lt ∙ ap (λ (items : List GhostItem). copy_of items slot) (sym (shows-alike log).ghosts)
 
 -- no slot beyond the last has a copy, by what packets leave

@@ -10,7 +10,7 @@ use Rattle.std.proofs.lemmas.List.{reverse-append}
 use Rattle.std.proofs.lemmas.List.Folds.{list_all-append}
 use Rattle.std.proofs.lemmas.Grind.{reverse_onto}
 use Rattle.world_rules.specs.Kinds.{kind_word}
-use Rattle.world_rules.specs.declared.kinds.TheConstants.{PLAYER, DISC, MINE, DRONE, FLAG, CLOCK}
+use Rattle.world_rules.proofs.KindWords.{of_kind_word}
 use Rattle.match_report.specs.declared.copies.FieldTold.{FieldTold}
 use Rattle.match_report.specs.Text.{control_word, settled_mark}
 use Rattle.report_laws.specs.Shown.{is_bar, is_marked, field_word}
@@ -65,18 +65,7 @@ inner_field f =
     rw (list_all-append, signed_passes is_inner inner-digit refl f.value, inner-mark f.settled) refl
 
 pub inner_kind : (kind : ℕ) → Inner (kind_word kind)
-inner_kind kind = go (kind == PLAYER) (kind == DISC) (kind == MINE) (kind == DRONE) (kind == FLAG) (kind == CLOCK)
-  where
-    go : (a b c d e f : Bool)
-        → Inner (if a then codes "player" else if b then codes "disc" else if c then codes "mine" else if d then codes "drone"
-            else if e then codes "flag" else if f then codes "clock" else codes "unknown")
-    go true b c d e f = refl
-    go false true c d e f = refl
-    go false false true d e f = refl
-    go false false false true e f = refl
-    go false false false false true f = refl
-    go false false false false false true = refl
-    go false false false false false false = refl
+inner_kind kind = of_kind_word Inner refl refl refl refl refl refl refl kind
 
 pub inner_control : (control : Option ℕ) → Inner (control_word control)
 inner_control None = refl

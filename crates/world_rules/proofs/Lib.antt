@@ -2,4 +2,5 @@ pub mod Drawn
 pub mod Taker
 pub mod Ranging
 pub mod Identities
+pub mod KindWords
 pub mod Peopled

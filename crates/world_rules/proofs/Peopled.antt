@@ -322,7 +322,7 @@ peopled_first clients spawns rise = record {
 
 -- ---- whose player stands where
 
-player_by_owner : (client : ℕ) (s : State) → is_player_part client s ≡ is_owner client (owner_in s)
+pub player_by_owner : (client : ℕ) (s : State) → is_player_part client s ≡ is_owner client (owner_in s)
 player_by_owner client (Player p) = refl
 player_by_owner client (Disc d) = refl
 player_by_owner client (Mine m) = refl
@@ -330,7 +330,7 @@ player_by_owner client (Drone d) = refl
 player_by_owner client (Flag f) = refl
 player_by_owner client (Clock c) = refl
 
-same_player : (client : ℕ) (os : List Object) (moves : List (Option Move)) (t : Moment) (o : Object) → is_player client (object_next os moves t o) ≡ is_player client o
+pub same_player : (client : ℕ) (os : List Object) (moves : List (Option Move)) (t : Moment) (o : Object) → is_player client (object_next os moves t o) ≡ is_player client o
 same_player client os moves t o =
     player_by_owner client (object_next os moves t o).state
     ∙ ap (λ (i : Identity). is_owner client i.owner) (stays_itself os moves t o)

@@ -86,7 +86,7 @@ neither (pos a) (negsuc b) p q = absurd (never q)
 neither (negsuc a) (pos b) p q = absurd (never p)
 neither (negsuc a) (negsuc b) p q = ap negsuc (same_number a b (ltb-false b a p) (ltb-false a b q))
 
-same_value : (x y : ℤ) → differs x y ≡ false → x ≡ y
+pub same_value : (x y : ℤ) → differs x y ≡ false → x ≡ y
 same_value x y e = let h = or_parts (int_lt x y) (int_lt y x) e in neither x y h.0 h.1
 
 -- these are the values of a field with this value and version

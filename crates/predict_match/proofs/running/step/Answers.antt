@@ -3,7 +3,8 @@ use Rattle.match_script.specs.declared.types.Script.{Script}
 use Rattle.match_engine.specs.match_laws.pair_core.stream_manager.Stands.{ClientStandsFor}
 use Rattle.predict_client.specs.Following.{Follows}
 use Rattle.predict_laws.specs.predict_lines.Lines.{end_of}
-use Rattle.predict_match.proofs.Beside.{kinds_are, end_stands, some_end, some_stands}
+use Rattle.match_engine.proofs.Lent.{kinds_are}
+use Rattle.predict_match.proofs.Beside.{end_stands, some_end, some_stands}
 use Rattle.predict_match.proofs.running.step.Goals as goal
 
 pub follow-requires : goal.follow-requires
