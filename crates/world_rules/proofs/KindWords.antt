@@ -11,7 +11,7 @@ module _ (P : List ℕ → Type 0) (player : P (codes "player")) (disc : P (code
     where
       go : (a b c d e f : Bool)
           → P (if a then codes "player" else if b then codes "disc" else if c then codes "mine" else if d then codes "drone"
-              else if e then codes "flag" else if f then codes "clock" else codes "unknown")
+          else if e then codes "flag" else if f then codes "clock" else codes "unknown")
       go true b c d e f = player
       go false true c d e f = disc
       go false false true d e f = mine
