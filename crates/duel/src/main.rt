@@ -6,7 +6,7 @@
 
 use std::alloc::Global;
 use std::io;
-use tribes_ends::{Ask, ConfigRow, FieldRow, KindRow, Link, Packed, Refusal, StepMade};
+use tribes_ends::{Ask, Class, ConfigRow, FieldRow, KindRow, Link, Packed, Refusal, StepMade};
 
 /// A tank is of the one kind of this game. Its fields are its place, x and y.
 const TANK: KindRow = KindRow {
@@ -67,7 +67,7 @@ impl Duel {
                 .clamp(0, 1_023);
             self.server.changed(0, 3)?;
             if step.fire != 0 {
-                self.server.post(b"a shot", true)?;
+                self.server.post(b"a shot", Class::Guaranteed)?;
             }
         }
         Ok(())

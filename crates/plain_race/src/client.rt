@@ -19,7 +19,7 @@ use std::alloc::Global;
 use tn_types::NoMemory;
 
 // Does the lines of a client and takes its messages; `false` where there was room for all.
-fn serve(
+fn do_lines_and_messages(
     alloc: Global,
     script: &Script,
     client: u8,
@@ -60,7 +60,7 @@ pub(crate) fn plain_client(
 {
     let mut pair = new_pair(alloc, &script.head, client)?;
     let mut objects = Objects::new(alloc);
-    let full = serve(alloc, script, client, given, &mut pair, &mut objects)?;
+    let full = do_lines_and_messages(alloc, script, client, given, &mut pair, &mut objects)?;
     // the pair replays: its kept steps tell so
     let _steps = pair.steps();
     Ok(RaceClient {

@@ -80,7 +80,7 @@ fn pack_all<N: LaneName, R: Wait, G: Gate, L: Ledger>(
 }
 
 // One activity of a client, by its place.
-fn serve<N: LaneName, R: Wait, G: Gate>(
+fn run_activity<N: LaneName, R: Wait, G: Gate>(
     rt: &R,
     alloc: Global,
     script: &Script,
@@ -119,7 +119,7 @@ fn serve_all<N: LaneName + Send + Sync, R: Threads + Wait + Sync, G: Gate + Sync
         rt,
         alloc,
         2 * pairs.len(),
-        &|i| { serve(rt, alloc, script, lanes, gate, pairs, i) },
+        &|i| { run_activity(rt, alloc, script, lanes, gate, pairs, i) },
     )
 }
 

@@ -1,7 +1,7 @@
 //! The client's end, with each call's conditions tested.
-ghost use Rattle.std.specs.Prelude.{◌≡◌, ℕ, ◌≤◌, ◌<◌, IfOk, IfSome, IsNone, OnOk, OnErr, Ok, [], true, false, not, nat_eq, length, take};
+ghost use Rattle.std.specs.Prelude.{◌≡◌, ℕ, ◌≤◌, ◌<◌, IfOk, IfSome, IsNone, OnOk, OnErr, Ok, [], true, not, nat_eq, length, take};
 ghost use Rattle.tn_types.specs.Steps.{is_step};
-ghost use Rattle.tn_types.specs.declared.choices.Class.TheVariants.{Guaranteed, Loose};
+ghost use Rattle.tn_types.specs.declared.choices.Class.TheVariants.{Guaranteed};
 ghost use Rattle.stream_manager.specs.Client.{Posted, posted_at_client};
 ghost use Rattle.stream_manager.specs.ClientCalls.{Does, Answers};
 ghost use Rattle.tribes_ends.specs.Sides.{PopsAtClient, SamplesAtClient, TakesDown, SendsUp, PingsUp, WornUp, CountsAtClient};
@@ -13,15 +13,14 @@ use crate::refusal::Refusal;
 use crate::rows::{Change, Copied, Judged, StepMade, list_changes, list_verdicts};
 use stream_manager::{Client, ClientOut};
 use tn_types::{
-    MAX_BLOCK_BYTES, MAX_EVENT_BYTES, MAX_FIELDS, MAX_PACKET_GHOSTS, MAX_READ_BYTES, MAX_STEP,
-    MAX_UNJUDGED_PACKETS, MIN_STEP, Move, Payload,
+    Class, MAX_BLOCK_BYTES, MAX_EVENT_BYTES, MAX_FIELDS, MAX_PACKET_GHOSTS, MAX_READ_BYTES,
+    MAX_STEP, MAX_UNJUDGED_PACKETS, MIN_STEP, Move, Payload,
 };
 
 /// Posts an event, and gives its number where it is guaranteed, else 0.
-pub(crate) fn post(client: &mut Client, bytes: &[u8], guaranteed: bool) -> Result<u32, Refusal>
-    ensures guaranteed { guaranteed ≡ true → OnOk result (Does client.old (Posted Guaranteed bytes.now) client.new) }
-    ensures number { guaranteed ≡ true → IfOk result (λ n. Answers client.old (posted_at_client client.old.common.config) (Ok n)) }
-    ensures loose { guaranteed ≡ false → OnOk result (Does client.old (Posted Loose bytes.now) client.new) }
+pub(crate) fn post(client: &mut Client, bytes: &[u8], class: Class) -> Result<u32, Refusal>
+    ensures posted { OnOk result (Does client.old (Posted class bytes.now) client.new) }
+    ensures number { class ≡ Guaranteed → IfOk result (λ n. Answers client.old (posted_at_client client.old.common.config) (Ok n)) }
     ensures unchanged { OnErr result (client.new ≡ client.old) }
 {
     let Some(payload) = Payload::from_slice(bytes) else {
@@ -29,14 +28,15 @@ pub(crate) fn post(client: &mut Client, bytes: &[u8], guaranteed: bool) -> Resul
             most: MAX_EVENT_BYTES as u32,
         });
     };
-    if guaranteed {
-        match client.post(payload) {
+    match class {
+        Class::Guaranteed => match client.post(payload) {
             Ok(number) => Ok(number),
             Err(fault) => Err(Refusal::from(fault)),
+        },
+        Class::Loose => {
+            let _ = client.post_loose(payload);
+            Ok(0)
         }
-    } else {
-        let _ = client.post_loose(payload);
-        Ok(0)
     }
 }
 

@@ -20,4 +20,5 @@ pub use link::{Link, Packed, Side};
 pub use refusal::Refusal;
 pub use rows::{Change, Copied, Judged, StepMade};
 pub use tables::{ConfigRow, FieldRow, KindRow};
+pub use tn_types::Class;
 pub use why::Why;

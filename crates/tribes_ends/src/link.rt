@@ -1,6 +1,6 @@
 //! One end of a connection, whichever it is.
-ghost use Rattle.std.specs.Prelude.{◌≡◌, ℕ, ◌≤◌, IfOk, IfSome, IsNone, OnOk, OnErr, Ok, true, false, not, nat_eq, take};
-ghost use Rattle.tn_types.specs.declared.choices.Class.TheVariants.{Guaranteed, Loose};
+ghost use Rattle.std.specs.Prelude.{◌≡◌, ℕ, ◌≤◌, IfOk, IfSome, IsNone, OnOk, OnErr, Ok, true, not, nat_eq, take};
+ghost use Rattle.tn_types.specs.declared.choices.Class.TheVariants.{Guaranteed};
 
 use crate::asking::Ask;
 use crate::counts::Counts;
@@ -13,6 +13,7 @@ use crate::{client, server};
 use std::alloc::Global;
 use std::marker::Model;
 use stream_manager::{Client, Conn};
+use tn_types::Class;
 
 /// What a pack made.
 #[derive(Clone, Copy, Debug, PartialEq, Eq)]
@@ -246,15 +247,14 @@ impl Link {
     }
 
     /// Posts an event, and gives its number where it is guaranteed, else 0.
-    pub fn post(&mut self, bytes: &[u8], guaranteed: bool) -> Result<u32, Refusal>
-        ensures guaranteed { guaranteed ≡ true → OnOk result (Posts self.old Guaranteed bytes.now self.new) }
-        ensures number { guaranteed ≡ true → IfOk result (IsNextEvent self.old) }
-        ensures loose { guaranteed ≡ false → OnOk result (Posts self.old Loose bytes.now self.new) }
+    pub fn post(&mut self, bytes: &[u8], class: Class) -> Result<u32, Refusal>
+        ensures posted { OnOk result (Posts self.old class bytes.now self.new) }
+        ensures number { class ≡ Guaranteed → IfOk result (IsNextEvent self.old) }
         ensures unchanged { OnErr result (self.new ≡ self.old) }
     {
         match &mut self.side {
-            Side::Server(conn) => server::post(conn, bytes, guaranteed),
-            Side::Client(end) => client::post(end, bytes, guaranteed),
+            Side::Server(conn) => server::post(conn, bytes, class),
+            Side::Client(end) => client::post(end, bytes, class),
         }
     }
 

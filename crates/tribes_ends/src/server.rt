@@ -1,6 +1,6 @@
 //! The server's end, with each call's conditions tested.
-ghost use Rattle.std.specs.Prelude.{◌≡◌, ℕ, ◌≤◌, ◌<◌, IfOk, IfSome, IsNone, OnOk, OnErr, Ok, [], true, false, length, take};
-ghost use Rattle.tn_types.specs.declared.choices.Class.TheVariants.{Guaranteed, Loose};
+ghost use Rattle.std.specs.Prelude.{◌≡◌, ℕ, ◌≤◌, ◌<◌, IfOk, IfSome, IsNone, OnOk, OnErr, Ok, [], length, take};
+ghost use Rattle.tn_types.specs.declared.choices.Class.TheVariants.{Guaranteed};
 ghost use Rattle.ghost_model.specs.Ghosts.{scope_log, slot, is_settled};
 ghost use Rattle.ghost_model.specs.Scope.{shows};
 ghost use Rattle.stream_manager.specs.Server.{Scoped, Show, Hide, Near, Absorb, Posted, ghost_log, posted_at_server};
@@ -19,8 +19,8 @@ use std::marker::Brand;
 use std::sync::ledger::Blank;
 use stream_manager::Conn;
 use tn_types::{
-    MAX_BLOCK_BYTES, MAX_BLOCKS, MAX_DISTANCE_LEVEL, MAX_EVENT_BYTES, MAX_FIELDS, MAX_READ_BYTES,
-    MAX_SHOWS, MAX_UNJUDGED_PACKETS, Payload,
+    Class, MAX_BLOCK_BYTES, MAX_BLOCKS, MAX_DISTANCE_LEVEL, MAX_EVENT_BYTES, MAX_FIELDS,
+    MAX_READ_BYTES, MAX_SHOWS, MAX_UNJUDGED_PACKETS, Payload,
 };
 
 /// Shows an object, and gives the number of its period.
@@ -122,10 +122,9 @@ pub(crate) fn slot(conn: &Conn, n: u32) -> Result<Option<u8>, Refusal>
 }
 
 /// Posts an event, and gives its number where it is guaranteed, else 0.
-pub(crate) fn post(conn: &mut Conn, bytes: &[u8], guaranteed: bool) -> Result<u32, Refusal>
-    ensures guaranteed { guaranteed ≡ true → OnOk result (Does conn.old (Posted Guaranteed bytes.now) conn.new) }
-    ensures number { guaranteed ≡ true → IfOk result (λ n. Answers conn.old (posted_at_server conn.old.common.config) (Ok n)) }
-    ensures loose { guaranteed ≡ false → OnOk result (Does conn.old (Posted Loose bytes.now) conn.new) }
+pub(crate) fn post(conn: &mut Conn, bytes: &[u8], class: Class) -> Result<u32, Refusal>
+    ensures posted { OnOk result (Does conn.old (Posted class bytes.now) conn.new) }
+    ensures number { class ≡ Guaranteed → IfOk result (λ n. Answers conn.old (posted_at_server conn.old.common.config) (Ok n)) }
     ensures unchanged { OnErr result (conn.new ≡ conn.old) }
 {
     let Some(payload) = Payload::from_slice(bytes) else {
@@ -133,14 +132,15 @@ pub(crate) fn post(conn: &mut Conn, bytes: &[u8], guaranteed: bool) -> Result<u3
             most: MAX_EVENT_BYTES as u32,
         });
     };
-    if guaranteed {
-        match conn.post(payload) {
+    match class {
+        Class::Guaranteed => match conn.post(payload) {
             Ok(number) => Ok(number),
             Err(fault) => Err(Refusal::from(fault)),
+        },
+        Class::Loose => {
+            let _ = conn.post_loose(payload);
+            Ok(0)
         }
-    } else {
-        let _ = conn.post_loose(payload);
-        Ok(0)
     }
 }
 

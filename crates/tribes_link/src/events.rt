@@ -10,6 +10,18 @@ use std::alloc::Global;
 use tn_types::Class;
 use tribes_ends::{Popped, StepMade};
 
+/// The class that a caller's number asks for.
+fn class_of(guaranteed: u32) -> Class
+    ensures loose { guaranteed ≡ 0 → result ≡ Loose }
+    ensures guaranteed { (guaranteed ≡ 0 → ⊥) → result ≡ Guaranteed }
+{
+    if guaranteed == 0 {
+        Class::Loose
+    } else {
+        Class::Guaranteed
+    }
+}
+
 /// Posts an event, and gives its number where it is guaranteed.
 #[unsafe(no_mangle)]
 pub extern "C" fn tribes_post(
@@ -29,7 +41,7 @@ pub extern "C" fn tribes_post(
     match end.take(alloc) {
         Some(taken) => {
             let mut link = taken;
-            let done = link.post(bytes, guaranteed != 0);
+            let done = link.post(bytes, class_of(guaranteed));
             finish_with(end, link, done, number)
         }
         None => NO_END,

@@ -6,7 +6,7 @@ use Rattle.own_lists.specs.Past.{client_terms}
 use Rattle.plain_race.specs.Done.{AreStepsOf}
 use Rattle.plain_race.proofs.Calls.{stopped_at}
 use Rattle.plain_race.proofs.Whole.{may_take}
-use Rattle.plain_race.proofs.client.serve.Goals as goal
+use Rattle.plain_race.proofs.client.do_lines_and_messages.Goals as goal
 
 pub take_all-requires-clause-may : goal.take_all-requires-clause-may
 take_all-requires-clause-may c =
