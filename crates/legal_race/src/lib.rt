@@ -5,5 +5,9 @@ mod clients;
 mod telling;
 mod text;
 
+pub use race_course;
 pub use race_history;
+pub use race_reads;
+pub use race_steps;
+pub use race_text;
 pub use telling::tell;

@@ -17,8 +17,8 @@ use Rattle.kept_pair.specs.Kept.{KeptState, newest_first, terms_in}
 use Rattle.race_messages.specs.declared.message.Message.{Message}
 use Rattle.race_messages.specs.declared.message.Message.TheVariants as message
 use Rattle.race_messages.specs.Steps.{step_for}
-use Rattle.race_history.specs.Moves.{moves_taken}
-use Rattle.race_steps.specs.Asked.{ClientAct, IsRoom, room_found, message_step, messages_taken, objects_shown, is_pack_step, is_pack_line, packs_made, packs_asked, act_done, act_asked, acts_done, acts_asked, steps_asked, AreAsked}
+use Rattle.legal_race.specs.race_history.Moves.{moves_taken}
+use Rattle.legal_race.specs.race_steps.Asked.{ClientAct, IsRoom, room_found, message_step, messages_taken, objects_shown, is_pack_step, is_pack_line, packs_made, packs_asked, act_done, act_asked, acts_done, acts_asked, steps_asked, AreAsked}
 use Rattle.plain_race.specs.Done.{IsOwnStep, AreRoomsIn, IsDone, IsStopped, IsEnded}
 
 -- ---- own steps and steps of messages

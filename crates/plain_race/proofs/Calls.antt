@@ -8,7 +8,7 @@ use Rattle.tn_types.specs.declared.choices.Read.{Read}
 use Rattle.tn_types.specs.declared.moves.Move.{Move}
 use Rattle.match_script.specs.declared.types.BodyLine.{BodyLine}
 use Rattle.match_script.specs.declared.types.Script.{Script}
-use Rattle.race_history.specs.declared.race.RaceClient.{RaceClient}
+use Rattle.legal_race.specs.race_history.declared.race.RaceClient.{RaceClient}
 use Rattle.world_sim.specs.Worlds.{Worlds, next}
 use Rattle.std.proofs.lemmas.Bool.{cases_lt}
 use Rattle.std.proofs.lemmas.Option.{slice_get_within}
@@ -27,7 +27,7 @@ use Rattle.kept_pair.specs.Kept.{KeptState, newest_first, terms_in, MayStep, May
 use Rattle.race_messages.specs.declared.message.Message.{Message}
 use Rattle.race_messages.specs.Steps.{step_for, objects_with}
 use Rattle.pair_core.specs.Conditions.{IsMet, AreMet}
-use Rattle.race_steps.specs.Asked.{objects_shown}
+use Rattle.legal_race.specs.race_steps.Asked.{objects_shown}
 use Rattle.plain_race.specs.Done.{IsOwnStep, AreStepsOf, IsDone, IsStopped, IsRefused, DoesLine, StopsAtLine, Takes, StopsAtMessage, MayTakeAll, IsPlain}
 use Rattle.plain_race.proofs.Still.{steps_of_messages}
 use Rattle.plain_race.proofs.Quiet.{none_shown}

@@ -20,7 +20,7 @@ use Rattle.kept_pair.specs.Kept.{newest_first}
 use Rattle.race_messages.specs.declared.message.Message.{Message}
 use Rattle.race_messages.specs.declared.message.Message.TheVariants as message
 use Rattle.race_messages.specs.Steps.{step_for, objects_with}
-use Rattle.race_steps.specs.Asked.{ClientAct, IsRoom, room_found, is_pack_step, is_pack_line, packs_made, packs_asked, act_done, act_asked, act_said, acts_done, acts_asked, object_shown, objects_shown, steps_asked}
+use Rattle.legal_race.specs.race_steps.Asked.{ClientAct, IsRoom, room_found, is_pack_step, is_pack_line, packs_made, packs_asked, act_done, act_asked, act_said, acts_done, acts_asked, object_shown, objects_shown, steps_asked}
 use Rattle.plain_race.specs.Asks.{IsAct, asked_of, act_given}
 use Rattle.plain_race.specs.Done.{IsOwnStep, AreStepsOf}
 use Rattle.plain_race.proofs.Still.{steps_of_messages}

@@ -47,12 +47,12 @@ use Rattle.race_messages.specs.Steps.{step_for}
 use Rattle.own_lists.specs.Past.{showing_of}
 use Rattle.own_lists.proofs.WorldFacts as facts
 use Rattle.own_lists.proofs.WorldFacts.{object_goes_on, object_values_fit, object_at}
-use Rattle.race_history.specs.History.{Values, fields_told, IsHistory, IsHistoryOf, world_after, worlds_from}
-use Rattle.race_course.specs.Messages.{Ticks, is_tick, ticks_in, world_at, scans_of, scan_messages, hide_message, near_message, show_message, line_gives, messages}
-use Rattle.race_reads.specs.Reads.{IsDue, object_of, ReadStands, NeverFalls}
-use Rattle.race_reads.specs.Legal.{reads_of, is_field_due, AreLegalReads, IsCurrentIfUp}
-use Rattle.race_reads.proofs.ShownPeriods.{up_shown}
-use Rattle.race_steps.specs.Asked.{object_shown, objects_shown}
+use Rattle.legal_race.specs.race_history.History.{Values, fields_told, IsHistory, IsHistoryOf, world_after, worlds_from}
+use Rattle.legal_race.specs.race_course.Messages.{Ticks, is_tick, ticks_in, world_at, scans_of, scan_messages, hide_message, near_message, show_message, line_gives, messages}
+use Rattle.legal_race.specs.race_reads.Reads.{IsDue, object_of, ReadStands, NeverFalls}
+use Rattle.legal_race.specs.race_reads.Legal.{reads_of, is_field_due, AreLegalReads, IsCurrentIfUp}
+use Rattle.legal_race.proofs.Below.race_reads.ShownPeriods.{up_shown}
+use Rattle.legal_race.specs.race_steps.Asked.{object_shown, objects_shown}
 use Rattle.plain_race.specs.Done.{IsOwnStep, IsDone}
 use Rattle.plain_race.specs.Idle.{idle, idle_row}
 use Rattle.plain_race.proofs.Still.{told, still, world_next, ticks_more, ticks_same, steps_of_messages}

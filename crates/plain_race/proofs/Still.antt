@@ -38,9 +38,9 @@ use Rattle.own_lists.proofs.KeptValues.{wrote_course}
 use Rattle.own_lists.proofs.Meeting.{scan_journal, are_met}
 use Rattle.own_lists.proofs.Counting.{counted_few}
 use Rattle.own_lists.proofs.Agreeing.{own_lists_agree}
-use Rattle.race_history.specs.History.{world_after}
-use Rattle.race_course.specs.Messages.{Ticks, is_tick, ticks_in, is_scan_of, world_at, seen_at, scans_of, scan_messages, line_gives, messages}
-use Rattle.race_course.proofs.ScanSteps.{are_scan_steps}
+use Rattle.legal_race.specs.race_history.History.{world_after}
+use Rattle.legal_race.specs.race_course.Messages.{Ticks, is_tick, ticks_in, is_scan_of, world_at, seen_at, scans_of, scan_messages, line_gives, messages}
+use Rattle.legal_race.proofs.Below.race_course.ScanSteps.{are_scan_steps}
 use Rattle.plain_race.specs.Idle.{idle_row, idle}
 
 -- the ticks, scans and posts

@@ -17,15 +17,15 @@ use Rattle.pair_core.specs.Conditions.{AreMet}
 use Rattle.kept_pair.specs.Kept.{KeptState, terms_in}
 use Rattle.race_messages.specs.declared.message.Message.{Message}
 use Rattle.own_lists.specs.Past.{client_terms}
-use Rattle.race_history.specs.History.{IsHistoryOf, world_after}
-use Rattle.race_history.specs.Moves.{HasClients, MovesFit, moves_taken}
-use Rattle.race_history.specs.declared.race.Race.{Race}
-use Rattle.race_history.specs.declared.race.RaceClient.{RaceClient}
-use Rattle.race_course.specs.Messages.{Ticks, ticks_in}
-use Rattle.race_course.specs.Course.{world_of, all_messages}
-use Rattle.race_course.proofs.Following.{ticks_reversed}
-use Rattle.race_reads.specs.Legal.{AreLegalReads}
-use Rattle.race_reads.proofs.Deciding.{all_append}
+use Rattle.legal_race.specs.race_history.History.{IsHistoryOf, world_after}
+use Rattle.legal_race.specs.race_history.Moves.{HasClients, MovesFit, moves_taken}
+use Rattle.legal_race.specs.race_history.declared.race.Race.{Race}
+use Rattle.legal_race.specs.race_history.declared.race.RaceClient.{RaceClient}
+use Rattle.legal_race.specs.race_course.Messages.{Ticks, ticks_in}
+use Rattle.legal_race.specs.race_course.Course.{world_of, all_messages}
+use Rattle.legal_race.proofs.Below.race_course.Following.{ticks_reversed}
+use Rattle.legal_race.specs.race_reads.Legal.{AreLegalReads}
+use Rattle.legal_race.proofs.Below.race_reads.Deciding.{all_append}
 use Rattle.legal_race.specs.Legal.{IsClientLegal, IsLegal}
 use Rattle.plain_race.specs.Idle.{idle_row, idle, idle_in}
 use Rattle.plain_race.specs.Done.{IsDone, IsEnded, AreStepsOf, MayTakeAll, IsPlain}

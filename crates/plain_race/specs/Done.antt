@@ -14,10 +14,10 @@ use Rattle.race_messages.specs.declared.message.Message.{Message}
 use Rattle.race_messages.specs.Steps.{step_for}
 use Rattle.match_script.specs.declared.types.Script.{Script}
 use Rattle.own_lists.specs.Past.{client_terms}
-use Rattle.race_history.specs.declared.race.RaceClient.{RaceClient}
-use Rattle.race_course.specs.Course.{all_messages}
+use Rattle.legal_race.specs.race_history.declared.race.RaceClient.{RaceClient}
+use Rattle.legal_race.specs.race_course.Course.{all_messages}
 use Rattle.plain_race.specs.Idle.{idle_in}
-use Rattle.race_steps.specs.Asked.{IsRoom, room_found, packs_made, packs_asked, acts_done, acts_asked, objects_shown, steps_asked}
+use Rattle.legal_race.specs.race_steps.Asked.{IsRoom, room_found, packs_made, packs_asked, acts_done, acts_asked, objects_shown, steps_asked}
 
 -- a step of the client or of the network, or a pack that read nothing
 abbrev pub IsOwnStep : PairStep → Type 0

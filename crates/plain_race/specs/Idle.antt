@@ -2,7 +2,7 @@
 use Rattle.std.specs.Prelude.{ℕ, List, replicate, Option, None}
 use Rattle.tn_types.specs.declared.moves.Move.{Move}
 use Rattle.match_script.specs.declared.types.Script.{Script}
-use Rattle.race_course.specs.Messages.{Ticks, ticks_in}
+use Rattle.legal_race.specs.race_course.Messages.{Ticks, ticks_in}
 
 -- no move of any client
 abbrev pub idle_row : ℕ → List (Option Move)

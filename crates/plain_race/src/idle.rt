@@ -1,10 +1,10 @@
 //! Ticks that take no move.
 ghost use Rattle.std.specs.Prelude.{◌≡◌, IfOk};
-ghost use Rattle.race_course.specs.Messages.{is_tick};
+ghost use Rattle.legal_race.specs.race_course.Messages.{is_tick};
 ghost use Rattle.plain_race.specs.Idle.{idle_row, idle_in};
 
+use legal_race::race_history::TickMoves;
 use match_script::{BodyLine, Script};
-use race_history::TickMoves;
 use std::alloc::{AllocError, Global};
 use tn_types::{Move, NoMemory};
 

@@ -12,5 +12,6 @@ mod values;
 mod words;
 mod zero_values;
 
+pub use legal_race;
+pub use legal_race::race_history;
 pub use plain::plain_race;
-pub use race_history;

@@ -3,14 +3,14 @@ ghost use Rattle.std.specs.Prelude.{◌≡◌, ◌++◌, ◌∷◌, [], ℕ, Lis
 ghost use Rattle.std.specs.List.{AllByRecursion};
 ghost use Rattle.kept_pair.specs.Kept.{terms_in};
 ghost use Rattle.race_messages.specs.declared.message.Message.{Message as OneMessage};
-ghost use Rattle.race_steps.specs.Asked.{is_pack_line};
+ghost use Rattle.legal_race.specs.race_steps.Asked.{is_pack_line};
 ghost use Rattle.plain_race.specs.Asks.{act_given};
 ghost use Rattle.plain_race.specs.Done.{IsOwnStep, AreStepsOf, DoesLine, StopsAtLine, IsStopped};
 
 use crate::steps::{act, pack, room_in};
+use legal_race::race_history::kept_pair::KeptPair;
 use match_script::BodyLine;
 use pair_core::PairStep;
-use race_history::kept_pair::KeptPair;
 use std::alloc::Global;
 use tn_types::NoMemory;
 

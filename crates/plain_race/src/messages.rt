@@ -8,8 +8,8 @@ ghost use Rattle.plain_race.specs.Done.{IsRefused, Takes, StopsAtMessage, MayTak
 
 use crate::steps::take;
 use lane_periods::Objects;
+use legal_race::race_history::kept_pair::KeptPair;
 use pair_core::PairStep;
-use race_history::kept_pair::KeptPair;
 use race_messages::Message;
 use std::alloc::Global;
 use tn_types::NoMemory;

@@ -1,8 +1,8 @@
 //! A race that is made plainly.
 ghost use Rattle.std.specs.Prelude.{◌≡◌, ℕ, IfOk, length, slice_get, Some};
 ghost use Rattle.match_script.specs.Ranges.{HasRanges};
-ghost use Rattle.race_course.specs.Course.{IsCourseOf};
-ghost use Rattle.race_history.specs.declared.race.RaceClient.{RaceClient as OneClient};
+ghost use Rattle.legal_race.specs.race_course.Course.{IsCourseOf};
+ghost use Rattle.legal_race.specs.race_history.declared.race.RaceClient.{RaceClient as OneClient};
 ghost use Rattle.legal_race.specs.Legal.{IsLegal};
 ghost use Rattle.plain_race.specs.Idle.{idle_in};
 ghost use Rattle.plain_race.specs.Done.{IsPlain};
@@ -11,9 +11,9 @@ use crate::client::plain_client;
 use crate::idle::idle_moves;
 use crate::values::values_of;
 use crate::words::no_words;
+use legal_race::race_course::Course;
+use legal_race::race_history::{Race, RaceClients, TickMoves};
 use match_script::Script;
-use race_course::Course;
-use race_history::{Race, RaceClients, TickMoves};
 use std::alloc::Global;
 use tn_types::NoMemory;
 

@@ -4,14 +4,14 @@ ghost use Rattle.std.specs.List.{AllByRecursion};
 ghost use Rattle.pair_core.specs.Calls.{step_of};
 ghost use Rattle.pair_core.specs.History.{Pack};
 ghost use Rattle.kept_pair.specs.Kept.{terms_in, MayStep, accepted_by};
-ghost use Rattle.race_steps.specs.Asked.{IsRoom};
+ghost use Rattle.legal_race.specs.race_steps.Asked.{IsRoom};
 ghost use Rattle.plain_race.specs.Asks.{IsAct, IsGiven};
 ghost use Rattle.plain_race.specs.Done.{IsOwnStep, IsRefused};
 ghost use Rattle.std.specs.Prelude.{length};
 
 use crate::zero_values::ZeroValues;
+use legal_race::race_history::kept_pair::{KeepFault, KeptPair};
 use pair_core::PairStep;
-use race_history::kept_pair::{KeepFault, KeptPair};
 use std::alloc::Global;
 use tn_types::{MAX_WAITING_MOVES, NoMemory};
 

@@ -2,10 +2,10 @@
 ghost use Rattle.std.specs.Prelude.{◌<◌, ◌-◌, ◌^◌, IfOk, length};
 ghost use Rattle.match_script.specs.Ranges.{HeadFits};
 ghost use Rattle.world_sim.specs.Worlds.{first_world};
-ghost use Rattle.race_history.specs.History.{IsHistoryOf};
+ghost use Rattle.legal_race.specs.race_history.History.{IsHistoryOf};
 
+use legal_race::race_history::{History, TickMoves};
 use match_script::Head;
-use race_history::{History, TickMoves};
 use std::alloc::Global;
 use tn_types::NoMemory;
 use world_sim::World;

@@ -10,9 +10,9 @@ use Rattle.pair_core.specs.History.{PairStep, Show, Hide, Near, Post, ClientPost
 use Rattle.pair_copies.specs.Reads.{newest_in}
 use Rattle.pair_copies.specs.Reads as copies
 use Rattle.legal_race.specs.race_history.kept_pair.StepLists.{reads_in}
-use Rattle.race_reads.specs.Reads.{is_read_of, or_earlier}
-use Rattle.race_reads.specs.Reads as races
-use Rattle.race_reads.specs.Legal.{reads_of}
+use Rattle.legal_race.specs.race_reads.Reads.{is_read_of, or_earlier}
+use Rattle.legal_race.specs.race_reads.Reads as races
+use Rattle.legal_race.specs.race_reads.Legal.{reads_of}
 
 abbrev pub if-read : Bool → Read → Option Read
 if-read b r = if b then Some r else None

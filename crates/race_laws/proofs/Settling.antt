@@ -33,12 +33,12 @@ use Rattle.match_laws.specs.client_seat.Told.{holder_at, is_newest}
 use Rattle.match_laws.specs.Values.{IsShownFor}
 use Rattle.match_laws.proofs.FieldsTold.{IsToldAs, told-as, found, slot-is, shown-for, IsSettledIn, settled-in}
 use Rattle.match_laws.proofs.InOrder.{terms_fit}
-use Rattle.race_history.specs.History.{version_told, newest, fields_told}
-use Rattle.race_reads.specs.Reads.{object_of, ReadStands, IsCurrent, IsNewest as IsNewestRead, IsMarked, IsDue}
-use Rattle.race_reads.specs.Reads as races
-use Rattle.race_reads.specs.Legal.{reads_of, is_field_due, AreLegalReads, IsPeriodCurrent}
-use Rattle.race_reads.proofs.Joining.{in_fields, told_object}
-use Rattle.race_text.specs.Showing.{word_of, left_of, left_over}
+use Rattle.legal_race.specs.race_history.History.{version_told, newest, fields_told}
+use Rattle.legal_race.specs.race_reads.Reads.{object_of, ReadStands, IsCurrent, IsNewest as IsNewestRead, IsMarked, IsDue}
+use Rattle.legal_race.specs.race_reads.Reads as races
+use Rattle.legal_race.specs.race_reads.Legal.{reads_of, is_field_due, AreLegalReads, IsPeriodCurrent}
+use Rattle.legal_race.proofs.Below.race_reads.Joining.{in_fields, told_object}
+use Rattle.legal_race.specs.race_text.Showing.{word_of, left_of, left_over}
 use Rattle.legal_race.specs.race_history.kept_pair.Kept.{terms_in}
 use Rattle.legal_race.specs.race_history.declared.race.Race.{Race}
 use Rattle.legal_race.specs.race_history.declared.race.RaceClient.{RaceClient}

@@ -14,8 +14,8 @@ use Rattle.match_script.specs.Ranges.{HasRanges}
 use Rattle.match_report.specs.declared.copies.FieldTold.{FieldTold}
 use Rattle.match_laws.specs.client_seat.Told.{holder_at, field_told}
 use Rattle.match_laws.specs.Values.{IsShownFor}
-use Rattle.race_history.specs.History.{Values, version_told, newest}
-use Rattle.race_text.specs.Showing.{left_over}
+use Rattle.legal_race.specs.race_history.History.{Values, version_told, newest}
+use Rattle.legal_race.specs.race_text.Showing.{left_over}
 use Rattle.legal_race.specs.race_history.kept_pair.Kept.{terms_in, newest_first}
 use Rattle.legal_race.specs.race_history.declared.race.Race.{Race}
 use Rattle.legal_race.specs.race_history.declared.race.RaceClient.{RaceClient}

@@ -2,9 +2,9 @@
 use Rattle.std.specs.Prelude.{◌≡◌, ℕ, List, Option}
 use Rattle.tn_outside.specs.Totals.{Adds, AddsFront}
 use Rattle.match_script.specs.declared.types.Script.{Script}
-use Rattle.legal_race.specs.race_history.declared.race.Race.{Race}
-use Rattle.legal_race.specs.Legal.{IsLegal}
-use Rattle.legal_race.specs.Text.{race_text}
+use Rattle.plain_race.specs.legal_race.race_history.declared.race.Race.{Race}
+use Rattle.plain_race.specs.legal_race.Legal.{IsLegal}
+use Rattle.plain_race.specs.legal_race.Text.{race_text}
 
 pub record IsRaceText (script : Script) (text : List ℕ) : Type 0 where
   pub race : Race

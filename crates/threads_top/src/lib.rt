@@ -4,7 +4,7 @@
 mod run;
 mod threads;
 
-pub use legal_race::tell;
+pub use plain_race::legal_race::tell;
 pub use race_run::{FreeGate, Gate};
 pub use run::run_threads;
 pub use threads::top_threads;

@@ -4,8 +4,8 @@ ghost use Rattle.tn_outside.specs.Causes.{HandsOn};
 ghost use Rattle.match_script.specs.Ranges.{HasRanges};
 ghost use Rattle.threads_top.specs.Telling.{IsRaceText, Tells, TellsFront};
 
-use legal_race::tell;
 use match_script::Script;
+use plain_race::legal_race::tell;
 use plain_race::plain_race;
 use race_run::{Gate, race};
 use std::alloc::Global;

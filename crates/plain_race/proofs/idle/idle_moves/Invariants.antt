@@ -1,5 +1,5 @@
 use Rattle.std.proofs.Common.{◌≡◌, take}
-use Rattle.race_course.specs.Messages.{ticks_in}
+use Rattle.legal_race.specs.race_course.Messages.{ticks_in}
 use Rattle.plain_race.specs.Idle.{idle}
 use Rattle.plain_race.proofs.idle.idle_moves.Given as goal
 

@@ -1,5 +1,5 @@
 use Rattle.std.proofs.Common.{◌∙◌, List, length, ap, arith, length-append, ◌∷◌, []}
-use Rattle.race_history.specs.declared.race.RaceClient.{RaceClient}
+use Rattle.legal_race.specs.race_history.declared.race.RaceClient.{RaceClient}
 use Rattle.plain_race.proofs.Calls.{plain_more}
 use Rattle.plain_race.proofs.plain.plain_clients.Goals as goal
 

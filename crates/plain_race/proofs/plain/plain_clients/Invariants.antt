@@ -1,6 +1,6 @@
 use Rattle.std.proofs.Common.{◌≡◌, ℕ, Some, length}
 use Rattle.std.specs.Prelude.{slice_get}
-use Rattle.race_history.specs.declared.race.RaceClient.{RaceClient}
+use Rattle.legal_race.specs.race_history.declared.race.RaceClient.{RaceClient}
 use Rattle.plain_race.specs.Done.{IsPlain}
 use Rattle.plain_race.proofs.plain.plain_clients.Given as goal
 

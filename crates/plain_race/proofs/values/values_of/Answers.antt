@@ -1,8 +1,8 @@
 use Rattle.std.proofs.Common.{◌≡◌, ◌∙◌, ◌+◌, ℕ, List, Option, take, ap, sym, subst, ◌++◌, ◌∷◌, []}
 use Rattle.tn_types.specs.declared.moves.Move.{Move}
 use Rattle.world_sim.specs.Worlds.{Worlds, next, first_world}
-use Rattle.race_history.specs.History.{IsHistoryOf, world_after}
-use Rattle.race_history.proofs.Histories.{after_more}
+use Rattle.legal_race.specs.race_history.History.{IsHistoryOf, world_after}
+use Rattle.legal_race.proofs.Below.race_history.Histories.{after_more}
 use Rattle.plain_race.proofs.Calls.{row_more, ticks_next}
 use Rattle.plain_race.proofs.values.values_of.Goals as goal
 

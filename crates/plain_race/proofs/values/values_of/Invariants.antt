@@ -1,6 +1,6 @@
 use Rattle.std.proofs.Common.{◌≡◌, take}
 use Rattle.world_sim.specs.Worlds.{first_world}
-use Rattle.race_history.specs.History.{IsHistoryOf, world_after}
+use Rattle.legal_race.specs.race_history.History.{IsHistoryOf, world_after}
 use Rattle.plain_race.proofs.values.values_of.Given as goal
 
 abbrev pub invariant-loop-tick : goal.invariant-loop-tick
