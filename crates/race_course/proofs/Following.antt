@@ -35,13 +35,13 @@ row_more ticks n row e = rw add-one (go ticks n e)
     go (t ∷ ts) zero e = let same : t ≡ row = cc in ap (λ (r : List (Option Move)). r ∷ []) same
     go (t ∷ ts) (suc k) e = ap (λ (rs : Ticks). t ∷ rs) (go ts k e)
 
-abbrev of_tick : BodyLine → ℕ
+abbrev pub of_tick : BodyLine → ℕ
 of_tick line = cond (is_tick line) 1 0
 
-ticks_more : (past : List BodyLine) → ticks_in (script.Tick ∷ past) ≡ ticks_in past + 1
+pub ticks_more : (past : List BodyLine) → ticks_in (script.Tick ∷ past) ≡ ticks_in past + 1
 ticks_more past = let e = sum_by-cons of_tick script.Tick past in omega (arith, e)
 
-ticks_same : (line : BodyLine) (past : List BodyLine) → is_tick line ≡ false → ticks_in (line ∷ past) ≡ ticks_in past
+pub ticks_same : (line : BodyLine) (past : List BodyLine) → is_tick line ≡ false → ticks_in (line ∷ past) ≡ ticks_in past
 ticks_same line past other =
     let e = sum_by-cons of_tick line past in
     let none : of_tick line ≡ 0 = rw other refl in

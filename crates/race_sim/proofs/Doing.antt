@@ -33,7 +33,7 @@ use Rattle.race_messages.specs.declared.message.Message.{Message}
 use Rattle.race_messages.specs.declared.message.Message.TheVariants as message
 use Rattle.race_course.specs.Messages.{Ticks, is_tick, ticks_in, world_at, is_scan_of, seen_at, scans_of, line_gives, messages, scan_messages}
 use Rattle.race_course.specs.Course.{world_of}
-use Rattle.race_course.proofs.Following.{ticks_reversed}
+use Rattle.race_course.proofs.Following.{of_tick, ticks_more, ticks_same, ticks_reversed}
 use Rattle.race_history.specs.History.{HasVersions, world_after, IsHistoryOf}
 use Rattle.race_history.specs.Moves.{HasClients, MovesFit, move_taken, moves_taken}
 use Rattle.race_sim.specs.Ports.{OutgoingState, all_given, with_more, PortState, given_to, HasPassedOn, waiting_for, IsNewPort, HaveAllPassedOn, TakesOne, TakesEach}
@@ -41,18 +41,6 @@ use Rattle.race_sim.specs.Simulating.{SimulationState, is_own, IsPortAt, HasDone
 use Rattle.race_sim.specs.Telling.{is_wanting, IsTold, LanesAfter}
 
 -- ---- ticks
-
-abbrev of_tick : BodyLine → ℕ
-of_tick line = cond (is_tick line) 1 0
-
-ticks_more : (past : List BodyLine) → ticks_in (script.Tick ∷ past) ≡ ticks_in past + 1
-ticks_more past = let e = sum_by-cons of_tick script.Tick past in omega (arith, e)
-
-ticks_same : (line : BodyLine) (past : List BodyLine) → is_tick line ≡ false → ticks_in (line ∷ past) ≡ ticks_in past
-ticks_same line past other =
-    let e = sum_by-cons of_tick line past in
-    let none : of_tick line ≡ 0 = rw other refl in
-    omega (arith, e, none)
 
 ticks_behind : (line : BodyLine) (past : List BodyLine) → ticks_in past ≤ ticks_in (line ∷ past)
 ticks_behind line past = let e = sum_by-cons of_tick line past in omega (arith, e)

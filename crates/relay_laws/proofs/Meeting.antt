@@ -1,5 +1,5 @@
 -- What a spectator meets by the lines of a relay script: one event of each line, or none; packets as the relay's client took them.
-use Rattle.std.proofs.Common.{◌≡◌, ◌∙◌, ℕ, ◌+◌, ◌-◌, ◌*◌, ◌<◌, ◌≤◌, ◌==◌, Bool, true, false, List, [], ◌∷◌, ◌++◌, map, take, length, Option, Some, None, is_some, if◌then◌else◌, refl, sym, ap, subst, arith, inl, inr, ◌⊎◌}
+use Rattle.std.proofs.Common.{◌≡◌, ◌∙◌, ℕ, ◌+◌, ◌*◌, ◌<◌, ◌≤◌, ◌==◌, Bool, true, false, List, [], ◌∷◌, ◌++◌, length, Option, Some, None, is_some, if◌then◌else◌, refl, sym, ap, subst, arith, inl, inr, ◌⊎◌}
 use Rattle.tn_types.specs.declared.limits.TheConstants.{MAX_SLOTS, MAX_SHOWS}
 use Rattle.quantised_fields.specs.declared.kind.Kind.{Kind}
 use Rattle.quantised_fields.specs.Kinds.{table_fault}
@@ -18,24 +18,16 @@ use Rattle.relay_script.specs.declared.types.RelayLine.TheVariants.{Scan, Pack, 
 use Rattle.relay_model.specs.Watching.{WatchEvent, Took, Scans, Own, packets_in, is_unwatched, begun_below, watched, copy_at}
 use Rattle.relay_model.specs.Items.{items_of}
 use Rattle.relay_model.specs.Laws.{IsCopy, AreCopies, IsSpectators, AreSpectators, AreChanges}
+use Rattle.relay_model.proofs.Changes.{copies_by_changes}
 use Rattle.relay_model.proofs.Copies.{taken_are_changes}
 use Rattle.relay_model.proofs.Following.{Holds, follow}
-use Rattle.relay_report.specs.Met.{match_past, taken_by, newly, spectator_terms, asked_of, met}
+use Rattle.relay_report.specs.Met.{match_past, taken_by, spectator_terms, asked_of, met}
+use Rattle.relay_report.proofs.Newly.{no_more, one_more}
 use Rattle.relay_laws.proofs.Places.{AreEntries}
 use Rattle.relay_laws.proofs.Taking.{Brings, line_brings_one}
 
 pub table_none : table_fault match_kinds ≡ None
 table_none = refl
-
--- ---- what is new
-
-no_more : (older newer : List ServerPacket) → newer ≡ older → newly older newer ≡ []
-no_more older newer e =
-    ap (λ (l : List ServerPacket). newly older l) e ∙ ap (λ (n : ℕ). map Took (take n older)) (let z : length older - length older ≡ 0 = omega arith in z)
-
-one_more : (p : ServerPacket) (older newer : List ServerPacket) → newer ≡ p ∷ older → newly older newer ≡ Took p ∷ []
-one_more p older newer e =
-    ap (λ (l : List ServerPacket). newly older l) e ∙ ap (λ (n : ℕ). map Took (take n (p ∷ older))) (let z : length (p ∷ older) - length older ≡ 1 = omega arith in z)
 
 -- ---- what copies are
 
@@ -211,15 +203,9 @@ module _ (head : Head) (c s : ℕ) where
 
   -- ---- what a spectator's server is told may follow
 
-  copies_of : (kinds : List Kind) (events : List WatchEvent) → AreChanges kinds (packets_in events) → AreCopies kinds events
-  copies_of kinds [] h = tt
-  copies_of kinds (Took p ∷ events) h = (h.0, copies_of kinds events h.1)
-  copies_of kinds (Scans ∷ events) h = copies_of kinds events h
-  copies_of kinds (Own line ∷ events) h = copies_of kinds events h
-
   pub copies_are : (past : List Entry) → AreCopies match_kinds (met head c s past)
   copies_are past =
-      copies_of match_kinds (met head c s past)
+      copies_by_changes match_kinds (met head c s past)
       (subst (AreChanges match_kinds) (sym (met_packets past)) (taken_are_changes (client_terms head c) (steps_of head (match_past past) c) table_none))
 
   pub met_few : (past : List Entry) → AreEntries head past → MAX_SLOTS * length (met head c s past) < MAX_SHOWS

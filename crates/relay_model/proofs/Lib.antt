@@ -6,4 +6,5 @@ pub mod Shown
 pub mod Following
 pub mod Taken
 pub mod Copies
+pub mod Changes
 pub mod Posting

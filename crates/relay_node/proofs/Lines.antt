@@ -32,10 +32,10 @@ use Rattle.own_lists.specs.Past.{client_terms, after}
 use Rattle.own_lists.proofs.Meeting.{scan_journal}
 use Rattle.own_lists.proofs.KeptValues.{wrote_course}
 use Rattle.own_lists.proofs.Standing.{onto_on}
-use Rattle.match_engine.specs.client_seat.Told.{event_told, brought_told, handed_down}
-use Rattle.match_engine.specs.match_laws.Report.{told_after}
-use Rattle.match_engine.proofs.Below.match_laws.Grown.{IsMadeBy, grows}
-use Rattle.match_engine.proofs.Below.match_laws.ClientEnd.{at_end, scan_quiet, named_case}
+use Rattle.relay_report.specs.match_engine.client_seat.Told.{event_told, brought_told, handed_down}
+use Rattle.relay_report.specs.match_engine.match_laws.Report.{told_after}
+use Rattle.relay_report.proofs.Below.match_laws.Grown.{IsMadeBy, grows}
+use Rattle.relay_report.proofs.Below.match_laws.ClientEnd.{at_end, scan_quiet, named_case}
 use Rattle.stream_manager.proofs.Packets.{shows-alike}
 use Rattle.relay_report.specs.Met.{end_of}
 use Rattle.relay_node.specs.Node.{came_with, events_taken}

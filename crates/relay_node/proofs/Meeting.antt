@@ -1,7 +1,6 @@
 -- What a spectator meets by the lines of a relay script: packets as the relay's client took them, of which each makes such a change of the
 -- copies as may be shown on, and no more of all than there are lines.
 use Rattle.std.proofs.Common.{◌≡◌, ◌∙◌, ℕ, ◌-◌, ◌<◌, ◌≤◌, ◌==◌, Bool, true, false, List, [], ◌∷◌, ◌++◌, map, take, length, Option, Some, None, if◌then◌else◌, refl, sym, ap, subst, arith, length-append}
-use Rattle.quantised_fields.specs.declared.kind.Kind.{Kind}
 use Rattle.quantised_fields.specs.Kinds.{table_fault}
 use Rattle.wire_format.specs.declared.server.ServerPacket.{ServerPacket}
 use Rattle.world_rules.specs.Kinds.{match_kinds}
@@ -9,18 +8,20 @@ use Rattle.match_script.specs.declared.types.BodyLine.{BodyLine}
 use Rattle.match_script.specs.declared.types.BodyLine.TheVariants as script
 use Rattle.match_script.specs.declared.types.Head.{Head}
 use Rattle.match_report.specs.declared.told.EventTold.{EventTold}
-use Rattle.match_engine.specs.match_laws.Report.{told_after}
-use Rattle.match_engine.specs.match_laws.Values.{steps_of}
+use Rattle.relay_report.specs.match_engine.match_laws.Report.{told_after}
+use Rattle.relay_report.specs.match_engine.match_laws.Values.{steps_of}
 use Rattle.own_lists.specs.Past.{client_terms}
 use Rattle.relay_script.specs.declared.entries.Entry.{Entry}
 use Rattle.relay_script.specs.declared.entries.Entry.TheVariants.{OfMatch, OfRelay}
 use Rattle.relay_script.specs.declared.types.RelayLine.{RelayLine}
 use Rattle.relay_script.specs.declared.types.RelayLine.TheVariants.{Scan, Pack, ClientPack, Down, Up, Show}
 use Rattle.relay_model.specs.Watching.{WatchEvent, Took, Scans, Own, packets_in}
-use Rattle.relay_model.specs.Laws.{AreCopies, AreSpectators, AreChanges}
+use Rattle.relay_model.specs.Laws.{AreSpectators, AreChanges}
+use Rattle.relay_model.proofs.Changes.{copies_by_changes}
 use Rattle.relay_model.proofs.Copies.{taken_are_changes}
 use Rattle.relay_spectator.specs.Spectators.{AreMet}
 use Rattle.relay_report.specs.Met.{match_past, end_of, taken_by, newly, spectator_terms, asked_of, met}
+use Rattle.relay_report.proofs.Newly.{no_more, one_more}
 use Rattle.relay_node.specs.Node.{events_taken}
 use Rattle.relay_node.proofs.Lines.{LineTakes, line_takes}
 
@@ -28,14 +29,6 @@ pub table_none : table_fault match_kinds ≡ None
 table_none = refl
 
 -- ---- what is new
-
-no_more : (older newer : List ServerPacket) → newer ≡ older → newly older newer ≡ []
-no_more older newer e =
-    ap (λ (l : List ServerPacket). newly older l) e ∙ ap (λ (n : ℕ). map Took (take n older)) (let z : length older - length older ≡ 0 = omega arith in z)
-
-pub one_more : (p : ServerPacket) (older newer : List ServerPacket) → newer ≡ p ∷ older → newly older newer ≡ Took p ∷ []
-one_more p older newer e =
-    ap (λ (l : List ServerPacket). newly older l) e ∙ ap (λ (n : ℕ). map Took (take n (p ∷ older))) (let z : length (p ∷ older) - length older ≡ 1 = omega arith in z)
 
 -- a line of the match is met as a packet, or not at all
 pub record IsOne (p : ServerPacket) (older newer : List ServerPacket) (new : List WatchEvent) : Type 0 where
@@ -178,16 +171,10 @@ module _ (head : Head) (c : ℕ) where
 
     -- ---- copies
 
-    copies_of : (kinds : List Kind) (events : List WatchEvent) → AreChanges kinds (packets_in events) → AreCopies kinds events
-    copies_of kinds [] h = tt
-    copies_of kinds (Took p ∷ events) h = (h.0, copies_of kinds events h.1)
-    copies_of kinds (Scans ∷ events) h = copies_of kinds events h
-    copies_of kinds (Own line ∷ events) h = copies_of kinds events h
-
     pub are_met : (past : List Entry) → length past < 4000000 → AreMet (spectator_terms head s) (met head c s past)
     are_met past few = record {
       table = table_none;
-      copies = copies_of match_kinds (met head c s past)
+      copies = copies_by_changes match_kinds (met head c s past)
           (subst (AreChanges match_kinds) (sym (met_packets past)) (taken_are_changes (client_terms head c) (steps_of head (match_past past) c) table_none));
       own = own_met past;
       few = (let le = few_met past in omega (arith, le, few));

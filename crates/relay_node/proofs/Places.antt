@@ -2,7 +2,7 @@
 use Rattle.std.proofs.Common.{◌≡◌, ◌∙◌, ℕ, ◌+◌, ◌-◌, ◌<◌, ◌≤◌, List, [], ◌∷◌, ◌++◌, map, length, get_or, take, drop, reverse, ap, arith, length-append, length-drop}
 use Rattle.std.proofs.lemmas.List.{length-reverse, length-take, length-map, get_or-drop}
 use Rattle.match_script.specs.declared.types.BodyLine.{BodyLine}
-use Rattle.match_engine.proofs.Written.{reverse_next}
+use Rattle.relay_report.proofs.Below.match_engine.Written.{reverse_next}
 use Rattle.relay_script.specs.declared.entries.Entry.{Entry}
 use Rattle.relay_script.specs.declared.entries.Entry.TheVariants.{OfMatch, OfRelay}
 use Rattle.relay_script.specs.declared.types.PlacedLine.{PlacedLine}

@@ -11,16 +11,16 @@ use Rattle.match_script.specs.declared.types.BodyLine.{BodyLine}
 use Rattle.match_script.specs.declared.types.Head.{Head}
 use Rattle.match_script.specs.declared.types.Script.{Script}
 use Rattle.match_report.specs.declared.told.EventTold.{EventTold}
-use Rattle.match_engine.specs.client_seat.Stands.{SeatState}
-use Rattle.match_engine.specs.match_laws.Report.{told_after}
-use Rattle.match_engine.specs.Match.{MatchState, StandsFor as MatchStandsFor}
-use Rattle.match_engine.proofs.Lent.{kinds_are, pair_stands}
+use Rattle.relay_report.specs.match_engine.client_seat.Stands.{SeatState}
+use Rattle.relay_report.specs.match_engine.match_laws.Report.{told_after}
+use Rattle.relay_report.specs.match_engine.Match.{MatchState, StandsFor as MatchStandsFor}
+use Rattle.relay_report.proofs.Below.match_engine.Lent.{kinds_are, pair_stands}
 use Rattle.own_lists.specs.pair_core.Stands.{PairState}
 use Rattle.own_lists.specs.pair_core.stream_manager.Client.{ghosts_came}
 use Rattle.own_lists.specs.pair_core.stream_manager.Packets.{ghosts_seen, delivered_to}
 use Rattle.own_lists.specs.pair_core.stream_manager.Limits.{Terms}
 use Rattle.own_lists.specs.Past.{client_terms, after}
-use Rattle.match_engine.specs.match_laws.Values.{steps_of}
+use Rattle.relay_report.specs.match_engine.match_laws.Values.{steps_of}
 use Rattle.event_manager.specs.Posted.{guaranteed_of}
 use Rattle.relay_model.proofs.Copies.{all_kept}
 use Rattle.world_rules.specs.Kinds.{match_kinds}
@@ -33,9 +33,10 @@ use Rattle.relay_spectator.specs.declared.spectator.Spectator.{Spectator}
 use Rattle.relay_spectator.specs.Spectators.{Follows, IsToldOf, AreMet, payloads_of}
 use Rattle.relay_spectator.proofs.Posting.{payloads_are}
 use Rattle.relay_report.specs.Met.{match_past, end_of, taken_by, spectator_terms, met}
+use Rattle.relay_report.proofs.Newly.{one_more}
 use Rattle.relay_node.specs.Node.{NodeState, Stands, events_taken, MayTakeAll, TakeAll}
 use Rattle.relay_node.proofs.Lines.{TakesPacket, LineTakes, line_takes}
-use Rattle.relay_node.proofs.Meeting.{table_none, one_more, IsMet, line_met, met_packets, are_met}
+use Rattle.relay_node.proofs.Meeting.{table_none, IsMet, line_met, met_packets, are_met}
 
 -- ---- the connection that a match lends
 

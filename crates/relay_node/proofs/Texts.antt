@@ -3,7 +3,7 @@ use Rattle.std.proofs.Common.{◌≡◌, ◌∙◌, ℕ, ◌+◌, ◌<◌, ◌�
 use Rattle.std.proofs.lemmas.List.{append-nil, take_all, reverse-append, take-append-drop}
 use Rattle.tn_outside.specs.Totals.{Adds, AddsFront}
 use Rattle.tn_outside.proofs.Totals.{adds_then, front_more, front_longer, whole_front}
-use Rattle.match_engine.proofs.Written.{reverse_next}
+use Rattle.relay_report.proofs.Below.match_engine.Written.{reverse_next}
 use Rattle.relay_script.specs.declared.types.PlacedLine.{PlacedLine}
 use Rattle.relay_script.specs.declared.types.RelayScript.{RelayScript}
 use Rattle.relay_report.specs.Met.{past_of}

@@ -10,7 +10,7 @@ use Rattle.match_script.specs.Ranges.{LineFits}
 use Rattle.match_report.specs.declared.told.EventTold.{EventTold}
 use Rattle.match_report.specs.declared.told.Told.{Told}
 use Rattle.match_report.specs.declared.told.Told.TheVariants as told_as
-use Rattle.match_engine.specs.Match.{MatchState, StandsFor as MatchStandsFor}
+use Rattle.relay_report.specs.match_engine.Match.{MatchState, StandsFor as MatchStandsFor}
 use Rattle.own_lists.specs.pair_core.stream_manager.Packets.{ghosts_seen}
 use Rattle.relay_script.specs.declared.entries.Entry.{Entry}
 use Rattle.relay_script.specs.declared.entries.Entry.TheVariants.{OfMatch, OfRelay}

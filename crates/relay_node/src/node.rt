@@ -8,9 +8,9 @@ ghost use Rattle.relay_report.specs.Met.{spectator_terms};
 ghost use Rattle.relay_report.specs.Report.{named};
 ghost use Rattle.relay_node.specs.Node.{came_with, events_taken, MayTakeAll, TakeAll, AreNew, plain_of};
 
-use match_engine::Match;
 use match_report::{EventTold, Told};
 use match_script::{BodyLine, Head};
+use relay_report::match_engine::Match;
 use relay_script::{RelayLine, RelayScript};
 use relay_spectator::Spectator;
 use relay_spectator::alone_server::AloneHeader;

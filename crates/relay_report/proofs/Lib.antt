@@ -1,2 +1,4 @@
+pub mod Below
+pub mod Newly
 pub mod Packs
 pub mod Lists

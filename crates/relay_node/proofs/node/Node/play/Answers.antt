@@ -2,8 +2,8 @@ use Rattle.std.proofs.Common.{◌≡◌, ◌∙◌, ◌∷◌, Some, None, sym, 
 use Rattle.std.specs.Prelude.{Result, Ok, Err, OnOk}
 use Rattle.std.specs.Option.{option_copied}
 use Rattle.match_script.specs.declared.types.Script.{Script}
-use Rattle.match_engine.specs.Match.{last_told}
-use Rattle.match_engine.specs.match_laws.Report.{told_after}
+use Rattle.relay_report.specs.match_engine.Match.{last_told}
+use Rattle.relay_report.specs.match_engine.match_laws.Report.{told_after}
 use Rattle.own_lists.specs.pair_core.stream_manager.Stands.{ClientState}
 use Rattle.own_lists.proofs.Counting.{counted_few}
 use Rattle.relay_report.specs.Met.{match_past}
