@@ -1,15 +1,16 @@
 -- Turns, call by call, and a run that stops early: what was sent is a front of what the whole run asks for.
-use Rattle.std.proofs.Common.{◌≡◌, ◌∙◌, ℕ, zero, suc, ◌+◌, ◌-◌, ◌*◌, ◌≤◌, List, [], ◌∷◌, ◌++◌, length, take, Option, Some, None, Ok, false, true, ◌↔◌, sym, ap, subst, refl, arith, add-one, length-append, append_assoc}
+use Rattle.std.proofs.Common.{◌≡◌, ◌∙◌, ℕ, zero, suc, ◌+◌, ◌-◌, ◌≤◌, List, [], ◌∷◌, ◌++◌, length, take, Option, Some, None, Ok, sym, ap, subst, refl, arith, add-one, length-append, append_assoc}
 use Rattle.tn_outside.specs.declared.peer.Peer.{Peer}
-use Rattle.tn_outside.specs.Links.{Datagram, Ahead, found, Receives, Tells, answer_at, later}
+use Rattle.tn_outside.specs.Links.{Datagram, Ahead, found, Receives, Tells, answer_at}
 use Rattle.tn_outside.specs.Totals.{Adds, AddsFront}
 use Rattle.tn_outside.proofs.Totals.{adds_nothing, whole_front, front_longer}
-use Rattle.net_rules.specs.declared.limits.TheConstants.{MAX_RECEIVED_BYTES, TURN_MILLISECONDS}
-use Rattle.net_rules.specs.Turns.{Event, Heard, Turned, turned, IsDue, AreTurns, with_found, heard, events}
-use Rattle.net_rules.specs.Places.{IsPlace, IsDueAt}
+use Rattle.net_rules.specs.declared.limits.TheConstants.{MAX_RECEIVED_BYTES}
+use Rattle.net_rules.specs.Turns.{Event, Heard, Turned, turned, AreTurns, with_found, heard, events}
+use Rattle.net_rules.specs.Places.{IsPlace}
 use Rattle.net_rules.specs.Runs.{Begun}
-use Rattle.net_rules.proofs.Places.{answer_later, place_came, came, not_due, place_quiet, past_stays}
+use Rattle.net_rules.proofs.Places.{place_came, place_quiet, past_stays}
 use Rattle.net_rules.proofs.Turning.{turns_go_on, events_more}
+use Rattle.net_rules.proofs.Rounds.{event_is, nothing_sent}
 use Rattle.net_join.specs.Joining.{sends, ending}
 use Rattle.net_join.specs.Playing.{JoinerState, Joins}
 use Rattle.net_join.specs.Stages.{nonce_of, IsAt, HeardMore, Went, Sent, SentFront, Joined, JoinedFront}
@@ -22,16 +23,9 @@ module _ (o : Begun) (k : ℕ) (a a' : Option Ahead) (c : Option (List ℕ)) (x 
   pub came_place : IsPlace o.ahead o.clock a' c (suc k)
   came_place = place_came o.ahead o.clock a a' c k buf place x r
 
-  event_is : (bytes : List ℕ) (past : List Event) → bytes ≡ take x.1 buf → Heard (record { peer = x.0; bytes = bytes }) ∷ past ≡ with_found (found o.ahead k) past
-  event_is bytes past e =
-      ap (λ (b : List ℕ). Heard (record { peer = x.0; bytes = b }) ∷ past) e ∙ sym (came o.ahead o.clock a a' c k buf place x r l past)
-
   pub came_joins : (j : JoinerState) (bytes : List ℕ) (past : List Event) → bytes ≡ take x.1 buf
       → Joins j (Heard (record { peer = x.0; bytes = bytes }) ∷ past) → Joins j (with_found (found o.ahead k) past)
-  came_joins j bytes past e h = subst (λ (t : List Event). Joins j t) (event_is bytes past e) h
-
-  pub came_not_due : (t : ℕ) → (false ≡ true) ↔ IsDue o.ahead o.clock t k
-  came_not_due t = (λ e. absurd cc, λ due. absurd (not_due o.ahead o.clock a a' c k buf place x r t due))
+  came_joins j bytes past e h = subst (λ (t : List Event). Joins j t) (event_is o k a a' c x buf place r l bytes past e) h
 
 module _ (o : Begun) (k : ℕ) (a a' : Option Ahead) (c c' : Option (List ℕ)) (now : ℕ) (buf : List ℕ) (place : IsPlace o.ahead o.clock a c k)
     (r : Receives a a' (Ok None) buf) (told : Tells c c' (Ok now)) where
@@ -95,9 +89,6 @@ module _ (mid new : JoinerState) (d d' : Option (List Datagram)) (same : new.non
   turn_went old more first past at =
       let r = more past at.joins in
       (Turned ∷ (r.0 ++ past), ends first (r.0 ++ past) r.1 (subst (λ (x : List Datagram). Adds first d x) (sym r.3) at.outgoing), ap suc r.2)
-
-nothing_sent : (first now : Option (List Datagram)) → now ≡ first → Adds first now []
-nothing_sent first now e = subst (λ (x : Option (List Datagram)). Adds first x []) (sym e) (adds_nothing first)
 
 pub starts_at : (first : Option (List Datagram)) (j : JoinerState) (d : Option (List Datagram)) → Joins j [] → d ≡ first → IsAt first j d []
 starts_at first j d h same = record { joins = h; outgoing = nothing_sent first d same }

@@ -96,13 +96,13 @@ impl Joiner {
         ensures later { L.faults link.old ≤ L.faults link.new }
     {
         match self.player.as_mut() {
-            Some(player) => player.turn(link),
+            Some(player) => player.play(link),
             None => link.send(SERVER, &hello_with(self.nonce)),
         }
     }
 
     /// The end of a turn's listening: a hello where no welcome came, and else a move and the client's next datagram.
-    pub(crate) fn turn<L: Link>(&mut self, link: &mut L) -> Result<(), NetFault>
+    pub(crate) fn end_turn<L: Link>(&mut self, link: &mut L) -> Result<(), NetFault>
         ensures joins { OnOk result ((past : List Event) → Joins self.old past → Joins self.new (Turned ∷ past)) }
         ensures sent { OnOk result ((first : Option (List Datagram)) (past : List Event) → Joins self.old past
             → Adds first (L.sent link.old) (sends self.old.nonce past)

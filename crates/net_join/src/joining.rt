@@ -43,7 +43,7 @@ fn turn<L: Link, C: Clock>(
 {
     let due = TURN_MILLISECONDS * u64::from(t);
     listen(alloc, joiner, buf, start, due, link, clock)?;
-    joiner.turn(link)
+    joiner.end_turn(link)
 }
 
 /// All turns.

@@ -111,8 +111,8 @@ fn send_packed<L: Link>(end: &mut Client, link: &mut L) -> Result<(), Failed>
 impl Player {
     ghost use Rattle.net_join.specs.Playing.{PlaysOn, SendsDatagrams};
 
-    /// A turn: a move by chance is sampled, which may be refused, and the next datagram is sent.
-    pub(crate) fn turn<L: Link>(&mut self, link: &mut L) -> Result<(), Failed>
+    /// Plays a turn: a move by chance is sampled, which may be refused, and the next datagram is sent.
+    pub(crate) fn play<L: Link>(&mut self, link: &mut L) -> Result<(), Failed>
         ensures plays { OnOk result (PlaysOn self.old self.new) }
         ensures sent { OnOk result (SendsDatagrams self.old (L.sent link.old) (L.sent link.new)) }
         ensures unsent { OnErr result (L.sent link.new ≡ L.sent link.old) }

@@ -1,17 +1,15 @@
 -- Turns, call by call, and a run that stops early: what was written and sent is a front of what the whole run asks for.
-use Rattle.std.proofs.Common.{◌≡◌, ◌∙◌, ℕ, suc, ◌+◌, ◌-◌, ◌≤◌, ◌<◌, List, [], ◌∷◌, ◌++◌, length, take, Option, Some, None, Ok, Err, false, true, ◌↔◌, sym, ap, subst, refl, arith, add-zero, add-one, inl, inr, length-append}
-use Rattle.std.specs.Prelude.{Result, OnOk, OnErr}
-use Rattle.std.proofs.lemmas.Bool.{cases_lt}
+use Rattle.std.proofs.Common.{◌≡◌, ℕ, suc, ◌+◌, ◌-◌, ◌≤◌, ◌<◌, List, [], ◌∷◌, ◌++◌, length, take, Option, Some, None, Ok, sym, ap, subst, refl, arith, add-one, length-append}
 use Rattle.tn_outside.specs.declared.peer.Peer.{Peer}
-use Rattle.tn_outside.specs.Links.{Datagram, Ahead, found, Receives, Tells, answer_at, later}
+use Rattle.tn_outside.specs.Links.{Datagram, Ahead, found, Receives, Tells}
 use Rattle.tn_outside.specs.Totals.{Adds, AddsFront}
-use Rattle.tn_outside.proofs.Totals.{adds_nothing}
 use Rattle.match_script.specs.declared.types.Head.{Head}
 use Rattle.net_rules.specs.declared.limits.TheConstants.{MAX_RECEIVES, MAX_RECEIVED_BYTES}
-use Rattle.net_rules.specs.Turns.{Event, Heard, Turned, IsDue, IsTurn, total, AreTurns, with_found, heard, events}
+use Rattle.net_rules.specs.Turns.{Event, Heard, Turned, total, AreTurns, with_found, heard, events}
 use Rattle.net_rules.specs.Places.{IsPlace, Listens}
-use Rattle.net_rules.proofs.Places.{answer_later, place_came, came, not_due, place_quiet, past_stays}
+use Rattle.net_rules.proofs.Places.{place_came, place_quiet, past_stays}
 use Rattle.net_rules.proofs.Turning.{turn_ends, turns_go_on, found_more, heard_more, events_more}
+use Rattle.net_rules.proofs.Rounds.{event_is, nothing_sent}
 use Rattle.net_serve.specs.Lines.{lines, text_so_far}
 use Rattle.net_serve.specs.Outgoing.{sends}
 use Rattle.net_rules.specs.Runs.{Begun}
@@ -86,20 +84,13 @@ module _ (o : Begun) (k : ℕ) (a a' : Option Ahead) (c : Option (List ℕ)) (x 
   pub came_place : (a'' : Option Ahead) → a'' ≡ a' → IsPlace o.ahead o.clock a'' c (suc k)
   came_place a'' same = subst (λ (z : Option Ahead). IsPlace o.ahead o.clock z c (suc k)) (sym same) (place_came o.ahead o.clock a a' c k buf place x r)
 
-  event_is : (bytes : List ℕ) (past : List Event) → bytes ≡ take x.1 buf → Heard (record { peer = x.0; bytes = bytes }) ∷ past ≡ with_found (found o.ahead k) past
-  event_is bytes past e =
-      ap (λ (b : List ℕ). Heard (record { peer = x.0; bytes = b }) ∷ past) e ∙ sym (came o.ahead o.clock a a' c k buf place x r l past)
-
   pub came_at : (s : ServerState) (w : Option (List ℕ)) (d : Option (List Datagram)) (bytes : List ℕ) (past : List Event) → bytes ≡ take x.1 buf
       → IsAt o s w d (Heard (record { peer = x.0; bytes = bytes }) ∷ past) → IsAt o s w d (with_found (found o.ahead k) past)
-  came_at s w d bytes past e at = subst (λ (t : List Event). IsAt o s w d t) (event_is bytes past e) at
+  came_at s w d bytes past e at = subst (λ (t : List Event). IsAt o s w d t) (event_is o k a a' c x buf place r l bytes past e) at
 
   pub came_front : (head : Head) (w : Option (List ℕ)) (d : Option (List Datagram)) (bytes : List ℕ) (past : List Event) → bytes ≡ take x.1 buf
       → IsFront o head w d (Heard (record { peer = x.0; bytes = bytes }) ∷ past) → IsFront o head w d (with_found (found o.ahead k) past)
-  came_front head w d bytes past e f = subst (λ (t : List Event). IsFront o head w d t) (event_is bytes past e) f
-
-  pub came_not_due : (t : ℕ) → (false ≡ true) ↔ IsDue o.ahead o.clock t k
-  came_not_due t = (λ e. absurd cc, λ due. absurd (not_due o.ahead o.clock a a' c k buf place x r t due))
+  came_front head w d bytes past e f = subst (λ (t : List Event). IsFront o head w d t) (event_is o k a a' c x buf place r l bytes past e) f
 
 module _ (o : Begun) (k : ℕ) (a a' : Option Ahead) (c c' : Option (List ℕ)) (now : ℕ) (buf : List ℕ) (place : IsPlace o.ahead o.clock a c k)
     (r : Receives a a' (Ok None) buf) (told : Tells c c' (Ok now)) where
@@ -118,9 +109,6 @@ found_front o s w d k past at =
     front_later o s.script.head w d f.0 past (with_found (found o.ahead k) past) f.1 (at_front o s s.script.head w d past refl at)
 
 -- ---- the start
-
-nothing_sent : (first now : Option (List Datagram)) → now ≡ first → Adds first now []
-nothing_sent first now e = subst (λ (x : Option (List Datagram)). Adds first x []) (sym e) (adds_nothing first)
 
 pub starts_at : (o : Begun) (s : ServerState) (w : Option (List ℕ)) (d : Option (List Datagram)) → Serves s [] → Adds o.written w (text_so_far s.script.head []) → d ≡ o.sent → IsAt o s w d []
 starts_at o s w d serves text same = record { serves = serves; text = text; outgoing = nothing_sent o.sent d same }

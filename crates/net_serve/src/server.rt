@@ -426,7 +426,7 @@ impl<'a> Server<'a> {
     }
 
     /// Does what the end of a turn's listening asks for.
-    pub(crate) fn turn<L: Link, K: Sink>(
+    pub(crate) fn end_turn<L: Link, K: Sink>(
         &mut self,
         alloc: Global,
         link: &mut L,

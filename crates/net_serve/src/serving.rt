@@ -97,7 +97,7 @@ fn turn<L: Link, C: Clock, K: Sink, W: Watch>(
         due,
     };
     listen(alloc, server, until, link, clock, sink, watch)?;
-    server.turn(alloc, link, sink)
+    server.end_turn(alloc, link, sink)
 }
 
 /// All turns before this moment.

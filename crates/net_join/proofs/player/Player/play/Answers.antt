@@ -2,7 +2,7 @@ use Rattle.std.proofs.Common.{subst}
 use Rattle.net_rules.proofs.ByAnswer.{always_ok}
 use Rattle.net_join.specs.Playing.{PlayerState, PlaysOn}
 use Rattle.net_join.proofs.Ends.{sampled_becomes, turn_plays}
-use Rattle.net_join.proofs.player.Player.turn.Goals as goal
+use Rattle.net_join.proofs.player.Player.play.Goals as goal
 
 pub returns-clause-plays : goal.returns-clause-plays
 returns-clause-plays g c =
