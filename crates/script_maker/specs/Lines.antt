@@ -1,7 +1,9 @@
 -- The body of a made script: rounds, each a tick and then what every client and the server do for each other, with
 -- datagrams that are brought once, twice, late or never.
-use Rattle.std.specs.Prelude.{ℕ, ℤ, pos, ◌-ℤ◌, ◌-◌, ◌/◌, ◌%◌, ◌==◌, ◌&&◌, nat_lt, if◌then◌else◌, Bool, true, false, List, [], ◌∷◌, ◌++◌}
+use Rattle.std.specs.Prelude.{ℕ, ℤ, pos, ◌-ℤ◌, ◌-◌, ◌/◌, ◌%◌, ◌==◌, ◌&&◌, nat_lt, if◌then◌else◌, List, [], ◌∷◌, ◌++◌}
 use Rattle.tn_types.specs.declared.choices.Class.TheVariants.{Guaranteed}
+use Rattle.tn_types.specs.declared.choices.End.{End}
+use Rattle.tn_types.specs.declared.choices.End.TheVariants.{Client, Server}
 use Rattle.tn_types.specs.declared.moves.Move.{Move as PlayerMove}
 use Rattle.match_script.specs.declared.types.BodyLine.{BodyLine}
 use Rattle.match_script.specs.declared.types.BodyLine.TheVariants.{Tick, Scan, Post, Pack, ClientPack, Down, Up, Move}
@@ -39,10 +41,10 @@ sample c = do
   m ← move_drawn
   just (Move c m)
 
--- the line that brings a datagram of a client's connection, up or down
-abbrev pub way_line : Bool → ℕ → ℕ → BodyLine
-way_line true c = Up c
-way_line false c = Down c
+-- the line that brings a datagram that an end of a client's connection made
+abbrev pub way_line : End → ℕ → ℕ → BodyLine
+way_line Client c = Up c
+way_line Server c = Down c
 
 -- the lines that bring datagram k, the last that was made, by what was drawn: none, twice the same, the one before it
 -- behind it where there is one, or the line alone

@@ -11,7 +11,7 @@ use crate::numbers::{ACTS_ONCE_IN, CHANCES, PAYLOADS, POSTS_ONCE_IN, STEPS};
 use match_script::{BodyLine, LinePayload};
 use rand_pcg::Lcg64Xsh32;
 use std::alloc::Global;
-use tn_types::{Class, MIN_STEP, Move, NoMemory, Payload};
+use tn_types::{Class, End, MIN_STEP, Move, NoMemory, Payload};
 
 // Inlined, so that a line is made where it is to stand.
 #[inline(always)]
@@ -68,47 +68,52 @@ fn sample(rng: &mut Lcg64Xsh32, client: u8) -> BodyLine
     BodyLine::Move { client, m }
 }
 
-// The line that brings a client's datagram k, up or down.
-fn way_line(up: bool, client: u8, k: u32) -> BodyLine
-    ensures { result ≡ way_line up client k }
+// The line that brings datagram k of those that an end of a client's connection made.
+fn way_line(made_by: End, client: u8, k: u32) -> BodyLine
+    ensures { result ≡ way_line made_by client k }
 {
-    if up {
-        BodyLine::Up { client, k }
-    } else {
-        BodyLine::Down { client, k }
+    match made_by {
+        End::Client => BodyLine::Up { client, k },
+        End::Server => BodyLine::Down { client, k },
     }
 }
 
 // The lines that bring datagram k, by what was drawn.
-fn bring(lines: &mut Vec<BodyLine>, up: bool, client: u8, k: u32, d: u32) -> Result<(), NoMemory>
-    ensures { OnOk result (lines.new.items ≡ lines.old.items ++ brought (way_line up client) k d) }
+fn bring(
+    lines: &mut Vec<BodyLine>,
+    made_by: End,
+    client: u8,
+    k: u32,
+    d: u32,
+) -> Result<(), NoMemory>
+    ensures { OnOk result (lines.new.items ≡ lines.old.items ++ brought (way_line made_by client) k d) }
 {
     if d == 0 {
         return Ok(());
     }
-    put(lines, way_line(up, client, k))?;
+    put(lines, way_line(made_by, client, k))?;
     if d == 1 {
-        put(lines, way_line(up, client, k))
+        put(lines, way_line(made_by, client, k))
     } else if d == 2 && k > 0 {
-        put(lines, way_line(up, client, k - 1))
+        put(lines, way_line(made_by, client, k - 1))
     } else {
         Ok(())
     }
 }
 
-// A delivery, up or down, after so many datagrams and one.
+// A delivery of what an end made, after so many datagrams and one.
 #[tactic(auto, unfolding(crate::specs::Lines::delivery))]
 fn deliver(
     lines: &mut Vec<BodyLine>,
     rng: &mut Lcg64Xsh32,
-    up: bool,
+    made_by: End,
     client: u8,
     k: u32,
 ) -> Result<(), NoMemory>
-    ensures { OnOk result (Adds (delivery (way_line up client) k) lines.old.items rng.old lines.new.items rng.new) }
+    ensures { OnOk result (Adds (delivery (way_line made_by client) k) lines.old.items rng.old lines.new.items rng.new) }
 {
     let d = draw(rng, CHANCES);
-    bring(lines, up, client, k, d)
+    bring(lines, made_by, client, k, d)
 }
 
 // The event of a post.
@@ -160,11 +165,11 @@ fn put_client(
     let sampled = sample(rng, client);
     put(lines, sampled)?;
     put(lines, BodyLine::ClientPack { client })?;
-    deliver(lines, rng, true, client, k)?;
+    deliver(lines, rng, End::Client, client, k)?;
     put(lines, BodyLine::Scan { client })?;
     post(alloc, lines, rng, client)?;
     put(lines, BodyLine::Pack { client })?;
-    deliver(lines, rng, false, client, k)
+    deliver(lines, rng, End::Server, client, k)
 }
 
 // Round k.
