@@ -55,7 +55,8 @@ use Rattle.legal_race.proofs.Below.race_reads.ShownPeriods.{up_shown}
 use Rattle.legal_race.specs.race_steps.Asked.{object_shown, objects_shown}
 use Rattle.plain_race.specs.Done.{IsOwnStep, IsDone}
 use Rattle.plain_race.specs.Idle.{idle, idle_row}
-use Rattle.plain_race.proofs.Still.{told, still, world_next, ticks_more, ticks_same, steps_of_messages}
+use Rattle.plain_race.proofs.Still.{told, still, world_next, steps_of_messages}
+use Rattle.legal_race.proofs.Below.race_course.Following.{ticks_more, ticks_same}
 use Rattle.plain_race.proofs.Quiet.{AreQuiet, behind_shows, behind_traits, all_due}
 
 -- there is such an object, of this kind

@@ -5,7 +5,6 @@ use Rattle.std.specs.Prelude.{slice_get, if◌then◌else◌}
 use Rattle.std.specs.List.{range_with_len, AllByRecursion}
 use Rattle.std.proofs.lemmas.Bool.{eqb-true, eq-eqb}
 use Rattle.std.proofs.lemmas.List.{reverse-append, take-replicate, map-append}
-use Rattle.std.proofs.lemmas.List.Sums.{sum_by-cons}
 use Rattle.std.proofs.lemmas.List.Elements.{All-from_recursion}
 use Rattle.tn_types.specs.declared.limits.TheConstants.{MAX_BODY_LINES}
 use Rattle.tn_types.specs.declared.choices.Class.{Class}
@@ -40,6 +39,7 @@ use Rattle.own_lists.proofs.Counting.{counted_few}
 use Rattle.own_lists.proofs.Agreeing.{own_lists_agree}
 use Rattle.legal_race.specs.race_history.History.{world_after}
 use Rattle.legal_race.specs.race_course.Messages.{Ticks, is_tick, ticks_in, is_scan_of, world_at, seen_at, scans_of, scan_messages, line_gives, messages}
+use Rattle.legal_race.proofs.Below.race_course.Following.{ticks_more, ticks_same}
 use Rattle.legal_race.proofs.Below.race_course.ScanSteps.{are_scan_steps}
 use Rattle.plain_race.specs.Idle.{idle_row, idle}
 
@@ -96,18 +96,6 @@ first_of_none n ms none = rw none (go n)
 still_next : (w : Worlds) (row : List (Option Move)) (k : ℕ) → world_after (next w row) (replicate k row) ≡ next (world_after w (replicate k row)) row
 still_next w row zero = refl
 still_next w row (suc k) = still_next (next w row) row k
-
-abbrev of_tick : BodyLine → ℕ
-of_tick line = cond (is_tick line) 1 0
-
-pub ticks_more : (past : List BodyLine) → ticks_in (script.Tick ∷ past) ≡ ticks_in past + 1
-ticks_more past = let e = sum_by-cons of_tick script.Tick past in omega (arith, e)
-
-pub ticks_same : (line : BodyLine) (past : List BodyLine) → is_tick line ≡ false → ticks_in (line ∷ past) ≡ ticks_in past
-ticks_same line past other =
-    let e = sum_by-cons of_tick line past in
-    let none : of_tick line ≡ 0 = rw other refl in
-    omega (arith, e, none)
 
 all_none : {X : Type 0} (f : ℕ → Option X) → ((c : ℕ) → f c ≡ None) → (a n : ℕ) → map f (range_with_len a n) ≡ replicate n None
 all_none f none a zero = refl
