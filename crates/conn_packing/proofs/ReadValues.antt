@@ -85,11 +85,11 @@ specs-later ranges n k g fs h j spec e = subst (λ m. ranges n m ≡ Some (spec.
 specs-own : (ranges : ℕ → ℕ → Option (ℤ × ℤ)) (n k : ℕ) (g : FieldSpec) (fs : List FieldSpec) → HasSpecs ranges n k (g ∷ fs) → ranges n k ≡ Some (g.lo, g.hi)
 specs-own ranges n k g fs specs = subst (λ m. ranges n m ≡ Some (g.lo, g.hi)) (let e : k + 0 ≡ k = omega arith in e) (specs 0 g refl)
 
-abbrev front-of : ℕ × ℕ → List (ℕ × ℕ) → ℕ × ℕ
+abbrev pub front-of : ℕ × ℕ → List (ℕ × ℕ) → ℕ × ℕ
 front-of d [] = d
 front-of d (x ∷ xs) = x
 
-abbrev behind-of : List (ℕ × ℕ) → List (ℕ × ℕ)
+abbrev pub behind-of : List (ℕ × ℕ) → List (ℕ × ℕ)
 behind-of [] = []
 behind-of (x ∷ xs) = xs
 
@@ -115,14 +115,14 @@ values-masked ranges n mask k (g ∷ fs) rs is fit specs =
     by-bit ranges n mask k g fs (specs-own ranges n k g fs specs) (λ rs e f. subst (λ m. AreValues (masked m fs) (values_of rs)) (sym (halved mask k)) (values-masked ranges n mask (suc k) fs rs e f (specs-later ranges n k g fs specs)))
     (has_bit mask k) rs is fit
 
-masked-whole : (mask k : ℕ) (fs : List FieldSpec) → ((j : ℕ) → j < length fs → has_bit mask (k + j) ≡ true) → masked (mask / 2 ^ k) fs ≡ fs
+pub masked-whole : (mask k : ℕ) (fs : List FieldSpec) → ((j : ℕ) → j < length fs → has_bit mask (k + j) ≡ true) → masked (mask / 2 ^ k) fs ≡ fs
 masked-whole mask k [] h = refl
 masked-whole mask k (g ∷ fs) h =
     let here : has_bit mask k ≡ true = subst (λ m. has_bit mask m ≡ true) (let e : k + 0 ≡ k = omega arith in e) (h 0 (omega arith)) in
     ap (λ b. cond b (g ∷ masked (mask / 2 ^ k / 2) fs) (masked (mask / 2 ^ k / 2) fs)) here
     ∙ ap (λ (l : List FieldSpec). g ∷ l) (ap (λ m. masked m fs) (halved mask k) ∙ masked-whole mask (suc k) fs (λ j lt. subst (λ m. has_bit mask m ≡ true) (let e : k + suc j ≡ suc k + j = omega arith in e) (h (suc j) (omega arith))))
 
-below-power : (count : ℕ) → 2 ^ count - 1 < 2 ^ count
+pub below-power : (count : ℕ) → 2 ^ count - 1 < 2 ^ count
 below-power count = let p = some-power count in omega arith
   where
     some-power : (count : ℕ) → 0 < 2 ^ count

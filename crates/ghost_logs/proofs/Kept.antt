@@ -49,7 +49,7 @@ AreKept old new = (n : ℕ) → n < shows (scope_log old) → IsKept old new n
 pub same-kept : (g : List GhostEvent) → AreKept g g
 same-kept g n lt = record { shown = lt; kind = refl; block = refl }
 
-kept-then : (a b c : List GhostEvent) → AreKept a b → AreKept b c → AreKept a c
+pub kept-then : (a b c : List GhostEvent) → AreKept a b → AreKept b c → AreKept a c
 kept-then a b c x y n lt =
     let p = x n lt in
     let q = y n p.shown in

@@ -8,7 +8,7 @@ use Rattle.tn_types.specs.declared.choices.Verdict.{Verdict}
 use Rattle.tn_types.specs.declared.choices.Verdict.TheVariants.{Received, Lost}
 use Rattle.tn_types.specs.declared.choices.Choice.{Choice}
 use Rattle.ghost_model.specs.declared.phase.Phase.{Phase}
-use Rattle.ghost_model.specs.declared.phase.Phase.TheVariants.{Waiting, Gone}
+use Rattle.ghost_model.specs.declared.phase.Phase.TheVariants.{Waiting}
 use Rattle.tn_types.specs.BitWords.{has_bit}
 use Rattle.ghost_model.specs.Phases.{is_gone, is_up, is_waiting}
 use Rattle.ghost_model.specs.Scope as scope
@@ -20,7 +20,7 @@ use Rattle.ghost_model.specs.LastTurn.{last_turn}
 use Rattle.ghost_model.specs.Legal.{KindSizes, IsLegal, IsAllowed, AreApart}
 use Rattle.ghost_model.proofs.Steps.{other_test, hide_other}
 use Rattle.ghost_model.proofs.Granted.{is_found, unfound_given, unfound_phase, given_not_waiting}
-use Rattle.ghost_model.proofs.Holders.{apart, slot_shown}
+use Rattle.ghost_model.proofs.Holders.{apart, slot_shown, up_alive, held_alive}
 use Rattle.ghost_model.proofs.Legal.{sound, held_given, writing, judge_packet}
 use Rattle.ghost_model.proofs.Written.{can_be_written, wrote_given, settled_given, wrote_alive}
 use Rattle.ghost_model.proofs.Carriers.{alone_next}
@@ -31,14 +31,6 @@ use Rattle.ghost_rows.specs.Kept.{Row, row_at, IsFresh, IsAbsorbed, IsRow, HaveR
 use Rattle.ghost_rows.proofs.Notes.{row_same, row_other}
 
 -- ---- who holds a slot held it before
-
-held_alive : (p : Phase) (o : Option ℕ) (s : ℕ) → kept_slot p o ≡ Some s → is_gone p ≡ false
-held_alive Gone o s h = absurd (cc)
-held_alive p o s h = refl
-
-up_alive : (p : Phase) → is_up p ≡ true → is_gone p ≡ false
-up_alive Gone up = absurd (cc)
-up_alive p up = refl
 
 pub held_before : (old new : List scope.ScopeEvent) → ((n : ℕ) → given new n ≡ given old n) → ((n : ℕ) → is_gone (scope.phase new n) ≡ false → is_gone (scope.phase old n) ≡ false) → (n s : ℕ) → scope.slot new n ≡ Some s → scope.slot old n ≡ Some s
 held_before old new same alive n s e = ap (λ b. cond b None (given old n)) (alive n (held_alive (scope.phase new n) (given new n) s e)) ∙ sym (same n) ∙ held_given (scope.phase new n) (given new n) s e

@@ -1,6 +1,6 @@
 -- What the lines of a match keep of its world: it stays one, its objects stay what they are, and a tick's writes make the new values
 -- of the old ones. And of its scans: what a match says of periods.
-use Rattle.std.proofs.Common.{◌≡◌, ◌≢◌, ℕ, zero, suc, ◌+◌, ◌*◌, ◌<◌, ◌≤◌, Bool, true, false, cond, nat_eq, List, [], ◌∷◌, ◌++◌, length, map, replicate, Option, Some, None, refl, sym, ap, ◌∙◌, subst, arith, append_assoc, length-append, zero-add}
+use Rattle.std.proofs.Common.{◌≡◌, ◌≢◌, ℕ, zero, suc, ◌+◌, ◌*◌, ◌<◌, ◌≤◌, Bool, true, false, cond, nat_eq, List, [], ◌∷◌, ◌++◌, length, map, Option, Some, None, refl, sym, ap, ◌∙◌, subst, arith, append_assoc, length-append, zero-add}
 use Rattle.std.specs.Prelude.{ℤ, ◌≤ℤ◌, slice_get, slice_set}
 use Rattle.std.specs.List.{AllByRecursion}
 use Rattle.std.proofs.lemmas.Bool.{ne_eqb, eqb-true, eq-eqb}
@@ -22,20 +22,20 @@ use Rattle.world_rules.specs.declared.setup.Spawn.{Spawn}
 use Rattle.world_rules.specs.Spawning.{first_objects}
 use Rattle.world_rules.specs.Kinds.{kind_of, match_kinds}
 use Rattle.world_rules.specs.Ranges.{ObjectFits, StateFits, PlaceFits}
-use Rattle.world_rules.specs.Flags.{is_player, is_player_part}
+use Rattle.world_rules.specs.Flags.{is_player}
 use Rattle.world_rules.specs.Next.{object_next, discs_made, Moment}
 use Rattle.world_rules.specs.Identity.{Identity, identity_of, owner_in, is_owner, owners, OwnersRise, HaveNoOwner, IsPeopled}
 use Rattle.world_rules.proofs.Identities.{stays_itself}
-use Rattle.world_rules.proofs.Peopled.{peopled_first}
+use Rattle.world_rules.proofs.Peopled.{peopled_first, player_by_owner}
 use Rattle.world_rules.proofs.Ranging.{first_objects_fit, objects_fit}
 use Rattle.world_sim.specs.declared.rows.Write.{Write}
-use Rattle.world_sim.specs.Rows.{values_of, part_values, fresh_versions, differs, field_writes, row_writes, world_writes}
-use Rattle.world_sim.specs.Worlds.{Worlds, WasCounted, AreOfFields, IsWorld, first_world, next, coming}
+use Rattle.world_sim.specs.Rows.{values_of, part_values, differs, field_writes, row_writes, world_writes}
+use Rattle.world_sim.specs.Worlds.{Worlds, AreOfFields, IsWorld, first_world, next, coming}
 use Rattle.world_sim.specs.Worlds as worlds
 use Rattle.world_sim.specs.Facts.{AreInRange}
 use Rattle.world_sim.proofs.Histories.{HaveSameFields, of_fields_fresh, same_fields_next, same_value}
 use Rattle.world_sim.proofs.InRange.{fit}
-use Rattle.world_sim.proofs.WorldLaws.{world_next}
+use Rattle.world_sim.proofs.WorldLaws.{world_next, fresh_counted}
 use Rattle.client_scope.specs.world_scope.declared.viewer.Seen.{Seen}
 use Rattle.client_scope.specs.world_scope.Scope.{visible_list}
 use Rattle.client_scope.proofs.Below.world_scope.SeenList.{levels_few, all_there, objects_rise}
@@ -45,14 +45,6 @@ use Rattle.own_lists.specs.Past.{Past, happens, after, moves_of}
 use Rattle.own_lists.proofs.ScanFacts.{IsSight, AreSights, periods_few}
 
 -- ---- the world
-
-zeros_counted : (t n : ℕ) → AllByRecursion (λ v. v ≤ t) (replicate n 0)
-zeros_counted t zero = tt
-zeros_counted t (suc n) = (omega arith, zeros_counted t n)
-
-fresh_counted : (t : ℕ) (os : List Object) → AllByRecursion (WasCounted t) (map fresh_versions os)
-fresh_counted t [] = tt
-fresh_counted t (o ∷ os) = (zeros_counted t (length (values_of o)), fresh_counted t os)
 
 many_first : (number : ℕ) (spawns : List Spawn) → length (first_objects number spawns) ≡ length spawns
 many_first number [] = refl
@@ -421,14 +413,6 @@ object_goes_on w moves k o h at =
     }
 
 -- ---- whose player
-
-player_by_owner : (client : ℕ) (s : State) → is_player_part client s ≡ is_owner client (owner_in s)
-player_by_owner client (Player p) = refl
-player_by_owner client (Disc d) = refl
-player_by_owner client (Mine m) = refl
-player_by_owner client (Drone d) = refl
-player_by_owner client (Flag f) = refl
-player_by_owner client (Clock c) = refl
 
 pub same_player : (client : ℕ) (o p : Object) → identity_of o ≡ identity_of p → is_player client o ≡ is_player client p
 same_player client o p e =

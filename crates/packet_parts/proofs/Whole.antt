@@ -1,9 +1,8 @@
 -- Whole datagrams: the fault is the decoder's, and the parts of a packet are its spelling.
-use Rattle.std.proofs.Common.{◌≡◌, ℕ, ◌<◌, ◌≤◌, Bool, true, false, cond, List, ◌++◌, length, Option, Some, None, Result, Ok, Err, refl, sym, ap, subst, ◌∙◌, arith}
-use Rattle.std.specs.Prelude.{IfOk, IfSome, IsErr}
+use Rattle.std.proofs.Common.{◌≡◌, ℕ, Bool, true, false, cond, List, ◌++◌, Some, Result, Ok, Err, refl, sym, ap, subst, ◌∙◌}
+use Rattle.std.specs.Prelude.{IfOk, IsErr}
 use Rattle.std.specs.Result.{result_err}
 use Rattle.std.proofs.lemmas.List.{append_cancel_right}
-use Rattle.quantised_fields.specs.declared.kind.Kind.{Kind}
 use Rattle.tn_types.specs.declared.choices.NoMemory.{NoMemory as OutOfMemory}
 use Rattle.bit_stream.specs.Bits.{bits_of}
 use Rattle.bit_stream.specs.Reading.{Unread, end_at}
@@ -11,7 +10,6 @@ use Rattle.bit_stream.specs.declared.reader.PaddingFault.{PaddingFault}
 use Rattle.wire_format.specs.declared.fault.BitsFault.{BitsFault}
 use Rattle.wire_format.specs.declared.fault.BitsCause.TheVariants as causes
 use Rattle.wire_format.specs.Reading.{◌>>=◌, padding_as_fault, whole_of}
-use Rattle.wire_format.specs.Ghosts.{IsKind}
 use Rattle.wire_format.proofs.Formats.{IsFormat, bind_ok}
 use Rattle.packet_parts.specs.declared.packets.Telling.{Telling}
 use Rattle.packet_parts.specs.declared.reader.Halt.{Halt}
@@ -93,7 +91,3 @@ packet_told read spell Fits format bytes m s said (Ok t) same told whole tells m
     ap (λ ps. spelled ps) parts ∙ append_cancel_right (spelled s.parts) (spell a.0.0) a.0.1.rest same_bits ∙ ap spell x
 
 -- ---- kinds of the table
-
-pub kind_of_table : (kinds : List Kind) (held : Option ℕ) → length kinds ≤ 16 → IfSome held (λ kind. kind < length kinds) → IfSome held (IsKind kinds)
-kind_of_table kinds None few h = tt
-kind_of_table kinds (Some kind) few h = (omega (arith, few, h), h)

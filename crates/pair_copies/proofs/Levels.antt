@@ -3,7 +3,6 @@ use Rattle.std.proofs.Common.{◌≡◌, inl, inr, ℕ, ℤ, zero, suc, ◌+◌,
 use Rattle.std.specs.Prelude.{map, slice_get, slice_index_or}
 use Rattle.std.specs.Option.{option_map}
 use Rattle.std.specs.List.{AllByRecursion}
-use Rattle.std.proofs.Math.Nat.{pow-suc}
 use Rattle.std.proofs.Math.Seq.{drop-append_seam}
 use Rattle.std.proofs.lemmas.Bool.{cases_Bool, cases_eq}
 use Rattle.std.proofs.lemmas.List.{length-map, map-append}
@@ -29,28 +28,15 @@ use Rattle.ghost_pair.specs.Levels.{put}
 use Rattle.ghost_logs.specs.Sent.{items_of}
 use Rattle.conn_packing.specs.Packs.{values_of}
 use Rattle.conn_packing.specs.Reads.{fields_in, field_of, asked_by, asked_by_all}
+use Rattle.conn_packing.proofs.ReadValues.{below-power, masked-whole}
 use Rattle.pair_copies.specs.Reads.{newest_in}
-use Rattle.pair_copies.proofs.Runs.{run, fields-run, halved, none-above, run-count, others-leave, other-period, other-field, level-of-field}
+use Rattle.pair_copies.proofs.Runs.{run, fields-run, none-above, run-count, others-leave, other-period, other-field, level-of-field}
 
 -- ---- all fields of a kind
-
-masked-whole : (mask k : ℕ) (fs : List FieldSpec) → ((j : ℕ) → j < length fs → has_bit mask (k + j) ≡ true) → masked (mask / 2 ^ k) fs ≡ fs
-masked-whole mask k [] h = refl
-masked-whole mask k (g ∷ fs) h =
-    let here : has_bit mask k ≡ true = subst (λ m. has_bit mask m ≡ true) (let e : k + 0 ≡ k = omega arith in e) (h 0 (omega arith)) in
-    ap (λ b. cond b (g ∷ masked (mask / 2 ^ k / 2) fs) (masked (mask / 2 ^ k / 2) fs)) here
-    ∙ ap (λ (l : List FieldSpec). g ∷ l) (ap (λ m. masked m fs) (halved mask k) ∙ masked-whole mask (suc k) fs (λ j lt. subst (λ m. has_bit mask m ≡ true) (let e : k + suc j ≡ suc k + j = omega arith in e) (h (suc j) (omega arith))))
 
 place-whole : (mask f : ℕ) → ((j : ℕ) → j < f → has_bit mask j ≡ true) → place_in mask f ≡ f
 place-whole mask zero h = refl
 place-whole mask (suc f) h = ap (λ b. place_in mask f + cond b 1 0) (h f (omega arith)) ∙ ap (λ p. p + 1) (place-whole mask f (λ j lt. h j (omega arith))) ∙ omega arith
-
-below-power : (count : ℕ) → 2 ^ count - 1 < 2 ^ count
-below-power count = let p = some-power count in omega arith
-  where
-    some-power : (count : ℕ) → 0 < 2 ^ count
-    some-power zero = omega arith
-    some-power (suc count) = omega (arith, some-power count, pow-suc 2 count)
 
 -- the mask of a create has each field of the kind
 record IsWhole (mask : ℕ) (fs : List FieldSpec) : Type 0 where

@@ -15,6 +15,7 @@ use Rattle.ghost_masks.specs.Plan.{masked}
 use Rattle.ghost_masks.specs.Carried.{levels_for}
 use Rattle.conn_packing.specs.Packs.{values_of}
 use Rattle.conn_packing.specs.Reads.{fields_in, field_of}
+use Rattle.conn_packing.proofs.ReadValues.{front-of, behind-of}
 use Rattle.pair_copies.specs.Reads.{newest_in}
 
 -- ---- the fields of a mask, rising
@@ -108,14 +109,6 @@ place-is mask k (suc j) =
     go false a c = omega arith
 
 -- ---- the level of a field that was read
-
-abbrev front-of : ℕ × ℕ → List (ℕ × ℕ) → ℕ × ℕ
-front-of d [] = d
-front-of d (x ∷ xs) = x
-
-abbrev behind-of : List (ℕ × ℕ) → List (ℕ × ℕ)
-behind-of [] = []
-behind-of (x ∷ xs) = xs
 
 module _ (n mask : ℕ) (older : Option ℤ) (rest : List ℤ) (spec : FieldSpec) where
   -- the last read of field k + j among these, and the level at its place

@@ -31,7 +31,7 @@ use Rattle.stream_manager.specs.Server as server
 use Rattle.stream_manager.specs.Server.{ServerEvent, ScopeChange, ghost_log, server_state, choices_at, packed_onto, posted_at_server, took_at_server, server_answer}
 use Rattle.stream_manager.specs.Client.{client_datagrams}
 use Rattle.ghost_logs.specs.Sent.{items_of, sent_items}
-use Rattle.ghost_logs.proofs.Kept.{AreKept, same-kept, scope-kept, sent-kept, took-kept, choices-shown}
+use Rattle.ghost_logs.proofs.Kept.{AreKept, same-kept, scope-kept, sent-kept, took-kept, choices-shown, kept-then}
 use Rattle.conn_packing.specs.Packs.{absorbing, values_of}
 use Rattle.pair_core.specs.History.{PairStep, Show, Hide, Near, Post, ClientPost, Sample, Pack, ClientPack, Down, Up, Raw, history, server_posts, server_gets}
 use Rattle.conn_packing.specs.Reads.{AreReads, IsReadFor}
@@ -43,12 +43,6 @@ use Rattle.pair_copies.specs.Reads.{HasRead, WasRead, newest_in, last_read}
 use Rattle.pair_copies.proofs.Levels.{packet-levels}
 
 -- ---- steps that send nothing of ghosts
-
-kept-then : (a b c : List GhostEvent) → AreKept a b → AreKept b c → AreKept a c
-kept-then a b c x y n lt =
-    let p = x n lt in
-    let q = y n p.shown in
-    record { shown = q.shown; kind = q.kind ∙ p.kind; block = q.block ∙ p.block }
 
 -- what was shown keeps its kind, and no data packet was sent
 record SendsNothing (old new : List ServerEvent) : Type 0 where

@@ -47,7 +47,7 @@ ticks_same line past other =
     let none : of_tick line ≡ 0 = rw other refl in
     omega (arith, e, none)
 
-ticks_next : (w : Worlds) (row : List (Option Move)) → (next w row).ticks ≡ w.ticks + 1
+pub ticks_next : (w : Worlds) (row : List (Option Move)) → (next w row).ticks ≡ w.ticks + 1
 unfolding next
 ticks_next w row = refl
 

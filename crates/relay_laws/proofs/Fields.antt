@@ -16,6 +16,7 @@ use Rattle.ghost_masks.specs.Plan.{fields_of, fields_in}
 use Rattle.ghost_client.specs.declared.copy.GhostCopy.{GhostCopy}
 use Rattle.ghost_client.specs.State.{IsInRange, field_value}
 use Rattle.match_report.specs.declared.copies.FieldTold.{FieldTold}
+use Rattle.match_laws.proofs.FieldsTold.{IsFieldOf}
 
 -- ---- what is shown of a value has the value's level
 
@@ -45,13 +46,6 @@ pub is_sound_field : (kinds : List Kind) → table_fault kinds ≡ None → (kin
 is_sound_field kinds table kind f spec e = one_sound (fields_of kinds kind) (all_sound kinds (within_limits kinds table) kind) f spec e
 
 -- ---- what a told value is made of
-
-pub record IsFieldOf (kinds : List Kind) (f : ℕ) (copy : GhostCopy) (value : ℤ) : Type 0 where
-  pub spec : FieldSpec
-  pub field : slice_get (fields_of kinds copy.kind) f ≡ Some spec
-  pub level : ℕ
-  pub at : slice_get copy.levels f ≡ Some level
-  pub shows : value ≡ shown_of spec level
 
 module _ (kinds : List Kind) (f : ℕ) (copy : GhostCopy) (value : ℤ) where
   by_level : (spec : FieldSpec) → slice_get (fields_of kinds copy.kind) f ≡ Some spec → (o : Option ℕ) → slice_get copy.levels f ≡ o

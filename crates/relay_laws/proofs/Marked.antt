@@ -1,6 +1,6 @@
 -- What is marked as settled in any own list has the level of the newest value that the list has.
-use Rattle.std.proofs.Common.{◌≡◌, ◌∙◌, ℕ, ℤ, ◌<◌, ◌&&◌, Bool, true, false, not, cond, List, [], ◌∷◌, length, map, Option, Some, None, nat_lt, refl, sym, ap, subst, inl, inr, ◌⊎◌, arith}
-use Rattle.std.specs.Prelude.{slice_get, slice_index_or, find}
+use Rattle.std.proofs.Common.{◌≡◌, ◌∙◌, ℕ, ℤ, ◌<◌, ◌&&◌, Bool, true, false, not, List, [], ◌∷◌, length, map, Option, Some, None, nat_lt, refl, sym, ap, subst, inl, inr, ◌⊎◌, arith}
+use Rattle.std.specs.Prelude.{slice_get, slice_index_or}
 use Rattle.std.specs.Option.{option_map_or}
 use Rattle.std.specs.List.{AllByRecursion, list_any}
 use Rattle.std.proofs.lemmas.Bool.{and_parts, eqb-true}
@@ -30,14 +30,7 @@ use Rattle.own_lists.proofs.KeptValues.{own_fields}
 use Rattle.own_lists.proofs.Standing.{IsShownIn, up_are_shown}
 use Rattle.match_laws.proofs.ValuesNewest.{newest_of}
 use Rattle.match_laws.proofs.ValuesTold.{IsTold, all_told}
-
-found : {X : Type 0} (Q : X → Type 0) (p : X → Bool) (xs : List X) (x : X) → AllByRecursion Q xs → find p xs ≡ Some x → Q x × (p x ≡ true)
-found Q p [] x all e = absurd (cc)
-found Q p (y ∷ ys) x all e = go (λ rest. found Q p ys x all.1 rest) (p y) refl e
-  where
-    go : (find p ys ≡ Some x → Q x × (p x ≡ true)) → (b : Bool) → p y ≡ b → cond b (Some y) (find p ys) ≡ Some x → Q x × (p x ≡ true)
-    go later true is e = let same : y ≡ x = cc in (subst Q same all.0, ap p (sym same) ∙ is)
-    go later false is e = later e
+use Rattle.match_laws.proofs.FieldsTold.{found}
 
 not_false : (b : Bool) → not b ≡ true → b ≡ true → ⊥
 not_false true n e = let never : false ≡ true = n in cc

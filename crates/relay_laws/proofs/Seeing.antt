@@ -34,6 +34,7 @@ use Rattle.relay_script.specs.declared.entries.Entry.{Entry}
 use Rattle.relay_model.specs.Watching.{WatchEvent, watched, copy_at}
 use Rattle.relay_model.specs.Items.{shown_at, items_of}
 use Rattle.relay_report.specs.Met.{past_of, match_past, end_of, spectator_terms, met}
+use Rattle.match_laws.proofs.FieldsTold.{IsFieldOf}
 use Rattle.relay_laws.specs.Moments.{RelayMoment}
 use Rattle.relay_laws.specs.Shown.{IsShownField, ShowsHad, SpectatorsShowWhatWasSo}
 use Rattle.relay_laws.proofs.Places.{AreEntries, are_entries, fewer_all, match_parts}
@@ -42,7 +43,7 @@ use Rattle.relay_laws.proofs.Lasting.{all_go}
 use Rattle.relay_laws.proofs.Told.{WasShown}
 use Rattle.relay_laws.proofs.Ever.{read_shown}
 use Rattle.relay_laws.proofs.Match.{IsHonestAt, moment_of, honest_of_fewer, shows}
-use Rattle.relay_laws.proofs.Fields.{again, is_sound_field, IsFieldOf, field_of, a_told, told_value, shows_some}
+use Rattle.relay_laws.proofs.Fields.{again, is_sound_field, field_of, a_told, told_value, shows_some}
 use Rattle.relay_laws.proofs.Delivering.{limits, meet, clean, fit}
 
 one_copy : (a b : GhostCopy) → ◌≡◌ {A = Option GhostCopy} (Some a) (Some b) → a ≡ b

@@ -23,6 +23,7 @@ use Rattle.own_lists.specs.Past.{client_terms, kept_by, after}
 use Rattle.own_lists.specs.Agreement.{OwnListsHold}
 use Rattle.match_laws.specs.Laws.{EventsInOrder}
 use Rattle.match_laws.specs.Values.{ShowsNewest, CopiesShowValues, SettledIsNewest, IsShownField as IsShownInMatch}
+use Rattle.match_laws.proofs.FieldsTold.{IsFieldOf}
 use Rattle.match_laws.proofs.ValuesNewest.{newest_of}
 use Rattle.relay_script.specs.declared.entries.Entry.{Entry}
 use Rattle.relay_model.specs.Watching.{watched, copy_at}
@@ -35,7 +36,7 @@ use Rattle.relay_laws.specs.Settled.{ShowsTheRelays, SettledShowsTheRelays}
 use Rattle.relay_laws.proofs.Places.{AreEntries, are_entries}
 use Rattle.relay_laws.proofs.Meeting.{table_none, met_packets, met_own, met_few, holds, copies_are, fit_at}
 use Rattle.relay_laws.proofs.Match.{IsHonestAt, moment_of, shows, shows_newest}
-use Rattle.relay_laws.proofs.Fields.{again, is_sound_field, IsFieldOf, field_of, a_told, told_value, told_mark, shows_some}
+use Rattle.relay_laws.proofs.Fields.{again, is_sound_field, field_of, a_told, told_value, told_mark, shows_some}
 use Rattle.relay_laws.proofs.Newest.{right}
 use Rattle.relay_laws.proofs.Marked.{HasNewest, has_newest}
 use Rattle.relay_laws.proofs.Delivering.{t, limits, meet, clean, fit}

@@ -11,8 +11,6 @@ use Rattle.notify_window.specs.declared.SendState.TheVariants.{Held, Worn, Room}
 use Rattle.notify_window.specs.Log.{Fate}
 use Rattle.wire_format.specs.declared.client.ClientPacket.{ClientPacket}
 use Rattle.quantised_fields.specs.Kinds.{table_fault}
-use Rattle.ghost_model.specs.declared.phase.Phase.{Phase}
-use Rattle.ghost_model.specs.declared.phase.Phase.TheVariants.{Gone}
 use Rattle.ghost_model.specs.Phases.{is_waiting, is_gone, is_up}
 use Rattle.ghost_model.specs.Scope as scope
 use Rattle.ghost_model.specs.Scope.{given, shows, kept_slot}
@@ -22,7 +20,7 @@ use Rattle.ghost_model.proofs.Steps.{other_test, hide_other}
 use Rattle.ghost_model.proofs.Granted.{given_not_waiting, is_found, unfound_given, unfound_phase}
 use Rattle.ghost_model.proofs.Written.{wrote_given, settled_given, wrote_alive, can_be_written}
 use Rattle.ghost_model.proofs.Legal.{sound, held_given, writing, judge_packet}
-use Rattle.ghost_model.proofs.Holders.{held_alive, apart}
+use Rattle.ghost_model.proofs.Holders.{held_alive, apart, up_alive}
 use Rattle.ghost_masks.specs.Plan.{sizes}
 use Rattle.stream_manager.specs.declared.fault.ArriveFault.{ArriveFault}
 use Rattle.stream_manager.specs.Limits.{Terms}
@@ -56,10 +54,6 @@ Back old new = (n s : ℕ) → slot new n ≡ Some s → slot old n ≡ Some s
 -- who holds a slot now is who held it
 abbrev pub Same : List GhostEvent → List GhostEvent → Type 0
 Same old new = (n m s : ℕ) → slot old n ≡ Some s → slot new m ≡ Some s → n ≡ m
-
-up_alive : (p : Phase) → is_up p ≡ true → is_gone p ≡ false
-up_alive Gone up = absurd (cc)
-up_alive p up = refl
 
 hide_alive : (log : List scope.ScopeEvent) (m : ℕ) → is_up (scope.phase log m) ≡ true → (n : ℕ) → is_gone (scope.phase (scope.Hide m ∷ log) n) ≡ false
     → is_gone (scope.phase log n) ≡ false

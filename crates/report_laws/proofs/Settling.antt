@@ -34,6 +34,7 @@ use Rattle.match_laws.proofs.InOrder.{are_lines}
 use Rattle.match_laws.proofs.ValuesTold.{up_has}
 use Rattle.match_laws.proofs.ValuesRead.{up_at}
 use Rattle.match_laws.proofs.ValuesHad.{listed, agreed}
+use Rattle.match_laws.proofs.FieldsTold.{found, slot-is}
 use Rattle.report_laws.specs.Settled.{own_then, IsUpThen, is_written_then, IsSettledAt, MarkedWhereSettled, HasLast, SettledIsLast, Catches, ChangesAreCaught}
 use Rattle.report_laws.proofs.Honesty.{one_holder}
 use Rattle.report_laws.proofs.Looking.{written, newest}
@@ -43,14 +44,6 @@ use Rattle.report_laws.proofs.Looking.{written, newest}
 is-false : (b : Bool) → not b ≡ true → b ≡ false
 is-false true e = absurd cc
 is-false false e = refl
-
-found : {X : Type 0} (Q : X → Type 0) (p : X → Bool) (xs : List X) (x : X) → AllByRecursion Q xs → find p xs ≡ Some x → Q x × (p x ≡ true)
-found Q p [] x all e = absurd (cc)
-found Q p (y ∷ ys) x all e = go (λ rest. found Q p ys x all.1 rest) (p y) refl e
-  where
-    go : (find p ys ≡ Some x → Q x × (p x ≡ true)) → (b : Bool) → p y ≡ b → cond b (Some y) (find p ys) ≡ Some x → Q x × (p x ≡ true)
-    go later true is e = let same : y ≡ x = cc in (subst Q same all.0, ap p (sym same) ∙ is)
-    go later false is e = later e
 
 -- where one passes, one is found
 record IsFound {X : Type 0} (p : X → Bool) (xs : List X) : Type 0 where
@@ -68,10 +61,6 @@ finds p f n (m ∷ ns) passes h = go (λ rest. finds p f n ns passes rest) (p (f
         absurd (let never : true ≡ false = sym passes ∙ ap (λ i. p (f i)) (sym (eqb-true m n same)) ∙ is in cc)
     go later false is false same h =
         let rest = later h in record { x = rest.x; there = ap (λ a. cond a (Some (f m)) (find p (map f ns))) is ∙ rest.there }
-
-slot-is : (at : ℕ) (o : Option ℕ) → is_slot at o ≡ true → o ≡ Some at
-slot-is at None e = absurd (cc)
-slot-is at (Some s) e = ap (λ (x : ℕ). Some x) (eqb-true s at e)
 
 is-slot : (at : ℕ) (o : Option ℕ) → o ≡ Some at → is_slot at o ≡ true
 is-slot at None e = absurd (cc)

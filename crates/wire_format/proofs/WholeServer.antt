@@ -20,7 +20,7 @@ use Rattle.wire_format.proofs.ServerFormat.{IsReadServer, a_server}
 use Rattle.wire_format.proofs.Formats.{IsFormat}
 use Rattle.wire_format.proofs.Whole.{whole_takes, whole_again}
 
-kind_of_table : (kinds : List Kind) (held : Option ℕ) → length kinds ≤ 16 → IfSome held (λ kind. kind < length kinds) → IfSome held (IsKind kinds)
+pub kind_of_table : (kinds : List Kind) (held : Option ℕ) → length kinds ≤ 16 → IfSome held (λ kind. kind < length kinds) → IfSome held (IsKind kinds)
 kind_of_table kinds None few h = tt
 kind_of_table kinds (Some kind) few h = (omega (arith, few, h), h)
 

@@ -27,7 +27,7 @@ both_bits false false = refl
 nowhere : (from to : ℕ) → to ≤ 16 → is_between from to 16 ≡ false
 nowhere from to l = grind (arith, nat_tests)
 
-fits_at : (os : List Object) (n : ℕ) (o : Object) → AllByRecursion ObjectFits os → slice_get os n ≡ Some o → ObjectFits o
+pub fits_at : (os : List Object) (n : ℕ) (o : Object) → AllByRecursion ObjectFits os → slice_get os n ≡ Some o → ObjectFits o
 fits_at [] n o fits e = absurd (cc)
 fits_at (x ∷ os) zero o fits e = let same : x ≡ o = cc in rw (sym same) fits.0
 fits_at (x ∷ os) (suc n) o fits e = fits_at os n o fits.1 e

@@ -1,6 +1,5 @@
 -- Parts of the field, cell by cell and row by row.
-use Rattle.std.proofs.Common.{◌≡◌, ℕ, zero, suc, ◌+◌, ◌-◌, ◌/◌, ◌<◌, ◌≤◌, Bool, true, false, ◌&&◌, ◌||◌, ◌==◌, nat_le, List, [], ◌∷◌, refl, sym, ap, arith, min, Some}
-use Rattle.std.specs.Prelude.{slice_get}
+use Rattle.std.proofs.Common.{◌≡◌, ℕ, ◌+◌, ◌-◌, ◌/◌, ◌<◌, ◌≤◌, Bool, true, false, ◌&&◌, ◌||◌, ◌==◌, nat_le, List, refl, sym, ap, arith, min}
 use Rattle.std.specs.List.{AllByRecursion}
 use Rattle.std.proofs.Math.Bool.{and-false, and-true}
 use Rattle.std.proofs.lemmas.Bool.Decides.{nat_tests}
@@ -8,6 +7,7 @@ use Rattle.world_rules.specs.declared.object.Object.{Object}
 use Rattle.world_rules.specs.declared.object.Place.{Place}
 use Rattle.world_rules.specs.Ranges.{ObjectFits}
 use Rattle.world_cells.specs.Grid.{has_place, lies_at, is_between, lies_between}
+use Rattle.world_cells.proofs.Between.{fits_at}
 use Rattle.world_scope.specs.Square.{is_round}
 use Rattle.world_scope.specs.Candidates.{AreThose, either, is_in_row}
 use Rattle.world_scope.proofs.Numbers.{one}
@@ -96,11 +96,6 @@ round_is radius p o fits =
     let x : o.place.x / 4096 < 16 = omega (arith, fits.place.0) in
     let y : o.place.y / 4096 < 16 = omega (arith, fits.place.1) in
     rw (within ((p.x - radius) / 4096) ((p.x + radius) / 4096) (o.place.x / 4096) x, within ((p.y - radius) / 4096) ((p.y + radius) / 4096) (o.place.y / 4096) y) refl
-
-pub fits_at : (os : List Object) (n : ℕ) (o : Object) → AllByRecursion ObjectFits os → slice_get os n ≡ Some o → ObjectFits o
-fits_at [] n o fits e = absurd (cc)
-fits_at (x ∷ os) zero o fits e = let same : x ≡ o = cc in rw (sym same) fits.0
-fits_at (x ∷ os) (suc n) o fits e = fits_at os n o fits.1 e
 
 pub round_those : (words : List ℕ) (p : Object → Bool) (os : List Object) (radius : ℕ) (place : Place) → AllByRecursion ObjectFits os → AreThose words (either p (part_round radius place)) os → AreThose words (either p (is_round radius place)) os
 round_those words p os radius place fits those =

@@ -58,7 +58,7 @@ zeros_counted : (t n : ℕ) → AllByRecursion (λ v. v ≤ t) (replicate n 0)
 zeros_counted t zero = tt
 zeros_counted t (suc n) = (omega arith, zeros_counted t n)
 
-fresh_counted : (t : ℕ) (os : List Object) → AllByRecursion (WasCounted t) (map fresh_versions os)
+pub fresh_counted : (t : ℕ) (os : List Object) → AllByRecursion (WasCounted t) (map fresh_versions os)
 fresh_counted t [] = tt
 fresh_counted t (o ∷ os) = (zeros_counted t (length (values_of o)), fresh_counted t os)
 

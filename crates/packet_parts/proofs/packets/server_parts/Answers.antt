@@ -2,11 +2,12 @@ use Rattle.std.proofs.Common.{subst, sym, ◌∙◌, ap}
 use Rattle.wire_format.specs.Ghosts.{held_in}
 use Rattle.wire_format.specs.Server.{server_at, spell_server}
 use Rattle.wire_format.proofs.ServerFormat.{IsReadServer, a_server}
+use Rattle.wire_format.proofs.WholeServer.{kind_of_table}
 use Rattle.packet_parts.specs.Parts.{Told, begun}
 use Rattle.packet_parts.specs.Telling.{server_told}
 use Rattle.packet_parts.proofs.Erasing.{Same}
 use Rattle.packet_parts.proofs.Grammar.{server_same}
-use Rattle.packet_parts.proofs.Whole.{fault_told, packet_told, kind_of_table}
+use Rattle.packet_parts.proofs.Whole.{fault_told, packet_told}
 use Rattle.packet_parts.proofs.packets.server_parts.Goals as goal
 
 pub returns-clause-packet : goal.returns-clause-packet

@@ -2,8 +2,9 @@ use Rattle.std.proofs.Common.{◌≡◌, ◌∙◌, ◌+◌, ℕ, List, Option, 
 use Rattle.tn_types.specs.declared.moves.Move.{Move}
 use Rattle.world_sim.specs.Worlds.{Worlds, next, first_world}
 use Rattle.legal_race.specs.race_history.History.{IsHistoryOf, world_after}
+use Rattle.legal_race.proofs.Below.race_course.Following.{ticks_next}
 use Rattle.legal_race.proofs.Below.race_history.Histories.{after_more}
-use Rattle.plain_race.proofs.Calls.{row_more, ticks_next}
+use Rattle.plain_race.proofs.Calls.{row_more}
 use Rattle.plain_race.proofs.values.values_of.Goals as goal
 
 pub loop-tick-preserved : goal.loop-tick-preserved
