@@ -9,7 +9,6 @@ use Rattle.tn_types.specs.declared.moves.Move.{Move}
 use Rattle.match_script.specs.declared.types.BodyLine.{BodyLine}
 use Rattle.match_script.specs.declared.types.Script.{Script}
 use Rattle.legal_race.specs.race_history.declared.race.RaceClient.{RaceClient}
-use Rattle.world_sim.specs.Worlds.{next}
 use Rattle.std.proofs.lemmas.Bool.{cases_lt}
 use Rattle.std.proofs.lemmas.Option.{slice_get_within}
 use Rattle.pair_core.specs.stream_manager.Limits.{Terms}
@@ -28,7 +27,6 @@ use Rattle.race_messages.specs.declared.message.Message.{Message}
 use Rattle.race_messages.specs.Steps.{step_for, objects_with}
 use Rattle.pair_core.specs.Conditions.{IsMet, AreMet}
 use Rattle.legal_race.specs.race_steps.Asked.{objects_shown}
-use Rattle.legal_race.proofs.Below.race_course.Following.{ticks_next}
 use Rattle.plain_race.specs.Done.{IsOwnStep, AreStepsOf, IsDone, IsStopped, IsRefused, DoesLine, StopsAtLine, Takes, StopsAtMessage, MayTakeAll, IsPlain}
 use Rattle.plain_race.proofs.Still.{steps_of_messages}
 use Rattle.plain_race.proofs.Quiet.{none_shown}
@@ -180,6 +178,3 @@ row_more ticks n row e = rw add-one (go ticks n e)
     go [] k e = absurd (cc (e))
     go (t ∷ ts) zero e = let same : t ≡ row = cc (e) in ap (λ (r : List (Option Move)). r ∷ []) same
     go (t ∷ ts) (suc k) e = ap (λ (rs : List (List (Option Move))). t ∷ rs) (go ts k e)
-
-unfolding next
-ticks_next w row = refl
