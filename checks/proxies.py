@@ -16,6 +16,10 @@ class Way:
         self.address, self.outer = address, outer
         self.from_server, self.to_client, self.sent = [], [], []
 
+    def made(self):
+        """The number of the client's last packet that came here."""
+        return max((head_of(data)[1] for data in self.sent[-1:] if data[0] & 3 < 2), default=0)
+
 
 class Proxy:
     def __init__(self, dice, loss, delay, inner, outers, spoils=True):
@@ -55,7 +59,7 @@ class Proxy:
                 else:
                     self.inner.sendto(data, way.address)
                     if whole:
-                        way.to_client.append(data)
+                        way.to_client.append((data, way.made()))
             except OSError:
                 pass
         wait = min(0.005, max(0.0, self.later[0][0] - time.monotonic())) if self.later else 0.005
@@ -85,16 +89,20 @@ class Proxy:
 
 
 def taken(way, packs):
-    """The datagrams that a client took, each with its place, up to the last one before its last datagram; and its number, if it was welcomed."""
+    """The datagrams that a client took, each with its place, up to the last one before its last datagram; and its number, if it was welcomed.
+
+    Where a bit of the number of its own datagram was spoiled, the server acknowledges a packet that the client had not made, and the
+    client refuses that.
+    """
     nonce = way.sent[0][1:5] if way.sent else b""
     last = [data for data in way.sent if data[0] & 3 < 2]
     places, number, horizon = [], None, head_of(last[-1])[2] if last else 0
     reached = horizon == 0
-    for data in way.to_client:
+    for data, made in way.to_client:
         if data[0] == 3:
             if number is None and data[1:5] == nonce:
                 number = data[5]
-        elif number is not None and not reached:
+        elif number is not None and not reached and head_of(data)[2] <= made:
             places.append((packs[number].index(data), data))
             reached = head_of(data)[1] == horizon
     return number, places
