@@ -3,4 +3,4 @@
 
 mod reading;
 
-pub use reading::number_at;
+pub use reading::{number_at, one_word};

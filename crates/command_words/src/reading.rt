@@ -1,8 +1,9 @@
-//! The numbers of a command line.
+//! What words of a command line say.
 ghost use Rattle.std.specs.Prelude.{◌≡◌, ◌≢◌, false, IsTrue, length, map, string_bytes, slice_get, slice_index};
 ghost use Rattle.std.specs.Option.{option_and_then};
 ghost use Rattle.match_script.specs.Words.{is_number};
 ghost use Rattle.command_words.specs.Said.{number_said};
+ghost use Rattle.command_words.specs.OneWord.{one_word};
 
 // Whether digits that begin so have no sign and no leading zero.
 fn begins_plainly(word: &[u8]) -> bool
@@ -42,5 +43,23 @@ pub fn number_at(words: &[String], place: usize, least: u32, most: u32) -> Optio
     match words.get(place) {
         Some(word) => number(word.as_str(), least, most),
         None => None,
+    }
+}
+
+/// Whether the words are this name and no other; else how many of them, from the first on, are as that command wants them.
+pub fn one_word(words: &[String], name: &str) -> Result<(), u32>
+    ensures { result ≡ one_word name.now (map string_bytes words.now) }
+{
+    match words.split_first() {
+        None => Err(0),
+        Some((first, rest)) => {
+            if first.as_str() != name {
+                Err(0)
+            } else if rest.is_empty() {
+                Ok(())
+            } else {
+                Err(1)
+            }
+        }
     }
 }

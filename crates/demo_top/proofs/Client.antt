@@ -1,6 +1,6 @@
 -- The demo of a client, replayed, tells what the client was told.
-use Rattle.std.proofs.Common.{◌≡◌, ℕ, zero, suc, ◌+◌, ◌<◌, ◌≤◌, Bool, true, false, List, [], ◌∷◌, ◌++◌, length, reverse, map, drop, Option, Some, None, Ok, Err, Result, refl, sym, ◌∙◌, ap, subst, arith, inl, inr, length-append, nat_lt}
-use Rattle.std.specs.Prelude.{slice_get, codes}
+use Rattle.std.proofs.Common.{◌≡◌, ℕ, suc, ◌+◌, ◌<◌, true, List, [], ◌∷◌, ◌++◌, length, reverse, map, drop, Option, Ok, Err, Result, refl, sym, ◌∙◌, ap, subst, arith, inl, inr, length-append, nat_lt}
+use Rattle.std.specs.Prelude.{codes}
 use Rattle.std.specs.List.{flat_map}
 use Rattle.std.proofs.lemmas.Bool.Decides.{nat_tests}
 use Rattle.tn_types.specs.Checks.{Checked}
@@ -15,7 +15,7 @@ use Rattle.world_rules.specs.Kinds.{match_kinds}
 use Rattle.own_lists.specs.Past.{client_terms}
 use Rattle.demo_format.specs.declared.head.DemoHead.{DemoHead}
 use Rattle.demo_format.specs.Head.{read_head, head_in, IsHead}
-use Rattle.demo_format.specs.Records.{spell_records, spell_demo, ending, records_of, rest_of, body_of, is_ending, AreRecords}
+use Rattle.demo_format.specs.Records.{spell_records, spell_demo, ending, records_of, rest_of, is_ending}
 use Rattle.demo_format.proofs.Reading.{read-written}
 use Rattle.demo_format.proofs.Recording.{written-records, only-reading}
 use Rattle.demo_replay.specs.demo_view.wire_format.declared.server.ServerPacket.{ServerPacket}
@@ -23,14 +23,14 @@ use Rattle.demo_replay.specs.demo_view.wire_format.declared.ghosts.GhostItem.{Gh
 use Rattle.demo_replay.specs.demo_view.stream_manager.declared.fault.ClientFault.{ClientFault}
 use Rattle.demo_replay.specs.demo_view.stream_manager.Limits.{Terms}
 use Rattle.demo_replay.specs.demo_view.stream_manager.Faults.{without_packet}
-use Rattle.demo_replay.specs.demo_view.stream_manager.Client.{ClientEvent, client_end, ghosts_came, client_answer, arrive_answer, arriving, took_at_client}
+use Rattle.demo_replay.specs.demo_view.stream_manager.Client.{ClientEvent, client_end, ghosts_came, client_answer, arriving}
 use Rattle.demo_replay.specs.demo_view.stream_manager.End.{delivered_at, came_of}
-use Rattle.demo_replay.specs.demo_view.stream_manager.Packets.{packets_at, delivered_to, ghosts_seen, events_seen}
-use Rattle.demo_replay.specs.demo_view.Viewing.{ViewTerms, viewed, viewing, taking, view_of, view_answer, news_of, count_delivered}
+use Rattle.demo_replay.specs.demo_view.stream_manager.Packets.{packets_at, delivered_to, ghosts_seen}
+use Rattle.demo_replay.specs.demo_view.Viewing.{ViewTerms, viewed, viewing, taking, view_answer, news_of}
 use Rattle.demo_view.proofs.Alike.{views-with-client, takes-with-client}
 use Rattle.demo_view.proofs.Below.stream_manager.Packets.{shows-alike}
 use Rattle.demo_taken.specs.Taken.{viewer_terms}
-use Rattle.demo_taken.specs.pair_core.History.{PairStep, Down, history, client_gets}
+use Rattle.demo_taken.specs.pair_core.History.{client_gets}
 use Rattle.demo_taken.proofs.Taking.{takes-the-same}
 use Rattle.event_manager.specs.Receiving.{run_of}
 use Rattle.demo_record.specs.match_engine.client_seat.Told.{handed_down}
@@ -40,7 +40,7 @@ use Rattle.demo_record.specs.Laws.{client_log}
 use Rattle.demo_record.specs.Recording.{AreRecorded, demo_head, demo_text, events_by, events_down, taken_by, taken_lines}
 use Rattle.demo_record.proofs.Lines.{records-the-connection}
 use Rattle.demo_record.proofs.Noted.{Known, IsNoted, known, no-events}
-use Rattle.demo_replay.specs.Replaying.{Replayed, Took, terms_in, event_told, record_told, records_told, told_as, replayed_line, takes_told, packets_behind, replay_text, shown_behind, word_for}
+use Rattle.demo_replay.specs.Replaying.{Replayed, Took, terms_in, event_told, record_told, records_told, told_as, replayed_line, takes_told, replay_text, shown_behind, word_for}
 use Rattle.demo_replay.proofs.Written.{head-is, told-append}
 use Rattle.demo_top.specs.Laws.{takes_of, client_shown, IsToldOf, TellsTheClient}
 

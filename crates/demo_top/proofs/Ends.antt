@@ -1,26 +1,26 @@
 -- Each end of a command has its outcome.
-use Rattle.std.proofs.Common.{ℕ, ◌≡◌, ◌+◌, ◌≤◌, inl, inr, List, Option, Some, None, Result, Ok, Err, refl, ap, subst, arith}
-use Rattle.std.specs.Prelude.{◌↔◌, OnErr}
-use Rattle.tn_outside.specs.Causes.{Rose}
+use Rattle.std.proofs.Common.{ℕ, ◌≡◌, ◌+◌, ◌≤◌, inl, inr, List, Option, Some, None, Result, Ok, Err, OnOk, OnErr, refl, ap, sym, subst, arith}
+use Rattle.std.specs.Prelude.{◌↔◌}
+use Rattle.tn_outside.specs.Causes.{Rose, HandsOn}
 use Rattle.tn_outside.specs.Totals.{Adds, AddsFront}
+use Rattle.tn_outside.specs.declared.failed.RunFault.{RunFault}
+use Rattle.tn_outside.specs.declared.failed.RunFault.TheVariants as run
 use Rattle.tn_outside.proofs.Totals.{whole_front}
 use Rattle.match_script.specs.Script.{script_of}
 use Rattle.match_script.specs.declared.types.Script.{Script as OneScript}
 use Rattle.script_input.specs.declared.status.Status.{Status}
-use Rattle.script_input.specs.declared.status.Status.TheVariants.{Done, WriteFault, Demo as NoDemo}
-use Rattle.script_input.specs.Reading.{Seen, seen, GaveAtMost, ReadAs}
+use Rattle.script_input.specs.declared.status.Status.TheVariants.{Done, WriteFault, NoMemory, Demo as NoDemo}
+use Rattle.script_input.specs.Reading.{Seen, seen, Gave, GaveAtMost, ReadAs}
+use Rattle.script_input.specs.Outcome.{EndsBehind}
+use Rattle.script_input.proofs.Outcome.{by_end, on_ok, on_err}
 use Rattle.demo_format.specs.Head.{head_in, head_or, head_fault, read_head}
 use Rattle.demo_record.specs.Recording.{demo_text}
 use Rattle.demo_replay.specs.declared.replaying.ReplayFault.{ReplayFault}
 use Rattle.demo_replay.specs.declared.replaying.ReplayFault.TheVariants as fault
 use Rattle.demo_replay.specs.declared.replaying.ReplayFault.TheVariants.{Head}
 use Rattle.demo_top.specs.declared.command.DemoCommand.{DemoCommand}
-use Rattle.demo_top.specs.declared.command.DemoCommand.TheVariants.{Demo, Replay, ReplayAt}
-use Rattle.demo_top.specs.Outcome.{Gave, Makes, DemoOutcome, limit_of, text_of, demo_of, replaying}
-
--- a fault that comes later in a call is one of the call
-pub rose-later : (a b n : ℕ) → a ≤ b → Rose b n → Rose a n
-rose-later a b n le rose = omega arith
+use Rattle.demo_top.specs.declared.command.DemoCommand.TheVariants.{Demo}
+use Rattle.demo_top.specs.Outcome.{Makes, DemoOutcome, limit_of, text_of, demo_of, replaying}
 
 -- what a source and a sink were told to be, before a call and after it
 module _ (c : DemoCommand) (held held' : Option (List ℕ)) (faults faults' : ℕ) (taken : GaveAtMost (limit_of c + 1) held held') (spared : faults' ≡ faults) where
@@ -48,6 +48,24 @@ module _ (c : DemoCommand) (held held' : Option (List ℕ)) (faults faults' : �
 
     pub write-fault : sink_faults ≤ sink_faults' → AddsFront w w' text → Rose sink_faults sink_faults' → DemoOutcome (Ok c) source (seen w w' sink_faults sink_faults') WriteFault
     write-fault writes front failed = record { answer = (spared, failed, (text, made, front)); taken = taken; written = inr (text, made, front); reads = reads; writes = writes }
+
+    pub no-memory : sink_faults' ≡ sink_faults → AddsFront w w' text → DemoOutcome (Ok c) source (seen w w' sink_faults sink_faults') NoMemory
+    no-memory kept front = record { answer = (spared, kept); taken = taken; written = inr (text, made, front); reads = reads; writes = omega (arith, kept) }
+
+  -- and wrote it, or a front of it; with the sink before the run, behind it, and after the call
+  module _ (text : List ℕ) (made : Makes c source (Ok text)) (w w1 w2 : Option (List ℕ)) (same : w2 ≡ w1) (f f1 f2 : ℕ) (ran : Result (Unit {0}) RunFault)
+      (whole : OnOk ran (Adds w w1 text)) (front : OnErr ran (AddsFront w w1 text)) where
+    adds-here : ran ≡ Ok tt → Adds w w2 text
+    adds-here ok = subst (λ (x : Option (List ℕ)). Adds w x text) (sym same) (on_ok ran tt ok whole)
+
+    front-here : (why : RunFault) → ran ≡ Err why → AddsFront w w2 text
+    front-here why e = subst (λ (x : Option (List ℕ)). AddsFront w x text) (sym same) (on_err ran why e front)
+
+    pub ended : (s : Status) → HandsOn f f1 (ran ≡ Err run.WriteFault) → EndsBehind ran f1 f2 s → DemoOutcome (Ok c) source (seen w w2 f f2) s
+    ended s cause e = by_end (λ (x : Status). DemoOutcome (Ok c) source (seen w w2 f f2) x) f f1 f2 ran s cause e
+        (λ ok. (λ kept. done text made w w2 f f2 kept (adds-here ok), λ later rose. write-fault text made w w2 f f2 later (whole_front w w2 text (adds-here ok)) rose))
+        (λ failed later rose. write-fault text made w w2 f f2 later (front-here run.WriteFault failed) rose)
+        (λ none kept. no-memory text made w w2 f f2 kept (front-here run.NoMemory none))
 
 -- ---- a script that was read
 
@@ -80,6 +98,3 @@ module _ {T : Type 0} (bytes : List ℕ) (r : Result T ReplayFault) (refused : (
 
   pub memory-failed : r ≡ Err fault.NoMemory → read_head bytes ≡ Ok (head_in bytes)
   memory-failed e = has-head bytes (λ place k. let h = (refused place).1 k in cc (e, h))
-
-pub on-err : {T E P : Type 0} (r : Result T E) (x : E) → r ≡ Err x → OnErr r P → P
-on-err {T} {E} {P} r x e h = subst (λ (y : Result T E). OnErr y P) e h

@@ -1,12 +1,12 @@
 -- The definition of the command keeps the rule of the command line.
-use Rattle.std.proofs.Common.{◌≡◌, ◌⊎◌, inl, inr, ℕ, ◌+◌, ◌<◌, ◌≤◌, Bool, true, false, List, [], ◌∷◌, ◌++◌, length, take, arith, refl, sym, ap, subst, ◌∙◌, length-take}
-use Rattle.std.specs.Prelude.{Result, Ok, Err, codes, if◌then◌else◌}
+use Rattle.std.proofs.Common.{◌≡◌, ◌⊎◌, inl, inr, ℕ, ◌+◌, ◌<◌, ◌≤◌, Bool, true, false, List, [], ◌∷◌, ◌++◌, length, take, arith, refl, ap, subst, ◌∙◌, length-take}
+use Rattle.std.specs.Prelude.{Ok, Err, codes, if◌then◌else◌}
 use Rattle.std.specs.Fmt.{decimal}
 use Rattle.std.specs.Str.{bytes_eq}
 use Rattle.std.specs.Str.Parse.{digits_value}
 use Rattle.match_script.proofs.Printing.{number_from_decimal}
 use Rattle.command_words.specs.Said.{number_said, is_from, agreeing, agrees, number_at}
-use Rattle.command_words.proofs.Numbers.{Told, told}
+use Rattle.command_words.proofs.Numbers.{told}
 use Rattle.command_words.proofs.Words.{front_agrees, more_agree, few_agree, name_is, said_some, whole, number_is}
 use Rattle.demo_top.specs.declared.command.DemoCommand.{DemoCommand}
 use Rattle.demo_top.specs.declared.command.DemoCommand.TheVariants.{Demo, Replay, ReplayAt}

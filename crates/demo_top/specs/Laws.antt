@@ -2,8 +2,6 @@
 -- a line `take` with the same events; and at its end the client's copies.
 use Rattle.std.specs.Prelude.{◌≡◌, ℕ, suc, ◌<◌, ◌++◌, List, [], ◌∷◌, reverse, codes, Option, Ok}
 use Rattle.std.specs.List.{flat_map}
-use Rattle.match_script.specs.declared.types.BodyLine.{BodyLine}
-use Rattle.match_script.specs.declared.types.Head.{Head}
 use Rattle.match_script.specs.declared.types.Script.{Script}
 use Rattle.match_script.specs.Ranges.{HasRanges}
 use Rattle.match_script.specs.Script.{script_of}
@@ -12,8 +10,7 @@ use Rattle.match_report.specs.declared.told.EventTold.{EventTold}
 use Rattle.match_report.specs.Replays.{shown_line}
 use Rattle.copies_told.specs.Told.{copies_told}
 use Rattle.world_rules.specs.Kinds.{match_kinds}
-use Rattle.own_lists.specs.Past.{client_terms}
-use Rattle.demo_format.specs.Head.{read_head, head_in}
+use Rattle.demo_format.specs.Head.{read_head}
 use Rattle.demo_replay.specs.demo_view.stream_manager.Client.{ClientEvent, client_end, ghosts_came}
 use Rattle.demo_replay.specs.demo_view.stream_manager.End.{came_of}
 use Rattle.event_manager.specs.Receiving.{run_of}

@@ -2,12 +2,13 @@
 -- command's limit of bytes, and writes the text that it makes of it; or it has none, and says why. Every other end has its cause.
 use Rattle.std.specs.Prelude.{ℕ, ◌≡◌, ◌+◌, ◌≤◌, ◌⊎◌, List, length, Option, Some, None, Result, Ok, Err, Bool, true, false, nat_le}
 use Rattle.tn_types.specs.declared.limits.TheConstants.{MAX_SCRIPT_BYTES}
-use Rattle.tn_outside.specs.Totals.{Drained, Adds, AddsFront}
+use Rattle.tn_outside.specs.Totals.{Adds, AddsFront}
 use Rattle.match_script.specs.Script.{script_of, Fault}
 use Rattle.match_script.specs.declared.types.Script.{Script as OneScript}
 use Rattle.script_input.specs.declared.status.Status.{Status}
-use Rattle.script_input.specs.declared.status.Status.TheVariants.{Done, Usage, Script, TooLong, ReadFault, WriteFault, NoMemory, Demo as NoDemo}
-use Rattle.script_input.specs.Reading.{Seen, IsUntouched, IsSpared, HasFailed, GaveBytes, GaveAtMost}
+use Rattle.script_input.specs.declared.status.Status.TheVariants.{Done, Usage, Script, TooLong, WriteFault, NoMemory, Demo as NoDemo}
+use Rattle.script_input.specs.Reading.{Seen, IsUntouched, IsSpared, HasFailed, Gave, NotGave, GaveAtMost}
+use Rattle.script_input.specs.Outcome.{Adding, IsCommand, IsAnswer}
 use Rattle.demo_format.specs.declared.head.DemoHead.{DemoHead}
 use Rattle.demo_format.specs.declared.head.TheConstants.{MAX_DEMO_BYTES}
 use Rattle.demo_format.specs.Head.{read_head}
@@ -47,23 +48,10 @@ replaying None = Replay
 replaying (Some count) = ReplayAt count
 
 -- the text for an input was added, or a front of it
-abbrev pub Writes :
-    (Option (List ℕ) → Option (List ℕ) → List ℕ → Type 0) → DemoCommand → List ℕ → Option (List ℕ) → Option (List ℕ) → Type 0
+abbrev pub Writes : Adding → DemoCommand → List ℕ → Option (List ℕ) → Option (List ℕ) → Type 0
 Writes adds c input written written' = (text : List ℕ) × (text_of c input ≡ Ok text) × adds written written' text
 
 -- ---- reading
-
--- all that the source held were these bytes, which are not too many
-pub record Gave (limit : ℕ) (old new : Option (List ℕ)) (bytes : List ℕ) : Type 0 where
-  pub all : Drained old new bytes
-  pub few : length bytes ≤ limit
-
--- why nothing was read to its end
-abbrev pub NoInput : ℕ → Seen → Status → Type 0
-NoInput limit source TooLong = GaveBytes (limit + 1) source.old source.new × IsSpared source
-NoInput limit source ReadFault = HasFailed source × GaveAtMost limit source.old source.new
-NoInput limit source NoMemory = IsSpared source
-NoInput limit source s = ⊥
 
 -- the command's input was read, and it makes this of it
 abbrev pub Makes : DemoCommand → Seen → Result (List ℕ) Status → Type 0
@@ -72,7 +60,7 @@ Makes c source made = (input : List ℕ) × Gave (limit_of c) source.old source.
 -- ---- the whole call
 
 -- the command's input was read, and the text for it was added to the sink: all of it, or a front
-abbrev pub Wrote : (Option (List ℕ) → Option (List ℕ) → List ℕ → Type 0) → DemoCommand → Seen → Seen → Type 0
+abbrev pub Wrote : Adding → DemoCommand → Seen → Seen → Type 0
 Wrote adds c source sink = (text : List ℕ) × Makes c source (Ok text) × adds sink.old sink.new text
 
 abbrev pub WroteFront : Result DemoCommand ℕ → Seen → Seen → Type 0
@@ -86,7 +74,7 @@ Cause c source sink (Script line fault) = IsSpared source × IsUntouched sink ×
 Cause c source sink (NoDemo place) = IsSpared source × IsUntouched sink × Makes c source (Err (NoDemo place))
 Cause c source sink WriteFault = IsSpared source × HasFailed sink × Wrote AddsFront c source sink
 Cause c source sink NoMemory = IsSpared source × IsSpared sink
-Cause c source sink s = NoInput (limit_of c) source s × IsUntouched sink
+Cause c source sink s = NotGave (limit_of c) source s × IsUntouched sink
 
 -- where the words are no command, the answer is `Usage` and nothing was touched
 abbrev pub AnswerTo : Result DemoCommand ℕ → Seen → Seen → Status → Type 0
@@ -122,16 +110,9 @@ abbrev pub wanted : Result DemoCommand ℕ → List ℕ → Status
 wanted (Err place) input = Usage place
 wanted (Ok c) input = answer_within (nat_le (length input) (limit_of c)) (text_of c input)
 
-abbrev pub IsCommand : Result DemoCommand ℕ → Type 0
-IsCommand (Ok c) = Unit {0}
-IsCommand (Err place) = ⊥
-
--- the wanted answer, or that of a fault of the outside or of want of memory, which came before it
+-- the wanted answer, or what came before it
 abbrev pub IsWanted : Result DemoCommand ℕ → List ℕ → Seen → Seen → Status → Type 0
-IsWanted command input source sink ReadFault = IsCommand command × HasFailed source
-IsWanted command input source sink WriteFault = (wanted command input ≡ Done) × HasFailed sink
-IsWanted command input source sink NoMemory = IsCommand command
-IsWanted command input source sink s = s ≡ wanted command input
+IsWanted command input source sink s = IsAnswer command (IsCommand command) (wanted command input) source sink s
 
 -- the words are a command, and the source tells an input that is valid for it and not too long: bytes with a demo's head for `replay`,
 -- and a text that is a script for `demo`

@@ -3,7 +3,6 @@
 
 mod command;
 mod laws;
-mod reading;
 mod serving;
 
 pub use command::DemoCommand;

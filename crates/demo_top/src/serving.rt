@@ -6,19 +6,18 @@ ghost use Rattle.script_input.specs.declared.status.Status.TheVariants.{Demo as 
 ghost use Rattle.script_input.specs.Reading.{seen, HasFailed};
 ghost use Rattle.demo_replay.specs.Cuts.{CutsKeepAFront};
 ghost use Rattle.demo_top.specs.declared.command.DemoCommand.TheVariants.{Demo};
-ghost use Rattle.demo_top.specs.Command.{command_of, CommandFits, Says};
+ghost use Rattle.demo_top.specs.Command.{command_of, Says};
 ghost use Rattle.demo_top.specs.Laws.{ToldOfClient};
 ghost use Rattle.demo_top.specs.Outcome.{DemoOutcome, IsWanted, CanBeDone, Writes, replaying, text_of};
 
 use crate::command::{DemoCommand, command_of};
 use crate::laws::replay_tells_the_client;
-use crate::reading::read_demo;
 use demo_format::MAX_DEMO_BYTES;
 use demo_record::write_demo_of;
 use demo_replay::{ReplayFault, cut_demo_tells_a_front, replay, replay_at};
-use script_input::{Status, read_script};
+use script_input::{Status, end_call, read_all, read_script};
 use std::alloc::Global;
-use tn_outside::{RunFault, Sink, Source};
+use tn_outside::{Sink, Source};
 
 /// Serves `demo C`.
 fn serve_demo<S: Source, K: Sink>(alloc: Global, client: u8, source: &mut S, sink: &mut K) -> Status
@@ -29,17 +28,12 @@ fn serve_demo<S: Source, K: Sink>(alloc: Global, client: u8, source: &mut S, sin
     ensures told { result ≡ Status.Done → ToldOfClient client (S.held source.old) (S.held source.new) }
 {
     replay_tells_the_client();
-    let script = match read_script(alloc, source) {
-        Ok(script) => script,
-        Err(status) => return status,
-    };
-    match write_demo_of(alloc, &script, client, sink) {
-        Ok(()) => match sink.flush() {
-            Ok(()) => Status::Done,
-            Err(_) => Status::WriteFault,
-        },
-        Err(RunFault::WriteFault) => Status::WriteFault,
-        Err(RunFault::NoMemory) => Status::NoMemory,
+    match read_script(alloc, source) {
+        Ok(script) => {
+            let ran = write_demo_of(alloc, &script, client, sink);
+            end_call(ran, sink)
+        }
+        Err(status) => status,
     }
 }
 
@@ -79,7 +73,7 @@ fn serve_replay<S: Source, K: Sink>(
         (seen (K.written sink.old) (K.written sink.new) (K.faults sink.old) (K.faults sink.new)) result }
     ensures handed { result ≡ Status.Done → K.gathered sink.new ≡ [] }
 {
-    let bytes = match read_demo(alloc, source) {
+    let bytes = match read_all(alloc, source, MAX_DEMO_BYTES) {
         Ok(bytes) => bytes,
         Err(status) => return status,
     };

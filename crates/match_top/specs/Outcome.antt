@@ -1,7 +1,7 @@
 -- How a call ends, and what it leaves of its source and its sink. A command has a script: `run` and `alone` read theirs, a
 -- text of at most 1,048,576 bytes, to its end; `big` makes its own of its numbers and reads nothing. The command writes the
 -- text that it makes of its script. Every other end has its cause, and a fault is answered exactly where there was one.
-use Rattle.std.specs.Prelude.{ℕ, ◌≡◌, ◌+◌, ◌<◌, ◌≤◌, ◌⊎◌, List, length, reverse, Option, Some, Result, Ok, Err}
+use Rattle.std.specs.Prelude.{ℕ, ◌≡◌, ◌+◌, ◌<◌, ◌≤◌, ◌⊎◌, List, reverse, Option, Result, Ok, Err}
 use Rattle.std.specs.List.{flat_map}
 use Rattle.tn_types.specs.declared.limits.TheConstants.{MAX_SCRIPT_BYTES}
 use Rattle.tn_outside.specs.Totals.{Adds, AddsFront}
@@ -19,6 +19,7 @@ use Rattle.match_top.specs.declared.command.Command.TheVariants.{Run, Alone, Big
 use Rattle.script_input.specs.declared.status.Status.{Status}
 use Rattle.script_input.specs.declared.status.Status.TheVariants.{Done, Usage, Script, TooLong, ReadFault, WriteFault, NoMemory}
 use Rattle.script_input.specs.Reading.{Seen, IsUntouched, IsSpared, HasFailed, ReadAs, NotRead, GaveBytes, GaveAtMost, answer_of}
+use Rattle.script_input.specs.Outcome.{Adding, IsAnswer, TellsScript}
 
 -- what a command writes for its script
 abbrev pub text_of : Command → OneScript → List ℕ
@@ -67,7 +68,7 @@ LeavesSource (Err place) source = IsUntouched source
 -- ---- the whole call
 
 -- the command has a script, and its text for it was added to the sink: all of it, or a front
-abbrev pub Wrote : (Option (List ℕ) → Option (List ℕ) → List ℕ → Type 0) → Command → Seen → Seen → Type 0
+abbrev pub Wrote : Adding → Command → Seen → Seen → Type 0
 Wrote adds c source sink = (script : OneScript) × HasScript c source script × adds sink.old sink.new (text_of c script)
 
 abbrev pub WroteFront : Result Command ℕ → Seen → Seen → Type 0
@@ -108,25 +109,13 @@ wanted (Ok Run) text = answer_of script_of text
 wanted (Ok (Alone client)) text = answer_of script_of text
 wanted (Ok (Big seed clients steps)) text = Done
 
-abbrev pub IsCommand : Result Command ℕ → Type 0
-IsCommand (Ok c) = Unit {0}
-IsCommand (Err place) = ⊥
-
--- the wanted answer, or that of a fault of the outside or of want of memory, which came before it
+-- the wanted answer, or what came before it
 abbrev pub IsWanted : Result Command ℕ → List ℕ → Seen → Seen → Status → Type 0
-IsWanted command text source sink ReadFault = Reads command × HasFailed source
-IsWanted command text source sink WriteFault = (wanted command text ≡ Done) × HasFailed sink
-IsWanted command text source sink NoMemory = IsCommand command
-IsWanted command text source sink s = s ≡ wanted command text
-
--- the source tells a text that is a script and not too long
-abbrev pub TellsScript : Option (List ℕ) → Type 0
-TellsScript held =
-    (text : List ℕ) × (script : OneScript) × (held ≡ Some text) × (length text ≤ MAX_SCRIPT_BYTES) × (script_of text ≡ Ok script)
+IsWanted command text source sink s = IsAnswer command (Reads command) (wanted command text) source sink s
 
 -- the words are a command, and the source tells a script where the command reads one
 abbrev pub CanBeDone : Result Command ℕ → Option (List ℕ) → Type 0
-CanBeDone (Ok Run) held = TellsScript held
-CanBeDone (Ok (Alone client)) held = TellsScript held
+CanBeDone (Ok Run) held = TellsScript script_of held
+CanBeDone (Ok (Alone client)) held = TellsScript script_of held
 CanBeDone (Ok (Big seed clients steps)) held = Unit {0}
 CanBeDone (Err place) held = ⊥

@@ -15,7 +15,7 @@ use match_count::match_laws::laws_of_matches;
 use match_count::{count, put_counts};
 use match_script::Script;
 use report_laws::laws_of_reports;
-use script_input::{Status, read_script};
+use script_input::{Status, end_call, read_script};
 use script_maker::make;
 use std::alloc::Global;
 use tn_outside::{RunFault, Sink, Source, write_all};
@@ -113,17 +113,12 @@ fn carry_out<S: Source, K: Sink>(
         (seen (K.written sink.old) (K.written sink.new) (K.faults sink.old) (K.faults sink.new)) result }
     ensures handed { result ≡ Status.Done → K.gathered sink.new ≡ [] }
 {
-    let script = match script_for(alloc, command, source) {
-        Ok(script) => script,
-        Err(status) => return status,
-    };
-    match write_text(alloc, command, &script, sink) {
-        Ok(()) => match sink.flush() {
-            Ok(()) => Status::Done,
-            Err(_) => Status::WriteFault,
-        },
-        Err(RunFault::WriteFault) => Status::WriteFault,
-        Err(RunFault::NoMemory) => Status::NoMemory,
+    match script_for(alloc, command, source) {
+        Ok(script) => {
+            let ran = write_text(alloc, command, &script, sink);
+            end_call(ran, sink)
+        }
+        Err(status) => status,
     }
 }
 

@@ -7,6 +7,7 @@ use Rattle.match_script.specs.declared.types.Head.{Head}
 use Rattle.script_maker.specs.Made.{made}
 use Rattle.script_input.specs.declared.status.Status.{Status}
 use Rattle.script_input.specs.declared.status.Status.TheVariants.{Done, Usage, Script, TooLong, ReadFault, WriteFault, NoMemory, LinkFault, ClockFault, Demo}
+use Rattle.script_input.proofs.Outcome.{rose_later}
 use Rattle.net_rules.specs.declared.fault.NetFault.{NetFault}
 use Rattle.net_rules.specs.declared.fault.NetFault.TheVariants as fault
 use Rattle.net_rules.specs.Faults.{HasCause}
@@ -19,11 +20,7 @@ use Rattle.net_join.specs.Joining.{sends as join_sends, ending}
 use Rattle.net_join.specs.Stages.{Joined, JoinedFront, JoinedSome, nonce_of}
 use Rattle.net_top.specs.declared.command.NetCommand.{NetCommand}
 use Rattle.net_top.specs.declared.command.NetCommand.TheVariants.{Serve, Join}
-use Rattle.net_top.specs.Outcome.{Told, told, Met, met, HasFailed, IsDone, IsFront, BeginsWith, NetOutcome, IsWanted, CanBeDone, status_of}
-
--- a fault that comes later in a call is one of the call
-rose_later : (a b n : ℕ) → a ≤ b → Rose b n → Rose a n
-rose_later a b n le rose = omega arith
+use Rattle.net_top.specs.Outcome.{told, Met, met, NetOutcome, IsWanted, CanBeDone, status_of}
 
 -- what was served whole is a front of it
 served_front : (head : Head) (turns : ℕ) (o : Begun) (w : Option (List ℕ)) (d : Option (List Datagram)) → Served head turns o w d → ServedFront head turns o w d

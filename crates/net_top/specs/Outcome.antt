@@ -3,10 +3,10 @@
 use Rattle.std.specs.Prelude.{ℕ, ◌≡◌, ◌≤◌, ◌⊎◌, List, Option, Result, Ok, Err}
 use Rattle.tn_outside.specs.Causes.{Rose}
 use Rattle.tn_outside.specs.Links.{Datagram, Ahead}
-use Rattle.match_script.specs.declared.types.Head.{Head}
 use Rattle.script_maker.specs.Made.{made}
 use Rattle.script_input.specs.declared.status.Status.{Status}
 use Rattle.script_input.specs.declared.status.Status.TheVariants.{Done, Usage, WriteFault, NoMemory, LinkFault, ClockFault}
+use Rattle.script_input.specs.Outcome.{IsCommand}
 use Rattle.net_rules.specs.declared.fault.NetFault.{NetFault}
 use Rattle.net_rules.specs.declared.fault.NetFault.TheVariants as fault
 use Rattle.net_rules.specs.Runs.{Begun, Begins}
@@ -91,10 +91,6 @@ pub record NetOutcome (command : Result NetCommand ℕ) (m : Met) (s : Status) :
   pub sink : m.sink.faults ≤ m.sink.faults_after
 
 -- ---- which answer it is
-
-abbrev pub IsCommand : Result NetCommand ℕ → Type 0
-IsCommand (Ok c) = Unit {0}
-IsCommand (Err place) = ⊥
 
 -- the answer that words ask for
 abbrev pub wanted : Result NetCommand ℕ → Status

@@ -1,36 +1,33 @@
 //! The command `predict C`.
 ghost use Rattle.std.specs.Prelude.{◌≡◌, ◌⊎◌, List, [], ℕ, map, string_bytes, Some, Ok};
+ghost use Rattle.match_script.specs.Script.{script_of};
 ghost use Rattle.script_input.specs.Reading.{seen, HasFailed};
+ghost use Rattle.script_input.specs.Outcome.{ScriptOutcome, IsWanted, CanBeDone};
 ghost use Rattle.client_predict.specs.Laws.{AcceptedChangesNothing, OffsetSettles};
 ghost use Rattle.predict_match.specs.predict_laws.Promise.{ValueIsServers};
 ghost use Rattle.predict_top.specs.Command.{client_of, Says};
-ghost use Rattle.predict_top.specs.Outcome.{PredictOutcome, IsWanted, CanBeDone};
+ghost use Rattle.predict_top.specs.Text.{IsPrediction};
 
 use crate::command::client_of;
 use client_predict::{accepted_changes_nothing, offset_settles};
 use predict_match::{run_predicted, value_is_servers};
-use script_input::{Status, read_script};
+use script_input::{Status, end_call, read_script};
 use std::alloc::Global;
-use tn_outside::{RunFault, Sink, Source};
+use tn_outside::{Sink, Source};
 
 // Carries out the command.
 fn carry_out<S: Source, K: Sink>(alloc: Global, client: u8, source: &mut S, sink: &mut K) -> Status
-    ensures outcome { PredictOutcome (Ok client)
+    ensures outcome { ScriptOutcome script_of IsPrediction (Ok client)
         (seen (S.held source.old) (S.held source.new) (S.faults source.old) (S.faults source.new))
         (seen (K.written sink.old) (K.written sink.new) (K.faults sink.old) (K.faults sink.new)) result }
     ensures handed { result ≡ Status.Done → K.gathered sink.new ≡ [] }
 {
-    let script = match read_script(alloc, source) {
-        Ok(script) => script,
-        Err(status) => return status,
-    };
-    match run_predicted(alloc, &script, client, sink) {
-        Ok(()) => match sink.flush() {
-            Ok(()) => Status::Done,
-            Err(_) => Status::WriteFault,
-        },
-        Err(RunFault::WriteFault) => Status::WriteFault,
-        Err(RunFault::NoMemory) => Status::NoMemory,
+    match read_script(alloc, source) {
+        Ok(script) => {
+            let ran = run_predicted(alloc, &script, client, sink);
+            end_call(ran, sink)
+        }
+        Err(status) => status,
     }
 }
 
@@ -44,7 +41,7 @@ pub fn top_predict<S: Source, K: Sink>(
 ) -> Status
     // What each answer says of the source and of the sink, and what holds after every answer: whatever was written are the lines of
     // the prediction over what happened at the client's end, or a front of them.
-    ensures outcome { PredictOutcome (client_of (map string_bytes words.now.items))
+    ensures outcome { ScriptOutcome script_of IsPrediction (client_of (map string_bytes words.now.items))
         (seen (S.held source.old) (S.held source.new) (S.faults source.old) (S.faults source.new))
         (seen (K.written sink.old) (K.written sink.new) (K.faults sink.old) (K.faults sink.new)) result }
     // Which client the words name, or where they stop being the command.
@@ -52,11 +49,12 @@ pub fn top_predict<S: Source, K: Sink>(
     // Where the whole text was written, the sink keeps none of it back.
     ensures handed { result ≡ Status.Done → K.gathered sink.new ≡ [] }
     // The answer is the one that the words and the text ask for, where nothing fails and memory is there.
-    ensures exact { (text : List ℕ) → S.held source.old ≡ Some text → IsWanted (client_of (map string_bytes words.now.items)) text
+    ensures exact { (text : List ℕ) → S.held source.old ≡ Some text
+        → IsWanted script_of (client_of (map string_bytes words.now.items)) text
         (seen (S.held source.old) (S.held source.new) (S.faults source.old) (S.faults source.new))
         (seen (K.written sink.old) (K.written sink.new) (K.faults sink.old) (K.faults sink.new)) result }
     // The command, a text that is a script, and no fault: all lines of the prediction, or no memory for them.
-    ensures complete { CanBeDone (client_of (map string_bytes words.now.items)) (S.held source.old)
+    ensures complete { CanBeDone script_of (client_of (map string_bytes words.now.items)) (S.held source.old)
         → (HasFailed (seen (S.held source.old) (S.held source.new) (S.faults source.old) (S.faults source.new)) → ⊥)
         → (HasFailed (seen (K.written sink.old) (K.written sink.new) (K.faults sink.old) (K.faults sink.new)) → ⊥)
         → (result ≡ Status.Done) ⊎ (result ≡ Status.NoMemory) }

@@ -24,7 +24,7 @@ pub(crate) fn read_relay_script<S: Source>(
     ensures taken { GaveAtMost (MAX_SCRIPT_BYTES + 1) (S.held source.old) (S.held source.new) }
     ensures cause { HandsOn (S.faults source.old) (S.faults source.new) (result ≡ Err Status.ReadFault) }
 {
-    let text = read_all(alloc, source)?;
+    let text = read_all(alloc, source, MAX_SCRIPT_BYTES)?;
     match parse_relay(alloc, text.as_slice()) {
         Ok(script) => Ok(script),
         Err(ParseFault::Bad { line, fault }) => Err(Status::Script(line, fault)),

@@ -1,14 +1,17 @@
 //! The command `relay`.
-ghost use Rattle.std.specs.Prelude.{◌≡◌, ◌⊎◌, List, [], ℕ, map, string_bytes, Some, Ok};
+ghost use Rattle.std.specs.Prelude.{◌≡◌, ◌⊎◌, List, [], ℕ, map, string_bytes, codes, Some, Ok};
+ghost use Rattle.command_words.specs.OneWord.{one_word, Says};
+ghost use Rattle.relay_script.specs.Whole.{relay_script_of};
 ghost use Rattle.script_input.specs.Reading.{seen, HasFailed};
+ghost use Rattle.script_input.specs.Outcome.{ScriptOutcome, IsWanted, CanBeDone};
 ghost use Rattle.relay_node.specs.relay_report.Laws.{PacksAreOfWhatWasMet, SameMetSamePacks, SameListsSamePacks};
 ghost use Rattle.relay_laws.specs.Shown.{SpectatorsShowWhatWasSo, PeriodsStandForOne};
 ghost use Rattle.relay_laws.specs.Settled.{SettledShowsTheRelays};
 ghost use Rattle.relay_laws.specs.Delivered.{SpectatorsDeliverWhatWasPosted};
-ghost use Rattle.relay_top.specs.Command.{relay_of, Says};
-ghost use Rattle.relay_top.specs.Outcome.{RelayOutcome, IsWanted, CanBeDone};
+ghost use Rattle.relay_top.specs.Text.{IsReport};
 
 use crate::reading::read_relay_script;
+use command_words::one_word;
 use relay_laws::{
     settled_shows_the_relays, spectators_deliver_what_was_posted, spectators_periods_stand_for_one,
     spectators_show_what_was_so,
@@ -17,46 +20,23 @@ use relay_node::relay_report::{
     packs_are_of_what_was_met, same_lists_same_packs, same_met_same_packs,
 };
 use relay_node::run_relay;
-use script_input::Status;
+use script_input::{Status, end_call};
 use std::alloc::Global;
-use tn_outside::{RunFault, Sink, Source};
-
-// Whether the words are `relay`, or where they stop being so.
-fn relay_of(words: &Vec<String>) -> Result<(), u32>
-    ensures { result ≡ relay_of (map string_bytes words.now.items) }
-{
-    match words.as_slice().split_first() {
-        None => Err(0),
-        Some((name, rest)) => {
-            if name.as_str() != "relay" {
-                Err(0)
-            } else if rest.is_empty() {
-                Ok(())
-            } else {
-                Err(1)
-            }
-        }
-    }
-}
+use tn_outside::{Sink, Source};
 
 // Carries out the command.
 fn carry_out<S: Source, K: Sink>(alloc: Global, source: &mut S, sink: &mut K) -> Status
-    ensures outcome { RelayOutcome (Ok tt)
+    ensures outcome { ScriptOutcome relay_script_of IsReport (Ok tt)
         (seen (S.held source.old) (S.held source.new) (S.faults source.old) (S.faults source.new))
         (seen (K.written sink.old) (K.written sink.new) (K.faults sink.old) (K.faults sink.new)) result }
     ensures handed { result ≡ Status.Done → K.gathered sink.new ≡ [] }
 {
-    let script = match read_relay_script(alloc, source) {
-        Ok(script) => script,
-        Err(status) => return status,
-    };
-    match run_relay(alloc, &script, sink) {
-        Ok(()) => match sink.flush() {
-            Ok(()) => Status::Done,
-            Err(_) => Status::WriteFault,
-        },
-        Err(RunFault::WriteFault) => Status::WriteFault,
-        Err(RunFault::NoMemory) => Status::NoMemory,
+    match read_relay_script(alloc, source) {
+        Ok(script) => {
+            let ran = run_relay(alloc, &script, sink);
+            end_call(ran, sink)
+        }
+        Err(status) => status,
     }
 }
 
@@ -70,19 +50,21 @@ pub fn top_relay<S: Source, K: Sink>(
 ) -> Status
     // What each answer says of the source and of the sink, and what holds after every answer: whatever was written is the report of the
     // relay script that was read, or a front of it.
-    ensures outcome { RelayOutcome (relay_of (map string_bytes words.now.items))
+    ensures outcome { ScriptOutcome relay_script_of IsReport (one_word (codes "relay") (map string_bytes words.now.items))
         (seen (S.held source.old) (S.held source.new) (S.faults source.old) (S.faults source.new))
         (seen (K.written sink.old) (K.written sink.new) (K.faults sink.old) (K.faults sink.new)) result }
     // Whether the words are the command, or where they stop being it.
-    ensures words { Says (map string_bytes words.now.items) (relay_of (map string_bytes words.now.items)) }
+    ensures words { Says (codes "relay") (map string_bytes words.now.items)
+        (one_word (codes "relay") (map string_bytes words.now.items)) }
     // Where the whole report was written, the sink keeps none of it back.
     ensures handed { result ≡ Status.Done → K.gathered sink.new ≡ [] }
     // The answer is the one that the words and the text ask for, where nothing fails and memory is there.
-    ensures exact { (text : List ℕ) → S.held source.old ≡ Some text → IsWanted (relay_of (map string_bytes words.now.items)) text
+    ensures exact { (text : List ℕ) → S.held source.old ≡ Some text
+        → IsWanted relay_script_of (one_word (codes "relay") (map string_bytes words.now.items)) text
         (seen (S.held source.old) (S.held source.new) (S.faults source.old) (S.faults source.new))
         (seen (K.written sink.old) (K.written sink.new) (K.faults sink.old) (K.faults sink.new)) result }
     // The command, a text that is a relay script, and no fault: the whole report, or no memory for it.
-    ensures complete { CanBeDone (relay_of (map string_bytes words.now.items)) (S.held source.old)
+    ensures complete { CanBeDone relay_script_of (one_word (codes "relay") (map string_bytes words.now.items)) (S.held source.old)
         → (HasFailed (seen (S.held source.old) (S.held source.new) (S.faults source.old) (S.faults source.new)) → ⊥)
         → (HasFailed (seen (K.written sink.old) (K.written sink.new) (K.faults sink.old) (K.faults sink.new)) → ⊥)
         → (result ≡ Status.Done) ⊎ (result ≡ Status.NoMemory) }
@@ -105,7 +87,7 @@ pub fn top_relay<S: Source, K: Sink>(
     spectators_periods_stand_for_one();
     settled_shows_the_relays();
     spectators_deliver_what_was_posted();
-    match relay_of(words) {
+    match one_word(words.as_slice(), "relay") {
         Ok(()) => carry_out(alloc, source, sink),
         Err(place) => Status::Usage(place),
     }

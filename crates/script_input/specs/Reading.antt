@@ -1,5 +1,5 @@
--- What a call that reads a script took from its source: a text of at most 1,048,576 bytes, to its end, which is a script; or why there
--- is none.
+-- What a call took from its source: all bytes, where they are not too many; a text of at most 1,048,576 bytes that is a script; or why
+-- there is none.
 use Rattle.std.specs.Prelude.{ℕ, ◌≡◌, ◌+◌, ◌≤◌, List, length, Option, Result, Ok, Err, Bool, true, false, nat_le}
 use Rattle.tn_types.specs.declared.limits.TheConstants.{MAX_SCRIPT_BYTES}
 use Rattle.tn_outside.specs.Causes.{Rose}
@@ -29,10 +29,10 @@ IsUntouched s = (s.new ≡ s.old) × IsSpared s
 
 -- ---- reading
 
--- all that the source held was this text, which is not too long
-pub record GaveText (old new : Option (List ℕ)) (text : List ℕ) : Type 0 where
-  pub all : Drained old new text
-  pub few : length text ≤ MAX_SCRIPT_BYTES
+-- all that the source held were these bytes, and they are no more than that
+pub record Gave (limit : ℕ) (old new : Option (List ℕ)) (bytes : List ℕ) : Type 0 where
+  pub all : Drained old new bytes
+  pub few : length bytes ≤ limit
 
 -- what a text is read as: a script of some kind, or its first fault
 abbrev pub Reading : Type 0 → Type 0
@@ -40,7 +40,7 @@ Reading S = List ℕ → Result S Fault
 
 -- the source gave a whole text, which is read so
 abbrev pub ReadAs : {S : Type 0} → Reading S → Option (List ℕ) → Option (List ℕ) → Result S Fault → Type 0
-ReadAs reading old new read = (text : List ℕ) × GaveText old new text × (reading text ≡ read)
+ReadAs reading old new read = (text : List ℕ) × Gave MAX_SCRIPT_BYTES old new text × (reading text ≡ read)
 
 -- the source gave so many bytes, and keeps the rest
 abbrev pub GaveBytes : ℕ → Option (List ℕ) → Option (List ℕ) → Type 0
@@ -49,17 +49,17 @@ GaveBytes n old new = (bytes : List ℕ) × (length bytes ≡ n) × GaveFront ol
 abbrev pub GaveAtMost : ℕ → Option (List ℕ) → Option (List ℕ) → Type 0
 GaveAtMost n old new = (k : ℕ) × (k ≤ n) × GaveBytes k old new
 
--- why there is no text: the source failed, or it did not and the text is too long, or more than memory holds
-abbrev pub NoText : Seen → Status → Type 0
-NoText source TooLong = GaveBytes (MAX_SCRIPT_BYTES + 1) source.old source.new × IsSpared source
-NoText source ReadFault = HasFailed source × GaveAtMost MAX_SCRIPT_BYTES source.old source.new
-NoText source NoMemory = IsSpared source
-NoText source s = ⊥
+-- why the bytes were not read to their end: the source failed, or it did not and they are too many, or more than memory holds
+abbrev pub NotGave : ℕ → Seen → Status → Type 0
+NotGave limit source TooLong = GaveBytes (limit + 1) source.old source.new × IsSpared source
+NotGave limit source ReadFault = HasFailed source × GaveAtMost limit source.old source.new
+NotGave limit source NoMemory = IsSpared source
+NotGave limit source s = ⊥
 
--- why no script was read: there is no text, or it is none
+-- why no script was read: no text was, or it is none
 abbrev pub NotRead : {S : Type 0} → Reading S → Seen → Status → Type 0
 NotRead reading source (Script line fault) = ReadAs reading source.old source.new (Err (line, fault)) × IsSpared source
-NotRead reading source s = NoText source s
+NotRead reading source s = NotGave MAX_SCRIPT_BYTES source s
 
 -- ---- which answer it is
 

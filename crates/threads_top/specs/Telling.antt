@@ -11,6 +11,10 @@ pub record IsRaceText (script : Script) (text : List ℕ) : Type 0 where
   pub legal : IsLegal script race
   pub told : text ≡ race_text script race
 
+-- the texts that `threads` may make of a script
+abbrev pub IsLegalText : Unit {0} → Script → List ℕ → Type 0
+IsLegalText u script text = IsRaceText script text
+
 -- the sink has such a text more
 abbrev pub Tells : Script → Option (List ℕ) → Option (List ℕ) → Type 0
 Tells script old new = (text : List ℕ) × IsRaceText script text × Adds old new text
