@@ -20,11 +20,11 @@ use Rattle.own_lists.specs.declared.showing.Showing.{Showing}
 use Rattle.own_lists.specs.Own.{OwnItem, OwnShow, OwnWrite, Line, Scan, Tick}
 use Rattle.pair_steps.specs.Steps.{shows_in, traits_in}
 use Rattle.own_lists.specs.Course.{Course, onto, hide_step, near_step, show_step, scan_steps, with_steps, ticked}
-use Rattle.own_lists.specs.Kept.{Kept, kept, begins, all_begin, after_scan, after_line, wrote_all, with_course}
+use Rattle.own_lists.specs.Kept.{Kept, kept, after_scan, after_line, wrote_all, with_course}
 use Rattle.own_lists.specs.Conditions.{MeetEach, HasValues, IsOwnWrite, IsOwnScan, IsOwnTick, MayFollow}
 use Rattle.pair_steps.proofs.Journals.{up_from, shows_told}
 use Rattle.own_lists.proofs.KeptValues.{wrote_course}
-use Rattle.own_lists.proofs.Meeting.{scan_journal, values_kept, taken_kept}
+use Rattle.own_lists.proofs.Meeting.{scan_journal, values_kept, taken_kept, begun_taken}
 use Rattle.own_lists.proofs.Standing.{shows_hides, shows_nears}
 use Rattle.own_items.specs.client_seat.Stands.{SeatState, StandsFor as SeatStandsFor, without_first}
 use Rattle.own_items.proofs.Below.client_seat.Making.{meet_rest}
@@ -86,10 +86,6 @@ pub how_of : (ss : List GivenShow) → map (λ (s : OwnShow). s.how) (map show_o
 how_of [] = refl
 how_of (s ∷ ss) = ap (λ l. (show_of s).how ∷ l) (how_of ss)
 
-begin_taken : (ss : List OwnShow) (k : Kept) → (all_begin ss k).course.taken ≡ k.course.taken
-begin_taken [] k = refl
-begin_taken (s ∷ ss) k = begin_taken ss (begins s k)
-
 module _ (c : ℕ) (seat : SeatState) (x : Table) (t : Terms) (items : List OwnItem) (s : Serves c seat x t items) where
   abbrev k : Kept
   k = kept t items
@@ -114,7 +110,7 @@ module _ (c : ℕ) (seat : SeatState) (x : Table) (t : Terms) (items : List OwnI
     course_is : (after_scan hides nears shows k).course ≡ with_steps (scan_steps hides nears hows) k.course
     course_is =
         let steps = scan_journal hides nears shows k in
-        let taken = begin_taken shows (with_course (with_steps (scan_steps hides nears []) k.course) k) in
+        let taken = begun_taken shows (with_course (with_steps (scan_steps hides nears []) k.course) k) in
         ap (λ (z : List PairStep × ℕ). record { steps = z.0; taken = z.1 }) (λ j. (steps j, taken j))
 
     pub scanned : (new : SeatState) (y : Table) → new.pair.keeps_all ≡ seat.pair.keeps_all → SeatStandsFor new t (with_steps (scan_steps hides nears hows) k.course)

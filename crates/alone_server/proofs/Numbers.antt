@@ -1,5 +1,5 @@
 -- The numbers of the shown periods rise.
-use Rattle.std.proofs.Common.{ℕ, zero, suc, ◌+◌, ◌<◌, ◌≤◌, Bool, true, false, not, cond, List, [], ◌∷◌, ◌++◌, filter, arith}
+use Rattle.std.proofs.Common.{ℕ, zero, suc, ◌+◌, Bool, true, false, not, cond, List, [], ◌∷◌, filter, arith}
 use Rattle.ghost_model.specs.Words.{upto}
 use Rattle.pair_core.specs.History.{PairStep}
 use Rattle.pair_steps.specs.Steps.{shows_in, is_hidden_in, up_in}

@@ -1,6 +1,6 @@
 -- No more datagrams are sent at either end than packs and scans were fed, and no more moves accepted than the connection's life.
-use Rattle.std.proofs.Common.{◌≡◌, ℕ, ◌+◌, ◌-◌, ◌≤◌, Bool, true, false, cond, nat_le, List, [], ◌∷◌, ◌++◌, if◌then◌else◌, length, take, drop, Option, Some, None, Result, Ok, Err, refl, sym, ap, subst, arith, length-append}
-use Rattle.std.specs.Prelude.{ℤ, slice_get, map}
+use Rattle.std.proofs.Common.{◌≡◌, ℕ, ◌+◌, ◌-◌, ◌≤◌, Bool, true, false, cond, nat_le, List, [], ◌∷◌, ◌++◌, if◌then◌else◌, length, take, drop, Option, Some, None, Result, Ok, Err, arith, length-append}
+use Rattle.std.specs.Prelude.{ℤ, slice_get}
 use Rattle.std.specs.Result.{is_ok}
 use Rattle.std.proofs.lemmas.List.{length-take}
 use Rattle.tn_types.specs.declared.choices.Class.{Class}
@@ -13,26 +13,17 @@ use Rattle.move_manager.specs.Sending.{Packet}
 use Rattle.move_manager.specs.Accepting.{new_count, accept}
 use Rattle.wire_format.specs.declared.client.ClientPacket.{ClientPacket}
 use Rattle.wire_format.specs.declared.client.ClientPacket.TheVariants as up
-use Rattle.match_script.specs.declared.types.BodyLine.{BodyLine}
 use Rattle.match_script.specs.declared.types.BodyLine.TheVariants as script
-use Rattle.client_scope.specs.declared.period.Near.{Near as NearPeriod}
-use Rattle.stream_manager.specs.declared.config.Config.{Config}
 use Rattle.stream_manager.specs.declared.fault.ArriveFault.{ArriveFault}
 use Rattle.stream_manager.specs.Limits.{Terms}
 use Rattle.stream_manager.specs.Server as server_log
-use Rattle.stream_manager.specs.Server.{ServerEvent, server_datagrams, server_state, server_answer, took_at_server, posted_at_server, accepted_at}
-use Rattle.stream_manager.specs.Client as client_log
-use Rattle.stream_manager.specs.Client.{ClientEvent, client_datagrams, posted_at_client, sampled_answer}
+use Rattle.stream_manager.specs.Server.{ServerEvent, server_state, server_answer, took_at_server, posted_at_server, accepted_at}
+use Rattle.stream_manager.specs.Client.{client_datagrams}
 use Rattle.conn_packing.specs.Packs.{absorbing, values_of}
-use Rattle.pair_core.specs.History.{PairStep, Show, Hide, Near, Post, ClientPost, Sample, Pack, ClientPack, Down, Up, Raw, history, server_posts, client_posts, client_samples, server_gets}
+use Rattle.pair_core.specs.History.{PairStep, Show, Hide, Near, Post, ClientPost, Sample, Pack, ClientPack, Down, Up, Raw, history, server_posts, server_gets}
 use Rattle.pair_core.specs.Answers.{accepted_in}
-use Rattle.pair_core.proofs.Brought.{gets_sends_up, gets_sends_down}
-use Rattle.own_lists.specs.Own.{OwnShow, OwnItem, Line, Scan, Tick}
-use Rattle.own_lists.specs.Course.{onto, hide_step, near_step, show_step, scan_steps}
-use Rattle.own_lists.specs.Kept.{Kept, after_line, follows, kept, journal}
-use Rattle.own_lists.specs.declared.showing.Showing.{Showing}
-use Rattle.own_lists.proofs.KeptValues.{wrote_course}
-use Rattle.own_lists.proofs.Meeting.{scan_journal}
+use Rattle.own_lists.specs.Own.{OwnItem, Line, Scan, Tick}
+use Rattle.own_lists.specs.Kept.{kept, journal}
 use Rattle.own_lists.proofs.Counting.{sent_down, sent_up, sends_most, item_sends}
 use Rattle.alone_server.specs.Stands.{is_counted, counted_in}
 

@@ -1,6 +1,7 @@
 -- What a server that serves one client alone tells of a line that is done on the connection is what a match tells of it, whose head
 -- says the same of the client. And its held periods are shown and not hidden.
-use Rattle.std.proofs.Common.{◌≡◌, ◌∙◌, ℕ, ◌<◌, Bool, true, false, not, List, [], ◌∷◌, Option, Some, map, refl, sym, ap, subst}
+use Rattle.std.proofs.Common.{◌≡◌, ◌∙◌, ℕ, ◌<◌, true, not, List, [], ◌∷◌, Option, Some, map, refl, sym, ap, subst}
+use Rattle.std.proofs.lemmas.Bool.{not-true}
 use Rattle.std.specs.List.{AllByRecursion}
 use Rattle.tn_types.specs.declared.choices.Drain.{Drain}
 use Rattle.world_rules.specs.Kinds.{match_kinds}
@@ -17,7 +18,7 @@ use Rattle.pair_steps.specs.Steps.{shows_in, is_hidden_in, up_in}
 use Rattle.pair_steps.proofs.Journals.{up_to}
 use Rattle.match_script.specs.Named.{client_named}
 use Rattle.own_lists.specs.Own.{OwnItem}
-use Rattle.own_lists.specs.Kept.{kept, undrained}
+use Rattle.own_lists.specs.Kept.{kept}
 use Rattle.own_lists.specs.Past.{Past, client_terms, start}
 use Rattle.own_lists.proofs.Meeting.{all_up}
 use Rattle.own_items.specs.client_seat.Stands.{SeatState, StandsFor as SeatStandsFor}
@@ -94,10 +95,6 @@ module _ (t : Terms) (kinds : t.kinds ≡ match_kinds) (items : List OwnItem) wh
 
 -- ---- what is held is shown and not hidden, whatever steps the connection stands for
 
-not_true : (b : Bool) → not b ≡ true → b ≡ false
-not_true true h = absurd (cc)
-not_true false h = refl
-
 module _ (client : ℕ) (seat : SeatState) (x : Table) (t : Terms) (items : List OwnItem) (s : Serves client seat x t items) where
   abbrev steps : List PairStep
   steps = (kept t items).course.steps
@@ -109,7 +106,7 @@ module _ (client : ℕ) (seat : SeatState) (x : Table) (t : Terms) (items : List
   each_up other theirs stands (n ∷ ns) h =
       let masks = seat.pair.conn.masks in
       let mine = ghost_log (history t steps).server in
-      let up = up_to t steps n (h.0).0 (not_true (is_hidden_in steps n) (h.0).1) in
+      let up = up_to t steps n (h.0).0 (not-true (is_hidden_in steps n) (h.0).1) in
       (up-to masks (ghost_log (history other theirs).server) stands.conn.masks n (up-from masks mine s.course.holds.pair.conn.masks n up), each_up other theirs stands ns h.1)
 
   pub held_are_up : (drains : List Drain) → drains ≡ map drain_of x.periods → (other : Terms) (theirs : List PairStep) → PairStandsFor seat.pair other theirs

@@ -1,5 +1,5 @@
 -- What a pack tells: the datagram that it made is the newest of those that are kept.
-use Rattle.std.proofs.Common.{◌≡◌, ℕ, Bool, true, false, refl, List, [], ◌∷◌, ◌++◌, length, Some, Result, Ok, Err, ◌∙◌, ap}
+use Rattle.std.proofs.Common.{◌≡◌, ℕ, Bool, true, refl, List, [], ◌∷◌, ◌++◌, length, Some, Result, Ok, Err, ◌∙◌, ap}
 use Rattle.std.specs.Prelude.{IfOk}
 use Rattle.tn_types.specs.declared.choices.Drain.{Drain}
 use Rattle.tn_types.specs.declared.choices.NoMemory.{NoMemory}

@@ -1,5 +1,5 @@
 -- What is told of a line that names a client: a function of what the client's own list leaves before the line.
-use Rattle.std.specs.Prelude.{ℕ, Bool, true, false, not, ◌&&◌, nat_lt, List, ◌∷◌, length, map, filter_map, find, drop, option_map, Option}
+use Rattle.std.specs.Prelude.{ℕ, Bool, false, not, ◌&&◌, nat_lt, List, ◌∷◌, length, map, filter_map, find, drop, option_map, Option}
 use Rattle.std.specs.Option.{option_map_or}
 use Rattle.tn_types.specs.declared.choices.Class.{Class}
 use Rattle.tn_types.specs.declared.choices.Class.TheVariants.{Guaranteed, Loose}

@@ -1,6 +1,6 @@
 -- What is told of copies by the ghosts that came: each slot's copy by rising slot, each field with the value that its level shows. No
 -- field is marked as settled, for only the server knows which are.
-use Rattle.std.specs.Prelude.{ℕ, pos, List, [], ◌∷◌, filter_map, false, Option, Some, None, ◌≡◌, refl}
+use Rattle.std.specs.Prelude.{ℕ, List, [], filter_map, false, Option, None, ◌≡◌, refl}
 use Rattle.std.specs.Option.{option_map}
 use Rattle.tn_types.specs.declared.limits.TheConstants.{MAX_SLOTS, MAX_FIELDS}
 use Rattle.quantised_fields.specs.declared.kind.Kind.{Kind}

@@ -1,5 +1,5 @@
 -- Lists by slot whose kinds are those of a match.
-use Rattle.std.proofs.Common.{◌≡◌, ℕ, zero, suc, ◌<◌, List, [], ◌∷◌, Option, Some, None, length}
+use Rattle.std.proofs.Common.{ℕ, zero, suc, ◌<◌, List, [], ◌∷◌, Option, Some, None}
 use Rattle.std.specs.Prelude.{replicate, slice_set}
 use Rattle.world_rules.specs.Kinds.{match_kinds}
 use Rattle.wire_format.specs.Ghosts.{held_in, AreOfTable}

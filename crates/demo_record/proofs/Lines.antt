@@ -22,7 +22,7 @@ use Rattle.demo_taken.specs.demo_view.Viewing.{viewed}
 use Rattle.demo_taken.specs.demo_view.stream_manager.Packets.{ghosts_seen, delivered_to}
 use Rattle.demo_taken.specs.Taken.{taken_down, viewer_terms}
 use Rattle.demo_taken.proofs.Taking.{shows-the-same}
-use Rattle.demo_record.specs.Recording.{taken_at, taken_by, taken_lines}
+use Rattle.demo_record.specs.Recording.{taken_at, taken_by}
 use Rattle.demo_record.specs.Laws.{RecordsTheConnection, ReplaysTheClient}
 
 module _ (t : Terms) where

@@ -1,5 +1,5 @@
 -- What a line tells of a datagram that a client took.
-use Rattle.std.proofs.Common.{◌≡◌, ℕ, ◌<◌, ◌≤◌, ◌==◌, Bool, true, false, cond, List, [], ◌∷◌, length, if◌then◌else◌, Option, Some, None, Ok, Err, Result, refl, sym, ◌∙◌, ap, subst, arith, inl, inr, ◌⊎◌}
+use Rattle.std.proofs.Common.{◌≡◌, ℕ, ◌≤◌, ◌==◌, Bool, true, false, cond, List, [], ◌∷◌, length, if◌then◌else◌, Option, Some, None, Ok, Err, Result, refl, sym, ◌∙◌, ap, subst, arith, inl, inr, ◌⊎◌}
 use Rattle.std.specs.Prelude.{slice_get}
 use Rattle.std.proofs.lemmas.Bool.{cases_eq}
 use Rattle.std.proofs.lemmas.Bool.Decides.{nat_tests}
@@ -38,13 +38,12 @@ use Rattle.match_script.specs.declared.types.Head.{Head}
 use Rattle.match_report.specs.declared.told.EventTold.{EventTold}
 use Rattle.match_report.specs.declared.told.Told.{Told}
 use Rattle.match_report.specs.declared.told.Told.TheVariants as told_as
-use Rattle.match_report.specs.declared.told.Way.{Way}
 use Rattle.match_report.specs.declared.told.Way.TheVariants as way
 use Rattle.own_lists.specs.Course.{room_in}
 use Rattle.own_lists.specs.Own.{Line}
 use Rattle.own_lists.specs.Kept.{kept, drains_of, reads_of}
 use Rattle.own_lists.specs.Past.{Past, client_terms, kept_by, after}
-use Rattle.match_engine.specs.client_seat.Told.{post_told, client_post_told, made_told, client_made_told, brought_told, brought_down_told, handed_down, handed_up}
+use Rattle.match_engine.specs.client_seat.Told.{post_told, client_post_told, made_told, client_made_told, brought_told, handed_down, handed_up}
 use Rattle.match_engine.specs.match_laws.Report.{told_after}
 use Rattle.match_engine.specs.match_laws.Values.{steps_of}
 use Rattle.demo_taken.specs.Taken.{if_taken, taken_of}

@@ -1,5 +1,5 @@
 -- What is written of a replay, record by record.
-use Rattle.std.proofs.Common.{◌≡◌, ℕ, zero, suc, ◌+◌, ◌≤◌, List, [], ◌∷◌, ◌++◌, length, take, drop, Option, Some, None, Ok, refl, sym, ◌∙◌, ap, subst, arith, append_assoc}
+use Rattle.std.proofs.Common.{◌≡◌, ℕ, suc, ◌+◌, List, [], ◌∷◌, ◌++◌, length, take, drop, Option, Some, None, Ok, refl, sym, ◌∙◌, ap, subst, arith, append_assoc}
 use Rattle.std.specs.List.{flat_map}
 use Rattle.std.proofs.lemmas.List.{append-nil, take_all, length-take-le, take-append-drop}
 use Rattle.std.proofs.lemmas.List.Concat.{flat_map-append}
@@ -12,7 +12,7 @@ use Rattle.demo_format.specs.Records.{front_length, records_of, rest_of, is_endi
 use Rattle.demo_view.specs.Viewing.{ViewTerms, taking, viewing, viewed}
 use Rattle.demo_view.specs.Stands.{ViewerState, terms_of}
 use Rattle.world_rules.specs.Kinds.{match_kinds}
-use Rattle.demo_replay.specs.Replaying.{Replayed, terms_in, record_told, records_told, replayed_line, shown_behind, word_for, replay_of, replay_at_of}
+use Rattle.demo_replay.specs.Replaying.{Replayed, terms_in, record_told, records_told, replayed_line, shown_behind, word_for, replay_of}
 use Rattle.demo_replay.specs.Walking.{DemoState, IsViewerAfter, IsNext, Begins}
 use Rattle.demo_replay.specs.Writing.{TellsRecord, TellsShown}
 use Rattle.demo_replay.proofs.Walking.{at-end, rest-there, next-taken}

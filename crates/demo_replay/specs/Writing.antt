@@ -1,5 +1,5 @@
 -- What a line of a replay adds to a sink.
-use Rattle.std.specs.Prelude.{◌≡◌, ℕ, List, Option}
+use Rattle.std.specs.Prelude.{ℕ, List, Option}
 use Rattle.demo_view.specs.wire_format.declared.server.ServerPacket.{ServerPacket}
 use Rattle.demo_view.specs.Stands.{ViewerState, StandsFor, terms_of}
 use Rattle.demo_replay.specs.Replaying.{record_told, replayed_line, shown_behind}

@@ -17,11 +17,10 @@ use Rattle.demo_view.specs.stream_manager.End.{with_event}
 use Rattle.demo_view.specs.stream_manager.Faults.{without_packet}
 use Rattle.demo_view.specs.stream_manager.Server.{ServerEvent, server_datagrams}
 use Rattle.demo_view.specs.stream_manager.Client as client
-use Rattle.demo_view.specs.stream_manager.Client.{ClientEvent, posted_at_client, sampled_answer, client_state, pack_event, packing, client_answer, arrive_answer, arriving, took_at_client}
-use Rattle.pair_core.specs.History.{PairStep, Show, Hide, Near, Post, ClientPost, Sample, Pack, ClientPack, Down, Up, Raw, client_posts, client_samples, client_gets, history}
+use Rattle.demo_view.specs.stream_manager.Client.{ClientEvent, posted_at_client, sampled_answer, client_state, pack_event, client_answer, arrive_answer, arriving, took_at_client}
+use Rattle.pair_core.specs.History.{PairStep, Show, Hide, Near, Post, ClientPost, Sample, Pack, ClientPack, Down, Up, Raw, client_posts, client_gets, history}
 use Rattle.demo_view.specs.stream_manager.Packets.{packets_at, blocks_seen, ghosts_seen, delivered_to}
-use Rattle.demo_view.specs.Viewing.{viewed, viewing, taking}
-use Rattle.demo_view.specs.Laws.{view_terms}
+use Rattle.demo_view.specs.Viewing.{viewed, taking}
 use Rattle.demo_view.proofs.Below.stream_manager.Packets.{shows-alike}
 use Rattle.demo_view.proofs.Alike.{takes-with-client}
 use Rattle.demo_view.proofs.Views.{viewing-append}

@@ -2,7 +2,7 @@
 -- packet that carries it.
 use Rattle.std.proofs.Common.{◌≡◌, ℕ, suc, ◌+◌, ◌<◌, Bool, true, false, not, ◌||◌, cond, List, [], ◌∷◌, ◌∙◌, map, take, drop, length, length-take, Some, None, Option, refl, sym, ap, subst, inl, inr, arith, eqb}
 use Rattle.std.specs.List.{list_any, AllByRecursion}
-use Rattle.std.proofs.lemmas.Bool.{or_cases, or_parts, and_parts, or_left, or_right, and_from, false_from_ne_true}
+use Rattle.std.proofs.lemmas.Bool.{or_cases, or_parts, and_parts, or_left, or_right, and_from, false_from_ne_true, not-true}
 use Rattle.std.proofs.lemmas.List.{drop-map, take-append-drop, length-map}
 use Rattle.std.proofs.lemmas.List.Folds.{list_any-append}
 use Rattle.tn_types.specs.declared.choices.Op.{Op}
@@ -65,10 +65,6 @@ from_carrier : (n f : ℕ) (done : ℕ → Bool) (k : ℕ) (x y : Option ℕ) (p
 from_carrier n f done k x y p later now has idle =
     ap (λ b. after_done (put n f) done (suc k) (cond b (put n f p x) x) later) now ∙ all_idle n f done (suc k) (put n f p x) later idle ∙ put_same n f p x y has
 
-not_true : (b : Bool) → not b ≡ true → b ≡ false
-not_true true h = cc
-not_true false h = refl
-
 by_received : (b : Bool) → Received ≡ verdict_by b → b ≡ true
 by_received true e = refl
 by_received false e = cc
@@ -95,7 +91,7 @@ module _ (n f : ℕ) (done : ℕ → Bool) where
       go [] e k = absurd (cc)
       go (p ∷ later) e k =
           let parts = and_parts (carries n f (choices p)) (not (list_any (carries n f) (map choices later))) k in
-          alone (verdicts g) sent later p e lt now parts.0 (not_true (list_any (carries n f) (map choices later)) parts.1)
+          alone (verdicts g) sent later p e lt now parts.0 (not-true (list_any (carries n f) (map choices later)) parts.1)
 
   -- where that packet was received, the last level is the last processed one
   pub received_level : (kinds : KindSizes) (g : List GhostEvent) (sent : List (List Item)) → packets g ≡ map choices sent → IsLegal kinds g → AreSaid done g → is_received_last g n f ≡ true → processed_level n f done sent ≡ last_level n f sent
@@ -113,7 +109,7 @@ module _ (n f : ℕ) (done : ℕ → Bool) where
   received_level kinds (Sent cs ∷ g) sent same legal said h =
       let s = last_of sent (packets g) cs same in
       let parts = and_parts (not (carries n f cs)) (is_received_last g n f) h in
-      let idle : carries n f (choices s.last) ≡ false = ap (carries n f) s.lasts ∙ not_true (carries n f cs) parts.0 in
+      let idle : carries n f (choices s.last) ≡ false = ap (carries n f) s.lasts ∙ not-true (carries n f cs) parts.0 in
       let old : processed_level n f done s.front ≡ last_level n f s.front = received_level kinds g s.front s.fronts legal.1 said parts.1 in
       ap (processed_level n f done) s.is ∙ done_push (put n f) done 1 None s.front s.last ∙ maybe_idle (done (1 + length s.front)) n f s.last (processed_level n f done s.front) idle ∙ old
       ∙ sym (ap (last_level n f) s.is ∙ done_push (put n f) (λ k. true) 1 None s.front s.last ∙ put_idle n f s.last (last_level n f s.front) idle)

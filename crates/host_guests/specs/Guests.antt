@@ -1,5 +1,5 @@
 -- The guests of a link: places by number, each an address's or nobody's.
-use Rattle.std.specs.Prelude.{ℕ, suc, ◌≡◌, ◌+◌, ◌*◌, ◌<◌, ◌≤◌, ◌⊎◌, Bool, true, false, if◌then◌else◌, ◌==◌, ◌&&◌, ◌||◌, nat_lt, nat_le, List, length, position, Option, Some, None, slice_index_or}
+use Rattle.std.specs.Prelude.{ℕ, ◌≡◌, ◌+◌, ◌*◌, ◌<◌, ◌≤◌, ◌⊎◌, Bool, true, false, if◌then◌else◌, ◌==◌, ◌&&◌, ◌||◌, nat_lt, nat_le, List, length, position, Option, Some, None, slice_index_or}
 use Rattle.host_guests.specs.declared.guests.TheConstants.{MAX_ANSWER_RATIO, MAX_COUNTED}
 use Rattle.host_guests.specs.declared.guests.Address.{Address}
 use Rattle.host_guests.specs.declared.guests.Guest.{Guest}

@@ -9,10 +9,11 @@ use Rattle.match_laws.specs.pair_core.Stands.{PairState, StandsFor as PairStands
 use Rattle.match_laws.specs.own_lists.Past.{client_terms, kept_by, after}
 use Rattle.match_engine.specs.Match.{MatchState, StandsFor}
 
-some_scope : Table
+-- a scope and a seat, where none is named
+pub some_scope : Table
 some_scope = record { count = 0; shown = []; hides = []; nears = []; shows = []; marks = [] }
 
-some_of : {X : Type 0} (xs : List X) → 0 < length xs → X
+pub some_of : {X : Type 0} (xs : List X) → 0 < length xs → X
 some_of [] lt = absurd (omega (arith, lt))
 some_of (x ∷ xs) lt = x
 

@@ -1,11 +1,10 @@
 -- What a client's pack, show and scan need of the match, and what they leave.
-use Rattle.std.proofs.Common.{◌≡◌, ◌≢◌, ℕ, zero, suc, ◌<◌, ◌==◌, Bool, true, false, not, ◌||◌, List, [], ◌∷◌, ◌++◌, map, filter, length, get_or, if◌then◌else◌, cond, refl, sym, ap, ◌∙◌, subst, arith, inl, inr, Option, Some, None}
+use Rattle.std.proofs.Common.{◌≡◌, ◌≢◌, ℕ, zero, suc, ◌<◌, ◌==◌, Bool, true, false, not, ◌||◌, List, [], ◌∷◌, map, filter, length, get_or, if◌then◌else◌, refl, sym, ap, ◌∙◌, subst, arith, Option, Some, None}
 use Rattle.std.specs.Prelude.{ℤ, pos, slice_get, option_map, option_and_then}
 use Rattle.std.specs.List.{All, AllByRecursion}
 use Rattle.std.proofs.lemmas.List.Elements.{recursion_from_All, All-from_recursion}
-use Rattle.std.proofs.lemmas.Bool.{cases_eq}
+use Rattle.std.proofs.lemmas.Bool.{not-true}
 use Rattle.std.proofs.lemmas.Bool.Decides.{nat_tests}
-use Rattle.ghost_model.specs.Words.{upto}
 use Rattle.world_rules.specs.declared.object.Object.{Object}
 use Rattle.quantised_fields.specs.declared.kind.Kind.{Kind}
 use Rattle.tn_types.specs.declared.choices.Drain.{Drain}
@@ -70,10 +69,6 @@ are_apart (q ∷ qs) h = (apart_from q qs h.0, are_apart qs h.1)
 below_all : (most : ℕ) (qs : List ShownPeriod) → AllByRecursion (λ o. o < most) (objects qs) → AllByRecursion (λ (q : ShownPeriod). q.object < most) qs
 below_all most [] h = tt
 below_all most (q ∷ qs) h = (h.0, below_all most qs h.1)
-
-not_true : (b : Bool) → not b ≡ true → b ≡ false
-not_true true h = absurd (cc)
-not_true false h = refl
 
 -- the range of a field by its kind
 range_by : (o : Option Kind) (f : ℕ) (spec : FieldSpec) → slice_get (fields_in o) f ≡ Some spec → option_and_then (range_in f) o ≡ Some (spec.lo, spec.hi)
@@ -256,4 +251,4 @@ module _ (seat : SeatState) (scope : Table) (w : Worlds) (lanes : Words) (c : �
     where
       all_are_up : (ns : List ℕ) → AllByRecursion (λ n. (n < shows_in k.course.steps) × (not (is_hidden_in k.course.steps n) ≡ true)) ns → AllByRecursion (λ n. IsUp (ghost_log (history t k.course.steps).server) n) ns
       all_are_up [] h = tt
-      all_are_up (n ∷ ns) h = (up_to t k.course.steps n (h.0).0 (not_true (is_hidden_in k.course.steps n) (h.0).1), all_are_up ns h.1)
+      all_are_up (n ∷ ns) h = (up_to t k.course.steps n (h.0).0 (not-true (is_hidden_in k.course.steps n) (h.0).1), all_are_up ns h.1)

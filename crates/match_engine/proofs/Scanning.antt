@@ -21,13 +21,13 @@ use Rattle.match_laws.specs.own_lists.declared.showing.Showing.{Showing}
 use Rattle.match_laws.specs.own_lists.Own.{OwnItem, OwnShow}
 use Rattle.match_laws.specs.own_lists.pair_steps.Steps.{shows_in}
 use Rattle.match_laws.specs.own_lists.Course.{Course, onto, with_steps, scan_steps, hide_step, near_step}
-use Rattle.match_laws.specs.own_lists.Kept.{Kept, kept, with_course, all_begin, begins, after_scan}
+use Rattle.match_laws.specs.own_lists.Kept.{Kept, kept, with_course, after_scan}
 use Rattle.match_laws.specs.own_lists.Past.{client_terms, kept_by, after, showing_of, own_show, scan_item}
 use Rattle.match_laws.specs.own_lists.Conditions.{AreOwn, MeetEach}
 use Rattle.match_laws.specs.own_lists.Agreement.{AreLines}
 use Rattle.match_laws.specs.own_lists.Counted.{counted_in}
 use Rattle.match_laws.proofs.Below.own_lists.Agreeing.{own_lists_agree}
-use Rattle.match_laws.proofs.Below.own_lists.Meeting.{scan_journal}
+use Rattle.match_laws.proofs.Below.own_lists.Meeting.{scan_journal, begun_taken}
 use Rattle.match_laws.proofs.Below.own_lists.Standing.{onto_on, shows_hides, shows_nears}
 use Rattle.match_laws.proofs.Below.own_lists.ScanFacts.{IsSight, IsNone, objects, numbers, sights, sights_rise, few_rising, below_rising, shows_are_new, shown_next, shown_are_shown}
 use Rattle.match_laws.proofs.Below.own_lists.WorldFacts.{world_after, visible_is_sight, match_periods_few, scans_are_sights}
@@ -48,10 +48,6 @@ all_filter P p (x ∷ xs) h = by (all_filter P p xs h.1) (p x)
 mapped_twice : (w : Worlds) (c : ℕ) (xs : List Seen) → map (λ (s : OwnShow). s.how) (map (own_show w c) xs) ≡ map (showing_of w c) xs
 mapped_twice w c [] = refl
 mapped_twice w c (x ∷ xs) = ap (λ l. showing_of w c x ∷ l) (mapped_twice w c xs)
-
-begin_taken : (ss : List OwnShow) (k : Kept) → (all_begin ss k).course.taken ≡ k.course.taken
-begin_taken [] k = refl
-begin_taken (s ∷ ss) k = begin_taken ss (begins s k)
 
 -- ---- masks that are cleared
 
@@ -174,7 +170,7 @@ module _ (seat : SeatState) (scope : Table) (w : Worlds) (lanes : Words) (c : �
     course_is j is =
         let steps = scan_journal (hides next) (nears next) (map (own_show (after head past).world c) (shows next)) k
         ∙ ap (λ (ss : List Showing). onto (scan_steps (hides next) (nears next) ss) k.course.steps) (mapped_twice (after head past).world c (shows next)) in
-        let taken = begin_taken (map (own_show (after head past).world c) (shows next)) (with_course (with_steps (scan_steps (hides next) (nears next) []) k.course) k) in
+        let taken = begun_taken (map (own_show (after head past).world c) (shows next)) (with_course (with_steps (scan_steps (hides next) (nears next) []) k.course) k) in
         ap (λ (x : Kept). x.course) is ∙ ap (λ (x : List Rattle.match_laws.specs.pair_core.History.PairStep). record { steps = x; taken = (after_scan (hides next) (nears next) (map (own_show (after head past).world c) (shows next)) k).course.taken }) steps
         ∙ ap (λ (x : ℕ). record { steps = onto (scan_steps (hides next) (nears next) (map (showing_of (after head past).world c) (shows next))) k.course.steps; taken = x }) taken
 

@@ -20,11 +20,10 @@ use Rattle.world_sim.specs.declared.rows.Write.{Write}
 use Rattle.world_sim.specs.Worlds.{Worlds, IsWorld, next}
 use Rattle.world_sim.specs.Facts.{IsWriteOf}
 use Rattle.client_scope.specs.Scans.{shown, periods}
-use Rattle.client_scope.specs.StandsFor.{Table}
 use Rattle.dirty_lanes.specs.Words.{Words, mask_at, SizesStay}
-use Rattle.match_laws.specs.own_lists.Own.{OwnShow, OwnItem, Line, Scan, Tick}
+use Rattle.match_laws.specs.own_lists.Own.{OwnItem, Line, Scan, Tick}
 use Rattle.match_laws.specs.own_lists.Course.{Course, waiting_in, next_move, ticked, with_steps, scan_steps}
-use Rattle.match_laws.specs.own_lists.Kept.{Kept, after_line, all_begin, begins, with_course, wrote_all, kept}
+use Rattle.match_laws.specs.own_lists.Kept.{Kept, after_line, with_course, wrote_all, kept}
 use Rattle.match_laws.specs.own_lists.Past.{client_terms, kept_by, after, own_writes, moves_of, taken_from}
 use Rattle.match_laws.specs.own_lists.Conditions.{AreOwn}
 use Rattle.match_laws.proofs.Below.own_lists.Agreeing.{own_lists_agree}
@@ -38,6 +37,8 @@ use Rattle.match_laws.specs.own_lists.Counted.{counted_in}
 use Rattle.match_laws.proofs.Below.own_lists.Counting.{counted_items}
 use Rattle.match_engine.proofs.Fed.{more_lines, own_few}
 use Rattle.match_engine.proofs.Marks.{marks_after_tick}
+use Rattle.match_laws.proofs.Below.own_lists.Meeting.{begun_taken}
+use Rattle.match_engine.proofs.Lent.{some_scope}
 
 -- ---- seats
 
@@ -104,10 +105,6 @@ line_taken t (script.Move c m) k = refl
 line_taken t (script.Show c) k = refl
 line_taken t script.World k = refl
 
-begun_taken : (shows : List OwnShow) (k : Kept) → (all_begin shows k).course.taken ≡ k.course.taken
-begun_taken [] k = refl
-begun_taken (s ∷ shows) k = begun_taken shows (begins s k)
-
 -- each tick takes one move at the most
 few_taken : (t : Terms) (items : List OwnItem) → AreOwn t items → (kept t items).course.taken ≤ counted_items items
 few_taken t [] own = omega arith
@@ -122,9 +119,6 @@ few_taken t (Tick writes taken ∷ items) own =
     omega (arith, h, same, own.0.one)
 
 -- ---- what a tick asks
-
-some_scope : Table
-some_scope = record { count = 0; shown = []; hides = []; nears = []; shows = []; marks = [] }
 
 pub few_moves : (m : GameState) (past : List BodyLine) → StandsFor m past → m.done < 4000000 → AreFew m.seats
 few_moves m past s done = λ c d l.

@@ -1,6 +1,7 @@
 -- The moves that ticks took are the first that the server accepted: a tick takes the oldest that waits, and no line takes back
 -- what was accepted.
 use Rattle.std.proofs.Common.{◌≡◌, ℕ, ◌+◌, ◌-◌, Bool, true, false, cond, nat_le, List, [], ◌∷◌, ◌++◌, length, take, drop, Option, Some, None, Result, Ok, Err, if◌then◌else◌, refl, sym, ap, subst, ◌∙◌, arith, length-append, append_assoc, append-nil}
+use Rattle.std.proofs.Math.Seq.{drop-append_seam}
 use Rattle.std.specs.Prelude.{ℤ, map, slice_get, is_some}
 use Rattle.std.specs.Result.{is_ok}
 use Rattle.tn_types.specs.declared.choices.Class.{Class}
@@ -148,10 +149,6 @@ module _ (t : Terms) where
 
 -- ---- what a tick takes
 
-drop-front : {A : Type 0} (xs ys : List A) → drop (length xs) (xs ++ ys) ≡ ys
-drop-front [] ys = refl
-drop-front (x ∷ xs) ys = drop-front xs ys
-
 -- these are the first of the accepted moves, and so many were taken
 pub record AreTaken (xs : List PlayerMove) (t : Terms) (k : Course) : Type 0 where
   pub front : IsPrefixOf xs (accepted_in t k.steps)
@@ -202,7 +199,7 @@ module _ (head : Head) (c : ℕ) where
       let writes = own_writes (next p.world (moves_of head p)) (shown (p.scans c)) in
       let rest : drop k.course.taken (accepted_in terms k.course.steps) ≡ h.front.0 =
       ap (λ n. drop n (accepted_in terms k.course.steps)) (sym h.count) ∙ ap (λ l. drop (length xs) l) (sym h.front.1)
-      ∙ drop-front xs h.front.0 in
+      ∙ drop-append_seam xs h.front.0 in
       let o = move_of head p c in
       subst (λ (course : Course). AreTaken (xs ++ one_move o) terms (record { steps = course.steps; taken = course.taken + taken_from head p c }))
       (sym (wrote_course terms writes k)) (record {

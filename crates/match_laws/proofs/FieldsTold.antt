@@ -1,10 +1,9 @@
 -- What is told of a field of a copy, read again: the level that it shows, and what its mark says.
-use Rattle.std.proofs.Common.{◌≡◌, ℕ, ℤ, ◌<◌, ◌&&◌, Bool, true, false, cond, not, nat_lt, List, [], ◌∷◌, Option, Some, None, length, refl, sym, ap, ◌∙◌, subst, arith}
+use Rattle.std.proofs.Common.{◌≡◌, ℕ, ℤ, ◌<◌, ◌&&◌, Bool, true, false, cond, not, nat_lt, List, [], ◌∷◌, Option, Some, None, length, refl, sym, ap, ◌∙◌, subst}
 use Rattle.std.specs.Prelude.{find, slice_get, slice_index_or, option_map}
 use Rattle.std.specs.Option.{option_and_then}
 use Rattle.std.specs.List.{AllByRecursion, list_any}
-use Rattle.std.proofs.lemmas.Bool.{and_parts, eqb-true}
-use Rattle.std.proofs.lemmas.Bool.Decides.{nat_tests}
+use Rattle.std.proofs.lemmas.Bool.{and_parts, eqb-true, ltb-true}
 use Rattle.std.proofs.lemmas.Option.{get_or_from_slice_get}
 use Rattle.tn_types.specs.declared.choices.Drain.{Drain}
 use Rattle.tn_types.specs.BitWords.{has_bit}
@@ -118,11 +117,8 @@ settled-in t steps d f e =
     let s = and_parts (is_live (phase log d.n) && not (is_due log d.n f)) (not (list_any (carries d.n f) (unjudged log))) b.1 in
     let u = and_parts (is_live (phase log d.n)) (not (is_due log d.n f)) s.0 in
     record {
-      field = less f (length (fields_of t.kinds (kind_of log d.n))) b.0;
+      field = ltb-true f (length (fields_of t.kinds (kind_of log d.n))) b.0;
       due = not-false (is_due log d.n f) u.1;
       carried = not-false (list_any (carries d.n f) (unjudged log)) s.1;
       written = not-false (has_bit d.bits f) w.1;
     }
-  where
-    less : (a b : ℕ) → nat_lt a b ≡ true → a < b
-    less a b e = grind (arith, nat_tests)

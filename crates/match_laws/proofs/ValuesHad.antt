@@ -6,7 +6,6 @@ use Rattle.std.proofs.lemmas.Bool.Decides.{nat_tests}
 use Rattle.std.proofs.lemmas.List.Elements.{All-from_recursion, recursion_from_All}
 use Rattle.std.proofs.lemmas.Option.{slice_get-get_or}
 use Rattle.quantised_fields.specs.declared.field.FieldSpec.{FieldSpec}
-use Rattle.ghost_model.specs.Scope.{Traits}
 use Rattle.ghost_masks.specs.Carried.{AreValues}
 use Rattle.stream_manager.specs.Limits.{Terms}
 use Rattle.match_script.specs.declared.types.BodyLine.{BodyLine}
@@ -23,7 +22,7 @@ use Rattle.client_seat.specs.own_lists.Past.{client_terms, kept_by, after}
 use Rattle.client_seat.specs.own_lists.Conditions.{AreOwn}
 use Rattle.client_seat.specs.own_lists.Agreement.{Agrees, AreLines, OwnListsHold}
 use Rattle.client_seat.proofs.Below.own_lists.Meeting.{are_met, scan_journal}
-use Rattle.client_seat.proofs.Below.own_lists.KeptValues.{own_fields, is_kept, wrote_course}
+use Rattle.client_seat.proofs.Below.own_lists.KeptValues.{own_fields, is_kept, wrote_course, near-kind}
 use Rattle.client_seat.proofs.Below.own_lists.Standing.{IsShownIn}
 use Rattle.match_laws.specs.Values.{ClientMoment, Spot, HasValue, HadValue}
 use Rattle.match_laws.proofs.Grown.{grows}
@@ -47,10 +46,6 @@ continues-then a b c x y n lt =
     let p = x n lt in
     let q = y n p.0 in
     (q.0, q.1 ∙ p.1)
-
-near-kind : (b : Bool) (l : ℕ) (x : Traits) → (cond b (record x { level = l }) x).kind ≡ x.kind
-near-kind true l x = refl
-near-kind false l x = refl
 
 step-continues : (step : PairStep) (steps : List PairStep) → Continues steps (step ∷ steps)
 step-continues (Show kind block level control) steps n lt = (omega (arith, lt), go (n == shows_in steps) refl)

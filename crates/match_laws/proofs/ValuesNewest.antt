@@ -1,20 +1,9 @@
 -- What a pack reads is the newest value that the own list has: each field that the packet carries is read, and what was read
 -- stays the last read.
-use Rattle.std.proofs.Common.{◌≡◌, ℕ, ℤ, zero, suc, ◌+◌, ◌==◌, ◌<◌, ◌≤◌, ◌&&◌, ◌||◌, Bool, true, false, cond, List, [], ◌∷◌, Option, Some, length, refl, sym, ap, ◌∙◌, subst, arith, inl, inr}
-use Rattle.std.specs.Prelude.{◌⊎◌, pos, map, slice_index_or}
-use Rattle.std.specs.List.{AllByRecursion, list_any}
-use Rattle.std.proofs.lemmas.Bool.{and_parts, or_right, eqb-true, eq-eqb, cases_eq}
-use Rattle.std.proofs.lemmas.List.Folds.{list_any-append}
-use Rattle.std.proofs.lemmas.Nat.Bits.{bit_at_ones}
-use Rattle.tn_types.specs.BitWords.{has_bit}
-use Rattle.tn_types.specs.declared.choices.Choice.{Choice}
-use Rattle.tn_types.specs.declared.choices.Op.{Op}
-use Rattle.tn_types.specs.declared.choices.Op.TheVariants.{Kill, Create, Update}
-use Rattle.quantised_fields.specs.declared.kind.Kind.{Kind}
-use Rattle.ghost_model.specs.Ghosts.{GhostEvent, item_carries, op_carries, carries}
-use Rattle.ghost_model.specs.Legal.{IsItsMask}
-use Rattle.ghost_masks.specs.Plan.{sizes, kind_of, fields_of}
-use Rattle.conn_packing.specs.Reads.{fields_in, asked_by, asked_by_all}
+use Rattle.std.proofs.Common.{◌≡◌, ℕ, ℤ, ◌==◌, ◌||◌, Bool, true, false, cond, List, [], ◌∷◌, Option, Some, refl, ap, ◌∙◌}
+use Rattle.std.specs.Prelude.{pos, map, slice_index_or}
+use Rattle.std.specs.List.{list_any}
+use Rattle.std.proofs.lemmas.Bool.{and_parts, eqb-true}
 use Rattle.pair_copies.specs.Reads.{newest_in}
 use Rattle.client_seat.proofs.Below.own_lists.Below.pair_steps.Carriers.{is-it}
 use Rattle.client_seat.specs.own_lists.Kept.{read_of}

@@ -2,8 +2,7 @@
 use Rattle.std.proofs.Common.{◌≡◌, ℕ, ℤ, zero, suc, ◌+◌, ◌<◌, ◌≤◌, ◌&&◌, Bool, true, false, nat_lt, cond, List, [], ◌∷◌, ◌++◌, Option, Some, None, length, refl, sym, ap, ◌∙◌, subst, arith, inl, inr}
 use Rattle.std.specs.Prelude.{◌⊎◌, map, slice_get, IsSome, option_map}
 use Rattle.std.specs.List.{AllByRecursion, filter_map, enumerate_from, cons_option}
-use Rattle.std.proofs.lemmas.Bool.{and_parts, and_from}
-use Rattle.std.proofs.lemmas.Bool.Decides.{nat_tests}
+use Rattle.std.proofs.lemmas.Bool.{and_parts, and_from, ltb-true, lt-ltb}
 use Rattle.std.proofs.lemmas.List.Elements.{recursion_from_All}
 use Rattle.std.proofs.lemmas.Option.{slice_get_within}
 use Rattle.tn_types.specs.declared.choices.Choice.{Choice}
@@ -121,19 +120,13 @@ ranges-if true (Some spec) = Some (spec.lo, spec.hi)
 ranges-if true None = None
 ranges-if false o = None
 
-lesser : (a b : ℕ) → a < b → nat_lt a b ≡ true
-lesser a b lt = grind (arith, nat_tests)
-
-less : (a b : ℕ) → nat_lt a b ≡ true → a < b
-less a b e = grind (arith, nat_tests)
-
 module _ (t : Terms) (log : List GhostEvent) where
   abbrev ranges : ℕ → ℕ → Option (ℤ × ℤ)
   ranges n f = ranges-if (up-in-log log n) (slice_get (fields_of t.kinds (kind_of log n)) f)
 
   has-ranges : HasRanges t log ranges
   has-ranges n f spec up is =
-      let shown = lesser n (shows (scope_log log)) up.shown in
+      let shown = lt-ltb n (shows (scope_log log)) up.shown in
       let there : up-in-log log n ≡ true = and_from (nat_lt n (shows (scope_log log))) (is_up (phase log n)) shown up.up in
       λ j. ranges-if (there j) (is j)
 
@@ -152,7 +145,7 @@ module _ (t : Terms) (log : List GhostEvent) where
       go true e (Some spec) is h =
           let p = and_parts (nat_lt n (shows (scope_log log))) (is_up (phase log n)) e in
           record {
-            up = record { shown = less n (shows (scope_log log)) p.0; up = p.1 };
+            up = record { shown = ltb-true n (shows (scope_log log)) p.0; up = p.1 };
             field = slice_get_within (fields_of t.kinds (kind_of log n)) f spec is;
           }
 

@@ -17,9 +17,9 @@ use Rattle.stream_manager.specs.declared.fault.ClientFault.{ClientFault}
 use Rattle.stream_manager.specs.Limits.{Terms}
 use Rattle.stream_manager.specs.End.{EndEvent, delivered_at, with_event}
 use Rattle.stream_manager.specs.Server as server
-use Rattle.stream_manager.specs.Server.{ServerEvent, server_end, server_state, server_answer, took_at_server, posted_at_server, server_datagrams, seen_up}
+use Rattle.stream_manager.specs.Server.{ServerEvent, server_end, server_state, server_answer, took_at_server, posted_at_server, server_datagrams}
 use Rattle.stream_manager.specs.Client as client
-use Rattle.stream_manager.specs.Client.{ClientEvent, client_end, client_state, client_answer, took_at_client, posted_at_client, sampled_answer, client_datagrams, seen_down}
+use Rattle.stream_manager.specs.Client.{ClientEvent, client_end, client_state, client_answer, took_at_client, posted_at_client, sampled_answer, client_datagrams}
 use Rattle.conn_packing.specs.Packs.{absorbing, values_of}
 use Rattle.client_seat.specs.pair_core.History.{PairStep, Post, ClientPost, Sample, Pack, ClientPack, Down, Up, Raw, history, server_posts, client_posts, client_gets, server_gets}
 use Rattle.client_seat.specs.pair_core.Answers.{client_delivered, server_delivered}

@@ -1,5 +1,6 @@
 -- What the words of a line tell: of a delivery the guaranteed events that it hands out, of a post whether it has a number.
 use Rattle.std.proofs.Common.{◌≡◌, ℕ, Bool, true, false, List, [], ◌∷◌, ◌++◌, map, length, drop, if◌then◌else◌, Option, Some, None, Result, Ok, Err, refl, sym, ap, ◌∙◌, append-nil, append_assoc}
+use Rattle.std.proofs.Math.Seq.{drop-append_seam}
 use Rattle.std.specs.Prelude.{codes, slice_get}
 use Rattle.std.specs.List.{flat_map, slice_index_or}
 use Rattle.std.specs.Str.{bytes_eq}
@@ -66,14 +67,10 @@ drop-self : {A : Type 0} (xs : List A) → drop (length xs) xs ≡ []
 drop-self [] = refl
 drop-self (x ∷ xs) = drop-self xs
 
-drop-front : {A : Type 0} (xs ys : List A) → drop (length xs) (xs ++ ys) ≡ ys
-drop-front [] ys = refl
-drop-front (x ∷ xs) ys = drop-front xs ys
-
 -- what is handed out is report_words behind what was
 adds : (old new : List (Class × List ℕ)) → GrowsTo old new → report_words old ++ report_words (drop (length old) new) ≡ report_words new
 adds old new g =
-    ap (λ l. report_words old ++ report_words l) (ap (drop (length old)) g.1 ∙ drop-front old g.0)
+    ap (λ l. report_words old ++ report_words l) (ap (drop (length old)) g.1 ∙ drop-append_seam old g.0)
     ∙ sym (map-append hex_text (guaranteed_of old) (guaranteed_of g.0))
     ∙ ap (map hex_text) (sym (guaranteed_append old g.0) ∙ ap guaranteed_of (sym g.1))
 

@@ -8,7 +8,7 @@ use Rattle.net_rules.specs.declared.limits.TheConstants.{MAX_RECEIVED_BYTES}
 use Rattle.net_rules.specs.Turns.{Event, Heard, Turned, turned, AreTurns, with_found, heard, events}
 use Rattle.net_rules.specs.Places.{IsPlace}
 use Rattle.net_rules.specs.Runs.{Begun}
-use Rattle.net_rules.proofs.Places.{place_came, place_quiet, past_stays}
+use Rattle.net_rules.proofs.Places.{past_stays}
 use Rattle.net_rules.proofs.Turning.{turns_go_on, events_more}
 use Rattle.net_rules.proofs.Rounds.{event_is, nothing_sent}
 use Rattle.net_join.specs.Joining.{sends, ending}
@@ -20,18 +20,12 @@ use Rattle.net_join.proofs.Heard.{heard_sends, sends_before}
 
 module _ (o : Begun) (k : ℕ) (a a' : Option Ahead) (c : Option (List ℕ)) (x : Peer × ℕ) (buf : List ℕ) (place : IsPlace o.ahead o.clock a c k)
     (r : Receives a a' (Ok (Some x)) buf) (l : length buf ≡ MAX_RECEIVED_BYTES) where
-  pub came_place : IsPlace o.ahead o.clock a' c (suc k)
-  came_place = place_came o.ahead o.clock a a' c k buf place x r
-
   pub came_joins : (j : JoinerState) (bytes : List ℕ) (past : List Event) → bytes ≡ take x.1 buf
       → Joins j (Heard (record { peer = x.0; bytes = bytes }) ∷ past) → Joins j (with_found (found o.ahead k) past)
   came_joins j bytes past e h = subst (λ (t : List Event). Joins j t) (event_is o k a a' c x buf place r l bytes past e) h
 
 module _ (o : Begun) (k : ℕ) (a a' : Option Ahead) (c c' : Option (List ℕ)) (now : ℕ) (buf : List ℕ) (place : IsPlace o.ahead o.clock a c k)
     (r : Receives a a' (Ok None) buf) (told : Tells c c' (Ok now)) where
-  pub quiet_place : IsPlace o.ahead o.clock a' c' (suc k)
-  quiet_place = place_quiet o.ahead o.clock a a' c k buf place c' now r told
-
   pub quiet_joins : (j : JoinerState) (past : List Event) → Joins j past → Joins j (with_found (found o.ahead k) past)
   quiet_joins j past h = subst (λ (t : List Event). Joins j t) (sym (past_stays o.ahead o.clock a a' c k buf place c' now r told past)) h
 

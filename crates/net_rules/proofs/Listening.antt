@@ -1,5 +1,5 @@
 -- The calls of `receive` in a turn, one after another, until one of them ends it.
-use Rattle.std.proofs.Common.{◌≡◌, ℕ, suc, ◌+◌, ◌≤◌, ◌<◌, List, Option, sym, subst, refl, arith, add-zero, inl, inr}
+use Rattle.std.proofs.Common.{◌≡◌, ℕ, suc, ◌+◌, ◌<◌, List, Option, sym, subst, refl, arith, add-zero, inl, inr}
 use Rattle.std.proofs.lemmas.Bool.{cases_lt}
 use Rattle.tn_outside.specs.Links.{Ahead}
 use Rattle.net_rules.specs.declared.limits.TheConstants.{MAX_RECEIVES}

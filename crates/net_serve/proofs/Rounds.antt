@@ -7,7 +7,7 @@ use Rattle.match_script.specs.declared.types.Head.{Head}
 use Rattle.net_rules.specs.declared.limits.TheConstants.{MAX_RECEIVES, MAX_RECEIVED_BYTES}
 use Rattle.net_rules.specs.Turns.{Event, Heard, Turned, total, AreTurns, with_found, heard, events}
 use Rattle.net_rules.specs.Places.{IsPlace, Listens}
-use Rattle.net_rules.proofs.Places.{place_came, place_quiet, past_stays}
+use Rattle.net_rules.proofs.Places.{place_came, past_stays}
 use Rattle.net_rules.proofs.Turning.{turn_ends, turns_go_on, found_more, heard_more, events_more}
 use Rattle.net_rules.proofs.Rounds.{event_is, nothing_sent}
 use Rattle.net_serve.specs.Lines.{lines, text_so_far}
@@ -94,9 +94,6 @@ module _ (o : Begun) (k : ℕ) (a a' : Option Ahead) (c : Option (List ℕ)) (x 
 
 module _ (o : Begun) (k : ℕ) (a a' : Option Ahead) (c c' : Option (List ℕ)) (now : ℕ) (buf : List ℕ) (place : IsPlace o.ahead o.clock a c k)
     (r : Receives a a' (Ok None) buf) (told : Tells c c' (Ok now)) where
-  pub quiet_place : IsPlace o.ahead o.clock a' c' (suc k)
-  quiet_place = place_quiet o.ahead o.clock a a' c k buf place c' now r told
-
   pub quiet_at : (s : ServerState) (w : Option (List ℕ)) (d : Option (List Datagram)) (past : List Event) → IsAt o s w d past → IsAt o s w d (with_found (found o.ahead k) past)
   quiet_at s w d past at =
       subst (λ (t : List Event). IsAt o s w d t) (sym (past_stays o.ahead o.clock a a' c k buf place c' now r told past)) at

@@ -1,6 +1,6 @@
 -- What was sent, by several calls together.
-use Rattle.std.proofs.Common.{◌≡◌, ◌∙◌, List, [], ◌++◌, length, take, Option, Some, None, sym, ap, subst, refl, arith, append_assoc, length-append}
-use Rattle.std.proofs.lemmas.List.{append-nil, map-append, take_all, take-append-le}
+use Rattle.std.proofs.Common.{◌≡◌, ◌∙◌, List, ◌++◌, Option, sym, ap, subst, refl}
+use Rattle.std.proofs.lemmas.List.{map-append}
 use Rattle.tn_outside.specs.Links.{Datagram}
 use Rattle.tn_outside.proofs.Totals.{adds_then, front_longer, whole_front}
 use Rattle.tn_outside.specs.Totals.{Adds, AddsFront}

@@ -1,6 +1,6 @@
 -- The text of a script that grows line by line.
-use Rattle.std.proofs.Common.{◌≡◌, ◌∙◌, ℕ, List, [], ◌∷◌, ◌++◌, length, map, reverse, take, Option, Some, None, sym, ap, refl, arith, append_assoc, length-append}
-use Rattle.std.proofs.lemmas.List.{append-nil, map-append, reverse-append, take_all, take-append-le}
+use Rattle.std.proofs.Common.{◌≡◌, ◌∙◌, ℕ, List, [], ◌∷◌, ◌++◌, reverse, Option, sym, ap, append_assoc}
+use Rattle.std.proofs.lemmas.List.{append-nil, reverse-append}
 use Rattle.tn_outside.specs.Totals.{Adds, AddsFront}
 use Rattle.tn_outside.proofs.Totals.{adds_then, front_more, front_longer, whole_front}
 use Rattle.match_script.specs.declared.types.BodyLine.{BodyLine}

@@ -34,6 +34,7 @@ use Rattle.match_engine.proofs.Fed.{put_there}
 use Rattle.own_items.specs.declared.items.OwnShow.{OwnShow}
 use Rattle.own_items.specs.declared.items.OwnWrite.{OwnWrite}
 use Rattle.own_items.specs.Items.{show_of, write_of}
+use Rattle.match_engine.proofs.Lent.{some_scope, some_of}
 
 -- ---- reading
 
@@ -80,13 +81,6 @@ more_periods w old new ps i d lt so_far grown =
     ∙ sym (ap (flat_map f) (take_more ps i d lt) ∙ flat_map-append f (take i ps) (get_or ps i d ∷ []) ∙ ap (λ l. flat_map f (take i ps) ++ l) (append-nil (f (get_or ps i d))))
 
 -- ---- what a match holds
-
-some_scope : Table
-some_scope = record { count = 0; shown = []; hides = []; nears = []; shows = []; marks = [] }
-
-some_of : {X : Type 0} (xs : List X) → 0 < length xs → X
-some_of [] lt = absurd (omega (arith, lt))
-some_of (x ∷ xs) lt = x
 
 all_filter : (P : Seen → Type 0) (p : Seen → Bool) (xs : List Seen) → AllByRecursion P xs → AllByRecursion P (filter p xs)
 all_filter P p [] h = tt

@@ -125,7 +125,7 @@ some-power : (m : ℕ) → 0 < 2 ^ m
 some-power zero = omega arith
 some-power (suc m) = omega (arith, some-power m, pow-suc 2 m)
 
-near-kind : (b : Bool) (l : ℕ) (x : Traits) → (cond b (record x { level = l }) x).kind ≡ x.kind
+pub near-kind : (b : Bool) (l : ℕ) (x : Traits) → (cond b (record x { level = l }) x).kind ≡ x.kind
 near-kind true l x = refl
 near-kind false l x = refl
 

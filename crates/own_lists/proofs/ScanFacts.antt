@@ -4,16 +4,15 @@ use Rattle.std.proofs.Common.{◌≡◌, ◌≢◌, ℕ, suc, ◌+◌, ◌*◌, 
 use Rattle.std.specs.Prelude.{is_some, option_map}
 use Rattle.std.specs.List.{All, AllByRecursion, filter_map, enumerate_from, cons_option, list_any, IsDistinct}
 use Rattle.std.specs.List.Sorted.{IsStrictlyIncreasing}
-use Rattle.std.proofs.lemmas.Bool.{ne_eqb, eqb-true, eq-eqb, or_right}
+use Rattle.std.proofs.lemmas.Bool.{ne_eqb, eqb-true}
 use Rattle.std.proofs.lemmas.List.{length-map}
 use Rattle.std.proofs.lemmas.List.Elements.{recursion_from_All}
 use Rattle.std.proofs.lemmas.Map.Steps.{length-le_from_distinct_below}
 use Rattle.tn_types.specs.declared.limits.TheConstants.{MAX_OBJECTS, MAX_DISTANCE_LEVEL}
 use Rattle.client_scope.specs.world_scope.declared.viewer.Seen.{Seen}
 use Rattle.client_scope.specs.declared.period.ShownPeriod.{ShownPeriod}
-use Rattle.client_scope.specs.declared.period.Near.{Near}
 use Rattle.client_scope.specs.Scans.{level_in, last, is_new, new_ones, periods, comes_again, at_level, lasting, shown}
-use Rattle.client_scope.specs.Changes.{hidden, moved, moved_to, hides, nears, shows}
+use Rattle.client_scope.specs.Changes.{shows}
 use Rattle.client_scope.specs.Marks.{with_level, goes_on, begun}
 use Rattle.client_scope.proofs.Apart.{rising_apart}
 use Rattle.client_scope.proofs.Periods.{shown_by_step}
@@ -98,7 +97,7 @@ few_rising least most (n ∷ ns) h r =
     let k = few_rising (n + 1) most ns (omega (arith, r.1)) r.2 in
     omega (arith, k, r.0)
 
-next_rises : (n : ℕ) (ns : List ℕ) → IsStrictlyIncreasing (n ∷ ns) → IsStrictlyIncreasing ns
+pub next_rises : (n : ℕ) (ns : List ℕ) → IsStrictlyIncreasing (n ∷ ns) → IsStrictlyIncreasing ns
 next_rises n ns h = λ k l. rw add-one (let r = h (suc k) (omega (arith, l)) in rw add-one at r)
 
 rises : (most n : ℕ) (ns : List ℕ) → IsStrictlyIncreasing (n ∷ ns) → AllByRecursion (λ m. m < most) ns → RiseTo (n + 1) most ns

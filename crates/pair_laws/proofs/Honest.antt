@@ -42,7 +42,8 @@ use Rattle.conn_packing.proofs.Lists.{all-at, all-take}
 use Rattle.pair_laws.specs.Exchange.{server_packets, client_packets, given_down, given_up}
 use Rattle.pair_laws.proofs.Carried.{Carried, carried, HoldsMoves, IsUp, moves-up}
 use Rattle.pair_laws.proofs.VerdictLaw.{Windows, windows, true-verdicts, absorbs-down as windows-absorbed}
-use Rattle.pair_laws.proofs.Reached.{events_of, Brings, EventsOn, start-events, near-events, sends-events, pings-events, takes-events, better}
+use Rattle.wire_logs.proofs.Below.event_logs.Sent.{events_of}
+use Rattle.pair_laws.proofs.Reached.{Brings, EventsOn, start-events, near-events, sends-events, pings-events, takes-events, better}
 
 -- a block of the script
 abbrev pub IsOf : List (List ℕ) → BlockItem → Type 0

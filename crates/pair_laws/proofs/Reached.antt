@@ -1,35 +1,27 @@
 -- The events of one way between two ends: which packet carries which, and that the other end has those of the packets that
 -- it processed. So no packet that comes has an event too far ahead of what the other end has delivered.
 use Rattle.std.proofs.Common.{◌≡◌, ℕ, suc, ◌+◌, ◌<◌, ◌≤◌, Bool, true, false, not, ◌&&◌, ◌||◌, ◌==◌, nat_le, nat_lt, List, [], ◌∷◌, ◌++◌, length, map, Option, Some, None, if◌then◌else◌, refl, sym, ◌∙◌, ap, subst, arith, inl, inr}
-use Rattle.std.specs.Option.{is_some}
 use Rattle.std.specs.List.{AllByRecursion}
 use Rattle.std.proofs.lemmas.Bool.Decides.{nat_tests}
 use Rattle.std.proofs.lemmas.Bool.{cases_lt}
 use Rattle.notify_window.specs.Log.{sent_of, horizon_of, is_processed, Fate, Unjudged, Received, Lost, is_received}
 use Rattle.notify_window.proofs.Horizons.{processed-above}
 use Rattle.wire_format.specs.declared.events.EventItem.{EventItem}
-use Rattle.event_manager.specs.Sending.{SenderEvent, posted_of, holds, has_number, carriers, is_unacked, first_unacked, is_due, guaranteed_item, loose_item, items_that, due_guaranteed, waiting_of, due_of}
+use Rattle.event_manager.specs.Sending.{SenderEvent, posted_of, holds, carriers, is_unacked, first_unacked, is_due, guaranteed_item, loose_item, items_that, due_guaranteed, waiting_of, due_of}
 use Rattle.notify_window.specs.Fates.{any_received, all_lost}
-use Rattle.event_manager.specs.Receiving.{items_onto, first_payload, has_come, run_of, is_ahead}
-use Rattle.std.specs.Option.{option_or}
+use Rattle.event_manager.specs.Receiving.{items_onto, has_come, run_of, is_ahead}
 use Rattle.notify_window.proofs.Fates.{not-false}
 use Rattle.notify_window.proofs.Least.{least_below}
-use Rattle.event_manager.proofs.Runs.{has-more, run-ends}
+use Rattle.event_manager.proofs.Runs.{run-ends}
 use Rattle.event_manager.proofs.Prefixes.{run-more}
 use Rattle.conn_packing.specs.stream_manager.declared.config.Config.{Config}
 use Rattle.conn_packing.specs.stream_manager.Wire.{event_bits}
-use Rattle.conn_packing.specs.stream_manager.End.{Seen, EndEvent, Posted, Packed, Pinged, Took, window_log, sender_log, fates, came_of, events_for}
+use Rattle.conn_packing.specs.stream_manager.End.{Seen, EndEvent, Packed, Took, window_log, sender_log, fates, came_of, events_for}
 use Rattle.conn_packing.proofs.Below.stream_manager.Fitting.{fitting-all}
 use Rattle.pair_laws.specs.Verdicts.{ReceivedIsTrue}
 use Rattle.conn_packing.proofs.Lists.{all-append, all-map, all-take}
-
--- the events of packet s, none where it was not sent
-abbrev pub events_of : ℕ → List EndEvent → List EventItem
-events_of s [] = []
-events_of s (Posted class payload ∷ log) = events_of s log
-events_of s (Packed p ∷ log) = if p.head.seq == s then p.events else events_of s log
-events_of s (Pinged p ∷ log) = events_of s log
-events_of s (Took p ∷ log) = events_of s log
+use Rattle.wire_logs.proofs.Below.event_logs.Sent.{events_of}
+use Rattle.wire_logs.proofs.Below.event_logs.Came.{items-more, items-hold}
 
 -- not too far ahead for an end that delivered so many
 abbrev pub IsNear : ℕ → EventItem → Type 0
@@ -54,25 +46,6 @@ pub record EventWay {P : Type 0} (seen : P → Seen) (IsGood : P → Type 0) (na
   pub brings : AllByRecursion (Brings seen IsGood named events sent (run_of came)) packets
 
 -- ---- what came
-
-items-more : (items came : List EventItem) (i : ℕ) → has_come i came ≡ true → has_come i (items_onto items came) ≡ true
-items-more [] came i h = h
-items-more (item ∷ items) came i h = items-more items (item ∷ came) i (has-more item came i h)
-
-has-new : (item : EventItem) (came : List EventItem) (i : ℕ) → has_number i item.number ≡ true → has_come i (item ∷ came) ≡ true
-has-new item came i h = rw h (go (first_payload i came))
-  where
-    go : (o : Option (List ℕ)) → is_some (option_or o (Some item.payload)) ≡ true
-    go None = refl
-    go (Some v) = refl
-
-items-hold : (items came : List EventItem) (i : ℕ) → holds i items ≡ true → has_come i (items_onto items came) ≡ true
-items-hold [] came i h = cc
-items-hold (item ∷ items) came i h = go (has_number i item.number) refl (items-hold items (item ∷ came) i) h
-  where
-    go : (b : Bool) → has_number i item.number ≡ b → (holds i items ≡ true → has_come i (items_onto items (item ∷ came)) ≡ true) → (b || holds i items) ≡ true → has_come i (items_onto items (item ∷ came)) ≡ true
-    go true e rest h = items-more items (item ∷ came) i (has-new item came i e)
-    go false e rest h = rest h
 
 run-items : (items came : List EventItem) → run_of came ≤ run_of (items_onto items came)
 run-items [] came = omega arith

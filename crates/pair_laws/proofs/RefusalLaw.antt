@@ -51,7 +51,8 @@ use Rattle.pair_laws.proofs.Delivered.{read-down, read-up}
 use Rattle.pair_laws.proofs.Carried.{Carried, carried, IsDown, TellsAtMost}
 use Rattle.pair_laws.proofs.Windows.{TellsOf, tested}
 use Rattle.pair_laws.proofs.VerdictLaw.{Windows, windows}
-use Rattle.pair_laws.proofs.Reached.{events_of, IsNear, Brings}
+use Rattle.wire_logs.proofs.Below.event_logs.Sent.{events_of}
+use Rattle.pair_laws.proofs.Reached.{IsNear, Brings}
 use Rattle.pair_laws.specs.HeldBlocks.{IsAsGiven}
 use Rattle.pair_laws.proofs.HeldBlocks.{given}
 use Rattle.pair_laws.proofs.Honest.{IsOf, IsScript, BeginsWithin, Honest, honest}

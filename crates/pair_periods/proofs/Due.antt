@@ -1,44 +1,27 @@
 -- A field that is due stays due after a pack that doesn't read it. The pack absorbs its drains first, so what is drained is due
 -- before the packet is made; and what the packet carries of a period is what the pack reads.
-use Rattle.std.proofs.Common.{◌≡◌, ◌⊎◌, inl, inr, ⊎_elim, ℕ, zero, suc, ◌+◌, ◌-◌, ◌<◌, ◌≤◌, ◌==◌, ◌&&◌, ◌||◌, not, length, refl, sym, ap, ◌∙◌, subst, arith, Bool, true, false, cond, List, [], ◌∷◌, Option, Some, None, Result, Ok, Err}
-use Rattle.std.specs.Prelude.{slice_get, map, filter}
+use Rattle.std.proofs.Common.{◌≡◌, ◌⊎◌, ⊎_elim, ℕ, ◌-◌, ◌<◌, ◌==◌, ◌&&◌, ◌||◌, not, length, refl, sym, ap, ◌∙◌, subst, arith, Bool, true, false, List, [], ◌∷◌, None}
+use Rattle.std.specs.Prelude.{map}
 use Rattle.std.specs.List.{AllByRecursion, list_any}
-use Rattle.std.specs.Result.{is_ok}
-use Rattle.std.proofs.lemmas.Bool.{and_parts, or_right, eqb-true, eq-eqb, cases_eq}
-use Rattle.std.proofs.lemmas.List.Folds.{list_any-append}
+use Rattle.std.proofs.lemmas.Bool.{or_right}
 use Rattle.std.proofs.lemmas.List.Elements.{All-weaker, recursion_from_All}
-use Rattle.std.proofs.lemmas.Nat.Bits.{bit_at_ones}
-use Rattle.tn_types.specs.declared.choices.Class.{Class}
-use Rattle.tn_types.specs.declared.choices.Class.TheVariants.{Guaranteed, Loose}
 use Rattle.tn_types.specs.declared.choices.Drain.{Drain}
 use Rattle.tn_types.specs.declared.choices.Choice.{Choice}
-use Rattle.tn_types.specs.declared.choices.Op.{Op}
-use Rattle.tn_types.specs.declared.choices.Op.TheVariants.{Kill, Create, Update}
 use Rattle.tn_types.specs.declared.choices.Read.{Read}
 use Rattle.tn_types.specs.BitWords.{has_bit}
-use Rattle.quantised_fields.specs.declared.kind.Kind.{Kind}
 use Rattle.quantised_fields.specs.Kinds.{table_fault}
 use Rattle.notify_window.specs.declared.SendState.{SendState}
 use Rattle.notify_window.specs.declared.SendState.TheVariants.{Held, Worn, Room}
-use Rattle.notify_window.specs.Log.{Fate}
-use Rattle.wire_format.specs.declared.client.ClientPacket.{ClientPacket}
-use Rattle.ghost_model.specs.Words.{upto}
-use Rattle.ghost_model.specs.Scope.{shows}
-use Rattle.ghost_model.specs.Ghosts.{GhostEvent, Grant, Judged, scope_log, is_cause, is_due, item_carries, op_carries, carries}
+use Rattle.ghost_model.specs.Ghosts.{Grant, is_due, carries}
 use Rattle.ghost_model.specs.Legal.{IsItsMask, IsSendable}
 use Rattle.ghost_masks.specs.Plan.{sizes, kind_of, fields_of}
 use Rattle.ghost_masks.proofs.Items.{few_fields}
-use Rattle.stream_manager.specs.declared.config.Config.{Config}
-use Rattle.stream_manager.specs.declared.fault.ArriveFault.{ArriveFault}
 use Rattle.stream_manager.specs.Limits.{Terms}
-use Rattle.stream_manager.specs.Settling.{verdict_of, judgements}
-use Rattle.stream_manager.specs.End.{fates, judged_at}
 use Rattle.stream_manager.specs.Server as server
-use Rattle.stream_manager.specs.Server.{ServerEvent, server_end, server_state, server_answer, took_at_server, posted_at_server, ghost_log, choices_at, packed_onto}
-use Rattle.stream_manager.specs.Client.{client_datagrams}
+use Rattle.stream_manager.specs.Server.{ServerEvent, server_state, ghost_log, choices_at, packed_onto}
 use Rattle.pair_steps.specs.conn_packing.Packs.{absorbing, values_of}
-use Rattle.pair_steps.specs.pair_core.History.{PairStep, Show, Hide, Near, Post, ClientPost, Sample, Pack, ClientPack, Down, Up, Raw, History, history, happens, server_posts, server_gets}
-use Rattle.pair_steps.specs.conn_packing.Reads.{IsReadFor, field_of, fields_in, asked_by, asked_by_all}
+use Rattle.pair_steps.specs.pair_core.History.{PairStep, Pack, history}
+use Rattle.pair_steps.specs.conn_packing.Reads.{IsReadFor, field_of}
 use Rattle.pair_steps.specs.pair_core.Conditions.{IsMet}
 use Rattle.pair_steps.proofs.Below.conn_packing.Absorbed.{absorbed-state, all-drained}
 use Rattle.pair_steps.proofs.Below.pair_core.LegalLogs.{IsLegalLog, absorbs-legal, packed-legal}

@@ -4,7 +4,7 @@ use Rattle.std.proofs.Common.{◌≡◌, ℕ, zero, suc, ◌+◌, ◌<◌, ◌�
 use Rattle.std.specs.Prelude.{ℤ, slice_get, slice_index, option_map, if◌then◌else◌}
 use Rattle.std.specs.List.{AllByRecursion}
 use Rattle.std.specs.Option.{unwrap_or}
-use Rattle.std.proofs.lemmas.Bool.{cases_lt, eq-eqb, and_from}
+use Rattle.std.proofs.lemmas.Bool.{cases_lt, eq-eqb, and_from, lt-ltb}
 use Rattle.std.proofs.lemmas.Bool.Decides.{nat_tests}
 use Rattle.std.proofs.lemmas.List.{reverse-append, reverse-reverse, map-append, get_or_append_left}
 use Rattle.std.proofs.Math.Seq.{get_or-append_seam}
@@ -344,13 +344,10 @@ module _ (t : Terms) (c : ℕ) (w : Worlds) (first : Worlds) (ticks : Ticks) (va
       let many = fields_are (world_after first ticks) (worlds_from first ticks) values (object_of objects n) (traits_in shown n).kind world history (kind_there n less) in
       let same : length (fields_of t.kinds (plan.kind_of (ghost_log (pair.history t (shown ++ quiet)).server) n)) ≡ length (fields_of match_kinds (traits_in shown n).kind) =
       λ j. length (fields_of (kinds j) (kind j)) in
-      let enough : nat_lt field (length (fields_of t.kinds (plan.kind_of (ghost_log (pair.history t (shown ++ quiet)).server) n))) ≡ true = below field _ (omega (arith, narrow, many, same)) in
+      let enough : nat_lt field (length (fields_of t.kinds (plan.kind_of (ghost_log (pair.history t (shown ++ quiet)).server) n))) ≡ true = lt-ltb field _ (omega (arith, narrow, many, same)) in
       let no_pack : AllByRecursion IsNoPack shown = all-reverse IsNoPack (map step_for ms) (no_packs ms) in
       subst (λ (past : List PairStep). is_field_due t past n field ≡ true) (sym past_is)
       (and_from (nat_lt field (length (fields_of t.kinds (plan.kind_of (ghost_log (pair.history t (shown ++ quiet)).server) n)))) _ enough (all_due quiet are_quiet t shown no_pack n field less))
-    where
-      below : (a b : ℕ) → a < b → nat_lt a b ≡ true
-      below a b l = grind (arith, nat_tests)
 
   current : (n : ℕ) → IsCurrentIfUp values words c t steps objects n
   current n up =

@@ -1,6 +1,7 @@
 -- Once ticks took all moves that a client sampled, the moves that it holds for pending are those that ticks took since the pack of the
 -- packet that came last; so what it predicts is what the server has.
 use Rattle.std.proofs.Common.{◌≡◌, ℕ, ◌<◌, List, [], ◌∷◌, ◌++◌, length, drop, Some, refl, sym, ap, ◌∙◌, arith, append_assoc, length-append}
+use Rattle.std.proofs.Math.Seq.{drop-append_seam}
 use Rattle.std.specs.Prelude.{option_map}
 use Rattle.std.proofs.lemmas.List.{append-nil, length-drop}
 use Rattle.tn_types.specs.declared.choices.Drain.{Drain}
@@ -42,10 +43,6 @@ use Rattle.predict_laws.proofs.Known.{known, value_known}
 use Rattle.predict_laws.proofs.Plays.{applied_since, applied_parts, plays}
 
 -- ---- lists
-
-drop-front : {A : Type 0} (xs ys : List A) → drop (length xs) (xs ++ ys) ≡ ys
-drop-front [] ys = refl
-drop-front (x ∷ xs) ys = drop-front xs ys
 
 no_length : {A : Type 0} (xs : List A) → length xs ≡ 0 → xs ≡ []
 no_length [] e = refl
@@ -119,7 +116,7 @@ module _ (own : OwnListsHold) (s : Script) (c n : ℕ) (ranges : HasRanges s) (b
       let whole : sampled_in t steps ≡ before ++ since =
       sym (all_applied up.all_taken) ∙ ap (applied s.head c) (sym up.whole) ∙ applied_parts s.head c up.later (Pack c ∷ up.earlier) in
       let count : acked_of (sample_log u) ≡ length before = acked_is up.earlier up.newest ∙ sym (applied_by up.earlier up.none_waited) in
-      ap (λ k. drop k (sampled_at u)) count ∙ ap (drop (length before)) whole ∙ drop-front before since
+      ap (λ k. drop k (sampled_at u)) count ∙ ap (drop (length before)) whole ∙ drop-append_seam before since
 
   pub has_it : (up : IsCaughtUp s.head (first n s) c) → value_of (told_of s.head (first n s) c) ≡ server_has s.head (first n s) c
   has_it up =

@@ -1,8 +1,6 @@
 -- What each line of a match does at a client's end is what its telling says.
-use Rattle.std.proofs.Common.{◌≡◌, ◌≢◌, ℕ, ◌==◌, Bool, true, false, cond, List, [], ◌∷◌, ◌++◌, map, Option, Some, None, refl, sym, ap, ◌∙◌, subst, inl, inr, arith, ◌⊎◌}
+use Rattle.std.proofs.Common.{◌≡◌, ℕ, Bool, true, false, cond, List, ◌∷◌, map, Option, Some, None, refl, sym, ap, ◌∙◌, subst}
 use Rattle.std.specs.Prelude.{Result, Ok, Err, is_ok, ◌&&◌, if◌then◌else◌, slice_get}
-use Rattle.std.proofs.lemmas.Bool.{cases_eq}
-use Rattle.std.proofs.lemmas.Bool.Decides.{nat_tests}
 use Rattle.tn_types.specs.declared.choices.Class.{Class}
 use Rattle.tn_types.specs.declared.choices.Class.TheVariants.{Guaranteed, Loose}
 use Rattle.tn_types.specs.declared.moves.Move.{Move as PlayerMove}
@@ -28,18 +26,16 @@ use Rattle.match_laws.specs.pair_core.stream_manager.Limits.{Terms}
 use Rattle.match_laws.specs.pair_core.stream_manager.Client as client
 use Rattle.match_laws.specs.pair_core.stream_manager.Client.{ClientEvent, client_answer, took_at_client, client_state, pack_event, posted_at_client, sampled_answer}
 use Rattle.match_laws.specs.pair_core.stream_manager.Server.{server_datagrams}
-use Rattle.match_laws.specs.pair_core.History.{PairStep, Hide, History, history, client_gets}
+use Rattle.match_laws.specs.pair_core.History.{History, history, client_gets}
 use Rattle.match_laws.specs.pair_core.Answers.{brought_down, came_down}
 use Rattle.match_laws.specs.client_seat.Told.{brought_told, handed_down}
 use Rattle.match_laws.specs.Report.{told_after}
-use Rattle.own_lists.specs.declared.showing.Showing.{Showing}
 use Rattle.own_lists.specs.Own.{OwnItem, Line, Scan, Tick, OwnShow, OwnWrite}
-use Rattle.own_lists.specs.Course.{Course, onto, hide_step, near_step, show_step, scan_steps}
+use Rattle.own_lists.specs.Course.{Course}
 use Rattle.own_lists.specs.Kept.{kept, journal, put}
 use Rattle.own_lists.specs.Past.{Past, client_terms, after, scan_item, own_show, own_writes, taken_from, moves_of}
 use Rattle.own_lists.proofs.Meeting.{scan_journal}
 use Rattle.own_lists.proofs.KeptValues.{wrote_course}
-use Rattle.own_lists.proofs.Standing.{onto_on}
 use Rattle.match_laws.proofs.Grown.{put_own}
 use Rattle.match_laws.proofs.ClientEnd.{at_end, scan_quiet, named_case}
 use Rattle.predict_lines.specs.declared.changes.EndChange.TheVariants.{Came, Sampled, Nothing}

@@ -1,5 +1,5 @@
 -- What a scan sees is few, and what it shows is of what it sees.
-use Rattle.std.proofs.Common.{◌≡◌, ℕ, suc, ◌<◌, ◌≤◌, ◌+◌, List, [], ◌∷◌, map, length, add-one, sym, subst, arith}
+use Rattle.std.proofs.Common.{◌≡◌, ℕ, ◌<◌, ◌≤◌, ◌+◌, List, [], ◌∷◌, map, length, sym, subst, arith}
 use Rattle.std.proofs.lemmas.List.{length-map}
 use Rattle.std.proofs.lemmas.List.Elements.{recursion_from_All, All-filter}
 use Rattle.std.specs.List.{All, AllByRecursion}
@@ -7,9 +7,7 @@ use Rattle.std.specs.List.Sorted.{IsStrictlyIncreasing}
 use Rattle.world_scope.specs.declared.viewer.Seen.{Seen}
 use Rattle.client_scope.specs.Scans.{is_new, level_in, last}
 use Rattle.client_scope.specs.StandsFor.{Table, StandsFor}
-
-next_rises : (n : ℕ) (ns : List ℕ) → IsStrictlyIncreasing (n ∷ ns) → IsStrictlyIncreasing ns
-next_rises n ns h = λ k l. rw add-one (let r = h (suc k) (omega (arith, l)) in rw add-one at r)
+use Rattle.own_lists.proofs.ScanFacts.{next_rises}
 
 few_from : (most n : ℕ) (ns : List ℕ) → IsStrictlyIncreasing (n ∷ ns) → AllByRecursion (λ m. m < most) (n ∷ ns) → length (n ∷ ns) + n ≤ most
 few_from most n [] h b = let l = b.0 in omega (arith, l)

@@ -3,8 +3,7 @@ use Rattle.std.proofs.Common.{◌≡◌, ℕ, ℤ, ◌+◌, ◌-◌, ◌<◌, Bo
 use Rattle.std.specs.Prelude.{◌⊎◌, map, slice_get, option_map, nat_lt, if◌then◌else◌}
 use Rattle.std.specs.Option.{option_map_or}
 use Rattle.std.specs.List.{AllByRecursion, list_any}
-use Rattle.std.proofs.lemmas.Bool.{and_parts}
-use Rattle.std.proofs.lemmas.Bool.Decides.{nat_tests}
+use Rattle.std.proofs.lemmas.Bool.{and_parts, lt-ltb}
 use Rattle.std.proofs.lemmas.Option.{slice_get-get_or, slice_get_within}
 use Rattle.tn_types.specs.declared.choices.Drain.{Drain}
 use Rattle.tn_types.specs.declared.choices.Read.{Read}
@@ -59,11 +58,8 @@ all-left words c objects steps (n ∷ ns) all = ((all.0, refl), all-left words c
 
 -- the word of an object that the words have
 word-is : (words : Words) (c object : ℕ) → object < words.objects → word_of words c (Some object) ≡ mask_at words c object
-word-is words c object lt = by (nat_lt object words.objects) (less object words.objects lt)
+word-is words c object lt = by (nat_lt object words.objects) (lt-ltb object words.objects lt)
   where
-    less : (a b : ℕ) → a < b → nat_lt a b ≡ true
-    less a b lt = grind (arith, nat_tests)
-
     by : (b : Bool) → b ≡ true → (if b then mask_at words c object else 0) ≡ mask_at words c object
     by b e = ap (λ x. if x then mask_at words c object else 0) e
 

@@ -1,10 +1,9 @@
 -- What is marked as settled in any own list has the level of the newest value that the list has.
-use Rattle.std.proofs.Common.{◌≡◌, ◌∙◌, ℕ, ℤ, ◌<◌, ◌&&◌, Bool, true, false, not, List, [], ◌∷◌, length, map, Option, Some, None, nat_lt, refl, sym, ap, subst, inl, inr, ◌⊎◌, arith}
+use Rattle.std.proofs.Common.{◌≡◌, ◌∙◌, ℕ, ℤ, ◌<◌, ◌&&◌, Bool, true, false, not, List, [], ◌∷◌, length, map, Option, Some, None, nat_lt, refl, sym, ap, subst, inl, inr, ◌⊎◌}
 use Rattle.std.specs.Prelude.{slice_get, slice_index_or}
 use Rattle.std.specs.Option.{option_map_or}
 use Rattle.std.specs.List.{AllByRecursion, list_any}
-use Rattle.std.proofs.lemmas.Bool.{and_parts, eqb-true}
-use Rattle.std.proofs.lemmas.Bool.Decides.{nat_tests}
+use Rattle.std.proofs.lemmas.Bool.{and_parts, eqb-true, ltb-true}
 use Rattle.tn_types.specs.declared.choices.Drain.{Drain}
 use Rattle.tn_types.specs.BitWords.{has_bit}
 use Rattle.quantised_fields.specs.declared.field.FieldSpec.{FieldSpec}
@@ -40,9 +39,6 @@ slot_is : (at : ℕ) (o : Option ℕ) → is_slot at o ≡ true → o ≡ Some a
 slot_is at None e = absurd (cc)
 slot_is at (Some s) e = ap (λ (x : ℕ). Some x) (eqb-true s at e)
 
-less : (a b : ℕ) → nat_lt a b ≡ true → a < b
-less a b e = grind (arith, nat_tests)
-
 one_value : (a b : ℤ) → ◌≡◌ {A = Option ℤ} (Some a) (Some b) → a ≡ b
 one_value a b e = cc (e)
 
@@ -76,7 +72,7 @@ module _ (t : Terms) (table : table_fault t.kinds ≡ None) (items : List OwnIte
       let s = and_parts (is_live (phase log d.n) && not (is_due log d.n f)) (not (list_any (carries d.n f) (unjudged log))) b.1 in
       let u = and_parts (is_live (phase log d.n)) (not (is_due log d.n f)) s.0 in
       record {
-        field = less f (length (fields_of t.kinds (kind_of log d.n))) b.0;
+        field = ltb-true f (length (fields_of t.kinds (kind_of log d.n))) b.0;
         due = not_false (is_due log d.n f) u.1;
         carried = not_false (list_any (carries d.n f) (unjudged log)) s.1;
         written = not_false (has_bit d.bits f) w.1;

@@ -1,11 +1,10 @@
 -- The newest values of a spectator's own list are those that the relay's copies show now, in the slots that its periods watch.
 use Rattle.std.proofs.Common.{◌≡◌, ◌∙◌, ℕ, ℤ, pos, zero, suc, ◌+◌, ◌*◌, ◌<◌, ◌==◌, Bool, true, false, not, cond, List, [], ◌∷◌, ◌++◌, length, Option, Some, None, is_some, if◌then◌else◌, refl, sym, ap, subst, arith, inl, inr, ◌⊎◌, get_or-set_same, get_or-set_other, length-set}
-use Rattle.std.specs.Prelude.{slice_get, slice_index_or, slice_set, count_by, filter_map, unwrap_or, option_map, option_and_then}
+use Rattle.std.specs.Prelude.{slice_get, slice_index_or, slice_set, filter_map, unwrap_or, option_map, option_and_then}
 use Rattle.std.specs.List.{AllByRecursion, flat_map, cons_option}
-use Rattle.std.proofs.lemmas.Bool.{and_parts, eqb-true, eq-eqb, cases_eq}
+use Rattle.std.proofs.lemmas.Bool.{eqb-true, eq-eqb, cases_eq}
 use Rattle.std.proofs.lemmas.List.Elements.{filter_map-append}
 use Rattle.std.proofs.lemmas.List.Concat.{flat_map-append}
-use Rattle.std.proofs.lemmas.List.Sums.{sum_by_push}
 use Rattle.std.proofs.lemmas.List.FromFn.{length-map-range_with_len, get_or-map-range_with_len}
 use Rattle.std.proofs.lemmas.Option.{slice_get-get_or}
 use Rattle.tn_types.specs.declared.choices.Class.TheVariants.{Guaranteed}
@@ -22,9 +21,9 @@ use Rattle.stream_manager.specs.Limits.{Terms}
 use Rattle.pair_steps.specs.Steps.{shows_in}
 use Rattle.match_script.specs.declared.types.BodyLine.{BodyLine}
 use Rattle.match_script.specs.declared.types.BodyLine.TheVariants as script
-use Rattle.own_lists.specs.Own.{OwnShow, OwnWrite, OwnItem, Line}
-use Rattle.own_lists.specs.Kept.{Kept, kept, begins, all_begin, wrote, wrote_all}
-use Rattle.relay_model.specs.Watching.{WatchEvent, Took, Scans, Own, Watched, is_unwatched, left_watched, watched, copy_at}
+use Rattle.own_lists.specs.Own.{OwnWrite, OwnItem, Line}
+use Rattle.own_lists.specs.Kept.{Kept, kept, begins, wrote, wrote_all}
+use Rattle.relay_model.specs.Watching.{WatchEvent, Took, Scans, Own, Watched, left_watched, watched, copy_at}
 use Rattle.relay_model.specs.Items.{shown_at, values_of, show_of, is_changed, write_of, writes_between, writes_of, hide_item, write_item, news_by, posting, is_stopped, items_of}
 use Rattle.relay_model.specs.Laws.{IsCopy, IsChange, AreCopies, IsSpectators, AreSpectators}
 use Rattle.relay_model.proofs.Following.{follow}

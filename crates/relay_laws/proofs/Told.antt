@@ -1,11 +1,8 @@
 -- What a relay tells a spectator's server are values that its copies showed.
-use Rattle.std.proofs.Common.{◌≡◌, ℕ, ℤ, pos, zero, suc, ◌+◌, ◌<◌, ◌==◌, Bool, true, false, not, cond, List, [], ◌∷◌, ◌++◌, length, map, Option, Some, None, refl, sym, ◌∙◌, ap, subst, arith, inl, inr, if◌then◌else◌, get_or-set_same, get_or-set_other, length-set}
-use Rattle.std.specs.Prelude.{slice_index_or, slice_set, is_some, count_by, filter_map}
+use Rattle.std.proofs.Common.{◌≡◌, ℕ, ℤ, pos, ◌+◌, ◌<◌, ◌==◌, Bool, true, false, cond, List, [], ◌∷◌, ◌++◌, length, map, Option, Some, None, refl, sym, ◌∙◌, ap, subst, arith, inl, inr, if◌then◌else◌, get_or-set_same, get_or-set_other, length-set}
+use Rattle.std.specs.Prelude.{slice_index_or, slice_set, is_some, filter_map}
 use Rattle.std.specs.List.{AllByRecursion, flat_map, cons_option}
-use Rattle.std.specs.Option.{option_map}
-use Rattle.std.proofs.lemmas.Bool.{and_parts, eqb-true, eq-eqb, cases_eq}
-use Rattle.std.proofs.lemmas.List.Elements.{filter_map-append}
-use Rattle.std.proofs.lemmas.List.Sums.{sum_by_push}
+use Rattle.std.proofs.lemmas.Bool.{eqb-true, eq-eqb, cases_eq}
 use Rattle.std.proofs.lemmas.List.FromFn.{length-map-range_with_len, get_or-map-range_with_len}
 use Rattle.tn_types.specs.declared.choices.Class.TheVariants.{Guaranteed}
 use Rattle.tn_types.specs.declared.limits.TheConstants.{MAX_SLOTS}
@@ -19,11 +16,11 @@ use Rattle.pair_steps.specs.Steps.{shows_in}
 use Rattle.conn_packing.proofs.Lists.{all-append}
 use Rattle.match_script.specs.declared.types.BodyLine.{BodyLine}
 use Rattle.match_script.specs.declared.types.BodyLine.TheVariants as script
-use Rattle.own_lists.specs.Own.{OwnShow, OwnWrite, OwnItem, Line}
+use Rattle.own_lists.specs.Own.{OwnWrite, OwnItem, Line}
 use Rattle.own_lists.specs.Course.{Course, onto, hide_step}
-use Rattle.own_lists.specs.Kept.{Kept, kept, journal, begins, all_begin, wrote, wrote_all}
+use Rattle.own_lists.specs.Kept.{Kept, kept, journal, begins, wrote, wrote_all}
 use Rattle.own_lists.proofs.KeptValues.{wrote_course}
-use Rattle.relay_model.specs.Watching.{WatchEvent, Took, Scans, Own, watched, is_unwatched, copy_at}
+use Rattle.relay_model.specs.Watching.{WatchEvent, Took, Scans, Own, watched, copy_at}
 use Rattle.relay_model.specs.Items.{shown_at, values_of, show_of, write_of, writes_between, writes_of, hidden_of, is_changed, hide_item, write_item, news_by, posting, is_stopped, items_of}
 use Rattle.relay_model.specs.Laws.{AreSpectators, IsSpectators}
 use Rattle.relay_laws.proofs.Scanning.{up_to, scanned_to}

@@ -1,12 +1,12 @@
 -- What a scan shows: a period for each copy that none watches, in the order of the slots.
-use Rattle.std.proofs.Common.{◌≡◌, ◌∙◌, ℕ, zero, suc, ◌+◌, ◌<◌, ◌≤◌, ◌==◌, ◌&&◌, Bool, true, false, not, cond, nat_lt, List, [], ◌∷◌, ◌++◌, length, map, Option, Some, None, if◌then◌else◌, is_some, count_by, refl, sym, ap, subst, arith, append-nil, length-append}
+use Rattle.std.proofs.Common.{◌≡◌, ◌∙◌, ℕ, zero, suc, ◌+◌, ◌<◌, ◌≤◌, ◌==◌, ◌&&◌, Bool, true, false, not, cond, List, [], ◌∷◌, ◌++◌, length, map, Option, Some, None, if◌then◌else◌, is_some, refl, sym, ap, subst, arith, append-nil, length-append}
 use Rattle.std.specs.List.{filter_map, cons_option}
 use Rattle.std.specs.Option.{option_map}
 use Rattle.std.proofs.lemmas.Bool.{eqb-true}
 use Rattle.std.proofs.lemmas.Bool.Decides.{nat_tests}
 use Rattle.std.proofs.lemmas.List.{map-append}
 use Rattle.std.proofs.lemmas.List.Elements.{filter_map-append}
-use Rattle.std.proofs.lemmas.List.Sums.{sum_by-append, count_by-le-length}
+use Rattle.std.proofs.lemmas.List.Sums.{count_by-le-length}
 use Rattle.tn_types.specs.declared.limits.TheConstants.{MAX_SLOTS, MAX_SHOWS}
 use Rattle.ghost_model.specs.Words.{upto}
 use Rattle.ghost_client.specs.declared.copy.GhostCopy.{GhostCopy}
@@ -19,7 +19,7 @@ use Rattle.own_lists.specs.Own.{OwnShow}
 use Rattle.own_lists.specs.Course.{onto, show_step}
 use Rattle.own_lists.specs.Conditions.{MeetEach}
 use Rattle.own_lists.proofs.Standing.{onto_on, meet_on}
-use Rattle.relay_model.specs.Watching.{Watched, is_unwatched, begun_below, all_watched}
+use Rattle.relay_model.specs.Watching.{Watched, is_unwatched, all_watched}
 use Rattle.relay_model.specs.Items.{show_of}
 use Rattle.relay_model.specs.Laws.{IsCopy}
 use Rattle.relay_model.specs.Beginning.{begun_at, begun_up_to, shown_in}

@@ -1,14 +1,11 @@
 -- What each line of a match leaves of the packets that a client took is what its telling says.
-use Rattle.std.proofs.Common.{◌≡◌, ◌≢◌, ℕ, ◌==◌, Bool, true, false, cond, List, [], ◌∷◌, ◌++◌, map, drop, length, Option, Some, None, if◌then◌else◌, refl, sym, ap, ◌∙◌, subst, inl, inr, arith, ◌⊎◌}
+use Rattle.std.proofs.Common.{◌≡◌, ℕ, Bool, true, false, cond, List, ◌∷◌, map, drop, length, Option, Some, None, if◌then◌else◌, refl, sym, ap, ◌∙◌, subst}
 use Rattle.std.specs.Prelude.{Result, Ok, Err, is_ok, slice_get}
-use Rattle.std.proofs.lemmas.Bool.{cases_eq}
-use Rattle.std.proofs.lemmas.Bool.Decides.{nat_tests}
 use Rattle.tn_types.specs.declared.choices.Class.{Class}
 use Rattle.tn_types.specs.declared.choices.Class.TheVariants.{Guaranteed, Loose}
 use Rattle.notify_window.specs.declared.SendState.{SendState}
 use Rattle.notify_window.specs.declared.SendState.TheVariants.{Held, Worn, Room}
 use Rattle.wire_format.specs.declared.server.ServerPacket.{ServerPacket}
-use Rattle.client_scope.specs.declared.period.Near.{Near as NearPeriod}
 use Rattle.match_script.specs.declared.types.BodyLine.{BodyLine}
 use Rattle.match_script.specs.declared.types.BodyLine.TheVariants as script
 use Rattle.match_script.specs.declared.types.Head.{Head}
@@ -22,16 +19,14 @@ use Rattle.own_lists.specs.pair_core.stream_manager.Client as client
 use Rattle.own_lists.specs.pair_core.stream_manager.Client.{ClientEvent, client_answer, took_at_client, client_state, pack_event, posted_at_client, sampled_answer}
 use Rattle.own_lists.specs.pair_core.stream_manager.Packets.{packets_at, delivered_to}
 use Rattle.own_lists.specs.pair_core.stream_manager.Server.{server_datagrams}
-use Rattle.own_lists.specs.pair_core.History.{PairStep, Hide, History, history, client_gets}
+use Rattle.own_lists.specs.pair_core.History.{History, history, client_gets}
 use Rattle.own_lists.specs.pair_core.Answers.{brought_down, came_down}
-use Rattle.own_lists.specs.declared.showing.Showing.{Showing}
 use Rattle.own_lists.specs.Own.{OwnItem, Line, Scan, Tick, OwnShow}
-use Rattle.own_lists.specs.Course.{Course, onto, hide_step, near_step, show_step, scan_steps}
+use Rattle.own_lists.specs.Course.{Course}
 use Rattle.own_lists.specs.Kept.{kept, journal}
 use Rattle.own_lists.specs.Past.{client_terms, after}
 use Rattle.own_lists.proofs.Meeting.{scan_journal}
 use Rattle.own_lists.proofs.KeptValues.{wrote_course}
-use Rattle.own_lists.proofs.Standing.{onto_on}
 use Rattle.relay_report.specs.match_engine.client_seat.Told.{event_told, brought_told, handed_down}
 use Rattle.relay_report.specs.match_engine.match_laws.Report.{told_after}
 use Rattle.relay_report.proofs.Below.match_laws.Grown.{IsMadeBy, grows}

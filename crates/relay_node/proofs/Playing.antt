@@ -19,7 +19,7 @@ use Rattle.own_lists.specs.pair_core.Stands.{PairState}
 use Rattle.own_lists.specs.pair_core.stream_manager.Client.{ghosts_came}
 use Rattle.own_lists.specs.pair_core.stream_manager.Packets.{ghosts_seen, delivered_to}
 use Rattle.own_lists.specs.pair_core.stream_manager.Limits.{Terms}
-use Rattle.own_lists.specs.Past.{client_terms, after}
+use Rattle.own_lists.specs.Past.{client_terms}
 use Rattle.relay_report.specs.match_engine.match_laws.Values.{steps_of}
 use Rattle.event_manager.specs.Posted.{guaranteed_of}
 use Rattle.relay_model.proofs.Copies.{all_kept}

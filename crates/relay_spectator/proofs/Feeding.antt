@@ -1,10 +1,8 @@
 -- What a spectator's server may be fed, and what it stands for then.
-use Rattle.std.proofs.Common.{◌≡◌, ◌∙◌, ℕ, ◌+◌, ◌*◌, ◌<◌, ◌≤◌, List, [], ◌∷◌, length, Option, None, if◌then◌else◌, refl, sym, ap, subst, arith}
+use Rattle.std.proofs.Common.{◌≡◌, ◌∙◌, ℕ, ◌+◌, ◌<◌, ◌≤◌, List, [], ◌∷◌, length, Option, None, if◌then◌else◌, refl, sym, ap, subst, arith}
 use Rattle.std.specs.List.{filter_map}
-use Rattle.std.proofs.lemmas.List.Sums.{count_by-le-length}
 use Rattle.tn_types.specs.declared.limits.TheConstants.{MAX_SLOTS}
 use Rattle.wire_format.specs.declared.server.ServerPacket.{ServerPacket}
-use Rattle.ghost_model.specs.Words.{upto}
 use Rattle.ghost_client.specs.declared.copy.GhostCopy.{GhostCopy}
 use Rattle.ghost_client.specs.State.{State, copy_in}
 use Rattle.client_scope.specs.declared.period.Near.{Near}
@@ -14,7 +12,7 @@ use Rattle.own_lists.specs.pair_core.stream_manager.Limits.{Terms}
 use Rattle.own_lists.specs.Own.{OwnShow, OwnWrite, OwnItem, Line, Scan, Tick, StandsAlone}
 use Rattle.own_lists.specs.Kept.{kept}
 use Rattle.own_lists.specs.Conditions.{MayFollow}
-use Rattle.relay_model.specs.Watching.{WatchEvent, Took, Scans, Own, Watched, is_unwatched, all_watched, watched, copy_at}
+use Rattle.relay_model.specs.Watching.{WatchEvent, Took, Scans, Watched, all_watched, watched, copy_at}
 use Rattle.relay_model.specs.Items.{shown_of, hidden_of, writes_of, is_stopped, hide_item, write_item, show_item, items_of}
 use Rattle.relay_model.proofs.Following.{few_shows}
 use Rattle.relay_model.proofs.Following.{items_may_follow}

@@ -1,15 +1,14 @@
 -- Which slots are watched, slot by slot of a scan and of what ends.
-use Rattle.std.proofs.Common.{◌≡◌, ◌∙◌, ℕ, zero, suc, ◌+◌, ◌<◌, ◌≤◌, ◌==◌, ◌&&◌, Bool, true, false, not, cond, nat_lt, List, [], ◌∷◌, ◌++◌, length, take, set, get_or, Option, Some, None, if◌then◌else◌, is_some, count_by, refl, sym, ap, subst, arith}
+use Rattle.std.proofs.Common.{◌≡◌, ◌∙◌, ℕ, suc, ◌+◌, ◌<◌, ◌≤◌, ◌==◌, ◌&&◌, Bool, true, false, not, List, [], ◌∷◌, ◌++◌, length, take, set, get_or, Option, Some, None, if◌then◌else◌, is_some, refl, sym, ap, subst, arith}
 use Rattle.std.specs.List.{filter_map, cons_option}
 use Rattle.std.proofs.lemmas.Bool.{eqb-true}
 use Rattle.std.proofs.lemmas.Bool.Decides.{nat_tests}
 use Rattle.std.proofs.lemmas.List.{take_more, get_or-set_same, get_or-set_other}
 use Rattle.std.proofs.lemmas.List.Elements.{filter_map-append}
-use Rattle.std.proofs.lemmas.List.Sums.{sum_by-append}
 use Rattle.tn_types.specs.declared.limits.TheConstants.{MAX_SLOTS}
 use Rattle.ghost_model.specs.Words.{upto}
 use Rattle.ghost_client.specs.declared.copy.GhostCopy.{GhostCopy}
-use Rattle.relay_model.specs.Watching.{Watched, is_unwatched, begun_below, all_watched}
+use Rattle.relay_model.specs.Watching.{Watched, is_unwatched, all_watched}
 use Rattle.relay_spectator.specs.Watches.{WatchState, period_at, IsWatch}
 use Rattle.relay_model.specs.Beginning.{begun_at, begun_up_to}
 use Rattle.relay_model.proofs.Begun.{shows_mid, not_yet, all_periods}

@@ -1,10 +1,9 @@
 -- Where the mark of a settled field stands; and the laws on settled and changed fields, in the words of looking back.
-use Rattle.std.proofs.Common.{◌≡◌, ℕ, ℤ, ◌<◌, ◌==◌, ◌&&◌, ◌||◌, Bool, true, false, not, cond, nat_lt, List, [], ◌∷◌, Option, Some, None, length, refl, sym, ap, subst, ◌∙◌, arith, inl, inr}
+use Rattle.std.proofs.Common.{◌≡◌, ℕ, ℤ, ◌<◌, ◌==◌, ◌&&◌, ◌||◌, Bool, true, false, not, cond, nat_lt, List, [], ◌∷◌, Option, Some, None, length, refl, sym, ap, subst, ◌∙◌, inl, inr}
 use Rattle.std.specs.Prelude.{◌⊎◌, find, map, slice_get, option_map}
 use Rattle.std.specs.Option.{option_map_or, option_and_then}
 use Rattle.std.specs.List.{AllByRecursion, list_any}
-use Rattle.std.proofs.lemmas.Bool.{and_parts, and_from, eqb-true, eq-eqb}
-use Rattle.std.proofs.lemmas.Bool.Decides.{nat_tests}
+use Rattle.std.proofs.lemmas.Bool.{and_parts, and_from, eqb-true, eq-eqb, ltb-true, lt-ltb}
 use Rattle.std.proofs.lemmas.List.Elements.{recursion_from_All}
 use Rattle.tn_types.specs.declared.choices.Drain.{Drain}
 use Rattle.tn_types.specs.BitWords.{has_bit}
@@ -74,12 +73,6 @@ mark-of {S} (Some v) told e = same e
     same : Some (record { value = v; settled = S }) ≡ Some told → S ≡ told.settled
     same e = let is : record { value = v; settled = S } ≡ told = cc in ap (λ (x : FieldTold). x.settled) is
 
-less : (a b : ℕ) → nat_lt a b ≡ true → a < b
-less a b e = grind (arith, nat_tests)
-
-lesser : (a b : ℕ) → a < b → nat_lt a b ≡ true
-lesser a b lt = grind (arith, nat_tests)
-
 -- ---- one client at one line
 
 module _ (own : OwnListsHold) (s : Script) (c i : ℕ) (h : HasRanges s) (below : c < s.head.clients) where
@@ -123,7 +116,7 @@ module _ (own : OwnListsHold) (s : Script) (c i : ℕ) (h : HasRanges s) (below 
         n = d.n;
         up = record { shown = d_is.0.0.0; not_hidden = d_is.0.0.1 };
         holds = slot-is at (slot log d.n) d_is.1;
-        field = less f (length (fields_of match_kinds (kind_of log d.n))) b.0;
+        field = ltb-true f (length (fields_of match_kinds (kind_of log d.n))) b.0;
         settled = b.1;
         unwritten = sym (written t d.n f (own_then m)) ∙ ap (λ bits. has_bit bits f) (sym d_is.0.1) ∙ is-false (has_bit d.bits f) w.1;
       }
@@ -136,7 +129,7 @@ module _ (own : OwnListsHold) (s : Script) (c i : ℕ) (h : HasRanges s) (below 
       ap (λ b. has_bit b f) bits ∙ ap (λ n. has_bit (k.written n) f) same ∙ written t x.n f (own_then m) ∙ x.unwritten in
       and_from (nat_lt f (length (fields_of match_kinds (kind_of log d.n))) && is_settled log d.n f) (not (has_bit d.bits f))
       (and_from (nat_lt f (length (fields_of match_kinds (kind_of log d.n)))) (is_settled log d.n f)
-      (lesser f (length (fields_of match_kinds (kind_of log d.n))) lt) (ap (λ n. is_settled log n f) same ∙ x.settled))
+      (lt-ltb f (length (fields_of match_kinds (kind_of log d.n))) lt) (ap (λ n. is_settled log n f) same ∙ x.settled))
       (ap not none)
 
   settled-marked : (at f : ℕ) → IsSettledAt m at f → option_map_or (is_newest t steps f) (holder_at t steps (undrained k) at) false ≡ true

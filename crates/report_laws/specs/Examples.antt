@@ -1,6 +1,6 @@
 -- A small match, computed through its datagrams, bit by bit: one client and a clock. An event is posted and comes, a move is sampled,
 -- accepted and applied, and the client's copy of the clock is settled until the next tick.
-use Rattle.std.specs.Prelude.{ℕ, pos, ◌≡◌, List, [], ◌∷◌, map, true, false, Some, None, codes, refl}
+use Rattle.std.specs.Prelude.{pos, ◌≡◌, List, [], ◌∷◌, map, true, false, Some, None, codes, refl}
 use Rattle.std.specs.Fmt.{digits}
 use Rattle.tn_types.specs.BitWords.{from_bits}
 use Rattle.tn_types.specs.declared.choices.Class.TheVariants.{Guaranteed}

@@ -1,6 +1,6 @@
 -- What a call of a link does to the end that it has, and what it tells of it: at the server's end alone, at the client's alone, or
 -- at either. Each case is the call of stream_manager or conn_packing, in their words.
-use Rattle.std.specs.Prelude.{◌≡◌, ℕ, ℤ, Bool, List, [], ◌+◌, ◌∷◌, length, Option, Some, Result, Ok, slice_get}
+use Rattle.std.specs.Prelude.{◌≡◌, ℕ, ℤ, Bool, List, [], ◌+◌, length, Option, Some, Ok, slice_get}
 use Rattle.tn_types.specs.declared.choices.Class.{Class}
 use Rattle.tn_types.specs.declared.moves.Move.{Move}
 use Rattle.notify_window.specs.declared.SendState.TheVariants.{Held, Worn, Room}

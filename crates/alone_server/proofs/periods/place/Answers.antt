@@ -1,4 +1,4 @@
-use Rattle.std.proofs.Common.{◌≡◌, ℕ, None, IfOk, IfErr, rules}
+use Rattle.std.proofs.Common.{◌≡◌, None, IfOk, IfErr, rules}
 use Rattle.std.proofs.lemmas.List.Sorted.{answers_always}
 use Rattle.own_items.proofs.Below.match_engine.Rising.{searched, found_some, absent_none}
 use Rattle.alone_server.specs.declared.periods.OwnPeriod.{OwnPeriod}

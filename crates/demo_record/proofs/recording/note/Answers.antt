@@ -1,12 +1,10 @@
-use Rattle.std.proofs.Common.{◌≡◌, ◌∙◌, ℕ, ◌≤◌, List, [], ◌∷◌, ◌++◌, length, Option, Some, None, sym, ap, subst}
-use Rattle.std.specs.Prelude.{slice_get}
+use Rattle.std.proofs.Common.{◌≡◌, ◌∙◌, ℕ, ◌≤◌, List, [], ◌∷◌, ◌++◌, length, Some, sym, ap, subst}
 use Rattle.std.specs.Option.{option_copied}
 use Rattle.std.specs.List.{AllByRecursion}
 use Rattle.std.proofs.lemmas.List.{append-nil}
 use Rattle.tn_outside.specs.Totals.{Adds, AddsFront}
 use Rattle.tn_outside.proofs.Totals.{adds_nothing}
-use Rattle.match_script.specs.declared.types.BodyLine.{BodyLine}
-use Rattle.match_engine.specs.Match.{StandsFor, last_told}
+use Rattle.match_engine.specs.Match.{last_told}
 use Rattle.demo_format.specs.Records.{spell_record, spell_records, IsRecord}
 use Rattle.demo_record.specs.Recording.{place_taken}
 use Rattle.demo_record.proofs.More.{sent-bytes, none-taken, never-none, same-some, map-ok, map-err}

@@ -1,4 +1,4 @@
-use Rattle.std.proofs.Common.{◌≡◌, ◌∙◌, List, ℕ, sym, ap, subst}
+use Rattle.std.proofs.Common.{◌∙◌, List, ℕ, sym, ap, subst}
 use Rattle.tn_outside.specs.Totals.{AddsFront}
 use Rattle.demo_format.specs.declared.head.DemoHead.{DemoHead}
 use Rattle.demo_format.specs.Head.{head_in}

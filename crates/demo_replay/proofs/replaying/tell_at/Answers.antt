@@ -1,4 +1,4 @@
-use Rattle.std.proofs.Common.{◌≡◌, ◌∙◌, List, ℕ, take, ap, subst}
+use Rattle.std.proofs.Common.{◌∙◌, List, ℕ, take, ap, subst}
 use Rattle.std.specs.Prelude.{codes}
 use Rattle.quantised_fields.specs.declared.kind.Kind.{Kind}
 use Rattle.tn_outside.specs.Totals.{AddsFront}

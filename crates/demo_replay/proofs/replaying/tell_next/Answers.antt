@@ -1,4 +1,4 @@
-use Rattle.std.proofs.Common.{◌≡◌, ◌∙◌, List, ℕ, sym, subst}
+use Rattle.std.proofs.Common.{◌∙◌, List, ℕ, subst}
 use Rattle.tn_outside.specs.Totals.{AddsFront}
 use Rattle.demo_view.proofs.Below.stream_manager.Ends.{map_err}
 use Rattle.demo_replay.proofs.replaying.tell_next.Goals as goal

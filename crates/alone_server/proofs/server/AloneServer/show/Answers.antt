@@ -1,6 +1,5 @@
-use Rattle.std.proofs.Common.{◌≡◌, ◌∙◌, List, map, sym, ap}
+use Rattle.std.proofs.Common.{◌≡◌, ◌∙◌, map, sym, ap}
 use Rattle.std.specs.Prelude.{Result, Ok, Err, IfOk}
-use Rattle.tn_types.specs.declared.choices.Drain.{Drain}
 use Rattle.match_report.specs.declared.told.Told.{Told}
 use Rattle.own_lists.specs.Kept.{kept, undrained}
 use Rattle.own_items.specs.client_seat.Told.{show_told}

@@ -1,10 +1,9 @@
-use Rattle.std.proofs.Common.{◌≡◌, ◌∙◌, ◌<◌, ◌+◌, ℕ, List, [], ◌∷◌, length, get_or, set, sym, ap, subst, refl, arith, Some}
+use Rattle.std.proofs.Common.{◌≡◌, ◌∙◌, ◌<◌, ◌+◌, ℕ, List, ◌∷◌, length, get_or, set, sym, ap, subst, refl, arith, Some}
 use Rattle.std.specs.Prelude.{IfOk, OnOk}
 use Rattle.match_script.specs.declared.types.BodyLine.{BodyLine}
 use Rattle.match_script.specs.declared.types.Head.{Head}
 use Rattle.match_script.specs.Ranges.{LineFits}
 use Rattle.match_report.specs.declared.told.Told.{Told}
-use Rattle.client_scope.specs.StandsFor.{Table}
 use Rattle.stream_manager.specs.Limits.{Terms}
 use Rattle.match_script.specs.Named.{client_named}
 use Rattle.match_laws.specs.own_lists.Counted.{counted}
@@ -17,6 +16,7 @@ use Rattle.match_engine.specs.Stands.{GameState, StandsFor, IsDirect, KeepAll}
 use Rattle.match_engine.proofs.Keeping.{keep-set}
 use Rattle.match_engine.proofs.Fed.{names_client, fed, after_direct, put_set, put_none, own_few, map_if_ok, map_on_ok, ok_of}
 use Rattle.match_engine.proofs.game.Game.direct.Goals as goal
+use Rattle.match_engine.proofs.Lent.{some_scope}
 
 abbrev before : goal.After-index_mut → GameState
 before c = record { head = c.self.inside.head.now; seats = c.self.inside.seats.items; scopes = c.self.inside.scopes.items; world = c.self.inside.world; lanes = c.self.inside.lanes; done = c.self.inside.done }
@@ -24,10 +24,6 @@ before c = record { head = c.self.inside.head.now; seats = c.self.inside.seats.i
 module _ (m : GameState) (d : SeatState) (n : ℕ) (line : BodyLine) (past : List BodyLine) (named : client_named line ≡ Some n) (is : d ≡ get_or m.seats n d) (s : StandsFor m past) (fits : LineFits m.head.clients line) where
   lt : n < m.head.clients
   lt = names_client m.head.clients line n named fits
-
-  -- some scope, where none is named
-  some_scope : Table
-  some_scope = record { count = 0; shown = []; hides = []; nears = []; shows = []; marks = [] }
 
   course : SeatStandsFor d (client_terms m.head n) (kept_by m.head (after m.head past) n).course
   course = subst (λ (x : SeatState). SeatStandsFor x (client_terms m.head n) (kept_by m.head (after m.head past) n).course) (sym is) (s.client n d some_scope lt).course

@@ -1,4 +1,4 @@
-use Rattle.std.proofs.Common.{◌≡◌, Option, Some, sym, subst}
+use Rattle.std.proofs.Common.{Option, Some, sym, subst}
 use Rattle.tn_outside.specs.Totals.{AddsFront}
 use Rattle.match_report.specs.declared.told.Told.{Told}
 use Rattle.alone_server.specs.own_items.Items.{item_of}
