@@ -34,7 +34,7 @@ pub struct AloneHeader {
 }
 
 /// A server that serves one client alone. It knows nothing of the match but what it is fed: the items of the client's own list
-/// (docs/proofs.md, "Own lists").
+/// (docs/proofs/match.md, "Own lists").
 pub struct AloneServer {
     pub(crate) client: u8,
     pub(crate) seat: Seat,

@@ -1,7 +1,7 @@
 //! Numbers of a few bits each, written into a datagram and read from one.
 //!
 //! Bit `k` of a datagram is bit `k mod 8` of its byte `k div 8`, and a number is written with its
-//! least bit first (docs/formats.md, "Datagrams"). Both ends keep pending bits in a 64-bit word beside
+//! least bit first (docs/wire.md, "Datagrams"). Both ends keep pending bits in a 64-bit word beside
 //! whole bytes, so that a number costs a few shifts.
 #![tactic(auto)]
 

@@ -4,7 +4,7 @@ use crate::reader::{PaddingFault, Short};
 use std::error::Error;
 use std::fmt;
 
-/// As the fault of a datagram whose part this is (docs/formats.md, "The report"): `bits PLACE Short`.
+/// As the fault of a datagram whose part this is (docs/script.md, "The report"): `bits PLACE Short`.
 impl fmt::Display for Short {
     ghost use Rattle.std.specs.Prelude.{Some};
     ghost use Rattle.bit_stream.specs.Said.{short_text};
@@ -16,7 +16,7 @@ impl fmt::Display for Short {
     }
 }
 
-/// As the fault of a datagram that ends so (docs/formats.md, "The report"): `bits PLACE Padding`.
+/// As the fault of a datagram that ends so (docs/script.md, "The report"): `bits PLACE Padding`.
 impl fmt::Display for PaddingFault {
     ghost use Rattle.std.specs.Prelude.{Some};
     ghost use Rattle.bit_stream.specs.Said.{padding_text};

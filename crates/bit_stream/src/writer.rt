@@ -44,7 +44,7 @@ fn long_of(bytes: &[u8; LONG_BYTES]) -> u64
     u64::from_le_bytes(*bytes)
 }
 
-/// Puts the `width` bits of a number behind the pending bits. Where they are 64 or more, eight whole bytes leave. Gives the
+/// Puts the `width` bits of a number after the pending bits. Where they are 64 or more, eight whole bytes leave. Gives the
 /// bits that are pending then.
 fn append(
     whole: &mut ArrayVec<u8, MAX_DATAGRAM_BYTES>,

@@ -42,7 +42,7 @@ impl Packer {
         Ok(Packer { listed })
     }
 
-    /// Makes the end's next datagram behind what `out` holds, which has room for it. Where the end's state is Room, these drains are
+    /// Makes the end's next datagram after what `out` holds, which has room for it. Where the end's state is Room, these drains are
     /// absorbed first, and the data packet carries values that are asked for now: each field that its ghosts carry once, in their
     /// order and by rising field, and nothing else. Where it is Held or Worn, nothing is drained or asked. It takes no memory. A caller
     /// that wants to keep what was read lends a `Noting`.

@@ -57,7 +57,7 @@ pub(crate) fn begin<V: Values>(
     }
 }
 
-/// The end makes its next datagram behind what `out` holds. The values that it carries are listed.
+/// The end makes its next datagram after what `out` holds. The values that it carries are listed.
 pub(crate) fn pack_onto<V: Values>(
     conn: &mut Conn,
     drains: &[Drain],

@@ -1,4 +1,4 @@
-//! A datagram where its caller wants it: behind a list of bytes, or in front of a buffer.
+//! A datagram where its caller wants it: after a list of bytes, or in front of a buffer.
 ghost use Rattle.std.specs.Prelude.{◌≡◌, ◌+◌, ◌<◌, ◌≤◌, ◌++◌, ◌↔◌, ℕ, List, IsSome, IsErr, IfOk, IfErr, OnOk, OnErr, length, take, drop, vec_len, vec_capacity};
 ghost use Rattle.notify_window.specs.State.{send_state};
 ghost use Rattle.stream_manager.specs.ghost_masks.StandsFor.{FitPlan};
@@ -22,7 +22,7 @@ pub(crate) fn check_room(conn: &Conn, len: usize) -> Result<(), TooSmall>
     Ok(())
 }
 
-/// Makes a ping behind what `out` holds, and gives the number of its bytes.
+/// Makes a ping after what `out` holds, and gives the number of its bytes.
 pub(crate) fn ping_onto(conn: &mut Conn, out: &mut Vec<u8>) -> usize
     requires held { send_state conn.old.common.window ≡ SendState.Held }
     requires room { vec_len out.old + conn.old.common.config.size ≤ vec_capacity out.old }
@@ -39,7 +39,7 @@ pub(crate) fn ping_onto(conn: &mut Conn, out: &mut Vec<u8>) -> usize
     bytes.len()
 }
 
-/// Makes the data packet that was planned behind what `out` holds, with these values, and gives the number of its bytes.
+/// Makes the data packet that was planned after what `out` holds, with these values, and gives the number of its bytes.
 pub(crate) fn seal_onto(conn: &mut Conn, values: &[i64], out: &mut Vec<u8>) -> usize
     requires planned { IsSome conn.old.masks.plan }
     requires values { FitPlan conn.old.masks values.now }

@@ -4,7 +4,7 @@ use crate::receiver::BlockFault;
 use std::error::Error;
 use std::fmt;
 
-/// As in a report: `block NUMBER` (docs/formats.md, "The report").
+/// As in a report: `block NUMBER` (docs/script.md, "The report").
 impl fmt::Display for BlockFault {
     ghost use Rattle.std.specs.Prelude.{Some};
     ghost use Rattle.datablocks.specs.Said.{block_fault_text};

@@ -17,7 +17,7 @@ struct Sent<'a> {
     hex: &'a str,
 }
 
-/// The first word of a line, and what stands behind it.
+/// The first word of a line, and what stands after it.
 fn first_word(line: &str) -> Option<(&str, &str)> {
     line.split_once(' ')
 }

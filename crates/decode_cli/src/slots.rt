@@ -63,7 +63,7 @@ impl Slots {
         &self.held
     }
 
-    /// What the slots hold behind a packet of these parts.
+    /// What the slots hold after a packet of these parts.
     pub(crate) fn follow(&mut self, parts: &[Part]) {
         let mut slot = 0;
         for part in parts {

@@ -12,7 +12,7 @@ use std::alloc::Global;
 use tn_types::{MAX_READ_BYTES, NoMemory};
 use world_rules::kinds::match_kinds;
 
-/// The table of a server's datagram. Where it has no fault, the slots then hold what they hold behind it.
+/// The table of a server's datagram. Where it has no fault, the slots then hold what they hold after it.
 pub(crate) fn down_table(
     alloc: Global,
     version: u8,

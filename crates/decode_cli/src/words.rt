@@ -156,7 +156,7 @@ fn read_options(words: &[String], from: usize) -> Result<Options, Refusal> {
     }
 }
 
-/// What the words behind the program's name ask for.
+/// What the words after the program's name ask for.
 pub(crate) fn read_command(alloc: Global, words: &[String]) -> Result<Command, Refusal> {
     let Some(first) = words.first() else {
         return Err(Refusal::NoWay);

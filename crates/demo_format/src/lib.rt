@@ -1,6 +1,6 @@
 //! Demos: the datagrams that a client took, in a file. The form of the bytes stands in docs/demos.md.
 //!
-//! Any bytes are read: a head or the place of its fault, the whole records behind it, and whether they end as a demo does.
+//! Any bytes are read: a head or the place of its fault, the whole records after it, and whether they end as a demo does.
 #![tactic(auto)]
 
 mod head;

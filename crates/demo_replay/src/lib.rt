@@ -1,4 +1,4 @@
-//! Replaying a demo: what each record does, what is shown behind them, and how a cut demo is told.
+//! Replaying a demo: what each record does, what is shown after them, and how a cut demo is told.
 #![tactic(auto)]
 
 mod laws;

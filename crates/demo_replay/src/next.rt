@@ -5,7 +5,7 @@ ghost use Rattle.demo_replay.specs.Walking.{IsNext};
 
 use demo_format::front_length;
 
-/// The record that stands whole at a place of the bytes behind a head, if one does.
+/// The record that stands whole at a place of the bytes after a head, if one does.
 pub fn next_record(bytes: &[u8], start: usize) -> Option<&[u8]>
     requires { start ≤ length bytes.now }
     ensures some { IfSome result (λ next. IsNext bytes.now start next.now) }

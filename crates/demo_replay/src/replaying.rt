@@ -73,7 +73,7 @@ fn tell_next<K: Sink>(
     hand_on(text.as_slice(), sink)
 }
 
-/// The last line is written: what a viewer shows, behind a word. `text` is only a place for it.
+/// The last line is written: what a viewer shows, after a word. `text` is only a place for it.
 fn tell_end<K: Sink>(
     alloc: Global,
     viewer: &Viewer,
@@ -92,7 +92,7 @@ fn tell_end<K: Sink>(
     hand_on(text.as_slice(), sink)
 }
 
-/// All lines of what stands behind a head.
+/// All lines of what stands after a head.
 fn tell_all<K: Sink>(
     alloc: Global,
     head: &DemoHead,
@@ -137,7 +137,7 @@ fn pass_first(body: &[u8], count: u32, viewer: &mut Viewer)
     }
 }
 
-/// The one line of what is shown behind the first records of what stands behind a head.
+/// The one line of what is shown after the first records of what stands after a head.
 fn tell_at<K: Sink>(
     alloc: Global,
     head: &DemoHead,

@@ -63,7 +63,7 @@ pub(crate) fn word_for(ended: bool) -> &'static str
     if ended { "end" } else { "cut" }
 }
 
-/// The line of what a viewer shows is put behind a word into a text, in place of what stood there.
+/// The line of what a viewer shows is put after a word into a text, in place of what stood there.
 pub(crate) fn tell_shown(
     alloc: Global,
     viewer: &Viewer,

@@ -1,4 +1,4 @@
-//! Seeking in a demo: what a viewer shows behind any number of its records, from a viewer that is kept at most 63 records before.
+//! Seeking in a demo: what a viewer shows after any number of its records, from a viewer that is kept at most 63 records before.
 #![tactic(auto)]
 
 mod seeking;

@@ -1,4 +1,4 @@
-//! A demo in memory, with what is kept of the viewer behind each 64th record.
+//! A demo in memory, with what is kept of the viewer after each 64th record.
 ghost use Rattle.std.specs.Prelude.{◌≡◌, ◌≤◌, ◌+◌, ◌/◌, ◌↔◌, ℕ, List, [], OnOk, IfOk, IfErr, Ok, Err, length, drop};
 ghost use Rattle.demo_format.specs.Head.{head_in, read_head};
 ghost use Rattle.demo_format.specs.Records.{records_of};
@@ -16,7 +16,7 @@ use std::sync::ledger::Ledger;
 use tn_types::{NoMemory, Steps};
 use world_rules::match_kinds;
 
-/// How many records lie between two behind which a viewer is kept.
+/// How many records lie between two after which a viewer is kept.
 pub const KEY_DISTANCE: usize = 64;
 
 /// Why a demo can't be loaded.
@@ -27,17 +27,17 @@ pub enum DemoFault {
     NoMemory,
 }
 
-/// The viewer behind so many records, as it is kept, and where the next one begins.
+/// The viewer after so many records, as it is kept, and where the next one begins.
 #[derive(Drop)]
 pub struct Key {
     pub viewer: KeptViewer,
     pub start: usize,
 }
 
-/// The records of a demo, and what is kept of the viewer behind each 64th of them. A clause sees the head and the records.
+/// The records of a demo, and what is kept of the viewer after each 64th of them. A clause sees the head and the records.
 pub struct Demo {
     head: DemoHead,
-    // what stands behind the head
+    // what stands after the head
     bytes: Vec<u8>,
     count: u32,
     keys: Vec<Key>,
@@ -112,7 +112,7 @@ impl Demo {
         self.count
     }
 
-    /// The viewer behind the first `k` records, refused ones counted; `k` is at most [`count`](Demo::count). No event of it waits.
+    /// The viewer after the first `k` records, refused ones counted; `k` is at most [`count`](Demo::count). No event of it waits.
     /// At most 63 records are given to it for that, each by a step.
     pub fn at<L: Ledger>(
         &self,
@@ -138,7 +138,7 @@ impl Demo {
     }
 }
 
-/// The number of the last key that doesn't lie behind the first `k` records.
+/// The number of the last key that doesn't lie after the first `k` records.
 fn key_before(k: u32) -> usize
     ensures { result ≡ k / KEY_DISTANCE }
 {
@@ -189,7 +189,7 @@ fn keys_of(alloc: Global, head: &DemoHead, bytes: &[u8]) -> Result<(Vec<Key>, u3
     Ok((keys, count))
 }
 
-/// Keeps the viewer behind the first `count` records, where one is to be kept there.
+/// Keeps the viewer after the first `count` records, where one is to be kept there.
 fn key_where_due(
     alloc: Global,
     keys: &mut Vec<Key>,

@@ -100,7 +100,7 @@ fn told(rt: &HostRuntime, bytes: &[u8]) -> Result<String, Fail> {
     }
 }
 
-/// So many bytes of chance behind a front.
+/// So many bytes of chance after a front.
 fn chance(draws: &mut Draws, out: &mut Vec<u8>, count: usize) -> Result<(), Fail> {
     for _ in 0..count {
         out.push(draws.byte())?;

@@ -48,7 +48,7 @@ fn replayed(rt: &HostRuntime, bytes: &[u8], k: u32) -> Result<Vec<u8>, Fail>
     }
 }
 
-/// What the viewer shows behind the first `k` records, in a replay's words.
+/// What the viewer shows after the first `k` records, in a replay's words.
 fn shown<L: Ledger>(rt: &HostRuntime, demo: &Demo, k: u32, blank: Blank) -> Result<Vec<u8>, Fail>
     requires few { k ≤ length demo.now.records }
     requires name { blank.name ≡ L.name }

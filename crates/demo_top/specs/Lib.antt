@@ -1,3 +1,4 @@
 pub mod Command
 pub mod Outcome
 pub mod Laws
+pub mod Numbers

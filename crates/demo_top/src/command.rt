@@ -18,11 +18,11 @@ pub enum DemoCommand {
     Demo { client: u8 },
     /// `replay`: a demo is read, and told record by record.
     Replay,
-    /// `replay K`: a demo is read, and what is shown behind its first K records is told. K is from 0 to 16,777,215.
+    /// `replay K`: a demo is read, and what is shown after its first K records is told. K is from 0 to 16,777,215.
     ReplayAt { count: u32 },
 }
 
-// The command with these words behind `demo`.
+// The command with these words after `demo`.
 fn demo_of(words: &[String]) -> Result<DemoCommand, u32>
     ensures { result ≡ command_of (codes "demo" ∷ map string_bytes words.now) }
 {
@@ -38,7 +38,7 @@ fn demo_of(words: &[String]) -> Result<DemoCommand, u32>
     }
 }
 
-// The command with these words behind `replay`.
+// The command with these words after `replay`.
 fn replay_of(words: &[String]) -> Result<DemoCommand, u32>
     ensures { result ≡ command_of (codes "replay" ∷ map string_bytes words.now) }
 {
@@ -56,7 +56,7 @@ fn replay_of(words: &[String]) -> Result<DemoCommand, u32>
 }
 
 /// The command that the words are, or the least place at which the words up to it begin none, or their number where words are
-/// missing (docs/formats.md, "The command line").
+/// missing (docs/script.md, "The command line").
 pub fn command_of(words: &Vec<String>) -> Result<DemoCommand, u32>
     ensures { result ≡ command_of (map string_bytes words.now.items) }
 {

@@ -37,7 +37,7 @@ fn serve_demo<S: Source, K: Sink>(alloc: Global, client: u8, source: &mut S, sin
     }
 }
 
-/// Writes what is told of a demo: all of it, or what is shown behind so many records.
+/// Writes what is told of a demo: all of it, or what is shown after so many records.
 fn tell<K: Sink>(
     alloc: Global,
     count: Option<u32>,
@@ -89,7 +89,7 @@ fn serve_replay<S: Source, K: Sink>(
 }
 
 /// Does the commands on demos: reads a script from the source and writes the demo of one of its clients, or reads a demo and tells it.
-/// What the sink gathers is handed on behind the last byte.
+/// What the sink gathers is handed on after the last byte.
 pub fn top_demo<S: Source, K: Sink>(
     alloc: Global,
     words: &Vec<String>,
@@ -116,7 +116,7 @@ pub fn top_demo<S: Source, K: Sink>(
     // The demo that was written, replayed, tells the events of the client's `down` lines in order, and at its end the client's copies.
     ensures tells_the_client { (client : ℕ) → command_of (map string_bytes words.now.items) ≡ Ok (Demo client) → result ≡ Status.Done
         → ToldOfClient client (S.held source.old) (S.held source.new) }
-    // A demo that is cut at any byte behind its head tells the first lines of the whole one, and then its last line.
+    // A demo that is cut at any byte after its head tells the first lines of the whole one, and then its last line.
     ensures cut_tells_a_front { (bytes : List ℕ) → CutsKeepAFront bytes }
 {
     cut_demo_tells_a_front();

@@ -22,7 +22,7 @@ pub fn write_is_pending()
     ensures { (sim : List SimStep) (client object field value : ℕ) → pending (a_write object field value ∷ sim) client object field ≡ true }
 {}
 
-/// A raise with the field's bit behind the write does.
+/// A raise with the field's bit after the write does.
 pub fn raise_tells()
     ensures { (sim : List SimStep) (client object field bits : ℕ) → has_bit bits field ≡ true
         → pending (a_raise client object bits ∷ sim) client object field ≡ false }

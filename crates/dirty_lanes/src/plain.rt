@@ -19,7 +19,7 @@ pub struct PlainLanes {
 }
 
 // Raises bits in a word for each client, of which the first is at this place. The words are lent once for all, so that
-// they are not looked up anew behind each store.
+// they are not looked up anew after each store.
 fn raise_in(words: &mut [u64], from: usize, bits: u64)
     requires { from + MAX_CLIENTS ≤ length words.old }
     ensures long { length words.new ≡ length words.old }

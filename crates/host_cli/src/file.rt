@@ -8,7 +8,7 @@ use std::fs::{self, Files};
 use std::io::{BufWriter, Write};
 use tn_outside::{Failed, Sink, StdSink};
 
-/// Bytes of a file, behind which the next line begins a further one.
+/// Bytes of a file, after which the next line begins a further one.
 const FILE_BYTES: u64 = 16_777_216;
 
 /// What ends a line.
@@ -17,7 +17,7 @@ const NEWLINE: u8 = 10;
 /// How many bytes are gathered before the system is called.
 const GATHERED_BYTES: usize = 65_536;
 
-/// Files `tribes-PORT.match`, `tribes-PORT.match.1` and so on, one behind the other the text that was written. It tells no contents.
+/// Files `tribes-PORT.match`, `tribes-PORT.match.1` and so on, one after the other the text that was written. It tells no contents.
 #[derive(Drop)]
 pub(crate) struct FileSink<'a, R: Files> {
     files: &'a R,
@@ -33,7 +33,7 @@ pub(crate) struct FileSink<'a, R: Files> {
     faults: u64,
 }
 
-/// Makes the file of a port that comes behind so many.
+/// Makes the file of a port that comes after so many.
 fn begun<R: Files>(
     files: &R,
     alloc: Global,

@@ -37,7 +37,7 @@ pub(crate) enum Refusal {
 }
 
 impl Refusal {
-    /// The exit status: the one that the program `tribes` has for this kind of end (docs/formats.md, "How a call ends").
+    /// The exit status: the one that the program `tribes` has for this kind of end (docs/script.md, "The command line").
     pub(crate) fn exit(self) -> u8 {
         match self {
             Refusal::NoWords => 2,

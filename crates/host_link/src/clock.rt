@@ -7,7 +7,7 @@ use std::io::Eprint;
 use std::time::Clock as SystemTimes;
 use tn_outside::{Clock, Failed, SystemClock};
 
-/// A turn that begins so much behind its time is late, in milliseconds.
+/// A turn that begins so much after its time is late, in milliseconds.
 const LATE_MILLISECONDS: u64 = 10;
 
 /// Between two lines of counts, in milliseconds.
@@ -41,7 +41,7 @@ impl<'a, R: SystemTimes + Eprint> HostClock<'a, R> {
         })
     }
 
-    // A turn begins at each answer behind its time.
+    // A turn begins at each answer after its time.
     fn note_turn(&mut self, passed: u64)
         ensures { self.new.clock ≡ self.old.clock }
     {

@@ -44,7 +44,7 @@ fn is_legal(alloc: Global, script: &Script, race: &Race) -> Result<bool, NoMemor
     clients_are_legal(alloc, script, race, &course)
 }
 
-// The text of a legal race, behind another text.
+// The text of a legal race, after another text.
 fn put_text(alloc: Global, script: &Script, race: &Race, out: &mut Vec<u8>) -> Result<(), NoMemory>
     requires ranges { HasRanges script.now }
     requires legal { IsLegal script.now race.now }

@@ -27,7 +27,7 @@ pub record IsScaleOf (s : FieldSpec) (scale : Scale) : Type 0 where
 
 -- ---- examples
 
--- the numbers that docs/formats.md, "Levels", tells: 2 ^ 40 parts, and scales for ranges up to 2 ^ 19
+-- the numbers that docs/wire.md, "Levels", tells: 2 ^ 40 parts, and scales for ranges up to 2 ^ 19
 constants : PARTS ∷ NARROW ∷ [] ≡ 1099511627776 ∷ 524288 ∷ []
 constants = refl
 

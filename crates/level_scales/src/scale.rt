@@ -59,7 +59,7 @@ impl Scale {
         })
     }
 
-    /// The level in which this value of the field travels (docs/formats.md, "Levels").
+    /// The level in which this value of the field travels (docs/wire.md, "Levels").
     pub fn level(&self, value: i64) -> u32
         requires { (spec : FieldSpec) × IsScaleOf spec self.now × (spec.lo ≤ℤ value) × (value ≤ℤ spec.hi) }
         ensures value { (spec : FieldSpec) → IsScaleOf spec self.now → spec.lo ≤ℤ value → value ≤ℤ spec.hi

@@ -130,7 +130,7 @@ impl<'a> Match<'a> {
         Ok(true)
     }
 
-    /// Does this line, as if it stood next in the script, which goes on behind it.
+    /// Does this line, as if it stood next in the script, which goes on after it.
     pub fn feed(&mut self, alloc: Global, line: &BodyLine) -> Result<(), NoMemory>
         requires stands { (past : List OneLine) × StandsFor self.old past }
         requires fits { LineFits self.old.script.head.clients line.now }

@@ -8,7 +8,7 @@ use crate::laws::{
 use crate::values::{changes_recover, copies_show_values, settled_is_newest};
 use crate::words::{applied_in_order, printed_in_order};
 
-/// What every match keeps: each law of this crate (docs/proofs.md, "The laws of a match").
+/// What every match keeps: each law of this crate (docs/proofs/match.md, "The laws of a match").
 pub fn laws_of_matches()
     ensures { MatchLaws }
 {

@@ -75,7 +75,7 @@ fn append_pairs(text: &mut Vec<u8>, bytes: &[u8]) -> Result<(), AllocError>
 }
 
 impl Draft {
-    /// A line that begins behind this text.
+    /// A line that begins after this text.
     pub(crate) fn behind(text: Vec<u8>) -> Draft
         ensures before { result.before ≡ text.items }
         ensures line { result.line ≡ [] }

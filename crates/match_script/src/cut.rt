@@ -27,7 +27,7 @@ pub fn cut_line(bytes: &[u8]) -> (&[u8], &[u8])
     }
 }
 
-/// A word, and what comes after the space behind it, if there is one.
+/// A word, and what comes after the space after it, if there is one.
 #[tactic(auto, using(crate::proofs::Cutting::word_stops, crate::proofs::Cutting::word_ends))]
 pub fn cut_word(bytes: &[u8]) -> Option<(&[u8], &[u8])>
     ensures { MatchOption result (words_of bytes.now ≡ bytes.now ∷ []) (λ r. words_of bytes.now ≡ r.0.now ∷ words_of r.1.now) }
@@ -52,7 +52,7 @@ pub fn is_text(line: &[u8]) -> bool
 /// What a text begins with, by the first byte that no word has.
 #[derive(Clone, Copy)]
 pub enum Piece<'a> {
-    // A word, and what comes after the space behind it.
+    // A word, and what comes after the space after it.
     Inner(&'a [u8], &'a [u8]),
     // The last word of a line, and what comes after the line.
     Last(&'a [u8], &'a [u8]),
@@ -73,7 +73,7 @@ fn end_of_word(text: &[u8]) -> Option<usize>
     text.iter().position(|b| !is_word_byte(*b))
 }
 
-/// The first word of a text, with what stands behind it.
+/// The first word of a text, with what stands after it.
 #[tactic(auto, using(crate::proofs::Pieces::inner_piece, crate::proofs::Pieces::last_piece, crate::proofs::Pieces::whole_piece))]
 pub fn cut_piece(text: &[u8]) -> Piece<'_>
     ensures { IsPiece result text.now }

@@ -1,5 +1,5 @@
 //! The text of a match script: `parse` and `parse_threads` read it, with the first fault of its least faulty line, and
-//! `print` writes it. The format stands in docs/formats.md, "The script".
+//! `print` writes it. The format stands in docs/script.md, "The script".
 #![tactic(auto)]
 
 mod cut;

@@ -22,7 +22,7 @@ use world_rules::{Spawn, Spawns};
 // Lines of a header without blocks and objects.
 const BARE_LINES: u32 = 3;
 
-// Who may play behind the objects so far: clients from this one on, as long as no other object came.
+// Who may play after the objects so far: clients from this one on, as long as no other object came.
 #[derive(Clone, Copy)]
 pub(crate) struct Place {
     least: u8,
@@ -39,7 +39,7 @@ fn may_follow(place: &Place, owner: Option<u8>) -> bool
     }
 }
 
-// The place behind an object with this owner.
+// The place after an object with this owner.
 #[tactic(auto, using(crate::proofs::ObjectLines::follows_player, crate::proofs::ObjectLines::follows_other))]
 fn behind(place: &Place, owner: Option<u8>) -> Place
     requires { IfSome owner (λ client. client < MAX_CLIENTS) }
@@ -169,7 +169,7 @@ fn named(clients: u8, blocks: u8, line: &[u8]) -> Option<Spawn>
     }
 }
 
-// The object that a line gives behind those so far.
+// The object that a line gives after those so far.
 fn object_line(clients: u8, blocks: u8, place: &Place, count: u32, line: &[u8]) -> Option<Spawn>
     requires { blocks ≤ MAX_BLOCKS }
     ensures value { (before : List OneSpawn) → Follows place.now before → length before ≡ count
@@ -187,7 +187,7 @@ fn object_line(clients: u8, blocks: u8, place: &Place, count: u32, line: &[u8]) 
     }
 }
 
-// The objects of a text whose header goes on here behind so many blocks, and what comes after its line `go`.
+// The objects of a text whose header goes on here after so many blocks, and what comes after its line `go`.
 #[tactic(auto, using(crate::proofs::ObjectLines::objects_go_on, crate::proofs::ObjectLines::objects_end, crate::proofs::ObjectLines::objects_stop, crate::proofs::ObjectLines::objects_misplaced, crate::proofs::ObjectLines::rises_more))]
 pub(crate) fn objects_of(
     alloc: Global,

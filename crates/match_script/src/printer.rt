@@ -246,7 +246,7 @@ fn text_of(alloc: Global, script: &Script) -> Result<String, AllocError>
     Ok(out)
 }
 
-/// Adds a line of a body to a text, with a newline behind it. After an error a part of it may stand there.
+/// Adds a line of a body to a text, with a newline after it. After an error a part of it may stand there.
 pub fn put_line(alloc: Global, out: &mut String, line: &BodyLine) -> Result<(), NoMemory>
     ensures line { OnOk result (string_bytes out.new ≡ with_line (string_bytes out.old) (line_words line.now)) }
     // The text of a script grows by its lines.
@@ -259,7 +259,7 @@ pub fn put_line(alloc: Global, out: &mut String, line: &BodyLine) -> Result<(), 
     }
 }
 
-/// The text of a script of this header, as far as the line `go`: that of the script without a line behind it.
+/// The text of a script of this header, as far as the line `go`: that of the script without a line after it.
 #[tactic(auto, using(crate::proofs::Joining::no_line))]
 pub fn print_head(alloc: Global, head: &Head) -> Result<Vec<u8>, NoMemory>
     ensures { IfOk result (λ text. text.items ≡ text_of (record { head = head.now; body = [] })) }
@@ -270,13 +270,13 @@ pub fn print_head(alloc: Global, head: &Head) -> Result<Vec<u8>, NoMemory>
     }
 }
 
-/// The text of a script is that of its body without the last line, and this line behind it.
+/// The text of a script is that of its body without the last line, and this line after it.
 #[tactic(auto, using(crate::proofs::Joining::grows_by_a_line))]
 pub fn grows_by_a_line()
     ensures { GrowsByALine }
 {}
 
-/// The text of a script: each line as docs/formats.md, "The script", says, with a newline at each end. `parse`
+/// The text of a script: each line as docs/script.md, "The script", says, with a newline at each end. `parse`
 /// reads it as this script again.
 #[tactic(auto, using(crate::proofs::PrintedLines::read_again))]
 pub fn print(alloc: Global, script: &Script) -> Result<Vec<u8>, NoMemory>

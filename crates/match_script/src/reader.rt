@@ -74,7 +74,7 @@ pub fn next_line(
     }
 }
 
-// Whether a line may come where so many ticks may (None: any number), which are one less behind a tick.
+// Whether a line may come where so many ticks may (None: any number), which are one less after a tick.
 fn may_come(ticks: &mut Option<u32>, line: &BodyLine) -> bool
     ensures value { result ≡ may_come ticks.old line.now }
     ensures behind { ticks.new ≡ ticks_behind ticks.old line.now }
@@ -89,7 +89,7 @@ fn may_come(ticks: &mut Option<u32>, line: &BodyLine) -> bool
     }
 }
 
-// The body behind line n of a text, where so many ticks may come.
+// The body after line n of a text, where so many ticks may come.
 #[tactic(auto, using(crate::proofs::Bodies::body_goes_on, crate::proofs::Bodies::body_stops, crate::proofs::Bodies::body_is_full, crate::proofs::Bodies::body_ends, crate::proofs::Bodies::line_few, crate::proofs::Bodies::fits_more))]
 fn body_of(
     alloc: Global,
@@ -144,7 +144,7 @@ fn script_in(alloc: Global, most: Option<u32>, bytes: &[u8]) -> Result<Script, P
 }
 
 /// The script of a text, or the least line that can't stand where it stands, with its first fault; each exactly
-/// as docs/formats.md, "The script" and "Faults of a script", says. Any bytes may come, and they are gone over
+/// as docs/script.md, "The script" and "Faults of a script", says. Any bytes may come, and they are gone over
 /// once.
 pub fn parse(alloc: Global, bytes: &[u8]) -> Result<Script, ParseFault>
     ensures grammar { Gives (λ script. script) result (script_of bytes.now) }
@@ -153,7 +153,7 @@ pub fn parse(alloc: Global, bytes: &[u8]) -> Result<Script, ParseFault>
     script_in(alloc, None, bytes)
 }
 
-/// The same for a match in threads, where a tick behind `MAX_THREAD_TICKS` others is `TooManyLines`.
+/// The same for a match in threads, where a tick after `MAX_THREAD_TICKS` others is `TooManyLines`.
 pub fn parse_threads(alloc: Global, bytes: &[u8]) -> Result<Script, ParseFault>
     ensures grammar { Gives (λ script. script) result (threads_script_of bytes.now) }
     ensures ranges { IfOk result HasRanges }

@@ -3,7 +3,7 @@
 use crate::types::ScriptFault;
 use std::fmt;
 
-/// The fault by its name (docs/formats.md, "Faults of a script").
+/// The fault by its name (docs/script.md, "Faults of a script").
 impl fmt::Display for ScriptFault {
     ghost use Rattle.std.specs.Prelude.{Some};
     ghost use Rattle.match_script.specs.Said.{fault_word};

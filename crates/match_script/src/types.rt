@@ -135,7 +135,7 @@ impl BodyLine {
     }
 }
 
-/// Why a line can't stand where it stands (docs/formats.md, "Faults of a script").
+/// Why a line can't stand where it stands (docs/script.md, "Faults of a script").
 #[derive(Clone, Copy, Debug, PartialEq, Eq)]
 pub enum ScriptFault {
     /// A byte is none of 0x20 to 0x7E.

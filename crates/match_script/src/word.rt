@@ -163,7 +163,7 @@ fn step_ahead(word: &[u8]) -> Result<i8, ScriptFault>
     }
 }
 
-// The step that a word says behind a minus sign.
+// The step that a word says after a minus sign.
 #[tactic(auto, using(crate::proofs::Steps::is_not_back, crate::proofs::Steps::is_not_back_by_zero, crate::proofs::Numbers::number_below))]
 fn step_back(word: &[u8]) -> Result<i8, ScriptFault>
     ensures { GivesStride result (as_stride (back word.now)) }

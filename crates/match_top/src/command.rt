@@ -22,7 +22,7 @@ pub enum Command {
     Big { seed: u32, clients: u8, steps: u32 },
 }
 
-// The command with these words behind `run`.
+// The command with these words after `run`.
 fn run_of(words: &[String]) -> Result<Command, u32>
     ensures { result ≡ command_of (codes "run" ∷ map string_bytes words.now) }
 {
@@ -33,7 +33,7 @@ fn run_of(words: &[String]) -> Result<Command, u32>
     }
 }
 
-// The command with these words behind `alone`.
+// The command with these words after `alone`.
 fn alone_of(words: &[String]) -> Result<Command, u32>
     ensures { result ≡ command_of (codes "alone" ∷ map string_bytes words.now) }
 {
@@ -49,7 +49,7 @@ fn alone_of(words: &[String]) -> Result<Command, u32>
     }
 }
 
-// The command with these words behind `big`.
+// The command with these words after `big`.
 fn big_of(words: &[String]) -> Result<Command, u32>
     ensures { result ≡ command_of (codes "big" ∷ map string_bytes words.now) }
 {
@@ -74,7 +74,7 @@ fn big_of(words: &[String]) -> Result<Command, u32>
 }
 
 /// The command that the words are, or the least place at which the words up to it begin none, or their number where
-/// words are missing (docs/formats.md, "The command line").
+/// words are missing (docs/script.md, "The command line").
 pub fn command_of(words: &Vec<String>) -> Result<Command, u32>
     ensures { result ≡ command_of (map string_bytes words.now.items) }
 {

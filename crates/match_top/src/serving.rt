@@ -123,7 +123,7 @@ fn carry_out<S: Source, K: Sink>(
 }
 
 /// Serves the commands that need neither threads nor a network: reads a script from the source or makes one, and writes to
-/// the sink what the command makes of it. What the sink gathers is handed on behind the last line.
+/// the sink what the command makes of it. What the sink gathers is handed on after the last line.
 pub fn top<S: Source, K: Sink>(
     alloc: Global,
     words: &Vec<String>,

@@ -18,7 +18,7 @@ pub struct MoveAhead {
     pub sampled: u32,
 }
 
-/// A packet begins with a move behind the next one. Nothing changed.
+/// A packet begins with a move after the next one. Nothing changed.
 #[derive(Clone, Copy, Debug, PartialEq, Eq)]
 pub struct MoveGap {
     /// The packet's first move.

@@ -4,7 +4,7 @@ use crate::faults::{MoveAhead, MoveFault, MoveGap};
 use std::error::Error;
 use std::fmt;
 
-/// As in a report: `worn LIFE` or `full FIRST LAST` (docs/formats.md, "The report").
+/// As in a report: `worn LIFE` or `full FIRST LAST` (docs/script.md, "The report").
 impl fmt::Display for MoveFault {
     ghost use Rattle.std.specs.Prelude.{Some};
     ghost use Rattle.move_manager.specs.Said.{move_fault_text};
@@ -19,7 +19,7 @@ impl fmt::Display for MoveFault {
     }
 }
 
-/// As in a report: `moveahead COUNT SAMPLED` (docs/formats.md, "The report").
+/// As in a report: `moveahead COUNT SAMPLED` (docs/script.md, "The report").
 impl fmt::Display for MoveAhead {
     ghost use Rattle.std.specs.Prelude.{Some};
     ghost use Rattle.move_manager.specs.Said.{move_ahead_text};
@@ -31,7 +31,7 @@ impl fmt::Display for MoveAhead {
     }
 }
 
-/// As in a report: `movegap FIRST ACCEPTED` (docs/formats.md, "The report").
+/// As in a report: `movegap FIRST ACCEPTED` (docs/script.md, "The report").
 impl fmt::Display for MoveGap {
     ghost use Rattle.std.specs.Prelude.{Some};
     ghost use Rattle.move_manager.specs.Said.{move_gap_text};

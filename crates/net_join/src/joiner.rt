@@ -64,7 +64,7 @@ impl Joiner {
         }
     }
 
-    /// A datagram is heard: the first welcome makes the client's end, and what comes from the server behind it arrives there.
+    /// A datagram is heard: the first welcome makes the client's end, and what comes from the server after it arrives there.
     pub(crate) fn hear(&mut self, alloc: Global, peer: Peer, bytes: &[u8]) -> Result<(), NoMemory>
         ensures joins { OnOk result ((past : List Event) → Joins self.old past
             → Joins self.new (Heard (record { peer = peer; bytes = bytes.now }) ∷ past)) }

@@ -3,3 +3,4 @@ pub mod Faults
 pub mod Hellos
 pub mod Places
 pub mod Runs
+pub mod Numbers

@@ -358,7 +358,7 @@ impl<'a> Server<'a> {
         Ok(())
     }
 
-    // A client is scanned, and gets the datagram that is made for it, behind its lines: where it stops at a line, nothing was sent.
+    // A client is scanned, and gets the datagram that is made for it, after its lines: where it stops at a line, nothing was sent.
     fn serve_client<L: Link, K: Sink>(
         &mut self,
         alloc: Global,

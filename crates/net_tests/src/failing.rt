@@ -107,7 +107,7 @@ fn second_send_fails(rt: HostRuntime) -> Result<(), Fail> {
 
 #[test]
 fn clock_goes_back(rt: HostRuntime) -> Result<(), Fail> {
-    // Turn 1 is due 50 ms behind the start: not where the clock went back, nor at 49 ms.
+    // Turn 1 is due 50 ms after the start: not where the clock went back, nor at 49 ms.
     let arrivals = [
         Arrival::Pause,
         Arrival::Pause,
@@ -134,7 +134,7 @@ fn clock_goes_back(rt: HostRuntime) -> Result<(), Fail> {
 
 #[test]
 fn clock_stands(rt: HostRuntime) -> Result<(), Fail> {
-    // A turn that is never due ends behind 10,000 calls.
+    // A turn that is never due ends after 10,000 calls.
     let s = served(&rt, &["serve", "7", "1", "2"], &[], &[0], NONE)?;
     assert_eq!(rt; s.status, Status::Done);
     assert!(rt; s.text.as_slice().ends_with(b"go\ntick\ntick\n"));

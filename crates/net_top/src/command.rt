@@ -18,7 +18,7 @@ pub enum NetCommand {
     Join { turns: u32 },
 }
 
-// The command with these words behind `serve`.
+// The command with these words after `serve`.
 fn serve_of(words: &[String]) -> Result<NetCommand, u32>
     ensures { result ≡ command_of (codes "serve" ∷ map string_bytes words.now) }
 {
@@ -42,7 +42,7 @@ fn serve_of(words: &[String]) -> Result<NetCommand, u32>
     }
 }
 
-// The command with these words behind `join`.
+// The command with these words after `join`.
 fn join_of(words: &[String]) -> Result<NetCommand, u32>
     ensures { result ≡ command_of (codes "join" ∷ map string_bytes words.now) }
 {
@@ -57,7 +57,7 @@ fn join_of(words: &[String]) -> Result<NetCommand, u32>
 }
 
 /// The command that the words are, or the least place at which the words up to it begin none, or their number where words are
-/// missing (docs/formats.md, "The command line").
+/// missing (docs/script.md, "The command line").
 pub fn command_of(words: &Vec<String>) -> Result<NetCommand, u32>
     ensures { result ≡ command_of (map string_bytes words.now.items) }
 {

@@ -87,7 +87,7 @@ fn join_match<L: Link, C: Clock, K: Sink>(
 }
 
 /// Does the commands over a link: takes what comes over it, sends what is to be sent, and writes the script of what was served, or at its
-/// end what who joined was shown. What the sink gathers is handed on behind the last line.
+/// end what who joined was shown. What the sink gathers is handed on after the last line.
 pub fn top_net<L: Link, C: Clock, K: Sink>(
     alloc: Global,
     words: &Vec<String>,

@@ -4,7 +4,7 @@ use crate::AckAhead;
 use std::error::Error;
 use std::fmt;
 
-/// As in a report: `ackahead HORIZON LAST` (docs/formats.md, "The report").
+/// As in a report: `ackahead HORIZON LAST` (docs/script.md, "The report").
 impl fmt::Display for AckAhead {
     ghost use Rattle.std.specs.Prelude.{Some};
     ghost use Rattle.notify_window.specs.Said.{ack_ahead_text};

@@ -155,7 +155,7 @@ impl OwnWrites {
     }
 }
 
-/// One item of an own list: what a client's server is told of a match (docs/proofs.md, "Own lists").
+/// One item of an own list: what a client's server is told of a match (docs/proofs/match.md, "Own lists").
 pub enum OwnItem {
     /// A line that names the client, but for a scan.
     Line {

@@ -38,7 +38,7 @@ fn shows_of(
     Ok(shows)
 }
 
-/// Puts a write to a period's object behind the others.
+/// Puts a write to a period's object after the others.
 #[tactic(auto, using(crate::proofs::MadeItems::no_write, crate::proofs::MadeItems::one_write))]
 fn put_write(period: &ShownPeriod, w: &Write, out: &mut Vec<OwnWrite>) -> Result<(), AllocError>
     ensures { OnOk result (map write_of out.new.items
@@ -56,7 +56,7 @@ fn put_write(period: &ShownPeriod, w: &Write, out: &mut Vec<OwnWrite>) -> Result
     Ok(())
 }
 
-/// Puts the writes to a period's object behind the others.
+/// Puts the writes to a period's object after the others.
 fn put_writes(
     period: &ShownPeriod,
     writes: &[Write],

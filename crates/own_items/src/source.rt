@@ -17,7 +17,7 @@ use std::alloc::Global;
 use std::marker::Model;
 use tn_types::NoMemory;
 
-/// The own list of one client, which a match by a script makes item by item (docs/world.md, "Own lists"). After an error it has
+/// The own list of one client, which a match by a script makes item by item (docs/proofs/match.md, "Own lists"). After an error it has
 /// ended: no other item may be asked for.
 ///
 /// A clause sees `SourceState`, and what it means by the lines that were done.

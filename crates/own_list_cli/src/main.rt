@@ -45,7 +45,7 @@ fn own_lines(alloc: Global, script: &Script, client: u8) -> Result<String, NoMem
     Ok(text)
 }
 
-/// The head of the script, and behind it the client's own list; a client that the match hasn't is refused as the first word.
+/// The head of the script, and after it the client's own list; a client that the match hasn't is refused as the first word.
 fn own_text(alloc: Global, script: &Script, client: u8) -> Result<Vec<u8>, Status>
     requires ranges { HasRanges script.now }
 {

@@ -61,7 +61,7 @@ fn put_writes(out: &mut String, writes: &[OwnWrite]) -> Result<(), AllocError> {
     Ok(())
 }
 
-/// Puts an item behind the text, where so many periods were shown before it; gives how many were with it.
+/// Puts an item after the text, where so many periods were shown before it; gives how many were with it.
 pub(crate) fn put_item(
     alloc: Global,
     out: &mut String,

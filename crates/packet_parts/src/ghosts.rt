@@ -66,7 +66,7 @@ impl<'a> PartReader<'a> {
         Ok(())
     }
 
-    /// What stands behind the op of a create.
+    /// What stands after the op of a create.
     #[tactic(auto, unfolding(crate::specs::Telling::create_told))]
     fn create(&mut self, kinds: &KindTable) -> Result<(), Halt>
         ensures read { Tells result self.new (create_told kinds.now self.old) }
@@ -91,7 +91,7 @@ impl<'a> PartReader<'a> {
         }
     }
 
-    /// What stands behind the op of an update.
+    /// What stands after the op of an update.
     #[tactic(auto, unfolding(crate::specs::Telling::update_told))]
     fn update(&mut self, version: u8, kinds: &KindTable, held: Option<u8>) -> Result<(), Halt>
         ensures read { Tells result self.new (update_told version kinds.now held self.old) }

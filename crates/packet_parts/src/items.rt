@@ -29,7 +29,7 @@ pub(crate) enum Item<'k> {
 }
 
 impl<'a> PartReader<'a> {
-    /// A header behind its kind.
+    /// A header after its kind.
     #[tactic(auto, unfolding(crate::specs::Telling::header_told))]
     pub(crate) fn header(&mut self) -> Result<(), Halt>
         ensures read { Tells result self.new (header_told self.old) }
@@ -48,7 +48,7 @@ impl<'a> PartReader<'a> {
         Ok(())
     }
 
-    /// A flag, and behind a set one a number of `width` bits.
+    /// A flag, and after a set one a number of `width` bits.
     #[tactic(auto, unfolding(crate::specs::Telling::optional_told))]
     pub(crate) fn optional(
         &mut self,

@@ -33,7 +33,7 @@ pub struct Telling {
 }
 
 impl<'a> PartReader<'a> {
-    /// What stands behind the header of a server's data packet.
+    /// What stands after the header of a server's data packet.
     #[tactic(auto, unfolding(crate::specs::Telling::server_body_told))]
     fn server_body(&mut self, version: u8, kinds: &KindTable, held: &HeldKinds) -> Result<(), Halt>
         ensures read { Tells result self.new (server_body_told version kinds.now (held_in held.now) self.old) }
@@ -81,7 +81,7 @@ impl<'a> PartReader<'a> {
         self.server_body(version, kinds, held)
     }
 
-    /// What stands behind the header of a client's data packet.
+    /// What stands after the header of a client's data packet.
     #[tactic(auto, unfolding(crate::specs::Telling::client_body_told))]
     fn client_body(&mut self, version: u8) -> Result<(), Halt>
         ensures read { Tells result self.new (client_body_told version self.old) }
@@ -163,7 +163,7 @@ pub fn server_parts(
         → IfOk result (λ t. spelled t.parts ≡ spell_server version kinds.now p) }
     // The fault is the decoder's, and none where it reads a packet.
     ensures fault { IfOk result (λ t. t.fault ≡ result_err (read_server version kinds.now (held_in held.now) bytes.now)) }
-    // A faulty part begins behind those before it.
+    // A faulty part begins after those before it.
     ensures place { IfOk result (λ t. IfSome t.fault (λ e. e.place ≡ length (spelled t.parts))) }
 {
     few_kinds(kinds);
@@ -184,7 +184,7 @@ pub fn client_parts(alloc: Global, bytes: &[u8], version: u8) -> Result<Telling,
         → IfOk result (λ t. spelled t.parts ≡ spell_client version p) }
     // The fault is the decoder's, and none where it reads a packet.
     ensures fault { IfOk result (λ t. t.fault ≡ result_err (read_client version bytes.now)) }
-    // A faulty part begins behind those before it.
+    // A faulty part begins after those before it.
     ensures place { IfOk result (λ t. IfSome t.fault (λ e. e.place ≡ length (spelled t.parts))) }
 {
     let mut reader = PartReader::new(alloc, bytes);

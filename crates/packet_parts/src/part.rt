@@ -5,7 +5,7 @@ use std::alloc::Global;
 use std::marker::Model;
 use tn_types::NoMemory;
 
-/// What a part is (docs/formats.md, "Datagrams").
+/// What a part is (docs/wire.md, "Datagrams").
 #[derive(Clone, Copy, Debug, PartialEq, Eq)]
 pub enum PartName {
     /// Whether the packet is data or a ping.
@@ -82,7 +82,7 @@ pub struct Part {
     pub value: u32,
 }
 
-/// Parts one behind the other, which contracts see as their list.
+/// Parts one after the other, which contracts see as their list.
 #[derive(Drop)]
 pub struct PartList {
     parts: Vec<Part>,

@@ -59,7 +59,7 @@ impl<'a> PartReader<'a> {
         }
     }
 
-    /// The number that the next bits are, and the reader behind it, or that there are not so many.
+    /// The number that the next bits are, and the reader after it, or that there are not so many.
     #[tactic(auto, unfolding(wire_format::specs::Reading::part_at))]
     fn peek(&self, width: u32) -> Result<(u32, BitReader<'a>), BitsFault>
         requires { width ≤ MAX_WORD_BITS }

@@ -83,7 +83,7 @@ fn push_fault(out: &mut Text, fault: Option<BitsFault>) -> Result<(), NoMemory>
 }
 
 /// The table of what was told of a datagram, under the table of kinds by which it was read: a line `BIT BITS PART VALUE` for each
-/// part, with what the value means behind it, and a line `BIT fault CAUSE` for its fault.
+/// part, with what the value means after it, and a line `BIT fault CAUSE` for its fault.
 ///
 /// Answers [`NoMemory`] only where there was none for the text.
 pub fn table_text(alloc: Global, kinds: &KindTable, telling: &Telling) -> Result<Vec<u8>, NoMemory>

@@ -19,7 +19,7 @@ pub(crate) const FIRST_DATAGRAMS: usize = 1_024;
 
 pub(crate) const FIRST_BYTES: usize = 131_072;
 
-/// Datagrams in the order in which they were sent, each kept once: their bytes one behind another, and where each ends.
+/// Datagrams in the order in which they were sent, each kept once: their bytes one after another, and where each ends.
 ///
 /// A clause sees their list, and whether there is room for one more.
 #[derive(Drop)]

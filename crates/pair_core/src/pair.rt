@@ -118,7 +118,7 @@ impl Pair {
         let conn = Conn::new(alloc, config, kinds, blocks)?;
         let client = Client::new(alloc, config, kinds)?;
         let packer = Packer::new(alloc)?;
-        // the newest, and the next one behind it
+        // the newest, and the next one after it
         let down = Datagrams::with_room(alloc, 2, 2 * MAX_DATAGRAM_BYTES)?;
         let up = Datagrams::with_room(alloc, FIRST_DATAGRAMS, FIRST_BYTES)?;
         Ok(Pair {

@@ -108,7 +108,7 @@ fn do_line(
     do_act(alloc, pair, client, line)
 }
 
-/// Does all lines of a client, in their order; `false` where a step had no room, and then no line behind it is done.
+/// Does all lines of a client, in their order; `false` where a step had no room, and then no line after it is done.
 pub(crate) fn do_lines(
     alloc: Global,
     pair: &mut KeptPair,

@@ -8,7 +8,7 @@ use tn_types::MAX_CLIENTS;
 // The greatest number of a client.
 const LAST_CLIENT: u32 = MAX_CLIENTS as u32 - 1;
 
-// The client that these words name behind `predict`.
+// The client that these words name after `predict`.
 fn named_by(words: &[String]) -> Result<u8, u32>
     ensures { result ≡ client_of (codes "predict" ∷ map string_bytes words.now) }
 {
@@ -23,7 +23,7 @@ fn named_by(words: &[String]) -> Result<u8, u32>
 }
 
 /// The client whose player is predicted, where the words are `predict C`, or the least place at which the words up to it begin no
-/// command, or their number where a word is missing (docs/formats.md, "The command line").
+/// command, or their number where a word is missing (docs/script.md, "The command line").
 pub fn client_of(words: &Vec<String>) -> Result<u8, u32>
     ensures { result ≡ client_of (map string_bytes words.now.items) }
 {

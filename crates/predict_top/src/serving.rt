@@ -32,7 +32,7 @@ fn carry_out<S: Source, K: Sink>(alloc: Global, client: u8, source: &mut S, sink
 }
 
 /// Serves `predict C`: reads a script from the source, runs it, and writes to the sink what a prediction of client C's player has at each
-/// line `show C` (docs/prediction.md); nothing where the match has no client C. What the sink gathers is handed on behind the last line.
+/// line `show C` (docs/prediction.md); nothing where the match has no client C. What the sink gathers is handed on after the last line.
 pub fn top_predict<S: Source, K: Sink>(
     alloc: Global,
     words: &Vec<String>,

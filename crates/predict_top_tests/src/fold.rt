@@ -236,7 +236,7 @@ fn moved_by(line: &BodyLine) -> Option<u8> {
     }
 }
 
-// The text of a script that is made from a seed, where each client is shown behind each of its moves and packets.
+// The text of a script that is made from a seed, where each client is shown after each of its moves and packets.
 fn made_text(alloc: Global, seed: u32) -> Result<String, NoMemory> {
     let script = make(alloc, seed, CLIENTS, LINES)?;
     let head = print_head(alloc, &script.head)?;

@@ -29,7 +29,7 @@ impl FieldSpec {
     ghost use Rattle.quantised_fields.specs.Levels.{is_sound};
 
     /// Whether the field has a range and a width: `hi - lo` is 1 to 2^32 - 1, and `bits` is 1 to 24
-    /// (docs/formats.md, "Levels").
+    /// (docs/wire.md, "Levels").
     pub fn is_sound(&self) -> bool
         ensures { result ≡ is_sound self.now }
     {

@@ -83,7 +83,7 @@ fn nearest_distance(level: u64, range: u64, greatest: u64) -> u64
     (2 * level * range + greatest) / (2 * greatest)
 }
 
-/// The level in which this value of the field travels (docs/formats.md, "Levels").
+/// The level in which this value of the field travels (docs/wire.md, "Levels").
 #[tactic(auto, using(crate::proofs::Specs::level_near, crate::proofs::Specs::level_exact))]
 pub fn level(spec: &FieldSpec, value: i64) -> u32
     requires sound { IsTrue (is_sound spec.now) }
@@ -113,7 +113,7 @@ fn raised(lo: i64, by: u64, hi: i64) -> i64
     lo + by as i64
 }
 
-/// The value of the field that this level shows (docs/formats.md, "Levels").
+/// The value of the field that this level shows (docs/wire.md, "Levels").
 #[tactic(auto, using(crate::proofs::Specs::level_again))]
 pub fn shown(spec: &FieldSpec, level: u32) -> i64
     requires sound { IsTrue (is_sound spec.now) }

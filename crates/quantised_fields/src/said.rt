@@ -4,7 +4,7 @@ use crate::table::KindFault;
 use std::error::Error;
 use std::fmt;
 
-/// The fault by its name, with the kind and the field that it names (docs/formats.md, "Kinds").
+/// The fault by its name, with the kind and the field that it names (docs/wire.md, "Kinds").
 impl fmt::Display for KindFault {
     ghost use Rattle.std.specs.Prelude.{Some};
     ghost use Rattle.quantised_fields.specs.Said.{kind_fault_text};

@@ -48,7 +48,7 @@ impl Model for KindTable {
 impl KindTable {
     ghost use Rattle.quantised_fields.specs.Kinds.{table_fault, IsWithinLimits};
 
-    /// The table of these kinds, or the first fault of the list (docs/formats.md, "Kinds").
+    /// The table of these kinds, or the first fault of the list (docs/wire.md, "Kinds").
     pub fn new(kinds: &[Kind]) -> Result<KindTable, KindFault>
         ensures fault { result_err result ≡ table_fault kinds.now }
         ensures table { IfOk result (λ t. t ≡ kinds.now) }

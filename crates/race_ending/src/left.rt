@@ -12,7 +12,7 @@ use race_history::kept_pair::KeepFault;
 use race_sim::Waiting;
 use std::alloc::Global;
 
-// Takes what still waits at the simulation, the oldest first, until one meets a fault: that one and those behind it are left.
+// Takes what still waits at the simulation, the oldest first, until one meets a fault: that one and those after it are left.
 fn take_waiting<N: LaneName>(
     alloc: Global,
     lanes: &Lanes<N>,

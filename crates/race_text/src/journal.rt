@@ -102,7 +102,7 @@ fn put_steps(
     Ok(())
 }
 
-// The line behind them.
+// The line after them.
 fn put_full(text: &mut Draft, client: u8, full: bool) -> Result<(), NoMemory>
     ensures added { OnOk result (text.new.added ≡ text.old.added ++ full_line client full) }
     ensures before { text.new.before ≡ text.old.before }

@@ -84,7 +84,7 @@ fn put_move(text: &mut Draft, m: &Move) -> Result<(), NoMemory>
     text.push_flag(m.act)
 }
 
-// Two numbers behind a word.
+// Two numbers after a word.
 fn put_two(text: &mut Draft, word: &str, first: u32, second: u32) -> Result<(), NoMemory>
     ensures added { OnOk result (text.new.added ≡ text.old.added ++ word.now ++ decimal first ++ codes " " ++ decimal second) }
     ensures before { text.new.before ≡ text.old.before }

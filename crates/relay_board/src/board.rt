@@ -136,7 +136,7 @@ fn is_changed(old: &GhostCopy, new: &GhostCopy, field: usize) -> bool
     level_of(old, field) != level_of(new, field)
 }
 
-// The fields of a copy that have another level than before, put behind the others.
+// The fields of a copy that have another level than before, put after the others.
 fn put_changed(
     copies: &Copies,
     slot: u8,

@@ -93,7 +93,7 @@ fn write_report<K: Sink>(alloc: Global, script: &RelayScript, sink: &mut K) -> R
 }
 
 /// Runs a relay script, and writes the line of the report of each line of the relay (docs/relay.md), one line a write. After an error a
-/// front of the report was written. Lines of the match behind the relay's last line are not done, since nothing is told of them.
+/// front of the report was written. Lines of the match after the relay's last line are not done, since nothing is told of them.
 pub fn run_relay<K: Sink>(alloc: Global, script: &RelayScript, sink: &mut K) -> Result<(), RunFault>
     requires { HasRelayRanges script.now }
     ensures report { OnOk result (Adds (K.written sink.old) (K.written sink.new) (relay_report script.now)) }

@@ -42,7 +42,7 @@ fn put_scanned(
     }
 }
 
-// Appends a line as a match has it, behind `r `.
+// Appends a line as a match has it, after `r `.
 fn put_plain(alloc: Global, told: &Told, out: &mut Vec<u8>) -> Result<(), NoMemory>
     ensures { OnOk result (out.new.items ≡ out.old.items ++ (codes "r " ++ report_line told.now)) }
 {

@@ -1,4 +1,4 @@
-//! The lines behind `go`: those of the match, and between them the relay's.
+//! The lines after `go`: those of the match, and between them the relay's.
 ghost use Rattle.std.specs.Prelude.{◌≡◌, ◌+◌, ◌≤◌, ◌∷◌, ◌<◌, IfOk, length};
 ghost use Rattle.std.specs.List.{All};
 ghost use Rattle.match_script.specs.Text.{lines_of};
@@ -14,7 +14,7 @@ use match_script::{BARE_HEADER_LINES, Body, BodyLine, LineFault, ParseFault, cut
 use std::alloc::Global;
 use tn_types::{MAX_BLOCKS, MAX_BODY_LINES, MAX_OBJECTS};
 
-/// A line behind `go`: one of the match, or one of the relay.
+/// A line after `go`: one of the match, or one of the relay.
 #[derive(Drop)]
 pub enum Entry {
     OfMatch(BodyLine),
@@ -51,7 +51,7 @@ fn next_entry(
     }
 }
 
-/// The whole body behind line n of a text: the match's lines, and the relay's.
+/// The whole body after line n of a text: the match's lines, and the relay's.
 #[tactic(auto, using(crate::proofs::Bodies::match_goes_on, crate::proofs::Bodies::relay_goes_on, crate::proofs::Bodies::body_stops, crate::proofs::Bodies::body_ends, crate::proofs::Bodies::entry_few, crate::proofs::Bodies::own_more, crate::proofs::Bodies::still_placed, crate::proofs::Bodies::placed_more, crate::proofs::Bodies::in_order_more))]
 pub(crate) fn body_of(
     alloc: Global,

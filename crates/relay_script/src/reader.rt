@@ -12,7 +12,7 @@ use crate::types::RelayScript;
 use match_script::{Head, ParseFault, Script, header, header_length};
 use std::alloc::Global;
 
-// The header behind the first line, with the numbers of lines in the whole text.
+// The header after the first line, with the numbers of lines in the whole text.
 #[tactic(auto, using(crate::proofs::Headers::fault_is_early))]
 fn header_behind(alloc: Global, text: &[u8]) -> Result<(Head, &[u8]), ParseFault>
     ensures value { Gives (λ x. (x.0, lines_of x.1.now)) result (one_later (header (lines_of text.now))) }

@@ -5,7 +5,7 @@ use std::alloc::Global;
 use std::test::Fail;
 use tn_types::MAX_BODY_LINES;
 
-// A header of two clients, behind a first line.
+// A header of two clients, after a first line.
 const HEADER: &str = "tribes 1\nmatch 1 2 100 128 1000\nblock 61\nplayer 0 0 0 5 5\ngo\n";
 
 fn first_fault(alloc: Global, text: &[u8]) -> Option<(u32, ScriptFault)> {
@@ -121,7 +121,7 @@ fn lines_of_the_body(rt: HostRuntime) -> Result<(), Fail> {
     Ok(())
 }
 
-// So many lines behind `go`, every second one the relay's.
+// So many lines after `go`, every second one the relay's.
 fn long_text(alloc: Global, lines: u32) -> Result<Vec<u8>, Fail> {
     let mut text = Vec::new(alloc);
     text.extend_from_slice(b"relay 0 1\n")?;

@@ -41,7 +41,7 @@ fn carry_out<S: Source, K: Sink>(alloc: Global, source: &mut S, sink: &mut K) ->
 }
 
 /// Serves `relay`: reads a relay script from the source, runs it, and writes its report to the sink (docs/relay.md). What the sink
-/// gathers is handed on behind the last line.
+/// gathers is handed on after the last line.
 pub fn top_relay<S: Source, K: Sink>(
     alloc: Global,
     words: &Vec<String>,

@@ -10,13 +10,13 @@ ghost use Rattle.report_laws.specs.Promises.{ReportLaws};
 use match_laws::{changes_recover, copies_show_values, settled_is_newest};
 
 /// Each `show` line prints the client's copies as they are then: slot, kind, block, and each field with the value that it shows, and
-/// with `s` where it is settled (docs/proofs.md, "The printed values").
+/// with `s` where it is settled (docs/proofs/match.md, "The printed values").
 pub fn printed_as_shown()
     ensures { PrintedAsShown }
 {}
 
 /// For each client with no line `raw`: each field that a `show` line prints shows a value that the object had, and one with `s` the
-/// newest (docs/proofs.md, "The printed values").
+/// newest (docs/proofs/match.md, "The printed values").
 pub fn printed_values()
     ensures { PrintedValues }
 {
@@ -24,7 +24,7 @@ pub fn printed_values()
     settled_is_newest();
 }
 
-/// The numbers of a `show` line are the lengths of the lists that the laws on moves speak of (docs/proofs.md, "The printed values").
+/// The numbers of a `show` line are the lengths of the lists that the laws on moves speak of (docs/proofs/match.md, "The printed values").
 pub fn printed_counts()
     ensures { PrintedCounts }
 {}
@@ -39,18 +39,18 @@ pub fn one_holder()
     ensures { OneHolder }
 {}
 
-/// What is kept of an own list, item by item, is what is found by looking back over it (docs/proofs.md, "Looking back").
+/// What is kept of an own list, item by item, is what is found by looking back over it (docs/proofs/match.md, "Looking back").
 pub fn looks_back()
     ensures { LooksBack }
 {}
 
 /// A field that a client is shown is told as settled exactly where a shown and not hidden period holds the slot, the field is settled
-/// there, and no write of it came since the last drain (docs/proofs.md, "Looking back").
+/// there, and no write of it came since the last drain (docs/proofs/match.md, "Looking back").
 pub fn marked_where_settled()
     ensures { MarkedWhereSettled }
 {}
 
-/// What an honest client is told as settled is shown for the newest value that its own list tells (docs/proofs.md, "Looking back").
+/// What an honest client is told as settled is shown for the newest value that its own list tells (docs/proofs/match.md, "Looking back").
 pub fn settled_is_last()
     ensures { SettledIsLast }
 {
@@ -58,14 +58,14 @@ pub fn settled_is_last()
 }
 
 /// Each field of each shown and not hidden period of an honest client is due, or was written since the last drain, or an unjudged
-/// packet carries it, or the client's copy has the level of its newest value (docs/proofs.md, "Looking back").
+/// packet carries it, or the client's copy has the level of its newest value (docs/proofs/match.md, "Looking back").
 pub fn changes_are_caught()
     ensures { ChangesAreCaught }
 {
     changes_recover();
 }
 
-/// What the report of every script says: each law of this crate (docs/proofs.md, "The printed values").
+/// What the report of every script says: each law of this crate (docs/proofs/match.md, "The printed values").
 pub fn laws_of_reports()
     ensures { ReportLaws }
 {

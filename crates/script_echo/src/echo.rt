@@ -6,7 +6,7 @@ use std::alloc::Global;
 use tn_types::NoMemory;
 
 /// The text of the script that these bytes are, as `print` writes it; or the least faulty line with its first fault, or that memory
-/// was not to be had. The format of a script stands in docs/formats.md, "The script".
+/// was not to be had. The format of a script stands in docs/script.md, "The script".
 pub fn echo(alloc: Global, bytes: &[u8]) -> Result<Vec<u8>, ParseFault>
     ensures { Gives (λ text. text.items) result (echo_of (script_of bytes.now)) }
 {

@@ -1,4 +1,4 @@
-//! How a call ends behind its run.
+//! How a call ends after its run.
 ghost use Rattle.std.specs.Prelude.{◌≡◌, []};
 ghost use Rattle.script_input.specs.Outcome.{EndsBehind};
 

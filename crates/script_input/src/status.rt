@@ -5,7 +5,7 @@ ghost use Rattle.script_input.specs.Said.{exit_of};
 use match_script::ScriptFault;
 use std::fmt;
 
-/// How a call ended (docs/formats.md, "The command line").
+/// How a call ended (docs/script.md, "The command line").
 #[derive(Clone, Copy, Debug, PartialEq, Eq)]
 pub enum Status {
     /// The whole text was written.

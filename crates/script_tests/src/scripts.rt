@@ -1,4 +1,4 @@
-//! Of `match_script`: texts and their scripts or first faults, by the tables of docs/formats.md.
+//! Of `match_script`: texts and their scripts or first faults, by the tables of docs/script.md.
 use match_script::{ParseFault, ScriptFault, parse, parse_threads, print};
 use std::alloc::Global;
 use std::test::Fail;

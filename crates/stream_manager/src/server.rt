@@ -265,7 +265,7 @@ impl Conn {
         self.check_events(&body.events)
     }
 
-    /// Whether a packet's first move stands behind the next one.
+    /// Whether a packet's first move stands after the next one.
     fn check_gap(&self, first: u32) -> Result<(), ArriveFault>
         ensures answer { Answers self.now (λ log. gap_check self.now.common.config log first) result }
         ensures next { OnOk result (first ≤ self.now.moves.accepted) }

@@ -39,7 +39,7 @@ fn carry_out<R: Threads + Wait + Sync, S: Source, K: Sink>(
 }
 
 /// Serves `threads`: reads a script from the source, runs it in threads, and writes to the sink the text of its race (docs/threads.md).
-/// What the sink gathers is handed on behind the last line.
+/// What the sink gathers is handed on after the last line.
 pub fn top_threads<R: Threads + Wait + Sync, S: Source, K: Sink>(
     rt: &R,
     alloc: Global,

@@ -7,7 +7,7 @@ use crate::failed::Failed;
 use crate::traits::Sink;
 
 /// Writes a whole piece to a sink, in as many writes as it wants. `Failed` comes where a write failed; a front of the piece was
-/// written then (docs/formats.md, "The command line").
+/// written then (docs/script.md, "The command line").
 pub fn write_all<K: Sink>(sink: &mut K, piece: &[u8]) -> Result<(), Failed>
     ensures ok { OnOk result (Adds (K.written sink.old) (K.written sink.new) piece.now) }
     ensures err { OnErr result (AddsFront (K.written sink.old) (K.written sink.new) piece.now) }

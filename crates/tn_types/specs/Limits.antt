@@ -1,4 +1,4 @@
--- Each limit is the number that docs/formats.md, "Limits", tells: who changes one of them changes what the theorems say, and
+-- Each limit is the number that docs/wire.md, "Limits", tells: who changes one of them changes what the theorems say, and
 -- has to say so here as well.
 use Rattle.std.specs.Prelude.{◌≡◌, pos, negsuc, refl}
 use Rattle.tn_types.specs.declared.limits.TheConstants.{MAX_BLOCKS, MAX_BLOCKS_AHEAD, MAX_BLOCK_BYTES, MAX_BODY_LINES, MAX_CLIENTS, MAX_COORDINATE, MAX_COUNTED_LINES, MAX_DATAGRAMS, MAX_DATAGRAM_BYTES, MAX_DISTANCE_LEVEL, MAX_EVENTS_AHEAD, MAX_EVENT_BYTES, MAX_FIELDS, MAX_FIELD_BITS, MAX_KEPT_STEPS, MAX_KINDS, MAX_KIND_BITS, MAX_LIFE, MAX_LISTED_FIELDS, MAX_OBJECTS, MAX_PACKET_BLOCKS, MAX_PACKET_EVENTS, MAX_PACKET_GHOSTS, MAX_PACKET_MOVES, MAX_RADIUS, MAX_READ_BYTES, MAX_SCRIPT_BYTES, MAX_SHOWN_PERIODS, MAX_SHOWS, MAX_SKIPS, MAX_SLOTS, MAX_STEP, MAX_TAKEN_MESSAGES, MAX_THREAD_TICKS, MAX_UNACKNOWLEDGED_EVENTS, MAX_UNACKNOWLEDGED_MOVES, MAX_UNJUDGED_PACKETS, MAX_WAITING_EVENTS, MAX_WAITING_MOVES, MAX_WORD_BITS, MIN_DATAGRAM_BYTES, MIN_STEP}

@@ -9,7 +9,7 @@ pub struct NoMemory;
 pub enum PacketKind {
     /// A header alone, which tells what came and is not acknowledged itself.
     Ping,
-    /// A data packet: it has a number of its own, and a body behind the header.
+    /// A data packet: it has a number of its own, and a body after the header.
     Body,
 }
 

@@ -1,4 +1,4 @@
-//! Every limit of the product, each once (docs/formats.md, "Limits"). Counts are of what they name; sizes of datagrams,
+//! Every limit of the product, each once (docs/wire.md, "Limits"). Counts are of what they name; sizes of datagrams,
 //! blocks, events and scripts are bytes; widths of fields are bits; places and distances are centimetres.
 
 /// Clients of a match, numbered from 0.

@@ -4,7 +4,7 @@ use crate::choices::NoMemory;
 use std::error::Error;
 use std::fmt;
 
-/// As a command says it (docs/formats.md, "The command line").
+/// As a command says it (docs/script.md, "The command line").
 impl fmt::Display for NoMemory {
     ghost use Rattle.std.specs.Prelude.{Some, codes};
 

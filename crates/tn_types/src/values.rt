@@ -23,7 +23,7 @@ pub trait Values {
     /// Where nothing was asked, it is what it was.
     ghost asks_none: { (x : Self) → asks x [] x };
 
-    /// What is asked after other reads stands behind them.
+    /// What is asked after other reads stands after them.
     ghost asks_more: { (x y z : Self) (first later : List Read) → asks x first y → asks y later z → asks x (first ++ later) z };
 
     /// Asking changes no range, nor what may be asked for.

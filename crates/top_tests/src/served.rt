@@ -90,7 +90,7 @@ pub(crate) fn hold(rt: &HostRuntime, rows: &[(&'static str, &str, &str)]) -> Res
     Ok(())
 }
 
-// One part behind a text.
+// One part after a text.
 fn write_part(part: Part, alloc: Global, text: &mut String) -> Result<(), AllocError> {
     match part {
         Part::Words(words) => text.push_str(words)?,
@@ -106,7 +106,7 @@ fn write_part(part: Part, alloc: Global, text: &mut String) -> Result<(), AllocE
     Ok(())
 }
 
-// The same words so many times behind a text.
+// The same words so many times after a text.
 fn write_times(count: u32, words: &str, text: &mut String) -> Result<(), AllocError> {
     for _ in 0..count {
         text.push_str(words)?;

@@ -76,7 +76,7 @@ fn field_list(rows: &[FieldRow]) -> FieldList
     list
 }
 
-/// The table of these kinds, whose fields stand one behind the other.
+/// The table of these kinds, whose fields stand one after the other.
 pub(crate) fn kind_table(
     alloc: Global,
     kinds: &[KindRow],
@@ -112,7 +112,7 @@ pub(crate) fn kind_table(
     }
 }
 
-/// The blocks of these lengths, at most 64, whose bytes stand one behind the other.
+/// The blocks of these lengths, at most 64, whose bytes stand one after the other.
 pub(crate) fn block_list(
     alloc: Global,
     bytes: &[u8],

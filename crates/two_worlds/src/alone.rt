@@ -15,7 +15,7 @@ use tn_outside::{RunFault, Sink};
 use tn_types::NoMemory;
 
 /// A server that serves one client alone. It knows nothing of the match but what it is fed: the items of the client's own list
-/// (docs/proofs.md, "Own lists").
+/// (docs/proofs/match.md, "Own lists").
 #[derive(Drop)]
 pub struct Alone {
     pub(crate) server: AloneServer,

@@ -94,7 +94,7 @@ fn feed_all<K: Sink>(
 }
 
 /// Writes what a server writes that serves one client alone: the report's lines of this client's packs, though it is fed with
-/// nothing but the client's own list (docs/proofs.md, "A server that serves one client alone"). Where the match has no such
+/// nothing but the client's own list (docs/proofs/match.md, "A server that serves one client alone"). Where the match has no such
 /// client, nothing is written. `WriteFault` comes only where the sink failed, `NoMemory` where memory runs out; after either a
 /// front of that text was written.
 pub fn run_alone<K: Sink>(

@@ -1,4 +1,4 @@
--- Each width of a part, and each number that a part has or that is reckoned from widths, is the one that docs/formats.md,
+-- Each width of a part, and each number that a part has or that is reckoned from widths, is the one that docs/wire.md,
 -- "Datagrams", tells: who changes one of them changes the bytes of datagrams, and has to say so here as well.
 use Rattle.std.specs.Prelude.{◌≡◌, [], ◌∷◌, Some, pos, false, replicate, refl}
 use Rattle.quantised_fields.specs.declared.kind.Kind.{Kind}

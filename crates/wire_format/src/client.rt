@@ -52,7 +52,7 @@ impl ClientBody {
     }
 }
 
-/// Reads what stands behind a data packet's header into its body, or gives its first fault.
+/// Reads what stands after a data packet's header into its body, or gives its first fault.
 #[tactic(auto, unfolding(crate::specs::Client::client_body_at))]
 fn read_client_body(
     reader: &mut BitReader<'_>,
@@ -119,7 +119,7 @@ fn read_whole(bytes: &[u8], version: u8) -> Result<ClientPacket, BitsFault>
     }
 }
 
-/// The bits of what stands behind the header.
+/// The bits of what stands after the header.
 fn client_rest_bits(body: &ClientBody, version: u8) -> u32
     ensures value { result ≡ length (client_rest version body.now) }
     ensures few { result ≤ MAX_PACKET_BITS }
@@ -228,7 +228,7 @@ pub fn encode_client2(packet: &ClientPacket, out: &mut BitWriter)
 }
 
 /// Reads a packet of a version out of these bytes, at most 65,536, into a body, and tells its kind; of a ping only `head`
-/// counts. Or gives the first fault in reading order with the bit at which the faulty part begins (docs/formats.md,
+/// counts. Or gives the first fault in reading order with the bit at which the faulty part begins (docs/wire.md,
 /// "Datagrams"), and the body then holds nothing that counts. What the body had before plays no part.
 pub fn decode_client_into(
     bytes: &[u8],
@@ -245,7 +245,7 @@ pub fn decode_client_into(
 }
 
 /// The packet that these bytes spell, at most 65,536 of them, or the first fault in reading order
-/// with the bit at which the faulty part begins (docs/formats.md, "Datagrams").
+/// with the bit at which the faulty part begins (docs/wire.md, "Datagrams").
 pub fn decode_client(bytes: &[u8]) -> Result<ClientPacket, BitsFault>
     requires { length bytes.now ≤ MAX_READ_BYTES }
     // What is read is spelled so, and it alone.

@@ -1,6 +1,6 @@
 //! Datagrams: what they are made of, how they are written and how they are read.
 //!
-//! Each packet has exactly one spelling, part by part (docs/formats.md, "Datagrams"). The encoders
+//! Each packet has exactly one spelling, part by part (docs/wire.md, "Datagrams"). The encoders
 //! write it, and the decoders read it back or name the first fault and the bit at which the faulty
 //! part begins. No call takes memory.
 #![tactic(auto)]

@@ -63,7 +63,7 @@ impl ServerBody {
     }
 }
 
-/// Reads what stands behind a data packet's header into its body, or gives its first fault.
+/// Reads what stands after a data packet's header into its body, or gives its first fault.
 #[tactic(auto, unfolding(crate::specs::Server::server_body_at))]
 fn read_server_body(
     reader: &mut BitReader<'_>,
@@ -151,7 +151,7 @@ fn read_whole(bytes: &[u8], known: &Known<'_>) -> Result<ServerPacket, BitsFault
     }
 }
 
-/// The bits of what stands behind the header.
+/// The bits of what stands after the header.
 fn server_rest_bits(body: &ServerBody, version: u8, kinds: &KindTable) -> u32
     ensures value { result ≡ length (server_rest version kinds.now body.now) }
     ensures few { result ≤ MAX_PACKET_BITS }
@@ -268,7 +268,7 @@ pub fn encode_server2(packet: &ServerPacket, kinds: &KindTable, out: &mut BitWri
 
 /// Reads a packet of a version under a table of kinds out of these bytes, at most 65,536, into a body, and tells its kind; of a
 /// ping only `head` counts. `held` tells which kinds the client's slots held before the packet. Or gives the first fault in
-/// reading order with the bit at which the faulty part begins (docs/formats.md, "Datagrams"), and the body then holds nothing
+/// reading order with the bit at which the faulty part begins (docs/wire.md, "Datagrams"), and the body then holds nothing
 /// that counts. What the body had before plays no part.
 pub fn decode_server_into(
     bytes: &[u8],
@@ -295,7 +295,7 @@ pub fn decode_server_into(
 }
 
 /// The packet that these bytes spell under a table of kinds, at most 65,536 of them, or the first fault in reading order
-/// with the bit at which the faulty part begins (docs/formats.md, "Datagrams").
+/// with the bit at which the faulty part begins (docs/wire.md, "Datagrams").
 pub fn decode_server(bytes: &[u8], kinds: &KindTable) -> Result<ServerPacket, BitsFault>
     requires { length bytes.now ≤ MAX_READ_BYTES }
     // What is read is spelled so, and it alone.

@@ -186,7 +186,7 @@ fn ghosts_are_read(rt: HostRuntime) -> Result<(), Fail> {
 #[test]
 fn malformed_datagrams(rt: HostRuntime) -> Result<(), Fail> {
     let kinds = match_kinds();
-    // The client's: no byte, a cut number, kind 2, packet 0, a set bit behind the last part, 33 moves.
+    // The client's: no byte, a cut number, kind 2, packet 0, a set bit after the last part, 33 moves.
     let clients: [(&[u8], u32, BitsCause); 6] = [
         (&[], 0, BitsCause::Short),
         (&[0x40], 6, BitsCause::Short),
@@ -208,7 +208,7 @@ fn malformed_datagrams(rt: HostRuntime) -> Result<(), Fail> {
         let answer = decode_client(bytes).err();
         assert_eq!(rt; answer, Some(BitsFault { place, cause }));
     }
-    // What stands behind the accepted moves of a server's packet: a block of 41 bytes, an event of 25, 129 ghosts, op 3,
+    // What stands after the accepted moves of a server's packet: a block of 41 bytes, an event of 25, 129 ghosts, op 3,
     // kind 6, an update of no field, a cut level.
     let servers: [(&[u8], u32, BitsCause); 7] = [
         (&[0x80, 0, 0x52], 121, BitsCause::LengthBits),

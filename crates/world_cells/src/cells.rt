@@ -65,7 +65,7 @@ pub fn spot(o: &Object) -> Option<u8>
     }
 }
 
-// The column of a spot, and behind the last one where there is none.
+// The column of a spot, and after the last one where there is none.
 fn column_in(spot: Option<u8>) -> u8
     ensures value { result ≡ column_in spot }
     ensures few { result ≤ CELLS_ACROSS }
@@ -76,7 +76,7 @@ fn column_in(spot: Option<u8>) -> u8
     }
 }
 
-// The row of a spot, and behind the last one where there is none.
+// The row of a spot, and after the last one where there is none.
 fn row_in(spot: Option<u8>) -> u8
     ensures value { result ≡ row_in spot }
     ensures few { result ≤ CELLS_ACROSS }
@@ -173,7 +173,7 @@ impl Cells {
         self.shift(number, spot(old), spot(now));
     }
 
-    /// An object more, behind all others.
+    /// An object more, after all others.
     pub fn settle(&mut self, number: u32, made: &Object)
         requires { number < MAX_OBJECTS }
         ensures { (before : List Object) → length before ≡ number → IsGrid self.old before

@@ -49,7 +49,7 @@ impl Spawns {
         }
     }
 
-    /// One more, behind the others. Nothing changes for want of memory.
+    /// One more, after the others. Nothing changes for want of memory.
     pub fn push(&mut self, _alloc: Global, spawn: Spawn) -> Result<(), NoMemory>
         ensures ok { OnOk result (self.new ≡ self.old ++ spawn ∷ []) }
         ensures err { OnErr result (self.new ≡ self.old) }

@@ -107,7 +107,7 @@ pub fn has_levels(viewer: &Viewer, places: &PlaceWord<'_>, levels: &mut [u16; 64
     furthest <= rings.reach
 }
 
-// Each of 64 objects from a number on, at its level, behind a list with room for them. The list is given and taken back, so that
+// Each of 64 objects from a number on, at its level, after a list with room for them. The list is given and taken back, so that
 // its end stays in a register. Numbers are counted along by themselves: sums with the loop's counter become worse vector code.
 #[inline(always)]
 fn push_all(levels: &[u16; 64], from: u32, out: Vec<Seen>) -> Vec<Seen>

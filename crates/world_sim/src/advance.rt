@@ -78,7 +78,7 @@ fn prepare(
     Ok(())
 }
 
-// The discs that were made, behind the other objects.
+// The discs that were made, after the other objects.
 fn add_made(
     made: &[Object],
     objects: &mut Vec<Object>,
