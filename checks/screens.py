@@ -144,7 +144,7 @@ class Shown:
 
 
 def shown_value(kind, field, value):
-    """What a copy shows of a value (docs/formats.md, "Levels")."""
+    """What a copy shows of a value (docs/wire.md, "Levels")."""
     if kind not in ROUGH:
         return value
     most, levels = ROUGH[kind][field]

@@ -1,5 +1,5 @@
 /* A script played through the library: compare [CLIENT] < LIST reads the own list of a client, by default of client 0, and prints what the
-   report says of its posts, packs, arrivals, moves and copies. The list is what crates/own_list_cli writes: the script (docs/formats.md,
+   report says of its posts, packs, arrivals, moves and copies. The list is what crates/own_list_cli writes: the script (docs/script.md,
    "Scripts") without the lines of other clients. The world is not the library's: in place of `scan`, and behind `tick`, shows, changes and
    values are told by lines that begin with '@':
      @show KIND BLOCK LEVEL CONTROL    @hide N    @near N LEVEL    @set N FIELD VALUE    @changed N FIELD (told by the next pack) */

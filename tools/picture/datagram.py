@@ -1,4 +1,4 @@
-"""A datagram taken apart, by the grammar of docs/formats.md, "Datagrams", in wire version 1 or 2.
+"""A datagram taken apart, by the grammar of docs/wire.md, "Datagrams", in wire version 1 or 2.
 
 `read_server` reads what a server sent and `read_client` what a client sent. Either gives a `Packet`, with each number of it as a
 `Part` at its bit, or raises the `Fault` that the reader of the other end finds. In version 2 a guaranteed event has the low 7 bits of

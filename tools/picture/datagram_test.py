@@ -10,7 +10,7 @@ The program is run on each script, as it is and with looks put in. For each it i
   the object that the followed slots give it;
 - `show` counts the moves that were accepted and taken as they were followed.
 
-Beside them the datagrams that docs/formats.md takes apart, of both versions, have their parts at the bits that it tells.
+Beside them the datagrams that docs/script.md takes apart, of both versions, have their parts at the bits that it tells.
 
 It prints each difference, and at the end how many lines and datagrams there were; it ends with 1 where there is a difference.
 """

@@ -1,4 +1,4 @@
-"""The kinds of a match (docs/world.md, "Kinds"), and what a level shows (docs/formats.md, "Levels")."""
+"""The kinds of a match (docs/world.md, "Kinds"), and what a level shows (docs/wire.md, "Levels")."""
 
 from typing import NamedTuple
 

@@ -1,4 +1,4 @@
-"""A script and its report, line by line (docs/formats.md, "The script" and "The report")."""
+"""A script and its report, line by line (docs/script.md, "The script" and "The report")."""
 
 from dataclasses import dataclass
 from typing import NamedTuple

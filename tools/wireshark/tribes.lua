@@ -1,4 +1,4 @@
--- A dissector of Wireshark for the datagrams of docs/formats.md, "Datagrams", on UDP port 28000, with hello and welcome.
+-- A dissector of Wireshark for the datagrams of docs/wire.md, "Datagrams", on UDP port 28000, with hello and welcome.
 --
 --   wireshark -X lua_script:tools/wireshark/tribes.lua CAPTURE
 --
