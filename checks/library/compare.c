@@ -1,6 +1,6 @@
 /* A script played through the library: compare [CLIENT] < LIST reads the own list of a client, by default of client 0, and prints what the
    report says of its posts, packs, arrivals, moves and copies. The list is what crates/own_list_cli writes: the script (docs/script.md,
-   "Scripts") without the lines of other clients. The world is not the library's: in place of `scan`, and behind `tick`, shows, changes and
+   "The script") without the lines of other clients. The world is not the library's: in place of `scan`, and after `tick`, shows, changes and
    values are told by lines that begin with '@':
      @show KIND BLOCK LEVEL CONTROL    @hide N    @near N LEVEL    @set N FIELD VALUE    @changed N FIELD (told by the next pack) */
 #include "tribes.h"
