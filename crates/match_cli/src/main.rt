@@ -15,11 +15,15 @@ use std::sync::Wait;
 use std::thread::Threads;
 use std::time::Clock as SystemTimes;
 use std::{env, io};
-use threads_top::top_threads;
+use threads_top::{ThreadsAnswer, top_threads};
 use tn_outside::{SERVER_PORT, Sink, Source, StdSink, StdSource, SystemClock, UdpLink};
 
 /// How many bytes are gathered before standard output is called.
 const GATHERED_BYTES: usize = 65_536;
+
+/// What is said where the text is not that of the race that the threads made.
+const PLAIN_RACE: &str =
+    "the race that the threads made is not legal: what was written is the text of a plain race";
 
 /// The words of the command line, without the program's name; `None` where memory was not to be had.
 fn arguments(rt: &HostRuntime) -> Option<Vec<String>> {
@@ -49,9 +53,8 @@ fn serve_over_link<R: Net + SystemTimes, K: Sink>(
     top_net(alloc, words, &mut link, &mut clock, sink)
 }
 
-/// Carries out what the words ask for: `threads` in threads, `serve` and `join` over a link, and all others on one thread, each by its
-/// own call.
-fn carry_out<R: Threads + Wait + Net + SystemTimes + Sync, S: Source, K: Sink>(
+/// Carries out what the words ask for on one thread: `serve` and `join` over a link, each command by its own call.
+fn carry_out_alone<R: Net + SystemTimes, S: Source, K: Sink>(
     rt: &R,
     alloc: Global,
     words: &Vec<String>,
@@ -59,7 +62,6 @@ fn carry_out<R: Threads + Wait + Net + SystemTimes + Sync, S: Source, K: Sink>(
     sink: &mut K,
 ) -> Status {
     match words.first() {
-        Some(name) if name.as_str() == "threads" => { top_threads(rt, alloc, words, source, sink) }
         Some(name) if name.as_str() == "serve" => {
             serve_over_link(rt, alloc, words, SERVER_PORT, sink)
         }
@@ -72,20 +74,44 @@ fn carry_out<R: Threads + Wait + Net + SystemTimes + Sync, S: Source, K: Sink>(
     }
 }
 
+/// Carries out what the words ask for: `threads` in threads, and all others on one thread.
+fn carry_out<R: Threads + Wait + Net + SystemTimes + Sync, S: Source, K: Sink>(
+    rt: &R,
+    alloc: Global,
+    words: &Vec<String>,
+    source: &mut S,
+    sink: &mut K,
+) -> ThreadsAnswer {
+    match words.first() {
+        Some(name) if name.as_str() == "threads" => { top_threads(rt, alloc, words, source, sink) }
+        _ => ThreadsAnswer {
+            status: carry_out_alone(rt, alloc, words, source, sink),
+            plain: false,
+        },
+    }
+}
+
 fn main(rt: HostRuntime) -> ExitCode {
-    let status = match arguments(&rt) {
+    let no_memory = ThreadsAnswer {
+        status: Status::NoMemory,
+        plain: false,
+    };
+    let answer = match arguments(&rt) {
         Some(words) => {
             let mut source = StdSource::new(rt.reader());
             match BufWriter::with_capacity(rt.alloc(), GATHERED_BYTES, io::writer(&rt)) {
                 Ok(out) => carry_out(&rt, rt.alloc(), &words, &mut source, &mut StdSink::new(out)),
-                Err(_) => Status::NoMemory,
+                Err(_) => no_memory,
             }
         }
-        None => Status::NoMemory,
+        None => no_memory,
     };
-    if status != Status::Done {
-        // Where standard error is closed, the exit status alone tells.
-        let _ = eprintln!(rt; "{status}");
+    // Where standard error is closed, the exit status alone tells.
+    if answer.plain {
+        let _ = eprintln!(rt; "{PLAIN_RACE}");
     }
-    ExitCode::from(exit_of(status))
+    if answer.status != Status::Done {
+        let _ = eprintln!(rt; "{}", answer.status);
+    }
+    ExitCode::from(exit_of(answer.status))
 }

@@ -24,7 +24,8 @@ fn large_match_in_threads(rt: HostRuntime) -> Result<(), Fail> {
             calls: 0,
             faults: 0,
         };
-        assert!(rt; run_threads(&rt, rt.alloc(), &script, &gate, &mut sink).is_ok());
+        let ran = run_threads(&rt, rt.alloc(), &script, &gate, &mut sink);
+        assert!(rt; ran.ended.is_ok() && !ran.plain);
         assert!(rt; sink.bytes.len() > 0);
     }
     assert!(rt; gate.saw_both());

@@ -6,5 +6,5 @@ mod threads;
 
 pub use plain_race::legal_race::tell;
 pub use race_run::{FreeGate, Gate};
-pub use run::run_threads;
-pub use threads::top_threads;
+pub use run::{ThreadsRun, ToldRace, judge, run_threads};
+pub use threads::{ThreadsAnswer, top_threads};
