@@ -1,6 +1,8 @@
 //! The program: what its words ask for, over standard input, standard output and standard error.
 #![tactic(auto)]
 
+ghost use Rattle.std.specs.Prelude.{◌≡◌, false};
+
 use demo_top::top_demo;
 use match_top::top;
 use net_top::top_net;
@@ -15,7 +17,7 @@ use std::sync::Wait;
 use std::thread::Threads;
 use std::time::Clock as SystemTimes;
 use std::{env, io};
-use threads_top::{ThreadsAnswer, top_threads};
+use threads_top::{Judgement, top_threads};
 use tn_outside::{SERVER_PORT, Sink, Source, StdSink, StdSource, SystemClock, UdpLink};
 
 /// How many bytes are gathered before standard output is called.
@@ -53,15 +55,22 @@ fn serve_over_link<R: Net + SystemTimes, K: Sink>(
     top_net(alloc, words, &mut link, &mut clock, sink)
 }
 
-/// Carries out what the words ask for on one thread: `serve` and `join` over a link, each command by its own call.
-fn carry_out_alone<R: Net + SystemTimes, S: Source, K: Sink>(
+/// Carries out what the words ask for: `threads` in threads, `serve` and `join` over a link, and all others on one thread, each by its
+/// own call.
+fn carry_out<R: Threads + Wait + Net + SystemTimes + Sync, S: Source, K: Sink>(
     rt: &R,
     alloc: Global,
     words: &Vec<String>,
     source: &mut S,
+    judgement: &mut Judgement,
     sink: &mut K,
-) -> Status {
+) -> Status
+    requires { judgement.old ≡ false }
+{
     match words.first() {
+        Some(name) if name.as_str() == "threads" => {
+            top_threads(rt, alloc, words, source, judgement, sink)
+        }
         Some(name) if name.as_str() == "serve" => {
             serve_over_link(rt, alloc, words, SERVER_PORT, sink)
         }
@@ -74,44 +83,31 @@ fn carry_out_alone<R: Net + SystemTimes, S: Source, K: Sink>(
     }
 }
 
-/// Carries out what the words ask for: `threads` in threads, and all others on one thread.
-fn carry_out<R: Threads + Wait + Net + SystemTimes + Sync, S: Source, K: Sink>(
-    rt: &R,
-    alloc: Global,
-    words: &Vec<String>,
-    source: &mut S,
-    sink: &mut K,
-) -> ThreadsAnswer {
-    match words.first() {
-        Some(name) if name.as_str() == "threads" => { top_threads(rt, alloc, words, source, sink) }
-        _ => ThreadsAnswer {
-            status: carry_out_alone(rt, alloc, words, source, sink),
-            plain: false,
-        },
-    }
-}
-
 fn main(rt: HostRuntime) -> ExitCode {
-    let no_memory = ThreadsAnswer {
-        status: Status::NoMemory,
-        plain: false,
-    };
-    let answer = match arguments(&rt) {
+    let mut judgement = Judgement::new();
+    let status = match arguments(&rt) {
         Some(words) => {
             let mut source = StdSource::new(rt.reader());
             match BufWriter::with_capacity(rt.alloc(), GATHERED_BYTES, io::writer(&rt)) {
-                Ok(out) => carry_out(&rt, rt.alloc(), &words, &mut source, &mut StdSink::new(out)),
-                Err(_) => no_memory,
+                Ok(out) => carry_out(
+                    &rt,
+                    rt.alloc(),
+                    &words,
+                    &mut source,
+                    &mut judgement,
+                    &mut StdSink::new(out),
+                ),
+                Err(_) => Status::NoMemory,
             }
         }
-        None => no_memory,
+        None => Status::NoMemory,
     };
     // Where standard error is closed, the exit status alone tells.
-    if answer.plain {
+    if judgement.is_refused() {
         let _ = eprintln!(rt; "{PLAIN_RACE}");
     }
-    if answer.status != Status::Done {
-        let _ = eprintln!(rt; "{}", answer.status);
+    if status != Status::Done {
+        let _ = eprintln!(rt; "{status}");
     }
-    ExitCode::from(exit_of(answer.status))
+    ExitCode::from(exit_of(status))
 }

@@ -12,7 +12,7 @@ use std::process::Abort;
 use std::sync::Wait;
 use std::test::Fail;
 use std::thread::Threads;
-use threads_top::{FreeGate, Gate, ThreadsRun, judge, run_threads, tell};
+use threads_top::{FreeGate, Gate, Judgement, judge, run_threads, tell};
 use tn_outside::MemSink;
 use tn_types::MAX_KEPT_STEPS;
 
@@ -215,7 +215,7 @@ fn script_of<R: Abort>(rt: &R, alloc: Global, text: &[u8]) -> Script
     }
 }
 
-/// What a match in threads writes under a gate, if it is told of its own race.
+/// What a match in threads writes under a gate, if its own race is told.
 fn written<R: Threads + Wait + Sync, G: Gate + Sync>(
     rt: &R,
     alloc: Global,
@@ -231,11 +231,11 @@ fn written<R: Threads + Wait + Sync, G: Gate + Sync>(
         calls: 0,
         faults: 0,
     };
-    let ThreadsRun { ended, plain } = run_threads(rt, alloc, script, gate, &mut sink);
-    if ended.is_err() {
+    let mut judgement = Judgement::new();
+    let Ok(()) = run_threads(rt, alloc, script, gate, &mut judgement, &mut sink) else {
         return Err("nothing was written".into());
-    }
-    if plain {
+    };
+    if judgement.is_refused() {
         return Err("a plain race was told".into());
     }
     let MemSink {
@@ -294,10 +294,14 @@ fn without_moves(alloc: Global, race: Race) -> Race {
 fn plainly(rt: HostRuntime) -> Result<(), Fail> {
     let script = script_of(&rt, rt.alloc(), EVERY_LINE.as_bytes());
     let legal = race(&rt, rt.alloc(), &script, &FreeGate)?;
-    assert!(rt; !judge(rt.alloc(), &script, &legal)?.plain);
-    let told = judge(rt.alloc(), &script, &without_moves(rt.alloc(), legal))?;
-    assert!(rt; told.plain);
-    assert_eq!(rt; told.text.as_slice(), EVERY_LINE_TOLD_PLAINLY.as_bytes());
+    let mut judgement = Judgement::new();
+    judge(rt.alloc(), &script, &legal, &mut judgement)?;
+    assert!(rt; !judgement.is_refused());
+    let made_up = without_moves(rt.alloc(), legal);
+    let mut judgement = Judgement::new();
+    let text = judge(rt.alloc(), &script, &made_up, &mut judgement)?;
+    assert!(rt; judgement.is_refused());
+    assert_eq!(rt; text.as_slice(), EVERY_LINE_TOLD_PLAINLY.as_bytes());
     Ok(())
 }
 

@@ -1,9 +1,10 @@
 //! The run of a match in threads.
-ghost use Rattle.std.specs.Prelude.{◌≡◌, Err, IfOk, OnOk, false};
+ghost use Rattle.std.specs.Prelude.{◌≡◌, Err, IfOk, OnErr, OnOk, false};
 ghost use Rattle.tn_outside.specs.Causes.{HandsOn};
 ghost use Rattle.match_script.specs.Ranges.{HasRanges};
 ghost use Rattle.threads_top.specs.Telling.{IsPlainText, IsTold, IsLegalText, Tells, TellsFront};
 
+use crate::judgement::Judgement;
 use match_script::Script;
 use plain_race::legal_race::race_history::Race;
 use plain_race::legal_race::tell;
@@ -14,24 +15,6 @@ use std::sync::Wait;
 use std::thread::Threads;
 use tn_outside::{RunFault, Sink, write_all};
 use tn_types::NoMemory;
-
-/// What is told of a race that threads made.
-#[derive(Drop)]
-pub struct ToldRace {
-    /// The text.
-    pub text: Vec<u8>,
-    /// Whether it is that of a plain race, since the threads' own race is not legal.
-    pub plain: bool,
-}
-
-/// How a run of a match in threads ended.
-#[derive(Clone, Copy)]
-pub struct ThreadsRun {
-    /// Whether the text was written.
-    pub ended: Result<(), RunFault>,
-    /// Whether what was written is of a plain race, since the threads' own race is not legal.
-    pub plain: bool,
-}
 
 // The text of the plain race of a script, which is legal.
 fn text_of_plain_race(alloc: Global, script: &Script) -> Result<Vec<u8>, NoMemory>
@@ -47,17 +30,25 @@ fn text_of_plain_race(alloc: Global, script: &Script) -> Result<Vec<u8>, NoMemor
     }
 }
 
-/// The text of a race that threads made, exactly where it is legal; else that of one that is made plainly.
-pub fn judge(alloc: Global, script: &Script, made: &Race) -> Result<ToldRace, NoMemory>
-    requires { HasRanges script.now }
-    ensures { IfOk result (λ told. IsTold told.plain script.now made.now told.text.items) }
+/// The text of a race that threads made, exactly where it is legal. Else the race is refused, and the text is of one that is made plainly.
+pub fn judge(
+    alloc: Global,
+    script: &Script,
+    made: &Race,
+    judgement: &mut Judgement,
+) -> Result<Vec<u8>, NoMemory>
+    requires ranges { HasRanges script.now }
+    requires open { judgement.old ≡ false }
+    ensures told { IfOk result (λ text. IsTold judgement.new script.now made.now text.items) }
+    ensures untold { OnErr result (judgement.new ≡ false) }
 {
     let mut text = Vec::new(alloc);
     if tell(alloc, script, made, &mut text)? {
-        return Ok(ToldRace { text, plain: false });
+        return Ok(text);
     }
     let text = text_of_plain_race(alloc, script)?;
-    Ok(ToldRace { text, plain: true })
+    judgement.refuse();
+    Ok(text)
 }
 
 // The text of a match in threads; where its race is not legal, of one that is made plainly.
@@ -66,16 +57,20 @@ fn text_of_race<R: Threads + Wait + Sync, G: Gate + Sync>(
     alloc: Global,
     script: &Script,
     gate: &G,
-) -> Result<ToldRace, NoMemory>
-    requires { HasRanges script.now }
-    ensures { IfOk result (λ told. IsLegalText told.plain tt script.now told.text.items) }
+    judgement: &mut Judgement,
+) -> Result<Vec<u8>, NoMemory>
+    requires ranges { HasRanges script.now }
+    requires open { judgement.old ≡ false }
+    ensures told { IfOk result (λ text. IsLegalText judgement.new tt script.now text.items) }
+    ensures untold { OnErr result (judgement.new ≡ false) }
 {
     let made = race(rt, alloc, script, gate)?;
-    judge(alloc, script, &made)
+    judge(alloc, script, &made, judgement)
 }
 
 /// Runs a script in threads, and writes the text of its race (docs/threads.md): the simulation, and for each client a packer and a net
-/// activity, beside one another. `gate` is passed by each activity before and after each of its lines.
+/// activity, beside one another. `gate` is passed by each activity before and after each of its lines. Where the race is not legal, the
+/// judgement says so, and the text is that of a plain race.
 ///
 /// `NoMemory` comes for want of memory; nothing was written then. `WriteFault` comes where the sink failed; a front of such a text was
 /// written.
@@ -84,27 +79,22 @@ pub fn run_threads<R: Threads + Wait + Sync, G: Gate + Sync, K: Sink>(
     alloc: Global,
     script: &Script,
     gate: &G,
+    judgement: &mut Judgement,
     sink: &mut K,
-) -> ThreadsRun
+) -> Result<(), RunFault>
     requires ranges { HasRanges script.now }
-    ensures text { OnOk result.ended (Tells result.plain script.now (K.written sink.old) (K.written sink.new)) }
-    ensures front { result.ended ≡ Err RunFault.WriteFault → TellsFront result.plain script.now (K.written sink.old) (K.written sink.new) }
-    ensures nothing { result.ended ≡ Err RunFault.NoMemory → K.written sink.new ≡ K.written sink.old }
-    ensures untold { result.ended ≡ Err RunFault.NoMemory → result.plain ≡ false }
-    ensures cause { HandsOn (K.faults sink.old) (K.faults sink.new) (result.ended ≡ Err RunFault.WriteFault) }
+    requires open { judgement.old ≡ false }
+    ensures text { OnOk result (Tells judgement.new script.now (K.written sink.old) (K.written sink.new)) }
+    ensures front { result ≡ Err RunFault.WriteFault → TellsFront judgement.new script.now (K.written sink.old) (K.written sink.new) }
+    ensures nothing { result ≡ Err RunFault.NoMemory → K.written sink.new ≡ K.written sink.old }
+    ensures untold { result ≡ Err RunFault.NoMemory → judgement.new ≡ false }
+    ensures cause { HandsOn (K.faults sink.old) (K.faults sink.new) (result ≡ Err RunFault.WriteFault) }
 {
-    let Ok(told) = text_of_race(rt, alloc, script, gate) else {
-        return ThreadsRun {
-            ended: Err(RunFault::NoMemory),
-            plain: false,
-        };
+    let Ok(text) = text_of_race(rt, alloc, script, gate, judgement) else {
+        return Err(RunFault::NoMemory);
     };
-    let ended = match write_all(sink, told.text.as_slice()) {
+    match write_all(sink, text.as_slice()) {
         Ok(()) => Ok(()),
         Err(_) => Err(RunFault::WriteFault),
-    };
-    ThreadsRun {
-        ended,
-        plain: told.plain,
     }
 }

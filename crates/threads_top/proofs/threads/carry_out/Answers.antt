@@ -1,4 +1,4 @@
-use Rattle.std.proofs.Common.{false, inl, refl}
+use Rattle.std.proofs.Common.{inl, refl}
 use Rattle.match_script.specs.Ranges.{HasRanges}
 use Rattle.match_script.specs.Script.{threads_script_of}
 use Rattle.script_input.specs.Reading.{Seen, seen}
@@ -8,16 +8,16 @@ use Rattle.threads_top.proofs.threads.carry_out.Goals as goal
 
 pub returns-in-Ok-clause-outcome : goal.returns-in-Ok-clause-outcome
 returns-in-Ok-clause-outcome g c =
-    let e = c.in-Ok.ensures in let r = c.run_threads-ran.ensures in let h = c.end_call-status.ensures in
+    let e = c.in-Ok.ensures in let r = c.run_threads-ran.ensures in let h = c.end_call.ensures in
     let source : Seen = seen (g.S.Source.held c.args.source.now) (g.S.Source.held c.read_threads_script.new.source) (g.S.Source.faults c.args.source.now) (g.S.Source.faults c.read_threads_script.new.source) in
-    ended threads_script_of HasRanges (IsLegalText c.run_threads-ran.result.plain) tt source e.taken c.in-Ok.script (e.ok, e.ranges) (e.cause.spared (λ h. absurd cc))
-    (g.K.Sink.written c.args.sink.now) (g.K.Sink.written c.run_threads-ran.new.sink) (g.K.Sink.written c.end_call-status.new.sink) h.bytes
-    (g.K.Sink.faults c.args.sink.now) (g.K.Sink.faults c.run_threads-ran.new.sink) (g.K.Sink.faults c.end_call-status.new.sink)
-    c.run_threads-ran.result.ended c.end_call-status.result r.text r.front (λ none. inl (r.nothing none)) r.cause h.ends
+    ended threads_script_of HasRanges (IsLegalText c.run_threads-ran.new.judgement) tt source e.taken c.in-Ok.script (e.ok, e.ranges) (e.cause.spared (λ h. absurd cc))
+    (g.K.Sink.written c.args.sink.now) (g.K.Sink.written c.run_threads-ran.new.sink) (g.K.Sink.written c.end_call.new.sink) h.bytes
+    (g.K.Sink.faults c.args.sink.now) (g.K.Sink.faults c.run_threads-ran.new.sink) (g.K.Sink.faults c.end_call.new.sink)
+    c.run_threads-ran.result c.end_call.result r.text r.front (λ none. inl (r.nothing none)) r.cause h.ends
 
 pub returns-in-Err-clause-outcome : goal.returns-in-Err-clause-outcome
 returns-in-Err-clause-outcome g c =
     let e = c.in-Err.ensures in
     let source : Seen = seen (g.S.Source.held c.args.source.now) (g.S.Source.held c.read_threads_script.new.source) (g.S.Source.faults c.args.source.now) (g.S.Source.faults c.read_threads_script.new.source) in
     let sink : Seen = seen (g.K.Sink.written c.args.sink.now) (g.K.Sink.written c.args.sink.now) (g.K.Sink.faults c.args.sink.now) (g.K.Sink.faults c.args.sink.now) in
-    no_script threads_script_of HasRanges (IsLegalText false) tt source e.taken sink c.in-Err.status e.err (refl, refl) e.cause.later
+    no_script threads_script_of HasRanges (IsLegalText c.args.judgement.now) tt source e.taken sink c.in-Err.status e.err (refl, refl) e.cause.later
