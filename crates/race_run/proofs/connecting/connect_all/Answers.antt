@@ -1,4 +1,4 @@
-use Rattle.std.proofs.Common.{◌+◌, ◌∷◌, [], ◌∙◌, ℕ, List, length, ap, sym, subst, arith, length-append}
+use Rattle.std.proofs.Common.{◌+◌, ◌∷◌, [], ◌∙◌, ℕ, length, ap, sym, subst, length-append}
 use Rattle.race_run.specs.Asking.{AreNumbered}
 use Rattle.race_run.proofs.Numbering.{numbered_more}
 use Rattle.race_run.proofs.connecting.connect_all.Goals as goal
