@@ -11,6 +11,6 @@ mod taking;
 
 pub use kept_pair;
 pub use lane_periods::Objects;
-pub use locked::{Ended, Locked};
+pub use locked::{DoneLines, Ended, Locked};
 pub use net_line::NetLine;
 pub use shared::SharedPair;

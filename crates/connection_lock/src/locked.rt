@@ -1,5 +1,5 @@
 //! What lies under the lock.
-ghost use Rattle.std.specs.Prelude.{◌≡◌, ◌+◌, [], IfOk};
+ghost use Rattle.std.specs.Prelude.{◌≡◌, ◌+◌, ◌<◌, ◌++◌, ◌∷◌, [], length, IfOk, OnOk, OnErr};
 ghost use Rattle.rtrb.specs.Ring.{received, sent};
 
 use crate::line::make;
@@ -14,8 +14,50 @@ use race_messages::Message;
 use rtrb::{Consumer, Producer};
 use std::alloc::Global;
 use std::marker::Model;
+use std::snapshot::Snapshot;
 use std::sync::ledger::Ledger;
-use tn_types::{Drain, Move, NoMemory, Steps};
+use tn_types::{Drain, MAX_BODY_LINES, Move, NoMemory, Steps};
+
+/// The lines of the client that were done at a connection, as an activity lists them, the oldest first. A line in it takes no bytes, and
+/// `Locked::net_turn` alone adds one.
+#[derive(Drop)]
+pub struct DoneLines {
+    lines: Vec<Snapshot<NetLine>>,
+}
+
+impl Model for DoneLines {
+    ghost use Rattle.std.specs.Prelude.{List, map, vec_capacity, ◌≤◌};
+    ghost use Rattle.tn_types.specs.declared.limits.TheConstants.{MAX_BODY_LINES};
+    ghost use Rattle.connection_lock.specs.declared.net_line.NetLine.{NetLine};
+
+    ghost Value = { List NetLine };
+
+    ghost view = { λ d. map (λ s. s.value) d.lines.items };
+
+    ghost invariant = { λ d. MAX_BODY_LINES ≤ vec_capacity d.lines };
+}
+
+impl DoneLines {
+    /// No line.
+    pub fn new(alloc: Global) -> Result<DoneLines, NoMemory>
+        ensures { IfOk result (λ d. d ≡ []) }
+    {
+        match Vec::with_capacity(alloc, MAX_BODY_LINES as usize) {
+            Ok(lines) => Ok(DoneLines { lines }),
+            Err(_) => Err(NoMemory),
+        }
+    }
+
+    // The line was done.
+    fn add(&mut self, line: &NetLine)
+        requires { length self.old < MAX_BODY_LINES }
+        ensures { self.new ≡ self.old ++ line.now ∷ [] }
+    {
+        let Ok(()) = self.lines.push(Snapshot::of(line)) else {
+            unreachable!()
+        };
+    }
+}
 
 /// One connection that keeps its steps, with the seat through which it reads the lanes, and the ends of the rings from and to the
 /// simulation.
@@ -133,13 +175,21 @@ impl<N: LaneName> Locked<N> {
         result
     }
 
-    /// Makes one line of the client. Accepted moves go into the ring to the simulation, whose free places are the room; events that
-    /// a delivery hands out are dropped. After a refusal nothing has changed, and the line is dropped.
-    pub fn net_turn(&mut self, alloc: Global, line: NetLine) -> Result<Answer, KeepFault>
+    /// Makes one line of the client, and adds it to those that were done. Accepted moves go into the ring to the simulation, whose free
+    /// places are the room; events that a delivery hands out are dropped. After a refusal nothing has changed, and the line is dropped.
+    pub fn net_turn(
+        &mut self,
+        alloc: Global,
+        line: NetLine,
+        done: &mut DoneLines,
+    ) -> Result<Answer, KeepFault>
+        requires room { length done.old < MAX_BODY_LINES }
         ensures turn { NetTurn self.old line self.new result }
+        ensures done { OnOk result (done.new ≡ done.old ++ line ∷ []) }
+        ensures refused { OnErr result (done.new ≡ done.old) }
         ensures holds { LockHolds self.new }
     {
-        let result = self.make_line(alloc, line);
+        let result = self.make_line(alloc, line, done);
         // for its clauses
         let _holds = self.pair();
         result
@@ -233,12 +283,23 @@ impl<N: LaneName> Locked<N> {
     }
 
     // What a line does.
-    fn make_line(&mut self, alloc: Global, line: NetLine) -> Result<Answer, KeepFault>
-        ensures { NetTurn self.old line self.new result }
+    fn make_line(
+        &mut self,
+        alloc: Global,
+        line: NetLine,
+        done: &mut DoneLines,
+    ) -> Result<Answer, KeepFault>
+        requires room { length done.old < MAX_BODY_LINES }
+        ensures turn { NetTurn self.old line self.new result }
+        ensures done { OnOk result (done.new ≡ done.old ++ line ∷ []) }
+        ensures refused { OnErr result (done.new ≡ done.old) }
     {
         match self.pair.prepare(alloc) {
             Err(fault) => Err(fault),
-            Ok(()) => Ok(make(&mut self.pair, &mut self.outbox, line)),
+            Ok(()) => {
+                done.add(&line);
+                Ok(make(&mut self.pair, &mut self.outbox, line))
+            }
         }
     }
 

@@ -1,6 +1,8 @@
 //! The program: what its words ask for, over standard input, standard output and standard error.
 #![tactic(auto)]
 
+ghost use Rattle.std.specs.Prelude.{◌≡◌, false};
+
 use demo_top::top_demo;
 use match_top::top;
 use net_top::top_net;
@@ -15,11 +17,15 @@ use std::sync::Wait;
 use std::thread::Threads;
 use std::time::Clock as SystemTimes;
 use std::{env, io};
-use threads_top::top_threads;
+use threads_top::{Judgement, top_threads};
 use tn_outside::{SERVER_PORT, Sink, Source, StdSink, StdSource, SystemClock, UdpLink};
 
 /// How many bytes are gathered before standard output is called.
 const GATHERED_BYTES: usize = 65_536;
+
+/// What is said where the text is not that of the race that the threads made.
+const PLAIN_RACE: &str =
+    "the race that the threads made is not legal: what was written is the text of a plain race";
 
 /// The words of the command line, without the program's name; `None` where memory was not to be had.
 fn arguments(rt: &HostRuntime) -> Option<Vec<String>> {
@@ -56,10 +62,15 @@ fn carry_out<R: Threads + Wait + Net + SystemTimes + Sync, S: Source, K: Sink>(
     alloc: Global,
     words: &Vec<String>,
     source: &mut S,
+    judgement: &mut Judgement,
     sink: &mut K,
-) -> Status {
+) -> Status
+    requires { judgement.old ≡ false }
+{
     match words.first() {
-        Some(name) if name.as_str() == "threads" => { top_threads(rt, alloc, words, source, sink) }
+        Some(name) if name.as_str() == "threads" => {
+            top_threads(rt, alloc, words, source, judgement, sink)
+        }
         Some(name) if name.as_str() == "serve" => {
             serve_over_link(rt, alloc, words, SERVER_PORT, sink)
         }
@@ -73,18 +84,29 @@ fn carry_out<R: Threads + Wait + Net + SystemTimes + Sync, S: Source, K: Sink>(
 }
 
 fn main(rt: HostRuntime) -> ExitCode {
+    let mut judgement = Judgement::new();
     let status = match arguments(&rt) {
         Some(words) => {
             let mut source = StdSource::new(rt.reader());
             match BufWriter::with_capacity(rt.alloc(), GATHERED_BYTES, io::writer(&rt)) {
-                Ok(out) => carry_out(&rt, rt.alloc(), &words, &mut source, &mut StdSink::new(out)),
+                Ok(out) => carry_out(
+                    &rt,
+                    rt.alloc(),
+                    &words,
+                    &mut source,
+                    &mut judgement,
+                    &mut StdSink::new(out),
+                ),
                 Err(_) => Status::NoMemory,
             }
         }
         None => Status::NoMemory,
     };
+    // Where standard error is closed, the exit status alone tells.
+    if judgement.is_refused() {
+        let _ = eprintln!(rt; "{PLAIN_RACE}");
+    }
     if status != Status::Done {
-        // Where standard error is closed, the exit status alone tells.
         let _ = eprintln!(rt; "{status}");
     }
     ExitCode::from(exit_of(status))

@@ -39,6 +39,7 @@ fn plain_clients(alloc: Global, script: &Script, course: &Course) -> Result<Race
 pub fn plain_race(alloc: Global, script: &Script) -> Result<Race, NoMemory>
     requires ranges { HasRanges script.now }
     ensures legal { IfOk result (λ race. IsLegal script.now race) }
+    ensures idle { IfOk result (λ race. race.moves ≡ idle_in script.now) }
 {
     let moves = idle_moves(alloc, script)?;
     let course = Course::new(alloc, script, &moves)?;

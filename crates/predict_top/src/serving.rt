@@ -1,5 +1,6 @@
 //! The command `predict C`.
 ghost use Rattle.std.specs.Prelude.{◌≡◌, ◌⊎◌, List, [], ℕ, map, string_bytes, Some, Ok};
+ghost use Rattle.match_script.specs.Ranges.{HasRanges};
 ghost use Rattle.match_script.specs.Script.{script_of};
 ghost use Rattle.script_input.specs.Reading.{seen, HasFailed};
 ghost use Rattle.script_input.specs.Outcome.{ScriptOutcome, IsWanted, CanBeDone};
@@ -17,7 +18,7 @@ use tn_outside::{Sink, Source};
 
 // Carries out the command.
 fn carry_out<S: Source, K: Sink>(alloc: Global, client: u8, source: &mut S, sink: &mut K) -> Status
-    ensures outcome { ScriptOutcome script_of IsPrediction (Ok client)
+    ensures outcome { ScriptOutcome script_of HasRanges IsPrediction (Ok client)
         (seen (S.held source.old) (S.held source.new) (S.faults source.old) (S.faults source.new))
         (seen (K.written sink.old) (K.written sink.new) (K.faults sink.old) (K.faults sink.new)) result }
     ensures handed { result ≡ Status.Done → K.gathered sink.new ≡ [] }
@@ -41,7 +42,7 @@ pub fn top_predict<S: Source, K: Sink>(
 ) -> Status
     // What each answer says of the source and of the sink, and what holds after every answer: whatever was written are the lines of
     // the prediction over what happened at the client's end, or a front of them.
-    ensures outcome { ScriptOutcome script_of IsPrediction (client_of (map string_bytes words.now.items))
+    ensures outcome { ScriptOutcome script_of HasRanges IsPrediction (client_of (map string_bytes words.now.items))
         (seen (S.held source.old) (S.held source.new) (S.faults source.old) (S.faults source.new))
         (seen (K.written sink.old) (K.written sink.new) (K.faults sink.old) (K.faults sink.new)) result }
     // Which client the words name, or where they stop being the command.

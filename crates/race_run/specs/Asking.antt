@@ -1,5 +1,6 @@
 -- What a line of a script asks of a client's connection: of its packer a pack, and of its net the client's own lines.
-use Rattle.std.specs.Prelude.{ℕ, ◌==◌, Bool, false, Option, Some, None, if◌then◌else◌}
+use Rattle.std.specs.Prelude.{◌≡◌, refl, ℕ, ◌==◌, Bool, false, List, [], ◌∷◌, Option, Some, None, if◌then◌else◌, EachIndex, slice_index}
+use Rattle.std.specs.List.{filter_map}
 use Rattle.match_script.specs.declared.types.BodyLine.{BodyLine}
 use Rattle.match_script.specs.declared.types.BodyLine.TheVariants as script
 use Rattle.connection_lock.specs.declared.net_line.NetLine.{NetLine}
@@ -21,3 +22,16 @@ net_line client (script.Up named k) = asked_of client named (net.Up k)
 net_line client (script.Move named m) = asked_of client named (net.Move m)
 net_line client (script.Raw named bytes) = asked_of client named (net.Raw bytes)
 net_line client line = None
+
+-- what lines ask of the client's net, in their order
+abbrev pub net_lines : ℕ → List BodyLine → List NetLine
+net_lines client lines = filter_map (net_line client) lines
+
+-- the connection of each client stands at the place of its number
+abbrev pub AreNumbered : List ℕ → Type 0
+AreNumbered pairs = EachIndex pairs (λ i. slice_index pairs i ≡ i)
+
+-- ---- an example: of these three lines the first and the last are those of client 1
+
+of_client_1 : net_lines 1 (script.Down 1 7 ∷ script.Down 0 2 ∷ script.ClientPack 1 ∷ []) ≡ net.Down 7 ∷ net.ClientPack ∷ []
+of_client_1 = refl

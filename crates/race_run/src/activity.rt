@@ -1,10 +1,10 @@
 //! The activities of a client: its packer and its net.
-ghost use Rattle.std.specs.Prelude.{◌≡◌, ◌+◌, ◌≤◌, ◌&&◌, false, None, IsSome, IsNone, is_none, count_by, if◌then◌else◌};
+ghost use Rattle.std.specs.Prelude.{◌≡◌, ℕ, ◌+◌, ◌<◌, ◌≤◌, ◌++◌, ◌∷◌, [], ◌&&◌, false, None, IsSome, IsNone, is_none, OnOk, OnErr, count_by, length, take, if◌then◌else◌};
 ghost use Rattle.match_script.specs.Ranges.{HasRanges};
-ghost use Rattle.race_run.specs.Asking.{is_pack_of, net_line};
+ghost use Rattle.race_run.specs.Asking.{is_pack_of, net_line, net_lines};
 
 use crate::asked::{is_net_of, is_pack_of, net_line};
-use connection_lock::SharedPair;
+use connection_lock::{DoneLines, SharedPair};
 use dirty_lanes::{LaneName, Lanes};
 use kept_pair::KeepFault;
 use match_script::{BodyLine, Script};
@@ -12,7 +12,7 @@ use race_sim::{Actor, Gate, Place};
 use std::alloc::Global;
 use std::sync::Wait;
 use std::sync::ledger::Ledger;
-use tn_types::Steps;
+use tn_types::{MAX_BODY_LINES, Steps};
 
 /// One client of a match, as its activities have it.
 #[derive(Drop)]
@@ -59,16 +59,20 @@ impl<'a, N: LaneName, G: Gate> Served<'a, N, G> {
         stopped
     }
 
-    // Gives the connection what a line asks of the client's net.
-    fn give<R: Wait>(&self, rt: &R, line: &BodyLine) -> Result<(), KeepFault> {
+    // Gives the connection what a line asks of the client's net, which adds it to what was done.
+    fn give<R: Wait>(&self, rt: &R, line: &BodyLine, done: &mut DoneLines) -> Result<(), KeepFault>
+        requires room { length done.old < MAX_BODY_LINES }
+        ensures given { OnOk result (done.new ≡ done.old ++ net_lines self.now.client (line.now ∷ [])) }
+        ensures refused { OnErr result (done.new ≡ done.old) }
+    {
         let Ok(asked) = net_line(self.alloc, self.client, line) else {
             return Err(KeepFault::NoMemory);
         };
         match asked {
-            Some(asked) => {
-                self.pair.net_turn(rt, self.alloc, asked)?;
-                Ok(())
-            }
+            Some(asked) => match self.pair.net_turn(rt, self.alloc, asked, done) {
+                Ok(_) => Ok(()),
+                Err(fault) => Err(fault),
+            },
             None => Ok(()),
         }
     }
@@ -80,7 +84,11 @@ impl<'a, N: LaneName, G: Gate> Served<'a, N, G> {
         place: u32,
         line: &BodyLine,
         stopped: Option<KeepFault>,
+        done: &mut DoneLines,
     ) -> Option<KeepFault>
+        requires room { length done.old < MAX_BODY_LINES }
+        ensures given { result ≡ None → done.new ≡ done.old ++ net_lines self.now.client (line.now ∷ []) }
+        ensures refused { IsSome result → done.new ≡ done.old }
         ensures other { IsNone (net_line self.now.client line.now) → result ≡ stopped }
         ensures still { IsSome stopped → result ≡ stopped }
     {
@@ -90,7 +98,7 @@ impl<'a, N: LaneName, G: Gate> Served<'a, N, G> {
         self.gate
             .pass(Actor::Net(self.client), Place::Before(place));
         let stopped = match stopped {
-            None => self.give(rt, line).err(),
+            None => self.give(rt, line, done).err(),
             fault => fault,
         };
         self.gate.pass(Actor::Net(self.client), Place::After(place));
@@ -111,14 +119,17 @@ impl<'a, N: LaneName, G: Gate> Served<'a, N, G> {
         stopped
     }
 
-    /// Does the client's own lines, and those of the net between it and the server, in the order of the script. Gives the fault
-    /// with which it stopped, if it did.
-    pub fn bring<R: Wait>(&self, rt: &R) -> Option<KeepFault>
-        requires { HasRanges self.now.script.now }
+    /// Does the client's own lines, and those of the net between it and the server, in the order of the script, and adds each to what
+    /// was done. Gives the fault with which it stopped, if it did; from the first fault on no line is done.
+    pub fn bring<R: Wait>(&self, rt: &R, done: &mut DoneLines) -> Option<KeepFault>
+        requires ranges { HasRanges self.now.script.now }
+        requires none { done.old ≡ [] }
+        ensures all { result ≡ None → done.new ≡ net_lines self.now.client self.now.script.now.body }
+        ensures first { (n : ℕ) × (done.new ≡ net_lines self.now.client (take n self.now.script.now.body)) }
     {
         let mut stopped = None;
-        for (i, line) in self.script.body.as_slice().iter().enumerate() {
-            stopped = self.net_turn(rt, i as u32, line, stopped);
+        'lines: for (i, line) in self.script.body.as_slice().iter().enumerate() {
+            stopped = self.net_turn(rt, i as u32, line, stopped, done);
         }
         stopped
     }

@@ -6,6 +6,7 @@ ghost use Rattle.kept_pair.specs.Kept.{terms_in};
 ghost use Rattle.match_script.specs.Ranges.{HeadFits};
 ghost use Rattle.race_sim.specs.own_lists.Past.{client_terms};
 ghost use Rattle.race_sim.specs.Ports.{IsNewPort};
+ghost use Rattle.race_run.specs.Asking.{AreNumbered};
 
 use connection_lock::SharedPair;
 use dirty_lanes::{LaneName, PackSeat, PackSeats};
@@ -78,6 +79,7 @@ fn share<N: LaneName>(
     requires inbox { consumer_capacity inbox ≡ INBOX_PLACES }
     requires sent { sent outbox ≡ [] }
     requires outbox { producer_capacity outbox ≡ OUTBOX_PLACES }
+    ensures { IfOk result (λ pair. pair ≡ seat.client) }
 {
     SharedPair::new(alloc, pair, seat, inbox, outbox)
 }
@@ -97,6 +99,7 @@ fn new_shared<N: LaneName>(
     requires inbox { consumer_capacity inbox ≡ INBOX_PLACES }
     requires sent { sent outbox ≡ [] }
     requires outbox { producer_capacity outbox ≡ OUTBOX_PLACES }
+    ensures { IfOk result (λ pair. pair ≡ seat.client) }
 {
     let pair = new_pair(alloc, head, seat.client())?;
     share(alloc, head, pair, seat, inbox, outbox)
@@ -124,7 +127,7 @@ fn connect_next<N: LaneName>(
     requires next { seat.client ≡ length made.old.pairs.items }
     requires seat { seat.steps ≡ [] }
     requires fresh { All IsNewPort made.old.ports.items }
-    ensures pairs { OnOk result (length made.new.pairs.items ≡ length made.old.pairs.items + 1) }
+    ensures pairs { OnOk result (made.new.pairs.items ≡ made.old.pairs.items ++ seat.client ∷ []) }
     ensures ports { OnOk result (length made.new.ports.items ≡ length made.old.ports.items + 1) }
     ensures fresh { OnOk result (All IsNewPort made.new.ports.items) }
 {
@@ -153,6 +156,7 @@ fn connect_all<N: LaneName>(
     requires clients { seats.old.clients ≡ head.now.clients }
     requires empty { (made.old.pairs.items ≡ []) × (made.old.ports.items ≡ []) }
     ensures pairs { OnOk result (length made.new.pairs.items ≡ head.now.clients) }
+    ensures numbered { OnOk result (AreNumbered made.new.pairs.items) }
     ensures ports { OnOk result (length made.new.ports.items ≡ head.now.clients) }
     ensures fresh { OnOk result (All IsNewPort made.new.ports.items) }
 {
@@ -175,6 +179,7 @@ pub(crate) fn connect<N: LaneName>(
     requires seats { seats.next ≡ 0 }
     requires clients { seats.clients ≡ head.now.clients }
     ensures pairs { IfOk result (λ c. length c.pairs.items ≡ head.now.clients) }
+    ensures numbered { IfOk result (λ c. AreNumbered c.pairs.items) }
     ensures ports { IfOk result (λ c. length c.ports.items ≡ head.now.clients) }
     ensures fresh { IfOk result (λ c. All IsNewPort c.ports.items) }
 {

@@ -6,10 +6,11 @@ ghost use Rattle.race_history.specs.History.{IsHistoryOf};
 ghost use Rattle.race_history.specs.Moves.{MovesFit};
 ghost use Rattle.race_sim.specs.race_course.Messages.{ticks_in};
 ghost use Rattle.race_sim.specs.Simulating.{HasDone, AreRests};
+ghost use Rattle.race_run.specs.Asking.{AreNumbered};
 
 use crate::activity::Served;
 use crate::start::{Ready, make_ready};
-use connection_lock::SharedPair;
+use connection_lock::{DoneLines, SharedPair};
 use dirty_lanes::{FreshLanes, LaneName, Lanes};
 use kept_pair::KeepFault;
 use match_script::Script;
@@ -38,8 +39,7 @@ fn packs(i: usize) -> bool
     i % 2 == 0
 }
 
-// The client whom the activity of this place serves, with the connection of that number. All locks are one to a clause, so this call
-// alone chooses among them.
+// The client whom the activity of this place serves, with that client's connection.
 fn served<'a, N: LaneName, G: Gate>(
     alloc: Global,
     script: &'a Script,
@@ -50,7 +50,9 @@ fn served<'a, N: LaneName, G: Gate>(
 ) -> Served<'a, N, G>
     requires place { i < 2 * length pairs.now }
     requires few { length pairs.now < 17 }
+    requires numbered { AreNumbered pairs.now }
     ensures client { result.client ≡ i / 2 }
+    ensures own { result.pair.now ≡ i / 2 }
     ensures script { result.script.now ≡ script.now }
 {
     let client = client_of(i);
@@ -92,13 +94,17 @@ fn run_activity<N: LaneName, R: Wait, G: Gate>(
     requires ranges { HasRanges script.now }
     requires place { i < 2 * length pairs.now }
     requires few { length pairs.now < 17 }
+    requires numbered { AreNumbered pairs.now }
 {
     let served = served(alloc, script, lanes, gate, pairs, i);
     if packs(i) {
         let blank = Blank::new(1);
         pack_all::<N, R, G, Brand>(rt, &served, blank)
     } else {
-        served.bring(rt)
+        let Ok(mut done) = DoneLines::new(alloc) else {
+            return Some(KeepFault::NoMemory);
+        };
+        served.bring(rt, &mut done)
     }
 }
 
@@ -113,6 +119,7 @@ fn serve_all<N: LaneName + Send + Sync, R: Threads + Wait + Sync, G: Gate + Sync
 ) -> Result<Vec<Option<KeepFault>>, AllocError>
     requires ranges { HasRanges script.now }
     requires few { length pairs.now < 17 }
+    requires numbered { AreNumbered pairs.now }
     ensures { IfOk result (λ stopped. length stopped.items ≡ 2 * length pairs.now) }
 {
     map_indices(
@@ -149,6 +156,7 @@ fn run_beside<N: LaneName + Send + Sync, R: Threads + Wait + Sync, G: Gate + Syn
     requires ranges { HasRanges script.now }
     requires objects { lanes.now.objects ≡ MAX_OBJECTS }
     requires few { length pairs.now < 17 }
+    requires numbered { AreNumbered pairs.now }
     requires ports { length sim.ports ≡ script.now.head.clients }
     requires begun { HasDone (first_world script.now.head.seed script.now.head.setup) [] sim }
     ensures values { IfOk result (λ r. IsHistoryOf (first_world script.now.head.seed script.now.head.setup) r.0.moves r.0.values) }
@@ -166,7 +174,7 @@ fn run_beside<N: LaneName + Send + Sync, R: Threads + Wait + Sync, G: Gate + Syn
                 × IfOk result (λ s. AreRests script.entry.now s.moves s.waiting.items) }
         { simulate(alloc, script, lanes, gate, sim) },
         move || -> Result<Vec<Option<KeepFault>>, AllocError>
-            requires { HasRanges script.now × (length pairs.now < 17) }
+            requires { HasRanges script.now × (length pairs.now < 17) × AreNumbered pairs.now }
             ensures { IfOk result (λ stopped. length stopped.items ≡ 2 * length pairs.entry.now) }
         { serve_all(rt, alloc, script, lanes, gate, pairs) },
     );

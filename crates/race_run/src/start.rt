@@ -4,6 +4,7 @@ ghost use Rattle.dirty_lanes.specs.Named.{no_steps};
 ghost use Rattle.match_script.specs.Ranges.{HasRanges};
 ghost use Rattle.world_sim.specs.Worlds.{first_world};
 ghost use Rattle.race_sim.specs.Simulating.{HasDone};
+ghost use Rattle.race_run.specs.Asking.{AreNumbered};
 
 use crate::connecting::{Connections, connect};
 use connection_lock::SharedPair;
@@ -37,6 +38,7 @@ pub fn make_ready<N: LaneName>(
     ensures objects { IfOk result (λ ready. ready.lanes.objects ≡ MAX_OBJECTS) }
     ensures clients { IfOk result (λ ready. ready.lanes.clients ≡ script.now.head.clients) }
     ensures pairs { IfOk result (λ ready. length ready.pairs.items ≡ script.now.head.clients) }
+    ensures numbered { IfOk result (λ ready. AreNumbered ready.pairs.items) }
     ensures ports { IfOk result (λ ready. length ready.sim.ports ≡ script.now.head.clients) }
     ensures begun { IfOk result (λ ready. HasDone (first_world script.now.head.seed script.now.head.setup) [] ready.sim) }
     ensures seat { IfOk result (λ ready. ready.sim.seat ≡ no_steps) }

@@ -1,6 +1,7 @@
 //! The command `relay`.
 ghost use Rattle.std.specs.Prelude.{◌≡◌, ◌⊎◌, List, [], ℕ, map, string_bytes, codes, Some, Ok};
 ghost use Rattle.command_words.specs.OneWord.{one_word, Says};
+ghost use Rattle.relay_script.specs.Ranges.{HasRelayRanges};
 ghost use Rattle.relay_script.specs.Whole.{relay_script_of};
 ghost use Rattle.script_input.specs.Reading.{seen, HasFailed};
 ghost use Rattle.script_input.specs.Outcome.{ScriptOutcome, IsWanted, CanBeDone};
@@ -26,7 +27,7 @@ use tn_outside::{Sink, Source};
 
 // Carries out the command.
 fn carry_out<S: Source, K: Sink>(alloc: Global, source: &mut S, sink: &mut K) -> Status
-    ensures outcome { ScriptOutcome relay_script_of IsReport (Ok tt)
+    ensures outcome { ScriptOutcome relay_script_of HasRelayRanges IsReport (Ok tt)
         (seen (S.held source.old) (S.held source.new) (S.faults source.old) (S.faults source.new))
         (seen (K.written sink.old) (K.written sink.new) (K.faults sink.old) (K.faults sink.new)) result }
     ensures handed { result ≡ Status.Done → K.gathered sink.new ≡ [] }
@@ -50,7 +51,7 @@ pub fn top_relay<S: Source, K: Sink>(
 ) -> Status
     // What each answer says of the source and of the sink, and what holds after every answer: whatever was written is the report of the
     // relay script that was read, or a front of it.
-    ensures outcome { ScriptOutcome relay_script_of IsReport (one_word (codes "relay") (map string_bytes words.now.items))
+    ensures outcome { ScriptOutcome relay_script_of HasRelayRanges IsReport (one_word (codes "relay") (map string_bytes words.now.items))
         (seen (S.held source.old) (S.held source.new) (S.faults source.old) (S.faults source.new))
         (seen (K.written sink.old) (K.written sink.new) (K.faults sink.old) (K.faults sink.new)) result }
     // Whether the words are the command, or where they stop being it.

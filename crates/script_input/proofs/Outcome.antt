@@ -8,8 +8,8 @@ use Rattle.tn_outside.specs.declared.failed.RunFault.TheVariants as fault
 use Rattle.tn_outside.proofs.Totals.{whole_front}
 use Rattle.script_input.specs.declared.status.Status.{Status}
 use Rattle.script_input.specs.declared.status.Status.TheVariants.{Done, Usage, Script, TooLong, ReadFault, WriteFault, NoMemory, LinkFault, ClockFault, Demo}
-use Rattle.script_input.specs.Reading.{Seen, seen, Reading, ReadAs, NotRead, GaveAtMost, IsSpared, IsUntouched}
-use Rattle.script_input.specs.Outcome.{Making, Writes, Cause, ScriptOutcome, EndsBehind}
+use Rattle.script_input.specs.Reading.{Seen, seen, Reading, NotRead, GaveAtMost, IsSpared, IsUntouched}
+use Rattle.script_input.specs.Outcome.{Making, Fitting, HasScript, Writes, Cause, ScriptOutcome, EndsBehind}
 
 -- a fault that comes later in a call is one of the call
 pub rose_later : (a b n : ℕ) → a ≤ b → Rose b n → Rose a n
@@ -57,8 +57,8 @@ done_ran (Err fault.NoMemory) f1 f2 e = absurd (let no = e.0 in cc)
 
 -- ---- a command that reads a script
 
-module _ {C S : Type 0} (reading : Reading S) (makes : Making C S) (c : C) (source : Seen) (taken : GaveAtMost (MAX_SCRIPT_BYTES + 1) source.old source.new) where
-  no_cause : (sink : Seen) (s : Status) → NotRead reading source s → IsUntouched sink → Cause reading makes c source sink s
+module _ {C S : Type 0} (reading : Reading S) (fits : Fitting S) (makes : Making C S) (c : C) (source : Seen) (taken : GaveAtMost (MAX_SCRIPT_BYTES + 1) source.old source.new) where
+  no_cause : (sink : Seen) (s : Status) → NotRead reading source s → IsUntouched sink → Cause reading fits makes c source sink s
   no_cause sink Done p u = absurd p
   no_cause sink (Usage place) p u = (p, u)
   no_cause sink (Script line fault) p u = (p, u)
@@ -71,14 +71,14 @@ module _ {C S : Type 0} (reading : Reading S) (makes : Making C S) (c : C) (sour
   no_cause sink (Demo place) p u = (p, u)
 
   -- no script was read
-  pub no_script : (sink : Seen) (s : Status) → NotRead reading source s → IsUntouched sink → source.faults ≤ source.faults_after → ScriptOutcome reading makes (Ok c) source sink s
+  pub no_script : (sink : Seen) (s : Status) → NotRead reading source s → IsUntouched sink → source.faults ≤ source.faults_after → ScriptOutcome reading fits makes (Ok c) source sink s
   no_script sink s p u reads = record { answer = no_cause sink s p u; taken = taken; written = inl u.0; reads = reads; writes = omega (arith, u.1) }
 
-  -- a script was read; and what the sink was told to be before the run, behind it, and after the call
-  module _ (script : S) (has : ReadAs reading source.old source.new (Ok script)) (spared : IsSpared source)
+  -- the command has a script; and what the sink was told to be before the run, behind it, and after the call
+  module _ (script : S) (has : HasScript reading fits source script) (spared : IsSpared source)
       (w w1 w2 : Option (List ℕ)) (same : w2 ≡ w1) (f f1 f2 : ℕ) where
     abbrev Ended : Status → Type 0
-    Ended s = ScriptOutcome reading makes (Ok c) source (seen w w2 f f2) s
+    Ended s = ScriptOutcome reading fits makes (Ok c) source (seen w w2 f f2) s
 
     reads : source.faults ≤ source.faults_after
     reads = omega (arith, spared)

@@ -34,38 +34,46 @@ Making C S = C → S → List ℕ → Type 0
 abbrev pub Adding : Type 1
 Adding = Option (List ℕ) → Option (List ℕ) → List ℕ → Type 0
 
+-- the numbers of a script lie in their ranges, as the laws on what the command writes ask
+abbrev pub Fitting : Type 0 → Type 1
+Fitting S = S → Type 0
+
+-- the command has this script: it was read, and it is in its ranges
+abbrev pub HasScript : {S : Type 0} → Reading S → Fitting S → Seen → S → Type 0
+HasScript reading fits source script = ReadAs reading source.old source.new (Ok script) × fits script
+
 -- a text of the command for a script was added
 abbrev pub Writes : {C S : Type 0} → Making C S → Adding → C → S → Option (List ℕ) → Option (List ℕ) → Type 0
 Writes makes adds c script old new = (text : List ℕ) × makes c script text × adds old new text
 
--- a script was read, and a text for it was added to the sink
-abbrev pub Wrote : {C S : Type 0} → Reading S → Making C S → Adding → C → Seen → Seen → Type 0
-Wrote {C} {S} reading makes adds c source sink =
-    (script : S) × ReadAs reading source.old source.new (Ok script) × Writes makes adds c script sink.old sink.new
+-- the command has a script, and a text for it was added to the sink
+abbrev pub Wrote : {C S : Type 0} → Reading S → Fitting S → Making C S → Adding → C → Seen → Seen → Type 0
+Wrote {C} {S} reading fits makes adds c source sink =
+    (script : S) × HasScript reading fits source script × Writes makes adds c script sink.old sink.new
 
-abbrev pub WroteFront : {C S : Type 0} → Reading S → Making C S → Result C ℕ → Seen → Seen → Type 0
-WroteFront reading makes (Ok c) source sink = Wrote reading makes AddsFront c source sink
-WroteFront reading makes (Err place) source sink = ⊥
+abbrev pub WroteFront : {C S : Type 0} → Reading S → Fitting S → Making C S → Result C ℕ → Seen → Seen → Type 0
+WroteFront reading fits makes (Ok c) source sink = Wrote reading fits makes AddsFront c source sink
+WroteFront reading fits makes (Err place) source sink = ⊥
 
 -- the cause of the answer to a command: a fault is answered exactly where that count of faults rose
-abbrev pub Cause : {C S : Type 0} → Reading S → Making C S → C → Seen → Seen → Status → Type 0
-Cause reading makes c source sink Done = IsSpared source × IsSpared sink × Wrote reading makes Adds c source sink
-Cause reading makes c source sink WriteFault = IsSpared source × HasFailed sink × Wrote reading makes AddsFront c source sink
-Cause reading makes c source sink NoMemory = IsSpared source × IsSpared sink
-Cause reading makes c source sink s = NotRead reading source s × IsUntouched sink
+abbrev pub Cause : {C S : Type 0} → Reading S → Fitting S → Making C S → C → Seen → Seen → Status → Type 0
+Cause reading fits makes c source sink Done = IsSpared source × IsSpared sink × Wrote reading fits makes Adds c source sink
+Cause reading fits makes c source sink WriteFault = IsSpared source × HasFailed sink × Wrote reading fits makes AddsFront c source sink
+Cause reading fits makes c source sink NoMemory = IsSpared source × IsSpared sink
+Cause reading fits makes c source sink s = NotRead reading source s × IsUntouched sink
 
 -- where the words are no command, the answer is `Usage` and nothing was touched
-abbrev pub AnswerTo : {C S : Type 0} → Reading S → Making C S → Result C ℕ → Seen → Seen → Status → Type 0
-AnswerTo reading makes (Err place) source sink s = (s ≡ Usage place) × IsUntouched source × IsUntouched sink
-AnswerTo reading makes (Ok c) source sink s = Cause reading makes c source sink s
+abbrev pub AnswerTo : {C S : Type 0} → Reading S → Fitting S → Making C S → Result C ℕ → Seen → Seen → Status → Type 0
+AnswerTo reading fits makes (Err place) source sink s = (s ≡ Usage place) × IsUntouched source × IsUntouched sink
+AnswerTo reading fits makes (Ok c) source sink s = Cause reading fits makes c source sink s
 
-pub record ScriptOutcome {C S : Type 0} (reading : Reading S) (makes : Making C S) (command : Result C ℕ) (source sink : Seen)
-    (s : Status) : Type 0 where
-  pub answer : AnswerTo reading makes command source sink s
+pub record ScriptOutcome {C S : Type 0} (reading : Reading S) (fits : Fitting S) (makes : Making C S) (command : Result C ℕ)
+    (source sink : Seen) (s : Status) : Type 0 where
+  pub answer : AnswerTo reading fits makes command source sink s
   -- one byte past the limit tells that a text is too long, and no further byte is taken
   pub taken : GaveAtMost (MAX_SCRIPT_BYTES + 1) source.old source.new
-  -- whatever the answer, nothing was written, or a front of a text for a script that was read
-  pub written : (sink.new ≡ sink.old) ⊎ WroteFront reading makes command source sink
+  -- whatever the answer, nothing was written, or a front of a text for a script that was read and is in its ranges
+  pub written : (sink.new ≡ sink.old) ⊎ WroteFront reading fits makes command source sink
   -- no count of faults fell
   pub reads : source.faults ≤ source.faults_after
   pub writes : sink.faults ≤ sink.faults_after

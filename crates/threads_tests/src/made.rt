@@ -3,7 +3,7 @@
 use crate::gates::WatchGate;
 use script_maker::make;
 use std::test::Fail;
-use threads_top::run_threads;
+use threads_top::{Judgement, run_threads};
 use tn_outside::MemSink;
 
 /// So often the match is run.
@@ -24,7 +24,9 @@ fn large_match_in_threads(rt: HostRuntime) -> Result<(), Fail> {
             calls: 0,
             faults: 0,
         };
-        assert!(rt; run_threads(&rt, rt.alloc(), &script, &gate, &mut sink).is_ok());
+        let mut judgement = Judgement::new();
+        let ran = run_threads(&rt, rt.alloc(), &script, &gate, &mut judgement, &mut sink);
+        assert!(rt; ran.is_ok() && !judgement.is_refused());
         assert!(rt; sink.bytes.len() > 0);
     }
     assert!(rt; gate.saw_both());

@@ -12,7 +12,7 @@ use std::process::Abort;
 use std::sync::Wait;
 use std::test::Fail;
 use std::thread::Threads;
-use threads_top::{FreeGate, Gate, run_threads, tell};
+use threads_top::{FreeGate, Gate, Judgement, judge, run_threads, tell};
 use tn_outside::MemSink;
 use tn_types::MAX_KEPT_STEPS;
 
@@ -215,7 +215,7 @@ fn script_of<R: Abort>(rt: &R, alloc: Global, text: &[u8]) -> Script
     }
 }
 
-/// What a match in threads writes under a gate.
+/// What a match in threads writes under a gate, if its own race is told.
 fn written<R: Threads + Wait + Sync, G: Gate + Sync>(
     rt: &R,
     alloc: Global,
@@ -231,9 +231,13 @@ fn written<R: Threads + Wait + Sync, G: Gate + Sync>(
         calls: 0,
         faults: 0,
     };
-    let Ok(()) = run_threads(rt, alloc, script, gate, &mut sink) else {
+    let mut judgement = Judgement::new();
+    let Ok(()) = run_threads(rt, alloc, script, gate, &mut judgement, &mut sink) else {
         return Err("nothing was written".into());
     };
+    if judgement.is_refused() {
+        return Err("a plain race was told".into());
+    }
     let MemSink {
         bytes,
         most: _,
@@ -269,13 +273,34 @@ fn raw_bytes_under_a_gate(rt: HostRuntime) -> Result<(), Fail> {
     Ok(())
 }
 
-// No gate is known to bring about a race of threads that is not legal, so what would be written then is made and told here.
+/// A race without the moves of its ticks, which is not legal where there is a tick.
+fn without_moves(alloc: Global, race: Race) -> Race {
+    let Race {
+        values,
+        moves: _,
+        words,
+        clients,
+    } = race;
+    Race {
+        values,
+        moves: TickMoves::new(alloc),
+        words,
+        clients,
+    }
+}
+
+// No gate is known to bring about a race of threads that is not legal, so one is made up here, and judged.
 #[test]
 fn plainly(rt: HostRuntime) -> Result<(), Fail> {
     let script = script_of(&rt, rt.alloc(), EVERY_LINE.as_bytes());
-    let made = plain_race(rt.alloc(), &script)?;
-    let mut text = Vec::new(rt.alloc());
-    assert_eq!(rt; tell(rt.alloc(), &script, &made, &mut text)?, true);
+    let legal = race(&rt, rt.alloc(), &script, &FreeGate)?;
+    let mut judgement = Judgement::new();
+    judge(rt.alloc(), &script, &legal, &mut judgement)?;
+    assert!(rt; !judgement.is_refused());
+    let made_up = without_moves(rt.alloc(), legal);
+    let mut judgement = Judgement::new();
+    let text = judge(rt.alloc(), &script, &made_up, &mut judgement)?;
+    assert!(rt; judgement.is_refused());
     assert_eq!(rt; text.as_slice(), EVERY_LINE_TOLD_PLAINLY.as_bytes());
     Ok(())
 }
@@ -342,18 +367,7 @@ fn moves_are_missing(rt: HostRuntime) -> Result<(), Fail> {
     let script = script_of(&rt, rt.alloc(), text.as_bytes());
     let legal = race(&rt, rt.alloc(), &script, &FreeGate)?;
     let mut out = Vec::from_slice(rt.alloc(), b"before")?;
-    let Race {
-        values,
-        moves: _,
-        words,
-        clients,
-    } = legal;
-    let without = Race {
-        values,
-        moves: TickMoves::new(rt.alloc()),
-        words,
-        clients,
-    };
+    let without = without_moves(rt.alloc(), legal);
     assert_eq!(rt; tell(rt.alloc(), &script, &without, &mut out)?, false);
     assert_eq!(rt; out.as_slice(), b"before".as_slice());
     Ok(())

@@ -6,7 +6,7 @@ use std::alloc::Global;
 use std::sync::Wait;
 use std::test::Fail;
 use std::thread::Threads;
-use threads_top::top_threads;
+use threads_top::{Judgement, top_threads};
 use tn_outside::{MemSink, MemSource, SteadySource};
 
 const EMPTY: &str = "tribes 1\nmatch 1 1 100 128 1000\ngo\n";
@@ -16,7 +16,7 @@ const CLOCK: &str = "tribes 1\nmatch 1 1 100 128 1000\nblock 61\nspawn clock 0 0
 /// More bytes than a script or a text here has.
 const ALL: usize = 65_536;
 
-/// What a call with these words answers, and what it writes.
+/// What a call with these words answers, and what it writes; no race is refused.
 fn served<R: Threads + Wait + Sync>(
     rt: &R,
     alloc: Global,
@@ -43,7 +43,11 @@ fn served<R: Threads + Wait + Sync>(
         calls: 0,
         faults: 0,
     };
-    let status = top_threads(rt, alloc, &all, &mut source, &mut sink);
+    let mut judgement = Judgement::new();
+    let status = top_threads(rt, alloc, &all, &mut source, &mut judgement, &mut sink);
+    if judgement.is_refused() {
+        return Err("a plain race was told".into());
+    }
     let MemSink {
         bytes,
         most: _,
