@@ -23,65 +23,73 @@ fn serve_failing(rt: &HostRuntime, failing: Failing<'_>) -> Result<Left, Fail> {
     served(rt, &WORDS, &arrivals, &TIMES, failing)
 }
 
-// What was served before a fault is a front of the whole.
-fn is_cut(s: &Left, whole: &Left) -> bool {
-    whole.text.as_slice().starts_with(s.text.as_slice()) && is_front(&s.sent, &whole.sent)
+/// What of the outside fails.
+#[derive(Clone, Copy)]
+enum Part {
+    Sends,
+    Receives,
+    Times,
+    Writes,
+}
+
+// Of this part these calls fail.
+fn failing(part: Part, calls: &[u64]) -> Failing<'_> {
+    let mut failing = NONE;
+    match part {
+        Part::Sends => failing.sends = calls,
+        Part::Receives => failing.receives = calls,
+        Part::Times => failing.times = calls,
+        Part::Writes => failing.writes = calls,
+    }
+    failing
+}
+
+// Whether a match of which one call of this part fails ends with this status, and what was served before is a prefix of the whole.
+fn is_cut(
+    rt: &HostRuntime,
+    whole: &Left,
+    part: Part,
+    call: u64,
+    status: Status,
+) -> Result<bool, Fail> {
+    let s = serve_failing(rt, failing(part, &[call]))?;
+    Ok(
+        s.status == status
+            && whole.text.as_slice().starts_with(s.text.as_slice())
+            && is_front(&s.sent, &whole.sent),
+    )
 }
 
 #[test]
 fn each_call_fails_once(rt: HostRuntime) -> Result<(), Fail> {
     let whole = serve_failing(&rt, NONE)?;
-    assert_eq!(rt; whole.status, Status::Done);
-    assert_eq!(rt; whole.sent.len(), 8);
-    for call in 0..8 {
-        let calls = [call];
-        let s = serve_failing(
-            &rt,
-            Failing {
-                sends: &calls,
-                ..NONE
-            },
-        )?;
-        assert_eq!(rt; s.status, Status::LinkFault);
-        assert_eq!(rt; s.sent.len() as u64, call);
-        assert!(rt; is_cut(&s, &whole), "send {call}");
-    }
-    for call in 0..6 {
-        let calls = [call];
-        let s = serve_failing(
-            &rt,
-            Failing {
-                receives: &calls,
-                ..NONE
-            },
-        )?;
-        assert_eq!(rt; s.status, Status::LinkFault);
-        assert!(rt; is_cut(&s, &whole), "receive {call}");
-    }
-    for call in 0..4 {
-        let calls = [call];
-        let s = serve_failing(
-            &rt,
-            Failing {
-                times: &calls,
-                ..NONE
-            },
-        )?;
-        assert_eq!(rt; s.status, Status::ClockFault);
-        assert!(rt; is_cut(&s, &whole), "time {call}");
-    }
+    let mut wrong = 0u32;
     // the header is written in one piece, and then 3 ticks, a raw line, and 6 scans and packs
-    for call in 0..17 {
-        let calls = [call];
-        let s = serve_failing(
-            &rt,
-            Failing {
-                writes: &calls,
-                ..NONE
-            },
-        )?;
-        assert_eq!(rt; s.status, Status::WriteFault);
-        assert!(rt; is_cut(&s, &whole), "write {call}");
+    for (part, calls, status) in [
+        (Part::Sends, 8, Status::LinkFault),
+        (Part::Receives, 6, Status::LinkFault),
+        (Part::Times, 4, Status::ClockFault),
+        (Part::Writes, 17, Status::WriteFault),
+    ] {
+        for call in 0..calls {
+            if !is_cut(&rt, &whole, part, call, status)? {
+                wrong = wrong.saturating_add(1);
+            }
+        }
+    }
+    assert_eq!(rt;
+        (whole.status, whole.sent.len(), wrong),
+        (Status::Done, 8, 0)
+    );
+    Ok(())
+}
+
+// A send that fails is not made, and those before it were.
+#[test]
+fn sends_before_the_failing_one(rt: HostRuntime) -> Result<(), Fail> {
+    for call in 0..8 {
+        let s = serve_failing(&rt, failing(Part::Sends, &[call]))?;
+        assert_eq!(rt; s.sent.len() as u64, call);
     }
     Ok(())
 }

@@ -8,7 +8,7 @@ use std::test::Fail;
 use tn_outside::{Arrival, MemClock, MemLink, MemSink, Peer, Sending, SteadyClock};
 
 /// More bytes than a line has.
-const ALL: usize = 4096;
+pub(crate) const ALL: usize = 4096;
 
 /// What fails, by the numbers of the calls.
 #[derive(Clone, Copy)]
