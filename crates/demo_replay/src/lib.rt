@@ -10,5 +10,5 @@ mod telling;
 pub use demo_view;
 pub use laws::cut_demo_tells_a_front;
 pub use next::next_record;
-pub use passing::{pass_counted, pass_over};
+pub use passing::pass_over;
 pub use replaying::{ReplayFault, replay, replay_at};

@@ -18,7 +18,7 @@ fn drop_events(viewer: &mut Viewer)
 }
 
 /// The viewer is given a record, whose events are let go. No event may wait, and none does then.
-pub fn pass_over(viewer: &mut Viewer, record_bytes: &[u8])
+pub(crate) fn pass_by(viewer: &mut Viewer, record_bytes: &[u8])
     requires few { length record_bytes.now ≤ MAX_READ_BYTES }
     requires quiet { viewer.old.events.ready ≡ [] }
     ensures stands { Becomes viewer.old (taking (terms_of viewer.old) record_bytes.now) viewer.new }
@@ -29,8 +29,8 @@ pub fn pass_over(viewer: &mut Viewer, record_bytes: &[u8])
     drop_events(viewer);
 }
 
-/// The same, as one step.
-pub fn pass_counted<L: Ledger>(viewer: &mut Viewer, record_bytes: &[u8], steps: &mut Steps<L>)
+/// The same, as one step: whoever goes over records of a demo from outside counts each.
+pub fn pass_over<L: Ledger>(viewer: &mut Viewer, record_bytes: &[u8], steps: &mut Steps<L>)
     requires few { length record_bytes.now ≤ MAX_READ_BYTES }
     requires quiet { viewer.old.events.ready ≡ [] }
     ensures stands { Becomes viewer.old (taking (terms_of viewer.old) record_bytes.now) viewer.new }

@@ -13,7 +13,7 @@ ghost use Rattle.demo_replay.specs.Walking.{IsViewerAfter};
 ghost use Rattle.demo_replay.specs.Writing.{TellsRecord, TellsShown};
 
 use crate::next::next_record;
-use crate::passing::pass_over;
+use crate::passing::pass_by;
 use crate::telling::{tell_record, tell_shown, word_for};
 use demo_format::{DemoHead, HEAD_BYTES, MAX_DEMO_BYTES, ends_here, read_head};
 use demo_view::Viewer;
@@ -132,7 +132,7 @@ fn pass_first(body: &[u8], count: u32, viewer: &mut Viewer)
         let Some(next) = next_record(body, at) else {
             return;
         };
-        pass_over(viewer, next);
+        pass_by(viewer, next);
         at += 2 + next.len();
     }
 }

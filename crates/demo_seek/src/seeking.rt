@@ -9,7 +9,7 @@ ghost use Rattle.demo_seek.specs.Loaded.{AreKeys, IsKept};
 
 use demo_format::{DemoHead, HEAD_BYTES, MAX_DEMO_BYTES, read_head};
 use demo_replay::demo_view::{KeptViewer, Viewer};
-use demo_replay::{next_record, pass_counted, pass_over};
+use demo_replay::{next_record, pass_over};
 use std::alloc::Global;
 use std::marker::Model;
 use std::sync::ledger::Ledger;
@@ -70,31 +70,43 @@ impl Model for Demo {
 impl Demo {
     ghost use Rattle.demo_replay.specs.Walking.{demo_in};
 
-    /// The demo of these bytes, at most 16,777,216: `Head` exactly where they begin with no head.
-    pub fn load(alloc: Global, bytes: &[u8]) -> Result<Demo, DemoFault>
+    /// The demo of these bytes, at most 16,777,216: `Head` exactly where they begin with no head. Each record is given to a viewer
+    /// once at the most, by a step.
+    pub fn load<L: Ledger>(
+        alloc: Global,
+        bytes: &[u8],
+        steps: &mut Steps<L>,
+    ) -> Result<Demo, DemoFault>
         requires { length bytes.now ≤ MAX_DEMO_BYTES }
         ensures demo { IfOk result (λ d. d ≡ demo_in bytes.now) }
         ensures sound { OnOk result (read_head bytes.now ≡ Ok (head_in bytes.now)) }
         ensures refused { (place : ℕ) → (result ≡ Err (DemoFault.Head place)) ↔ (read_head bytes.now ≡ Err place) }
+        ensures steps { steps.new ≤ steps.old + length (demo_in bytes.now).records }
     {
         match read_head(bytes) {
-            Ok(head) => Demo::load_behind(alloc, head, bytes),
+            Ok(head) => Demo::load_behind(alloc, head, bytes, steps),
             Err(place) => Err(DemoFault::Head { place }),
         }
     }
 
     /// The same where the bytes begin with this head.
-    fn load_behind(alloc: Global, head: DemoHead, bytes: &[u8]) -> Result<Demo, DemoFault>
+    fn load_behind<L: Ledger>(
+        alloc: Global,
+        head: DemoHead,
+        bytes: &[u8],
+        steps: &mut Steps<L>,
+    ) -> Result<Demo, DemoFault>
         requires long { HEAD_BYTES ≤ length bytes.now }
         requires few { length bytes.now ≤ MAX_DEMO_BYTES }
         ensures demo { IfOk result (λ d. d ≡ record { head = head; records = records_of (drop HEAD_BYTES bytes.now) }) }
         ensures memory { IfErr result (λ fault. fault ≡ DemoFault.NoMemory) }
+        ensures steps { steps.new ≤ steps.old + length (records_of (drop HEAD_BYTES bytes.now)) }
     {
         let (_, behind) = bytes.split_at(HEAD_BYTES);
         let Ok(kept) = Vec::from_slice(alloc, behind) else {
             return Err(DemoFault::NoMemory);
         };
-        let Ok((keys, count)) = keys_of(alloc, &head, behind) else {
+        let Ok((keys, count)) = keys_of(alloc, &head, behind, steps) else {
             return Err(DemoFault::NoMemory);
         };
         Ok(Demo {
@@ -165,15 +177,21 @@ fn go_on<L: Ledger>(
         let Some(next) = next_record(bytes, at) else {
             return;
         };
-        pass_counted(viewer, next, steps);
+        pass_over(viewer, next, steps);
         at += 2 + next.len();
     }
 }
 
 /// What is kept of the viewer of these records, and how many records there are.
-fn keys_of(alloc: Global, head: &DemoHead, bytes: &[u8]) -> Result<(Vec<Key>, u32), NoMemory>
+fn keys_of<L: Ledger>(
+    alloc: Global,
+    head: &DemoHead,
+    bytes: &[u8],
+    steps: &mut Steps<L>,
+) -> Result<(Vec<Key>, u32), NoMemory>
     requires { length bytes.now ≤ MAX_DEMO_BYTES }
-    ensures { IfOk result (λ r. IsKept head.now bytes.now r.1 r.0.items) }
+    ensures kept { IfOk result (λ r. IsKept head.now bytes.now r.1 r.0.items) }
+    ensures steps { steps.new ≤ steps.old + length (records_of bytes.now) }
 {
     let mut viewer = Viewer::new(alloc, &match_kinds(), head.client, head.version)?;
     let mut keys = Vec::new(alloc);
@@ -181,7 +199,7 @@ fn keys_of(alloc: Global, head: &DemoHead, bytes: &[u8]) -> Result<(Vec<Key>, u3
     let mut start = 0;
     key_where_due(alloc, &mut keys, &viewer, count, start)?;
     'records: while let Some(next) = next_record(bytes, start) {
-        pass_over(&mut viewer, next);
+        pass_over(&mut viewer, next, steps);
         start += 2 + next.len();
         count += 1;
         key_where_due(alloc, &mut keys, &viewer, count, start)?;

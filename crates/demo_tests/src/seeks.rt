@@ -76,14 +76,26 @@ fn seen(rt: &HostRuntime, demo: &Demo, k: u32) -> Result<Vec<u8>, Fail>
     shown::<Brand>(rt, demo, k, Blank::new(1))
 }
 
+/// A demo, loaded with a counter of its own.
+fn loaded<L: Ledger>(rt: &HostRuntime, bytes: &[u8], blank: Blank) -> Result<Demo, Fail>
+    requires few { length bytes.now ≤ MAX_DEMO_BYTES }
+    requires name { blank.name ≡ L.name }
+    requires parts { blank.parts ≡ L.parts }
+    requires some { 0 < blank.parts }
+{
+    let mut steps: Steps<L> = Steps::new(blank);
+    match Demo::load(rt.alloc(), bytes, &mut steps) {
+        Ok(demo) => Ok(demo),
+        Err(_) => Err("a demo that can't be loaded".into()),
+    }
+}
+
 /// Holds that each place of a demo shows what a replay of so many records shows, and gives how many records there are.
 fn seeks(rt: &HostRuntime, bytes: &[u8]) -> Result<u32, Fail> {
     if bytes.len() > MAX_DEMO_BYTES {
         return Err("a demo that is too long".into());
     }
-    let Ok(demo) = Demo::load(rt.alloc(), bytes) else {
-        return Err("a demo that can't be loaded".into());
-    };
+    let demo = loaded::<Brand>(rt, bytes, Blank::new(1))?;
     for k in 0..=demo.count() {
         let text = replayed(rt, bytes, k)?;
         let same = seen(rt, &demo, k)?;

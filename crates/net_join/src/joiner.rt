@@ -45,10 +45,10 @@ fn put(place: &mut Option<Player>, player: Player)
 }
 
 impl Joiner {
-    ghost use Rattle.tn_outside.specs.Causes.{Rose};
+    ghost use Rattle.tn_outside.specs.Causes.{HasCause};
     ghost use Rattle.tn_outside.specs.Links.{Datagram};
     ghost use Rattle.tn_outside.specs.Totals.{Adds};
-    ghost use Rattle.net_rules.specs.Faults.{HasCause};
+    ghost use Rattle.net_rules.specs.Faults.{counts, HandsOnEach};
     ghost use Rattle.net_rules.specs.Turns.{Event, Heard, Turned};
     ghost use Rattle.net_join.specs.Joining.{sends, ending};
     ghost use Rattle.net_join.specs.Playing.{Joins};
@@ -92,8 +92,7 @@ impl Joiner {
         ensures unsent { OnErr result (L.sent link.new ≡ L.sent link.old) }
         ensures nonce { self.new.nonce ≡ self.old.nonce }
         ensures ahead { L.ahead link.new ≡ L.ahead link.old }
-        ensures cause { OnErr result (Rose (L.faults link.old) (L.faults link.new)) }
-        ensures later { L.faults link.old ≤ L.faults link.new }
+        ensures cause { HasCause (L.faults link.old) (L.faults link.new) result }
     {
         match self.player.as_mut() {
             Some(player) => player.play(link),
@@ -110,8 +109,7 @@ impl Joiner {
         ensures unsent { OnErr result (L.sent link.new ≡ L.sent link.old) }
         ensures nonce { self.new.nonce ≡ self.old.nonce }
         ensures ahead { L.ahead link.new ≡ L.ahead link.old }
-        ensures cause { IfErr result (HasCause (Rose (L.faults link.old) (L.faults link.new)) ⊥ ⊥) }
-        ensures later { L.faults link.old ≤ L.faults link.new }
+        ensures cause { HandsOnEach (counts (L.faults link.old) 0 0) (counts (L.faults link.new) 0 0) result }
     {
         match self.send(link) {
             Ok(()) => Ok(()),

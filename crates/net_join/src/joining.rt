@@ -4,7 +4,7 @@ ghost use Rattle.tn_outside.specs.Links.{answer_at};
 ghost use Rattle.tn_outside.specs.Causes.{Rose};
 ghost use Rattle.tn_outside.specs.Totals.{Adds, AddsFront};
 ghost use Rattle.net_rules.specs.declared.limits.TheConstants.{MAX_RECEIVED_BYTES};
-ghost use Rattle.net_rules.specs.Faults.{HasCause, IsDoneOrFull};
+ghost use Rattle.net_rules.specs.Faults.{counts, HandsOnEach, IsDoneOrFull};
 ghost use Rattle.net_rules.specs.Runs.{Begun, Begins};
 ghost use Rattle.net_rules.specs.Turns.{Event, turned, total, AreTurns, events, TurnsAreOne};
 ghost use Rattle.net_rules.specs.Places.{IsPlace};
@@ -36,10 +36,8 @@ fn turn<L: Link, C: Clock>(
     ensures went { OnOk result (Went joiner.old (L.sent link.old) joiner.new (L.sent link.new)) }
     ensures unsent { OnErr result (L.sent link.new ≡ L.sent link.old) }
     ensures nonce { joiner.new.nonce ≡ joiner.old.nonce }
-    ensures cause { IfErr result
-        (HasCause (Rose (L.faults link.old) (L.faults link.new)) (Rose (C.faults clock.old) (C.faults clock.new)) ⊥) }
-    ensures link_later { L.faults link.old ≤ L.faults link.new }
-    ensures clock_later { C.faults clock.old ≤ C.faults clock.new }
+    ensures cause { HandsOnEach (counts (L.faults link.old) (C.faults clock.old) 0)
+        (counts (L.faults link.new) (C.faults clock.new) 0) result }
 {
     let due = TURN_MILLISECONDS * u64::from(t);
     listen(alloc, joiner, buf, start, due, link, clock)?;
@@ -63,10 +61,8 @@ fn join_turns<L: Link, C: Clock>(
         → L.sent link.old ≡ o.sent → SentFront o turns joiner.old.nonce (L.sent link.new)) }
     ensures went { OnOk result ((past : List Event) × (turned past ≡ turns) × IsAt (L.sent link.old) joiner.new (L.sent link.new) past) }
     ensures nonce { joiner.new.nonce ≡ joiner.old.nonce }
-    ensures cause { IfErr result
-        (HasCause (Rose (L.faults link.old) (L.faults link.new)) (Rose (C.faults clock.old) (C.faults clock.new)) ⊥) }
-    ensures link_later { L.faults link.old ≤ L.faults link.new }
-    ensures clock_later { C.faults clock.old ≤ C.faults clock.new }
+    ensures cause { HandsOnEach (counts (L.faults link.old) (C.faults clock.old) 0)
+        (counts (L.faults link.new) (C.faults clock.new) 0) result }
 {
     let mut buf = [0u8; MAX_RECEIVED_BYTES];
     'turns: for t in 0..turns {
@@ -81,8 +77,7 @@ fn write_ending<K: Sink>(alloc: Global, joiner: &Joiner, sink: &mut K) -> Result
         → Adds (K.written sink.old) (K.written sink.new) (ending joiner.now.nonce past)) }
     ensures front { OnErr result ((past : List Event) → Joins joiner.now past
         → AddsFront (K.written sink.old) (K.written sink.new) (ending joiner.now.nonce past)) }
-    ensures cause { IfErr result (HasCause ⊥ ⊥ (Rose (K.faults sink.old) (K.faults sink.new))) }
-    ensures later { K.faults sink.old ≤ K.faults sink.new }
+    ensures cause { HandsOnEach (counts 0 0 (K.faults sink.old)) (counts 0 0 (K.faults sink.new)) result }
 {
     let Ok(text) = joiner.ending(alloc) else {
         return Err(NetFault::NoMemory);
@@ -112,15 +107,13 @@ pub fn join<L: Link, C: Clock, K: Sink>(
     ensures one_run { TurnsAreOne }
     // Whatever the link and the clock tell, this is so for some datagrams that were heard in so many turns.
     ensures heard { OnOk result (JoinedSome turns (K.written sink.old) (K.written sink.new) (L.sent link.old) (L.sent link.new)) }
-    // Each fault comes only where the count of what failed rose in this call.
-    ensures cause { IfErr result (HasCause (Rose (L.faults link.old) (L.faults link.new)) (Rose (C.faults clock.old) (C.faults clock.new))
-        (Rose (K.faults sink.old) (K.faults sink.new))) }
+    // A fault of link, clock or sink is answered exactly where that count of faults rose in this call; so under `Ok` and `NoMemory` none
+    // rose.
+    ensures cause { HandsOnEach (counts (L.faults link.old) (C.faults clock.old) (K.faults sink.old))
+        (counts (L.faults link.new) (C.faults clock.new) (K.faults sink.new)) result }
     // No fault of link, clock and sink: all was done, or no memory for it.
     ensures complete { (Rose (L.faults link.old) (L.faults link.new) → ⊥) → (Rose (C.faults clock.old) (C.faults clock.new) → ⊥)
         → (Rose (K.faults sink.old) (K.faults sink.new) → ⊥) → IsDoneOrFull result }
-    ensures link_later { L.faults link.old ≤ L.faults link.new }
-    ensures clock_later { C.faults clock.old ≤ C.faults clock.new }
-    ensures sink_later { K.faults sink.old ≤ K.faults sink.new }
 {
     turns_are_one();
     let Ok(start) = clock.now() else {

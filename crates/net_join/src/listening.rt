@@ -1,9 +1,8 @@
 //! The first step of a turn: datagrams are received until the turn is due.
 ghost use Rattle.std.specs.Prelude.{◌≡◌, ◌+◌, ◌<◌, ◌≤◌, ◌↔◌, List, ℕ, suc, length, true, IfOk, IfErr, OnOk};
-ghost use Rattle.tn_outside.specs.Causes.{Rose};
 ghost use Rattle.tn_outside.specs.Links.{found};
 ghost use Rattle.net_rules.specs.declared.limits.TheConstants.{MAX_RECEIVES, MAX_RECEIVED_BYTES};
-ghost use Rattle.net_rules.specs.Faults.{HasCause};
+ghost use Rattle.net_rules.specs.Faults.{counts, HandsOnEach};
 ghost use Rattle.net_rules.specs.Runs.{Begun};
 ghost use Rattle.net_rules.specs.Turns.{Event, IsDue, IsTurn, with_found, heard};
 ghost use Rattle.net_rules.specs.Places.{IsPlace, IsDueAt};
@@ -34,10 +33,8 @@ fn receive<L: Link, C: Clock>(
     ensures more { OnOk result (HeardMore joiner.old joiner.new) }
     ensures nonce { joiner.new.nonce ≡ joiner.old.nonce }
     ensures unsent { L.sent link.new ≡ L.sent link.old }
-    ensures cause { IfErr result
-        (HasCause (Rose (L.faults link.old) (L.faults link.new)) (Rose (C.faults clock.old) (C.faults clock.new)) ⊥) }
-    ensures link_later { L.faults link.old ≤ L.faults link.new }
-    ensures clock_later { C.faults clock.old ≤ C.faults clock.new }
+    ensures cause { HandsOnEach (counts (L.faults link.old) (C.faults clock.old) 0)
+        (counts (L.faults link.new) (C.faults clock.new) 0) result }
 {
     match link.receive(buf) {
         Ok(Some((peer, count))) => {
@@ -74,10 +71,8 @@ pub(crate) fn listen<L: Link, C: Clock>(
     ensures more { OnOk result (HeardMore joiner.old joiner.new) }
     ensures nonce { joiner.new.nonce ≡ joiner.old.nonce }
     ensures unsent { L.sent link.new ≡ L.sent link.old }
-    ensures cause { IfErr result
-        (HasCause (Rose (L.faults link.old) (L.faults link.new)) (Rose (C.faults clock.old) (C.faults clock.new)) ⊥) }
-    ensures link_later { L.faults link.old ≤ L.faults link.new }
-    ensures clock_later { C.faults clock.old ≤ C.faults clock.new }
+    ensures cause { HandsOnEach (counts (L.faults link.old) (C.faults clock.old) 0)
+        (counts (L.faults link.new) (C.faults clock.new) 0) result }
 {
     'calls: for _call in 0..MAX_RECEIVES {
         if receive(alloc, joiner, buf, start, due, link, clock)? {

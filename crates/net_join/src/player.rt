@@ -1,7 +1,7 @@
 //! A client's end that joined.
 ghost use Rattle.std.specs.Prelude.{◌≡◌, ◌≤◌, ◌++◌, List, [], ℕ, suc, length, map, IfOk, OnOk, OnErr, Some};
 ghost use Rattle.tn_types.specs.declared.limits.TheConstants.{MAX_DATAGRAM_BYTES};
-ghost use Rattle.tn_outside.specs.Causes.{Rose};
+ghost use Rattle.tn_outside.specs.Causes.{HasCause};
 ghost use Rattle.stream_manager.specs.Limits.{IsConfig};
 ghost use Rattle.stream_manager.specs.ClientCalls.{Becomes, Keeps, KeepsTerms};
 ghost use Rattle.net_join.specs.Joining.{packs};
@@ -98,8 +98,7 @@ fn send_packed<L: Link>(end: &mut Client, link: &mut L) -> Result<(), Failed>
     ensures sent { OnOk result (SendsOn end.old (packs end.old.common.config) (L.sent link.old) (L.sent link.new)) }
     ensures unsent { OnErr result (L.sent link.new ≡ L.sent link.old) }
     ensures ahead { L.ahead link.new ≡ L.ahead link.old }
-    ensures cause { OnErr result (Rose (L.faults link.old) (L.faults link.new)) }
-    ensures later { L.faults link.old ≤ L.faults link.new }
+    ensures cause { HasCause (L.faults link.old) (L.faults link.new) result }
 {
     match end.pack() {
         ClientOut::Body(bytes) => link.send(SERVER, bytes),
@@ -117,8 +116,7 @@ impl Player {
         ensures sent { OnOk result (SendsDatagrams self.old (L.sent link.old) (L.sent link.new)) }
         ensures unsent { OnErr result (L.sent link.new ≡ L.sent link.old) }
         ensures ahead { L.ahead link.new ≡ L.ahead link.old }
-        ensures cause { OnErr result (Rose (L.faults link.old) (L.faults link.new)) }
-        ensures later { L.faults link.old ≤ L.faults link.new }
+        ensures cause { HasCause (L.faults link.old) (L.faults link.new) result }
     {
         let m = draw_move(&mut self.moves);
         let _ = self.end.sample(m);

@@ -10,7 +10,7 @@ use tn_outside::{RunFault, Sink};
 use tn_types::{Class, MAX_DATAGRAM_BYTES, NoMemory, Payload};
 
 impl Server<'_> {
-    ghost use Rattle.tn_outside.specs.Causes.{Rose};
+    ghost use Rattle.tn_outside.specs.Causes.{HandsOn};
     ghost use Rattle.match_script.specs.declared.types.BodyLine.{BodyLine as OneLine};
     ghost use Rattle.match_script.specs.declared.types.BodyLine.TheVariants as script;
     ghost use Rattle.match_script.specs.Ranges.{BytesFit};
@@ -33,8 +33,7 @@ impl Server<'_> {
         ensures front { OnErr result (WritesFront self.old (λ past. script.Post client Class.Guaranteed payload.now ∷ past)
             (K.written sink.old) (K.written sink.new)) }
         ensures same { Same self.old self.new }
-        ensures cause { result ≡ Err RunFault.WriteFault → Rose (K.faults sink.old) (K.faults sink.new) }
-        ensures later { K.faults sink.old ≤ K.faults sink.new }
+        ensures cause { HandsOn (K.faults sink.old) (K.faults sink.new) (result ≡ Err RunFault.WriteFault) }
     {
         // its bytes are in their range
         let _bytes = payload.as_slice();
@@ -64,8 +63,7 @@ impl Server<'_> {
         ensures written { OnOk result (Writes self.old (post_to from payload.now client) (K.written sink.old) (K.written sink.new)) }
         ensures front { OnErr result (WritesFront self.old (post_to from payload.now client) (K.written sink.old) (K.written sink.new)) }
         ensures same { Same self.old self.new }
-        ensures cause { result ≡ Err RunFault.WriteFault → Rose (K.faults sink.old) (K.faults sink.new) }
-        ensures later { K.faults sink.old ≤ K.faults sink.new }
+        ensures cause { HandsOn (K.faults sink.old) (K.faults sink.new) (result ≡ Err RunFault.WriteFault) }
     {
         if client == from {
             return Ok(());
@@ -88,8 +86,7 @@ impl Server<'_> {
         ensures written { OnOk result (Writes self.old (post_all from payload.now count) (K.written sink.old) (K.written sink.new)) }
         ensures front { OnErr result (WritesFront self.old (post_all from payload.now count) (K.written sink.old) (K.written sink.new)) }
         ensures same { Same self.old self.new }
-        ensures cause { result ≡ Err RunFault.WriteFault → Rose (K.faults sink.old) (K.faults sink.new) }
-        ensures later { K.faults sink.old ≤ K.faults sink.new }
+        ensures cause { HandsOn (K.faults sink.old) (K.faults sink.new) (result ≡ Err RunFault.WriteFault) }
     {
         'clients: for client in 0..count {
             self.post_other(alloc, from, client, payload, sink)?;
@@ -114,8 +111,7 @@ impl Server<'_> {
         ensures front { OnErr result
             (WritesFront self.old (posts count from (reverse payloads.now)) (K.written sink.old) (K.written sink.new)) }
         ensures same { Same self.old self.new }
-        ensures cause { result ≡ Err RunFault.WriteFault → Rose (K.faults sink.old) (K.faults sink.new) }
-        ensures later { K.faults sink.old ≤ K.faults sink.new }
+        ensures cause { HandsOn (K.faults sink.old) (K.faults sink.new) (result ≡ Err RunFault.WriteFault) }
     {
         'events: for payload in payloads {
             self.post_all(alloc, from, payload, count, sink)?;
@@ -140,8 +136,7 @@ impl Server<'_> {
         ensures front { OnErr result
             (WritesFront self.old (λ past. script.Raw client bytes.now ∷ past) (K.written sink.old) (K.written sink.new)) }
         ensures same { Same self.old self.new }
-        ensures cause { result ≡ Err RunFault.WriteFault → Rose (K.faults sink.old) (K.faults sink.new) }
-        ensures later { K.faults sink.old ≤ K.faults sink.new }
+        ensures cause { HandsOn (K.faults sink.old) (K.faults sink.new) (result ≡ Err RunFault.WriteFault) }
     {
         let Ok(bytes) = LineDatagram::from_slice(alloc, bytes) else {
             return Err(RunFault::NoMemory);
@@ -190,8 +185,7 @@ impl Server<'_> {
         ensures front { OnErr result (WritesFront self.old (arrival_lines self.old.script.head count (Some client) bytes.now)
             (K.written sink.old) (K.written sink.new)) }
         ensures same { Same self.old self.new }
-        ensures cause { result ≡ Err RunFault.WriteFault → Rose (K.faults sink.old) (K.faults sink.new) }
-        ensures later { K.faults sink.old ≤ K.faults sink.new }
+        ensures cause { HandsOn (K.faults sink.old) (K.faults sink.new) (result ≡ Err RunFault.WriteFault) }
     {
         self.raw(alloc, client, bytes, sink)?;
         self.show_arrival(client, watch);

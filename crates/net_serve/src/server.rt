@@ -46,7 +46,7 @@ impl<'a> Model for Server<'a> {
 }
 
 impl<'a> Server<'a> {
-    ghost use Rattle.tn_outside.specs.Causes.{Rose};
+    ghost use Rattle.tn_outside.specs.Causes.{HandsOn};
     ghost use Rattle.tn_outside.specs.Links.{Datagram};
     ghost use Rattle.tn_outside.specs.Totals.{Adds, AddsFront};
     ghost use Rattle.match_script.specs.declared.types.BodyLine.{BodyLine as OneLine};
@@ -58,7 +58,7 @@ impl<'a> Server<'a> {
     ghost use Rattle.net_rules.specs.Hellos.{joined, client_of, hello_in, hello_at};
     ghost use Rattle.net_serve.specs.Lines.{script_line, arrival_lines, after_clients};
     ghost use Rattle.net_serve.specs.Outgoing.{welcome_of, welcome_to, datagrams, packs, pack_of, packed_for};
-    ghost use Rattle.net_rules.specs.Faults.{HasCause};
+    ghost use Rattle.net_rules.specs.Faults.{counts, HandsOnEach};
     ghost use Rattle.net_rules.specs.Runs.{Begun};
     ghost use Rattle.net_serve.specs.Stages.{Plays, Serves, PlaysOn, Writes, WritesFront, SendsMore, SendsFront, Same, IsAt, IsFront};
 
@@ -82,8 +82,7 @@ impl<'a> Server<'a> {
         ensures written { OnOk result (Adds (K.written sink.old) (K.written sink.new) (script_line line.now)) }
         ensures front { OnErr result (AddsFront (K.written sink.old) (K.written sink.new) (script_line line.now)) }
         ensures unchanged { self.new ≡ self.old }
-        ensures cause { result ≡ Err RunFault.WriteFault → Rose (K.faults sink.old) (K.faults sink.new) }
-        ensures later { K.faults sink.old ≤ K.faults sink.new }
+        ensures cause { HandsOn (K.faults sink.old) (K.faults sink.new) (result ≡ Err RunFault.WriteFault) }
     {
         self.text.clear();
         let Ok(()) = put_line(alloc, &mut self.text, line) else {
@@ -121,8 +120,7 @@ impl<'a> Server<'a> {
         ensures written { OnOk result (Writes self.old (λ past. line.now ∷ past) (K.written sink.old) (K.written sink.new)) }
         ensures front { OnErr result (WritesFront self.old (λ past. line.now ∷ past) (K.written sink.old) (K.written sink.new)) }
         ensures same { Same self.old self.new }
-        ensures cause { result ≡ Err RunFault.WriteFault → Rose (K.faults sink.old) (K.faults sink.new) }
-        ensures later { K.faults sink.old ≤ K.faults sink.new }
+        ensures cause { HandsOn (K.faults sink.old) (K.faults sink.new) (result ≡ Err RunFault.WriteFault) }
     {
         if self.game.is_full() {
             return Err(RunFault::NoMemory);
@@ -148,8 +146,7 @@ impl<'a> Server<'a> {
         ensures written { OnOk result (Writes self.old (λ past. line.now ∷ past) (K.written sink.old) (K.written sink.new)) }
         ensures front { OnErr result (WritesFront self.old (λ past. line.now ∷ past) (K.written sink.old) (K.written sink.new)) }
         ensures same { Same self.old self.new }
-        ensures cause { IfErr result (HasCause ⊥ ⊥ (Rose (K.faults sink.old) (K.faults sink.new))) }
-        ensures later { K.faults sink.old ≤ K.faults sink.new }
+        ensures cause { HandsOnEach (counts 0 0 (K.faults sink.old)) (counts 0 0 (K.faults sink.new)) result }
     {
         match self.line(alloc, line, sink) {
             Ok(()) => Ok(()),
@@ -230,8 +227,7 @@ impl<'a> Server<'a> {
         ensures ahead { L.ahead link.new ≡ L.ahead link.old }
         ensures game { self.new.game ≡ self.old.game }
         ensures script { self.new.script ≡ self.old.script }
-        ensures cause { IfErr result (HasCause (Rose (L.faults link.old) (L.faults link.new)) ⊥ ⊥) }
-        ensures later { L.faults link.old ≤ L.faults link.new }
+        ensures cause { HandsOnEach (counts (L.faults link.old) 0 0) (counts (L.faults link.new) 0 0) result }
     {
         let Ok(()) = self.join(hello) else {
             return Err(NetFault::NoMemory);
@@ -266,10 +262,8 @@ impl<'a> Server<'a> {
             (Heard (record { peer = peer; bytes = bytes.now }) ∷ past)) }
         ensures ahead { L.ahead link.new ≡ L.ahead link.old }
         ensures script { self.new.script ≡ self.old.script }
-        ensures cause { IfErr result
-            (HasCause (Rose (L.faults link.old) (L.faults link.new)) ⊥ (Rose (K.faults sink.old) (K.faults sink.new))) }
-        ensures link_later { L.faults link.old ≤ L.faults link.new }
-        ensures sink_later { K.faults sink.old ≤ K.faults sink.new }
+        ensures cause { HandsOnEach (counts (L.faults link.old) 0 (K.faults sink.old))
+            (counts (L.faults link.new) 0 (K.faults sink.new)) result }
     {
         if let Some(hello) = hello_of(peer, bytes) {
             return self.greet(hello, link);
@@ -295,8 +289,7 @@ impl<'a> Server<'a> {
         ensures written { OnOk result (Writes self.old (λ past. script.Tick ∷ past) (K.written sink.old) (K.written sink.new)) }
         ensures front { OnErr result (WritesFront self.old (λ past. script.Tick ∷ past) (K.written sink.old) (K.written sink.new)) }
         ensures same { Same self.old self.new }
-        ensures cause { IfErr result (HasCause ⊥ ⊥ (Rose (K.faults sink.old) (K.faults sink.new))) }
-        ensures later { K.faults sink.old ≤ K.faults sink.new }
+        ensures cause { HandsOnEach (counts 0 0 (K.faults sink.old)) (counts 0 0 (K.faults sink.new)) result }
     {
         let line = BodyLine::Tick;
         self.step(alloc, &line, sink)
@@ -310,8 +303,7 @@ impl<'a> Server<'a> {
         ensures written { OnOk result (Writes self.old (λ past. script.Scan client ∷ past) (K.written sink.old) (K.written sink.new)) }
         ensures front { OnErr result (WritesFront self.old (λ past. script.Scan client ∷ past) (K.written sink.old) (K.written sink.new)) }
         ensures same { Same self.old self.new }
-        ensures cause { IfErr result (HasCause ⊥ ⊥ (Rose (K.faults sink.old) (K.faults sink.new))) }
-        ensures later { K.faults sink.old ≤ K.faults sink.new }
+        ensures cause { HandsOnEach (counts 0 0 (K.faults sink.old)) (counts 0 0 (K.faults sink.new)) result }
     {
         let line = BodyLine::Scan { client };
         self.step(alloc, &line, sink)
@@ -325,8 +317,7 @@ impl<'a> Server<'a> {
         ensures written { OnOk result (Writes self.old (λ past. script.Pack client ∷ past) (K.written sink.old) (K.written sink.new)) }
         ensures front { OnErr result (WritesFront self.old (λ past. script.Pack client ∷ past) (K.written sink.old) (K.written sink.new)) }
         ensures same { Same self.old self.new }
-        ensures cause { IfErr result (HasCause ⊥ ⊥ (Rose (K.faults sink.old) (K.faults sink.new))) }
-        ensures later { K.faults sink.old ≤ K.faults sink.new }
+        ensures cause { HandsOnEach (counts 0 0 (K.faults sink.old)) (counts 0 0 (K.faults sink.new)) result }
     {
         let line = BodyLine::Pack { client };
         self.step(alloc, &line, sink)
@@ -337,8 +328,7 @@ impl<'a> Server<'a> {
         ensures sent { OnOk result (Adds (L.sent link.old) (L.sent link.new) (packed_for peer self.now.game.told)) }
         ensures unsent { OnErr result (L.sent link.new ≡ L.sent link.old) }
         ensures ahead { L.ahead link.new ≡ L.ahead link.old }
-        ensures cause { IfErr result (HasCause (Rose (L.faults link.old) (L.faults link.new)) ⊥ ⊥) }
-        ensures later { L.faults link.old ≤ L.faults link.new }
+        ensures cause { HandsOnEach (counts (L.faults link.old) 0 0) (counts (L.faults link.new) 0 0) result }
     {
         if let Some(
             Told::Packed {
@@ -383,10 +373,8 @@ impl<'a> Server<'a> {
         ensures unsent { OnErr result (L.sent link.new ≡ L.sent link.old) }
         ensures ahead { L.ahead link.new ≡ L.ahead link.old }
         ensures same { Same self.old self.new }
-        ensures cause { IfErr result
-            (HasCause (Rose (L.faults link.old) (L.faults link.new)) ⊥ (Rose (K.faults sink.old) (K.faults sink.new))) }
-        ensures link_later { L.faults link.old ≤ L.faults link.new }
-        ensures sink_later { K.faults sink.old ≤ K.faults sink.new }
+        ensures cause { HandsOnEach (counts (L.faults link.old) 0 (K.faults sink.old))
+            (counts (L.faults link.new) 0 (K.faults sink.new)) result }
     {
         self.scan(alloc, client, sink)?;
         self.pack(alloc, client, sink)?;
@@ -414,10 +402,8 @@ impl<'a> Server<'a> {
             (SendsFront self.old (packs self.old.script.head self.old.peers count) (L.sent link.old) (L.sent link.new)) }
         ensures ahead { L.ahead link.new ≡ L.ahead link.old }
         ensures same { Same self.old self.new }
-        ensures cause { IfErr result
-            (HasCause (Rose (L.faults link.old) (L.faults link.new)) ⊥ (Rose (K.faults sink.old) (K.faults sink.new))) }
-        ensures link_later { L.faults link.old ≤ L.faults link.new }
-        ensures sink_later { K.faults sink.old ≤ K.faults sink.new }
+        ensures cause { HandsOnEach (counts (L.faults link.old) 0 (K.faults sink.old))
+            (counts (L.faults link.new) 0 (K.faults sink.new)) result }
     {
         'clients: for client in 0..count {
             self.serve_client(alloc, client, link, sink)?;
@@ -440,10 +426,8 @@ impl<'a> Server<'a> {
             → IsFront o self.old.script.head (K.written sink.new) (L.sent link.new) (Turned ∷ past)) }
         ensures ahead { L.ahead link.new ≡ L.ahead link.old }
         ensures script { self.new.script ≡ self.old.script }
-        ensures cause { IfErr result
-            (HasCause (Rose (L.faults link.old) (L.faults link.new)) ⊥ (Rose (K.faults sink.old) (K.faults sink.new))) }
-        ensures link_later { L.faults link.old ≤ L.faults link.new }
-        ensures sink_later { K.faults sink.old ≤ K.faults sink.new }
+        ensures cause { HandsOnEach (counts (L.faults link.old) 0 (K.faults sink.old))
+            (counts (L.faults link.new) 0 (K.faults sink.new)) result }
     {
         self.tick(alloc, sink)?;
         let count = self.joined();

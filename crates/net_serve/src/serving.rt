@@ -7,7 +7,7 @@ ghost use Rattle.match_script.specs.Ranges.{HasRanges, HeadFits};
 ghost use Rattle.script_maker.specs.Made.{made};
 ghost use Rattle.net_rules.specs.Turns.{Event, TurnsAreOne};
 ghost use Rattle.net_rules.specs.Places.{IsPlace};
-ghost use Rattle.net_rules.specs.Faults.{HasCause, IsDoneOrFull};
+ghost use Rattle.net_rules.specs.Faults.{counts, HandsOnEach, IsDoneOrFull};
 ghost use Rattle.net_serve.specs.Laws.{PacksAreSent, RawsAreArrivals, TicksAreTurns, IsReadAgain};
 ghost use Rattle.net_serve.specs.Lines.{text_so_far};
 ghost use Rattle.net_rules.specs.Runs.{Begun, Begins};
@@ -43,8 +43,7 @@ fn header(alloc: Global, seed: u32, clients: u8) -> Result<Script, NoMemory>
 fn write_header<K: Sink>(alloc: Global, head: &Head, sink: &mut K) -> Result<(), NetFault>
     ensures written { OnOk result (Adds (K.written sink.old) (K.written sink.new) (text_so_far head.now [])) }
     ensures front { OnErr result (AddsFront (K.written sink.old) (K.written sink.new) (text_so_far head.now [])) }
-    ensures cause { IfErr result (HasCause ⊥ ⊥ (Rose (K.faults sink.old) (K.faults sink.new))) }
-    ensures later { K.faults sink.old ≤ K.faults sink.new }
+    ensures cause { HandsOnEach (counts 0 0 (K.faults sink.old)) (counts 0 0 (K.faults sink.new)) result }
 {
     let Ok(text) = print_head(alloc, head) else {
         return Err(NetFault::NoMemory);
@@ -85,11 +84,8 @@ fn turn<L: Link, C: Clock, K: Sink, W: Watch>(
     ensures went { OnOk result ((o : Begun) (n : ℕ) → Went o server.old (K.written sink.old) (L.sent link.old) n
         → Went o server.new (K.written sink.new) (L.sent link.new) (suc n)) }
     ensures script { server.new.script ≡ server.old.script }
-    ensures cause { IfErr result (HasCause (Rose (L.faults link.old) (L.faults link.new)) (Rose (C.faults clock.old) (C.faults clock.new))
-        (Rose (K.faults sink.old) (K.faults sink.new))) }
-    ensures link_later { L.faults link.old ≤ L.faults link.new }
-    ensures clock_later { C.faults clock.old ≤ C.faults clock.new }
-    ensures sink_later { K.faults sink.old ≤ K.faults sink.new }
+    ensures cause { HandsOnEach (counts (L.faults link.old) (C.faults clock.old) (K.faults sink.old))
+        (counts (L.faults link.new) (C.faults clock.new) (K.faults sink.new)) result }
 {
     let due = TURN_MILLISECONDS * u64::from(at.t);
     let until = Deadline {
@@ -122,11 +118,8 @@ fn serve_turns<L: Link, C: Clock, K: Sink, W: Watch>(
     ensures went { OnOk result ((o : Begun) → IsAt o server.old (K.written sink.old) (L.sent link.old) []
         → Went o server.new (K.written sink.new) (L.sent link.new) end.t) }
     ensures script { OnOk result (server.new.script ≡ server.old.script) }
-    ensures cause { IfErr result (HasCause (Rose (L.faults link.old) (L.faults link.new)) (Rose (C.faults clock.old) (C.faults clock.new))
-        (Rose (K.faults sink.old) (K.faults sink.new))) }
-    ensures link_later { L.faults link.old ≤ L.faults link.new }
-    ensures clock_later { C.faults clock.old ≤ C.faults clock.new }
-    ensures sink_later { K.faults sink.old ≤ K.faults sink.new }
+    ensures cause { HandsOnEach (counts (L.faults link.old) (C.faults clock.old) (K.faults sink.old))
+        (counts (L.faults link.new) (C.faults clock.new) (K.faults sink.new)) result }
 {
     'turns: for t in 0..end.t {
         let at = Moment {
@@ -166,11 +159,8 @@ fn serve_match<L: Link, C: Clock, K: Sink, W: Watch>(
         → ServedFront (made offer.seed offer.clients 0).head offer.turns o (K.written sink.new) (L.sent link.new)) }
     ensures heard { OnOk result (ServedSome (made offer.seed offer.clients 0).head offer.turns (K.written sink.old) (K.written sink.new)
         (L.sent link.old) (L.sent link.new)) }
-    ensures cause { IfErr result (HasCause (Rose (L.faults link.old) (L.faults link.new)) (Rose (C.faults clock.old) (C.faults clock.new))
-        (Rose (K.faults sink.old) (K.faults sink.new))) }
-    ensures link_later { L.faults link.old ≤ L.faults link.new }
-    ensures clock_later { C.faults clock.old ≤ C.faults clock.new }
-    ensures sink_later { K.faults sink.old ≤ K.faults sink.new }
+    ensures cause { HandsOnEach (counts (L.faults link.old) (C.faults clock.old) (K.faults sink.old))
+        (counts (L.faults link.new) (C.faults clock.new) (K.faults sink.new)) result }
 {
     let Ok(script) = header(alloc, offer.seed, offer.clients) else {
         return Err(NetFault::NoMemory);
@@ -212,9 +202,10 @@ pub fn serve<L: Link, C: Clock, K: Sink, W: Watch>(
     // Whatever the link and the clock tell, the text is the script of some datagrams that were heard in so many turns.
     ensures heard { OnOk result (ServedSome (made offer.seed offer.clients 0).head offer.turns (K.written sink.old) (K.written sink.new)
         (L.sent link.old) (L.sent link.new)) }
-    // Each fault comes only where the count of what failed rose in this call.
-    ensures cause { IfErr result (HasCause (Rose (L.faults link.old) (L.faults link.new)) (Rose (C.faults clock.old) (C.faults clock.new))
-        (Rose (K.faults sink.old) (K.faults sink.new))) }
+    // A fault of link, clock or sink is answered exactly where that count of faults rose in this call; so under `Ok` and `NoMemory` none
+    // rose.
+    ensures cause { HandsOnEach (counts (L.faults link.old) (C.faults clock.old) (K.faults sink.old))
+        (counts (L.faults link.new) (C.faults clock.new) (K.faults sink.new)) result }
     // No fault of link, clock and sink: all was served, or no memory for it.
     ensures complete { (Rose (L.faults link.old) (L.faults link.new) → ⊥) → (Rose (C.faults clock.old) (C.faults clock.new) → ⊥)
         → (Rose (K.faults sink.old) (K.faults sink.new) → ⊥) → IsDoneOrFull result }
@@ -225,9 +216,6 @@ pub fn serve<L: Link, C: Clock, K: Sink, W: Watch>(
     ensures ticks_are_turns { TicksAreTurns }
     // The text is read as the script, where this is not too long to be one.
     ensures is_read_again { IsReadAgain }
-    ensures link_later { L.faults link.old ≤ L.faults link.new }
-    ensures clock_later { C.faults clock.old ≤ C.faults clock.new }
-    ensures sink_later { K.faults sink.old ≤ K.faults sink.new }
 {
     turns_are_one();
     packs_are_sent();

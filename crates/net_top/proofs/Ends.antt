@@ -1,5 +1,5 @@
 -- Each end of a command has its outcome, and an outcome says which answer it is.
-use Rattle.std.proofs.Common.{ℕ, ◌≡◌, ◌≤◌, ◌⊎◌, inl, inr, List, Option, Result, Ok, Err, refl, sym, subst, arith}
+use Rattle.std.proofs.Common.{ℕ, ◌≡◌, ◌≤◌, ◌⊎◌, inl, inr, List, Option, Result, Ok, Err, refl, sym, ◌∙◌, subst, arith}
 use Rattle.tn_outside.specs.Causes.{Rose}
 use Rattle.tn_outside.specs.Links.{Datagram, Ahead, answer_at}
 use Rattle.tn_outside.proofs.Totals.{whole_front}
@@ -10,7 +10,7 @@ use Rattle.script_input.specs.declared.status.Status.TheVariants.{Done, Usage, S
 use Rattle.script_input.proofs.Outcome.{rose_later}
 use Rattle.net_rules.specs.declared.fault.NetFault.{NetFault}
 use Rattle.net_rules.specs.declared.fault.NetFault.TheVariants as fault
-use Rattle.net_rules.specs.Faults.{HasCause}
+use Rattle.net_rules.specs.Faults.{counts, HandsOnEach}
 use Rattle.net_serve.specs.Lines.{text_so_far, lines}
 use Rattle.net_serve.specs.Outgoing.{sends, datagrams}
 use Rattle.net_rules.specs.Turns.{events}
@@ -21,6 +21,13 @@ use Rattle.net_join.specs.Stages.{Joined, JoinedFront, JoinedSome, nonce_of}
 use Rattle.net_top.specs.declared.command.NetCommand.{NetCommand}
 use Rattle.net_top.specs.declared.command.NetCommand.TheVariants.{Serve, Join}
 use Rattle.net_top.specs.Outcome.{told, Met, met, NetOutcome, IsWanted, CanBeDone, status_of}
+
+-- a call that worked, and one that failed
+abbrev worked : Result (Unit {0}) NetFault
+worked = Ok tt
+
+abbrev failed : NetFault → Result (Unit {0}) NetFault
+failed f = Err f
 
 -- what was served whole is a front of it
 served_front : (head : Head) (turns : ℕ) (o : Begun) (w : Option (List ℕ)) (d : Option (List Datagram)) → Served head turns o w d → ServedFront head turns o w d
@@ -56,35 +63,60 @@ module _ (seed clients turns : ℕ) (a a' : Option Ahead) (c c' w w' w2 : Option
   now = met (told a a' lf lf') (told c c' cf cf') (told w w2 kf kf2) d d'
 
   module _ (done : (o : Begun) → Begins o a c w d → Served head turns o w' d') (heard : ServedSome head turns w w' d d') (same : w2 ≡ w')
-      (link : lf ≤ lf') (clock : cf ≤ cf') (sink : kf ≤ kf') (later : kf' ≤ kf2) where
-    pub all_done : NetOutcome (Ok (Serve seed clients turns)) now Done
-    all_done = record {
+      (cause : HandsOnEach (counts lf cf kf) (counts lf' cf' kf') worked) where
+    pub all_done : kf2 ≡ kf' → NetOutcome (Ok (Serve seed clients turns)) now Done
+    all_done kept = record {
       answer = (
-        λ o b. subst (λ (x : Option (List ℕ)). Served head turns o x d') (sym same) (done o b),
-        subst (λ (x : Option (List ℕ)). ServedSome head turns w x d d') (sym same) heard,
+        (cause.link.spared (λ e. absurd cc), cause.clock.spared (λ e. absurd cc), kept ∙ cause.sink.spared (λ e. absurd cc)),
+        (
+          λ o b. subst (λ (x : Option (List ℕ)). Served head turns o x d') (sym same) (done o b),
+          subst (λ (x : Option (List ℕ)). ServedSome head turns w x d d') (sym same) heard,
+        ),
       );
-      link = link;
-      clock = clock;
-      sink = omega (arith, sink, later);
+      link = cause.link.later;
+      clock = cause.clock.later;
+      sink = omega (arith, cause.sink.later, kept);
     }
 
-    pub not_handed : Rose kf' kf2 → NetOutcome (Ok (Serve seed clients turns)) now WriteFault
-    not_handed rose = record {
+    pub not_handed : kf' ≤ kf2 → Rose kf' kf2 → NetOutcome (Ok (Serve seed clients turns)) now WriteFault
+    not_handed later rose = record {
       answer = (
-        rose_later kf kf' kf2 sink rose,
+        cause.link.spared (λ e. absurd cc),
+        cause.clock.spared (λ e. absurd cc),
+        rose_later kf kf' kf2 cause.sink.later rose,
         λ o b. served_front head turns o w2 d' (subst (λ (x : Option (List ℕ)). Served head turns o x d') (sym same) (done o b)),
       );
-      link = link;
-      clock = clock;
-      sink = omega (arith, sink, later);
+      link = cause.link.later;
+      clock = cause.clock.later;
+      sink = omega (arith, cause.sink.later, later);
     }
 
-  module _ (front : (o : Begun) → Begins o a c w d → ServedFront head turns o w' d') (link : lf ≤ lf') (clock : cf ≤ cf') (sink : kf ≤ kf') where
-    pub stopped : (f : NetFault) → HasCause (Rose lf lf') (Rose cf cf') (Rose kf kf') f → NetOutcome (Ok (Serve seed clients turns)) then (status_of f)
-    stopped fault.NoMemory h = record { answer = front; link = link; clock = clock; sink = sink }
-    stopped fault.LinkFault h = record { answer = (h, front); link = link; clock = clock; sink = sink }
-    stopped fault.ClockFault h = record { answer = (h, front); link = link; clock = clock; sink = sink }
-    stopped fault.WriteFault h = record { answer = (h, front); link = link; clock = clock; sink = sink }
+  pub stopped : ((o : Begun) → Begins o a c w d → ServedFront head turns o w' d') → (f : NetFault) → HandsOnEach (counts lf cf kf) (counts lf' cf' kf') (failed f)
+      → NetOutcome (Ok (Serve seed clients turns)) then (status_of f)
+  stopped front fault.NoMemory h = record {
+    answer = ((h.link.spared (λ e. absurd cc), h.clock.spared (λ e. absurd cc), h.sink.spared (λ e. absurd cc)), front);
+    link = h.link.later;
+    clock = h.clock.later;
+    sink = h.sink.later;
+  }
+  stopped front fault.LinkFault h = record {
+    answer = (h.link.failed refl, h.clock.spared (λ e. absurd cc), h.sink.spared (λ e. absurd cc), front);
+    link = h.link.later;
+    clock = h.clock.later;
+    sink = h.sink.later;
+  }
+  stopped front fault.ClockFault h = record {
+    answer = (h.link.spared (λ e. absurd cc), h.clock.failed refl, h.sink.spared (λ e. absurd cc), front);
+    link = h.link.later;
+    clock = h.clock.later;
+    sink = h.sink.later;
+  }
+  stopped front fault.WriteFault h = record {
+    answer = (h.link.spared (λ e. absurd cc), h.clock.spared (λ e. absurd cc), h.sink.failed refl, front);
+    link = h.link.later;
+    clock = h.clock.later;
+    sink = h.sink.later;
+  }
 
 module _ (turns : ℕ) (a a' : Option Ahead) (c c' w w' w2 : Option (List ℕ)) (d d' : Option (List Datagram)) (lf lf' cf cf' kf kf' kf2 : ℕ) where
   -- after joining, and after the sink's last call
@@ -95,35 +127,60 @@ module _ (turns : ℕ) (a a' : Option Ahead) (c c' w w' w2 : Option (List ℕ)) 
   joined_now = met (told a a' lf lf') (told c c' cf cf') (told w w2 kf kf2) d d'
 
   module _ (done : (o : Begun) → Begins o a c w d → Joined turns o w' d') (heard : JoinedSome turns w w' d d') (same : w2 ≡ w')
-      (link : lf ≤ lf') (clock : cf ≤ cf') (sink : kf ≤ kf') (later : kf' ≤ kf2) where
-    pub all_joined : NetOutcome (Ok (Join turns)) joined_now Done
-    all_joined = record {
+      (cause : HandsOnEach (counts lf cf kf) (counts lf' cf' kf') worked) where
+    pub all_joined : kf2 ≡ kf' → NetOutcome (Ok (Join turns)) joined_now Done
+    all_joined kept = record {
       answer = (
-        λ o b. subst (λ (x : Option (List ℕ)). Joined turns o x d') (sym same) (done o b),
-        subst (λ (x : Option (List ℕ)). JoinedSome turns w x d d') (sym same) heard,
+        (cause.link.spared (λ e. absurd cc), cause.clock.spared (λ e. absurd cc), kept ∙ cause.sink.spared (λ e. absurd cc)),
+        (
+          λ o b. subst (λ (x : Option (List ℕ)). Joined turns o x d') (sym same) (done o b),
+          subst (λ (x : Option (List ℕ)). JoinedSome turns w x d d') (sym same) heard,
+        ),
       );
-      link = link;
-      clock = clock;
-      sink = omega (arith, sink, later);
+      link = cause.link.later;
+      clock = cause.clock.later;
+      sink = omega (arith, cause.sink.later, kept);
     }
 
-    pub join_not_handed : Rose kf' kf2 → NetOutcome (Ok (Join turns)) joined_now WriteFault
-    join_not_handed rose = record {
+    pub join_not_handed : kf' ≤ kf2 → Rose kf' kf2 → NetOutcome (Ok (Join turns)) joined_now WriteFault
+    join_not_handed later rose = record {
       answer = (
-        rose_later kf kf' kf2 sink rose,
+        cause.link.spared (λ e. absurd cc),
+        cause.clock.spared (λ e. absurd cc),
+        rose_later kf kf' kf2 cause.sink.later rose,
         λ o b. joined_front turns o w2 d' (subst (λ (x : Option (List ℕ)). Joined turns o x d') (sym same) (done o b)),
       );
-      link = link;
-      clock = clock;
-      sink = omega (arith, sink, later);
+      link = cause.link.later;
+      clock = cause.clock.later;
+      sink = omega (arith, cause.sink.later, later);
     }
 
-  module _ (front : (o : Begun) → Begins o a c w d → JoinedFront turns o w' d') (link : lf ≤ lf') (clock : cf ≤ cf') (sink : kf ≤ kf') where
-    pub join_stopped : (f : NetFault) → HasCause (Rose lf lf') (Rose cf cf') (Rose kf kf') f → NetOutcome (Ok (Join turns)) joined_then (status_of f)
-    join_stopped fault.NoMemory h = record { answer = front; link = link; clock = clock; sink = sink }
-    join_stopped fault.LinkFault h = record { answer = (h, front); link = link; clock = clock; sink = sink }
-    join_stopped fault.ClockFault h = record { answer = (h, front); link = link; clock = clock; sink = sink }
-    join_stopped fault.WriteFault h = record { answer = (h, front); link = link; clock = clock; sink = sink }
+  pub join_stopped : ((o : Begun) → Begins o a c w d → JoinedFront turns o w' d') → (f : NetFault) → HandsOnEach (counts lf cf kf) (counts lf' cf' kf') (failed f)
+      → NetOutcome (Ok (Join turns)) joined_then (status_of f)
+  join_stopped front fault.NoMemory h = record {
+    answer = ((h.link.spared (λ e. absurd cc), h.clock.spared (λ e. absurd cc), h.sink.spared (λ e. absurd cc)), front);
+    link = h.link.later;
+    clock = h.clock.later;
+    sink = h.sink.later;
+  }
+  join_stopped front fault.LinkFault h = record {
+    answer = (h.link.failed refl, h.clock.spared (λ e. absurd cc), h.sink.spared (λ e. absurd cc), front);
+    link = h.link.later;
+    clock = h.clock.later;
+    sink = h.sink.later;
+  }
+  join_stopped front fault.ClockFault h = record {
+    answer = (h.link.spared (λ e. absurd cc), h.clock.failed refl, h.sink.spared (λ e. absurd cc), front);
+    link = h.link.later;
+    clock = h.clock.later;
+    sink = h.sink.later;
+  }
+  join_stopped front fault.WriteFault h = record {
+    answer = (h.link.spared (λ e. absurd cc), h.clock.spared (λ e. absurd cc), h.sink.failed refl, front);
+    link = h.link.later;
+    clock = h.clock.later;
+    sink = h.sink.later;
+  }
 
 -- ---- which answer it is
 
@@ -133,10 +190,10 @@ exact (Ok c) m (Usage place) h = absurd (h.answer)
 exact (Ok c) m (Script line fault) h = absurd (h.answer)
 exact (Ok c) m TooLong h = absurd (h.answer)
 exact (Ok c) m ReadFault h = absurd (h.answer)
-exact (Ok c) m WriteFault h = (tt, (h.answer).0)
+exact (Ok c) m WriteFault h = (tt, (h.answer).2)
 exact (Ok c) m NoMemory h = tt
 exact (Ok c) m LinkFault h = (tt, (h.answer).0)
-exact (Ok c) m ClockFault h = (tt, (h.answer).0)
+exact (Ok c) m ClockFault h = (tt, (h.answer).1)
 exact (Ok c) m (Demo place) h = absurd (h.answer)
 exact (Err place) m Done h = absurd (let e = (h.answer).0 in cc)
 exact (Err place) m (Usage p) h = (h.answer).0
@@ -156,8 +213,8 @@ complete (Ok c) m (Usage place) h can = absurd (h.answer)
 complete (Ok c) m (Script line fault) h can = absurd (h.answer)
 complete (Ok c) m TooLong h can = absurd (h.answer)
 complete (Ok c) m ReadFault h can = absurd (h.answer)
-complete (Ok c) m WriteFault h can = absurd (can.sink (h.answer).0)
+complete (Ok c) m WriteFault h can = absurd (can.sink (h.answer).2)
 complete (Ok c) m NoMemory h can = inr refl
 complete (Ok c) m LinkFault h can = absurd (can.link (h.answer).0)
-complete (Ok c) m ClockFault h can = absurd (can.clock (h.answer).0)
+complete (Ok c) m ClockFault h can = absurd (can.clock (h.answer).1)
 complete (Ok c) m (Demo place) h can = absurd (h.answer)

@@ -1,5 +1,5 @@
 -- How a call over a link ends, and what it leaves of the link, of the clock and of the sink: what the rules ask for of what was heard
--- was written and sent; or a front of both, and the cause.
+-- was written and sent; or a front of both, and the cause. A fault is answered exactly where that count of faults rose.
 use Rattle.std.specs.Prelude.{ℕ, ◌≡◌, ◌≤◌, ◌⊎◌, List, Option, Result, Ok, Err}
 use Rattle.tn_outside.specs.Causes.{Rose}
 use Rattle.tn_outside.specs.Links.{Datagram, Ahead}
@@ -30,9 +30,12 @@ told old new faults faults_after = record { old = old; new = new; faults = fault
 abbrev pub HasFailed : {A : Type 0} → Told A → Type 0
 HasFailed t = Rose t.faults t.faults_after
 
+abbrev pub IsSpared : {A : Type 0} → Told A → Type 0
+IsSpared t = t.faults_after ≡ t.faults
+
 -- nothing was taken, added or counted
 abbrev pub Stays : {A : Type 0} → Told A → Type 0
-Stays t = (t.new ≡ t.old) × (t.faults_after ≡ t.faults)
+Stays t = (t.new ≡ t.old) × IsSpared t
 
 -- what the link has ahead and what the clock is to answer, what the sink was given, and what was sent over the link
 pub record Met : Type 0 where
@@ -47,6 +50,10 @@ met link clock sink before sent = record { link = link; clock = clock; sink = si
 
 abbrev pub IsUntouched : Met → Type 0
 IsUntouched m = Stays m.link × Stays m.clock × Stays m.sink × (m.sent ≡ m.before)
+
+-- no count of faults rose
+abbrev pub AllSpared : Met → Type 0
+AllSpared m = IsSpared m.link × IsSpared m.clock × IsSpared m.sink
 
 -- ---- what a command comes to
 
@@ -69,13 +76,13 @@ abbrev pub IsFront : NetCommand → Met → Type 0
 IsFront (Serve seed clients turns) m = (o : Begun) → BeginsWith o m → ServedFront (made seed clients 0).head turns o m.sink.new m.sent
 IsFront (Join turns) m = (o : Begun) → BeginsWith o m → JoinedFront turns o m.sink.new m.sent
 
--- the cause of the answer to a command
+-- the cause of the answer to a command: a fault is answered exactly where that count of faults rose, and under `Done` and `NoMemory` none did
 abbrev pub Cause : NetCommand → Met → Status → Type 0
-Cause c m Done = IsDone c m
-Cause c m WriteFault = HasFailed m.sink × IsFront c m
-Cause c m LinkFault = HasFailed m.link × IsFront c m
-Cause c m ClockFault = HasFailed m.clock × IsFront c m
-Cause c m NoMemory = IsFront c m
+Cause c m Done = AllSpared m × IsDone c m
+Cause c m WriteFault = IsSpared m.link × IsSpared m.clock × HasFailed m.sink × IsFront c m
+Cause c m LinkFault = HasFailed m.link × IsSpared m.clock × IsSpared m.sink × IsFront c m
+Cause c m ClockFault = IsSpared m.link × HasFailed m.clock × IsSpared m.sink × IsFront c m
+Cause c m NoMemory = AllSpared m × IsFront c m
 Cause c m s = ⊥
 
 -- where the words are no command, the answer is `Usage` and nothing was touched

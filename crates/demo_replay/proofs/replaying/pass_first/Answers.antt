@@ -18,10 +18,10 @@ going-preserved c =
     let is : IsNext c.args.body.now c.going.at c.in-Some.next.now = c.in-Some.ensures.some in
     record {
       begins = next-begins c.args.body.now c.going.i c.going.at c.going.invariant.begins c.in-Some.next.now is;
-      quiet = c.pass_over.ensures.quiet;
+      quiet = c.pass_by.ensures.quiet;
       walked = λ head was.
-          next-viewer (record { head = head; records = records_of c.args.body.now }) c.going.i c.going.viewer c.pass_over.new.viewer c.in-Some.next.now (c.going.invariant.walked head was)
-          c.pass_over.ensures.stands c.pass_over.ensures.terms c.pass_over.ensures.quiet (next-taken c.args.body.now c.going.i c.going.at c.going.invariant.begins c.in-Some.next.now is);
+          next-viewer (record { head = head; records = records_of c.args.body.now }) c.going.i c.going.viewer c.pass_by.new.viewer c.in-Some.next.now (c.going.invariant.walked head was)
+          c.pass_by.ensures.stands c.pass_by.ensures.terms c.pass_by.ensures.quiet (next-taken c.args.body.now c.going.i c.going.at c.going.invariant.begins c.in-Some.next.now is);
     }
 
 pub returns : goal.returns

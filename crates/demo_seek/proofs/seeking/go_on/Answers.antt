@@ -16,15 +16,15 @@ going-preserved g c =
     let is : IsNext c.args.bytes.now c.going.at c.in-Some.next.now = c.in-Some.ensures.some in
     record {
       within = is.fits;
-      quiet = c.pass_counted.ensures.quiet;
-      steps = omega (arith, c.pass_counted.ensures.steps, c.going.invariant.steps);
+      quiet = c.pass_over.ensures.quiet;
+      steps = omega (arith, c.pass_over.ensures.steps, c.going.invariant.steps);
       walked = λ head n begins few was.
           let there = c.going.invariant.walked head n begins few was in
           let sum : n + c.going.i + 1 ≡ n + (c.going.i + 1) = omega arith in
           let d : DemoState = record { head = head; records = records_of c.args.bytes.now } in (
             subst (λ (m : ℕ). Begins c.args.bytes.now m (c.going.at + (2 + length c.in-Some.next.now))) sum (next-begins c.args.bytes.now (n + c.going.i) c.going.at there.0 c.in-Some.next.now is),
-            subst (λ (m : ℕ). IsViewerAfter d m c.pass_counted.new.viewer) sum
-                (next-viewer d (n + c.going.i) c.going.viewer c.pass_counted.new.viewer c.in-Some.next.now there.1 c.pass_counted.ensures.stands c.pass_counted.ensures.terms c.pass_counted.ensures.quiet
+            subst (λ (m : ℕ). IsViewerAfter d m c.pass_over.new.viewer) sum
+                (next-viewer d (n + c.going.i) c.going.viewer c.pass_over.new.viewer c.in-Some.next.now there.1 c.pass_over.ensures.stands c.pass_over.ensures.terms c.pass_over.ensures.quiet
                 (next-taken c.args.bytes.now (n + c.going.i) c.going.at there.0 c.in-Some.next.now is)),
           );
     }

@@ -9,7 +9,7 @@ use Rattle.demo_seek.proofs.Keys.{no-key}
 use Rattle.demo_seek.proofs.seeking.keys_of.Goals as goal
 
 pub records-init : goal.records-init
-records-init c =
+records-init g c =
     let d : DemoState = record { head = c.args.head.now; records = records_of c.args.bytes.now } in
     let viewer : IsViewerAfter d 0 c.in_ok-viewer.viewer = first-viewer d c.in_ok-viewer.viewer c.in_ok-viewer.ensures.stands
     (c.in_ok-viewer.ensures.terms
@@ -18,13 +18,14 @@ records-init c =
     let none : AreKeys c.args.head.now c.args.bytes.now 0 c.new-keys.result.items = subst (AreKeys c.args.head.now c.args.bytes.now 0) (sym c.new-keys.ensures.items) (no-key c.args.head.now c.args.bytes.now) in
     record {
       few = omega arith;
+      steps = omega arith;
       begins = first-begins c.args.bytes.now;
       viewer = viewer;
       keys = c.in_ok-key_where_due.ensures c.args.head.now c.args.bytes.now none viewer (first-begins c.args.bytes.now);
     }
 
 pub records-preserved : goal.records-preserved
-records-preserved c =
+records-preserved g c =
     let d : DemoState = record { head = c.args.head.now; records = records_of c.args.bytes.now } in
     let is : IsNext c.args.bytes.now c.records.start c.in-Some.next.now = c.in-Some.ensures.some in
     let begins : Begins c.args.bytes.now (c.records.count + 1) (c.records.start + (2 + length c.in-Some.next.now)) = next-begins c.args.bytes.now c.records.count c.records.start c.records.invariant.begins c.in-Some.next.now is in
@@ -32,12 +33,22 @@ records-preserved c =
     (next-taken c.args.bytes.now c.records.count c.records.start c.records.invariant.begins c.in-Some.next.now is) in
     record {
       few = omega (arith, c.records.invariant.few);
+      steps = omega (arith, c.records.invariant.steps, c.pass_over.ensures.steps);
       begins = begins;
       viewer = viewer;
       keys = c.in_ok-key_where_due-2.ensures c.args.head.now c.args.bytes.now c.records.invariant.keys viewer begins;
     }
 
-pub returns : goal.returns
-returns c =
+pub returns-in_err-key_where_due-2-clause-steps : goal.returns-in_err-key_where_due-2-clause-steps
+returns-in_err-key_where_due-2-clause-steps g c =
+    let is : IsNext c.args.bytes.now c.records.start c.in-Some.next.now = c.in-Some.ensures.some in
+    let begins : Begins c.args.bytes.now (c.records.count + 1) (c.records.start + (2 + length c.in-Some.next.now)) = next-begins c.args.bytes.now c.records.count c.records.start c.records.invariant.begins c.in-Some.next.now is in
+    omega (arith, begins.few, c.records.invariant.steps, c.pass_over.ensures.steps)
+
+pub returns-clause-steps : goal.returns-clause-steps
+returns-clause-steps g c = omega (arith, c.records.invariant.begins.few, c.records.invariant.steps)
+
+pub returns-clause-kept : goal.returns-clause-kept
+returns-clause-kept g c =
     let none : front_length (drop c.records.start c.args.bytes.now) ≡ None = when-none c.next_record.result c.in_default.is c.next_record.ensures.none in
     record { count = at-end c.args.bytes.now c.records.count c.records.start c.records.invariant.begins none; keys = c.records.invariant.keys }

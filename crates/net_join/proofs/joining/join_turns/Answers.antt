@@ -16,8 +16,8 @@ turns-preserved g c =
           let r = e.went (g.L.Link.sent c.args.link.now) w.0 w.2 in
           (r.0, (let n : turned r.0 ≡ c.turns.t + 1 = omega (arith, r.2, w.1) in n), r.1);
       nonce = e.nonce ∙ i.nonce;
-      link_later = omega (arith, e.link_later);
-      clock_later = omega (arith, e.clock_later);
+      link_spared = e.cause.link.spared (λ h. absurd cc) ∙ i.link_spared;
+      clock_spared = e.cause.clock.spared (λ h. absurd cc) ∙ i.clock_spared;
     }
 
 pub returns-in_err-turn-clause-front : goal.returns-in_err-turn-clause-front

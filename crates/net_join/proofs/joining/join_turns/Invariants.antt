@@ -16,6 +16,6 @@ invariant-turns g l = record {
       × IsAt o.sent l.joiner (g.L.Link.sent l.link) (events o.ahead counts);
   went : (past : List Event) × (turned past ≡ l.t) × IsAt (g.L.Link.sent l.fn.link) l.joiner (g.L.Link.sent l.link) past;
   nonce : l.joiner.nonce ≡ l.fn.joiner.nonce;
-  link_later : g.L.Link.faults l.fn.link ≤ g.L.Link.faults l.link;
-  clock_later : g.C.Clock.faults l.fn.clock ≤ g.C.Clock.faults l.clock;
+  link_spared : g.L.Link.faults l.link ≡ g.L.Link.faults l.fn.link;
+  clock_spared : g.C.Clock.faults l.clock ≡ g.C.Clock.faults l.fn.clock;
 }

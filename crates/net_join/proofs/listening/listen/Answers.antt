@@ -31,8 +31,8 @@ calls-preserved g c =
       more = heard_then c.args.joiner.now c.calls.joiner c.receive.new.joiner v.more e.more;
       nonce = e.nonce ∙ v.nonce;
       unsent = e.unsent ∙ v.unsent;
-      link_later = omega (arith, e.link_later);
-      clock_later = omega (arith, e.clock_later);
+      link_spared = e.cause.link.spared (λ h. absurd cc) ∙ v.link_spared;
+      clock_spared = e.cause.clock.spared (λ h. absurd cc) ∙ v.clock_spared;
     }
 
 pub returns-clause-done : goal.returns-clause-done

@@ -17,6 +17,6 @@ invariant-calls g l = record {
   more : HeardMore l.fn.joiner l.joiner;
   nonce : l.joiner.nonce ≡ l.fn.joiner.nonce;
   unsent : g.L.Link.sent l.link ≡ g.L.Link.sent l.fn.link;
-  link_later : g.L.Link.faults l.fn.link ≤ g.L.Link.faults l.link;
-  clock_later : g.C.Clock.faults l.fn.clock ≤ g.C.Clock.faults l.clock;
+  link_spared : g.L.Link.faults l.link ≡ g.L.Link.faults l.fn.link;
+  clock_spared : g.C.Clock.faults l.clock ≡ g.C.Clock.faults l.fn.clock;
 }

@@ -8,4 +8,4 @@ returns-in-Err-flush-clause-outcome g c =
     (g.K.Sink.written c.args.sink.now) (g.K.Sink.written c.join.new.sink) (g.K.Sink.written c.flush.new.self) (g.L.Link.sent c.args.link.now) (g.L.Link.sent c.join.new.link)
     (g.L.Link.faults c.args.link.now) (g.L.Link.faults c.join.new.link) (g.C.Clock.faults c.args.clock.now) (g.C.Clock.faults c.join.new.clock)
     (g.K.Sink.faults c.args.sink.now) (g.K.Sink.faults c.join.new.sink) (g.K.Sink.faults c.flush.new.self)
-    e.done e.heard f.bytes e.link_later e.clock_later e.sink_later f.cause.later f.cause.failed
+    e.done e.heard f.bytes e.cause f.cause.later f.cause.failed
