@@ -11,6 +11,7 @@ from networks import head_of
 TURN = 0.05
 # Linux's option for stamps in nanoseconds, and the room of one beside a datagram.
 STAMPS, STAMP_ROOM = 35, 64
+HELLO = b"\x02\x01\x00\x00\x00"
 
 
 def packet(client, seq, horizon, came):
@@ -39,7 +40,7 @@ class Listener:
 
     def say_hello(self):
         if self.number is None:
-            self.send(b"\x02\x01\x00\x00\x00")
+            self.send(HELLO)
 
     def take(self):
         """Takes what waits, and answers each datagram with one that acknowledges it."""
@@ -48,7 +49,11 @@ class Listener:
                 data, beside, _, _ = self.socket.recvmsg(2_048, STAMP_ROOM)
             except OSError:
                 return
-            if data[0] == 3:
+            if data[0] == 7:
+                # The number of a challenge, once more: a host wants it back before it gives a client.
+                if self.number is None:
+                    self.send(HELLO + data[1:])
+            elif data[0] == 3:
                 self.number = data[5]
                 self.answer()
             elif self.number is not None:
@@ -65,7 +70,7 @@ class Listener:
         self.answer()
 
     def answer(self):
-        """Sends a packet. The first one is sent at the welcome, since a host says little to who sent none that it took."""
+        """Sends a packet. The first one is sent at the welcome."""
         self.seq += 1
         self.send(packet(self.number, self.seq, self.horizon, self.came))
 

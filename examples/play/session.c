@@ -33,6 +33,13 @@ int session_start(session *s, const struct sockaddr_in *server, uint32_t nonce, 
     return network_open(&s->net, server, nonce);
 }
 
+/* A challenge is 7 and a number. A host wants it back before it gives a client. */
+static void take_challenge(session *s, const uint8_t *bytes, size_t count) {
+    if (count != CHALLENGE_BYTES || bytes[0] != 7) return;
+    memcpy(s->hello + HELLO_BYTES, bytes + 1, 4);
+    s->challenged = 1;
+}
+
 /* A welcome is 3, the hello's nonce, the client, LIFE, SIZE and the version. The first one counts, and makes the client's end. */
 static void take_welcome(session *s, const uint8_t *bytes, size_t count, int64_t now) {
     if (count != WELCOME_BYTES || bytes[0] != 3 || memcmp(bytes + 1, s->hello + 1, 4)) return;
@@ -133,7 +140,7 @@ void session_listen(session *s, int64_t now) {
     network_go(&s->net, now);
     while ((count = network_receive(&s->net, bytes, now)) >= 0) {
         if (s->welcomed) take(s, bytes, (size_t)count, now);
-        else take_welcome(s, bytes, (size_t)count, now);
+        else take_challenge(s, bytes, (size_t)count), take_welcome(s, bytes, (size_t)count, now);
     }
 }
 
@@ -143,7 +150,8 @@ void session_turn(session *s, const tribes_step *move, int64_t now) {
     uint32_t number;
     size_t count;
     if (!s->welcomed) {
-        network_send(&s->net, s->hello, HELLO_BYTES, now);
+        network_send(&s->net, s->hello, s->challenged ? REPEATED_BYTES : HELLO_BYTES, now);
+        s->challenged = 0;
     } else {
         /* Who stands still needs no move, and the server works off those that wait there after a bad time. An offset fades by moves. */
         int rests = !move->dx && !move->dy && !move->fire && !s->own.right && !s->own.down;

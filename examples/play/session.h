@@ -8,7 +8,7 @@
 #include "tribes.h"
 #include <stdio.h>
 
-enum { HELLO_BYTES = 5, WELCOME_BYTES = 12, KEPT_EVENTS = 8, LOST_AFTER = 5000 }; /* the last in milliseconds of silence */
+enum { HELLO_BYTES = 5, CHALLENGE_BYTES = 5, REPEATED_BYTES = 9, WELCOME_BYTES = 12, KEPT_EVENTS = 8, LOST_AFTER = 5000 }; /* the last in milliseconds of silence */
 
 /* what became of the last 64 of something, the newest in bit 0; a bit is set where it was lost */
 typedef struct { uint64_t lost; int count; } history;
@@ -18,7 +18,8 @@ typedef struct {
     tribes_end end;
     int welcomed;
     tribes_config config;         /* as the welcome said */
-    uint8_t hello[HELLO_BYTES];
+    uint8_t hello[REPEATED_BYTES]; /* the hello, and behind it the number of the newest challenge */
+    int challenged;               /* whether a challenge came since the last hello: the next one repeats its number */
     prediction own;
     int64_t heard;                /* when the last datagram was taken, or the start */
     int64_t sent_at[64];          /* when data packet n was sent, at n modulo 64 */

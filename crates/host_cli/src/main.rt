@@ -9,10 +9,11 @@ ghost use Rattle.tn_types.specs.declared.limits.TheConstants.{MAX_CLIENTS};
 
 use file::FileSink;
 use host_link::net_serve::{Offer, serve};
-use host_link::{Counters, HostClock, HostLink};
+use host_link::{Counters, HostClock, HostLink, OpenSocket, SECRET_BYTES};
 use net_rules::NetFault;
 use std::env;
 use std::process::ExitCode;
+use std::random::RandomSource;
 use words::{Hosting, Refusal, hosting_of};
 
 /// The words of the command line, without the program's name.
@@ -40,14 +41,27 @@ fn refusal_of(fault: NetFault) -> Refusal {
     }
 }
 
+/// What nobody can guess: bytes of chance from the system.
+fn secret(rt: &HostRuntime) -> Result<[u8; SECRET_BYTES], Refusal> {
+    let mut secret = [0; SECRET_BYTES];
+    match rt.fill_bytes(&mut secret) {
+        Ok(()) => Ok(secret),
+        Err(_) => Err(Refusal::NoSecret),
+    }
+}
+
 /// Hosts the match, to its last turn.
 fn host(rt: &HostRuntime, hosting: &Hosting) -> Result<(), Refusal>
     requires clients_least { 1 ≤ hosting.now.clients }
     requires clients { hosting.now.clients ≤ MAX_CLIENTS }
 {
+    let secret = secret(rt)?;
     let counters = Counters::new();
-    let Ok(mut link) = HostLink::bind(rt, rt.alloc(), hosting.address, &counters) else {
+    let Ok(socket) = OpenSocket::bind(rt, hosting.address) else {
         return Err(Refusal::NoAddress);
+    };
+    let Ok(mut link) = HostLink::new(rt.alloc(), socket, secret, &counters) else {
+        return Err(Refusal::NoMemory);
     };
     let Ok(mut clock) = HostClock::new(rt, &counters) else {
         return Err(Refusal::NoClock);

@@ -30,6 +30,7 @@ pub(crate) enum Refusal {
     NoClients,
     NoTurns,
     NoAddress,
+    NoSecret,
     NoClock,
     Unwritten,
     Lost,
@@ -48,6 +49,7 @@ impl Refusal {
             Refusal::Unwritten => 6,
             Refusal::NoMemory => 7,
             Refusal::NoAddress => 8,
+            Refusal::NoSecret => 8,
             Refusal::Lost => 8,
             Refusal::NoClock => 9,
         }
@@ -69,6 +71,7 @@ impl fmt::Display for Refusal {
                 f,
                 "the address can't be had: it is taken, or not of this machine"
             ),
+            Refusal::NoSecret => write!(f, "the system gave no bytes of chance for a secret"),
             Refusal::NoClock => write!(f, "the clock failed"),
             Refusal::Unwritten => write!(f, "the file of the script can't be written"),
             Refusal::Lost => write!(f, "the socket failed"),

@@ -5,7 +5,6 @@ use net_serve::Watch;
 use std::cell::Cell;
 use std::fmt;
 use stream_manager::ArriveFault;
-use tn_types::MAX_CLIENTS;
 
 /// The places of counts of refused arrivals, by name.
 const REFUSALS: [&str; 6] = ["bits", "client", "old", "ackahead", "movegap", "eventahead"];
@@ -18,13 +17,11 @@ pub struct Counters {
     bytes_came: Cell<u64>,
     sent: Cell<u64>,
     bytes_sent: Cell<u64>,
-    held: Cell<u64>,
+    asked: Cell<u64>,
     turned: Cell<u64>,
     unsent: Cell<u64>,
     late: Cell<u64>,
     refused: Cell<[u64; REFUSALS.len()]>,
-    // a bit for each client
-    taken: Cell<u32>,
 }
 
 /// Adds to a count.
@@ -62,12 +59,11 @@ impl Counters {
             bytes_came: Cell::new(0),
             sent: Cell::new(0),
             bytes_sent: Cell::new(0),
-            held: Cell::new(0),
+            asked: Cell::new(0),
             turned: Cell::new(0),
             unsent: Cell::new(0),
             late: Cell::new(0),
             refused: Cell::new([0; REFUSALS.len()]),
-            taken: Cell::new(0),
         }
     }
 
@@ -83,12 +79,12 @@ impl Counters {
         add(&self.bytes_sent, bytes);
     }
 
-    /// A datagram was held back, since too little had come from where it was to go.
-    pub(crate) fn note_held(&self) {
-        add(&self.held, 1);
+    /// A stranger said hello, and was to be sent its number.
+    pub(crate) fn note_asked(&self) {
+        add(&self.asked, 1);
     }
 
-    /// A datagram came from one for whom there was no place.
+    /// A datagram was dropped: any other one of a stranger, or a hello for which there was no place.
     pub(crate) fn note_turned(&self) {
         add(&self.turned, 1);
     }
@@ -108,17 +104,6 @@ impl Counters {
         add(&self.clients, 1);
     }
 
-    /// Whether an arrival of a client was taken.
-    pub(crate) fn is_taken(&self, client: u8) -> bool {
-        client < MAX_CLIENTS && self.taken.get() >> client & 1 == 1
-    }
-
-    fn note_taken(&self, client: u8) {
-        if client < MAX_CLIENTS {
-            self.taken.set(self.taken.get() | 1 << client);
-        }
-    }
-
     fn note_refused(&self, fault: ArriveFault) {
         let mut counts = self.refused.get();
         if let Some(count) = counts.get_mut(place_of(fault)) {
@@ -129,22 +114,15 @@ impl Counters {
 }
 
 impl Watch for &Counters {
-    fn arrived(&mut self, client: u8, told: &Told) {
-        match told {
-            Told::Came {
-                way: _,
-                client: _,
-                k: _,
-                moves: _,
-                events: _,
-            } => self.note_taken(client),
-            Told::ServerRefused {
-                way: _,
-                client: _,
-                k: _,
-                fault,
-            } => self.note_refused(*fault),
-            _ => {}
+    fn arrived(&mut self, _client: u8, told: &Told) {
+        if let Told::ServerRefused {
+            way: _,
+            client: _,
+            k: _,
+            fault,
+        } = told
+        {
+            self.note_refused(*fault);
         }
     }
 }
@@ -154,12 +132,12 @@ impl fmt::Display for Counters {
         let (clients, late) = (self.clients.get(), self.late.get());
         let (came, bytes_came) = (self.came.get(), self.bytes_came.get());
         let (sent, bytes_sent) = (self.sent.get(), self.bytes_sent.get());
-        let (held, turned, unsent) = (self.held.get(), self.turned.get(), self.unsent.get());
+        let (asked, turned, unsent) = (self.asked.get(), self.turned.get(), self.unsent.get());
         write!(
             f,
             "clients {clients} late {late} in {came} {bytes_came} out {sent} {bytes_sent}"
         )?;
-        write!(f, " held {held} turned {turned} unsent {unsent} refused")?;
+        write!(f, " asked {asked} turned {turned} unsent {unsent} refused")?;
         let counts = self.refused.get();
         for (name, count) in REFUSALS.iter().zip(counts.iter()) {
             write!(f, " {name} {count}")?;

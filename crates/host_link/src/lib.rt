@@ -5,8 +5,11 @@
 mod clock;
 mod counters;
 mod link;
+mod socket;
 
 pub use clock::HostClock;
 pub use counters::Counters;
+pub use host_guests::SECRET_BYTES;
 pub use link::HostLink;
 pub use net_serve;
+pub use socket::OpenSocket;

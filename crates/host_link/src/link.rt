@@ -1,22 +1,19 @@
-//! A socket at an address of IPv4, and who is behind the datagrams that come.
-ghost use Rattle.std.specs.Prelude.{◌≡◌, ◌<◌, None, length};
+//! A link to anybody's address of IPv4: a socket, and the guests who are heard behind it.
+ghost use Rattle.std.specs.Prelude.{◌≡◌, ◌≤◌, ◌<◌, ◌^◌, [], Option, Some, None, List, length, IfOk, IfSome};
+ghost use Rattle.tn_outside.specs.Causes.{HasCause};
+ghost use Rattle.tn_outside.specs.Links.{Datagram, Ahead, Sends, Receives};
+ghost use Rattle.host_guests.specs.Guests.{place_of};
+ghost use Rattle.host_guests.specs.Doors.{Holds, IsOfGuest};
 
 use crate::counters::Counters;
-use host_guests::{Address, Guests};
-use net_rules::{WELCOME, WELCOME_BYTES};
+use host_guests::{CHALLENGE_BYTES, Door, Heard, Knock, SECRET_BYTES, Sent, Socket};
+use net_rules::{HELLO_BYTES, WELCOME, WELCOME_BYTES};
 use std::alloc::Global;
-use std::io::ErrorKind;
-use std::net::{Ipv4Addr, Net, SocketAddr, SocketAddrV4, UdpSocket};
-use std::time::{Clock as SystemTimes, Duration};
-use std::{io, thread};
 use tn_outside::{Failed, Link, Peer};
+use tn_types::NoMemory;
 
 /// As many addresses have a place at a time.
 const MAX_GUESTS: usize = 1_024;
-
-/// How long a call that finds nothing sleeps before it says so, in milliseconds. A socket's own wait is rounded up to the kernel's ticks
-/// of 4 to 10 milliseconds, and a sleep is not.
-const REST_MILLISECONDS: u64 = 1;
 
 /// The byte of a welcome that names the client.
 const CLIENT_BYTE: usize = 5;
@@ -24,36 +21,13 @@ const CLIENT_BYTE: usize = 5;
 /// A peer that has no place.
 const NOBODY: Peer = Peer { number: u32::MAX };
 
-/// A socket of a server that anybody may reach. A peer's number is its place among the guests. What the system does not send is lost, as
-/// on any network, and so is what is held back: to an address of which no arrival was taken goes no more than three times what came from
-/// it. It tells no contents.
+/// A server's link that anybody may reach. A peer's number is its place among the guests: only who repeated its number has one. What the
+/// system does not send is lost, as on any network. It tells no contents as a link; what passes its socket is told by the socket.
 #[derive(Drop)]
-pub struct HostLink<'a, R: SystemTimes> {
-    // asked without waiting
-    socket: UdpSocket,
-    // by whose clock it rests where nothing came
-    rt: &'a R,
-    guests: Guests,
+pub struct HostLink<'a, S: Socket + Drop> {
+    pub door: Door<S>,
     counters: &'a Counters,
     faults: u64,
-}
-
-fn bound<R: Net>(net: &R, address: SocketAddrV4) -> io::Result<UdpSocket> {
-    let socket = UdpSocket::bind(net, address)?;
-    socket.set_nonblocking(true)?;
-    Ok(socket)
-}
-
-// Nothing stood ready, or a datagram that was sent before found nobody: no failure.
-fn is_quiet(kind: ErrorKind) -> bool {
-    matches!(
-        kind,
-        ErrorKind::WouldBlock
-            | ErrorKind::TimedOut
-            | ErrorKind::Interrupted
-            | ErrorKind::ConnectionRefused
-            | ErrorKind::ConnectionReset
-    )
 }
 
 // Whether a datagram is a welcome, and to which client.
@@ -65,134 +39,128 @@ fn welcomed(bytes: &[u8]) -> Option<u8> {
     }
 }
 
-// The number of bytes, as far as it is told.
-fn size_of(count: usize) -> u16 {
-    u16::try_from(count).unwrap_or(u16::MAX)
+// How many bytes of a datagram are for the server: of a hello that repeats its number, the hello alone.
+fn handed(knock: &Knock) -> usize
+    ensures { result ≤ knock.now.count }
+{
+    match knock.heard {
+        Heard::Hello { place: _ } => knock.count.min(HELLO_BYTES),
+        _ => knock.count,
+    }
 }
 
-impl<'a, R: Net + SystemTimes> HostLink<'a, R> {
-    /// A link at an address, with nobody at the other end. Fails where the address can't be had, or memory is wanting.
-    pub fn bind(
-        rt: &'a R,
+impl<'a, S: Socket + Drop> HostLink<'a, S> {
+    /// A link over a socket through which nothing passed yet, under a secret.
+    pub fn new(
         alloc: Global,
-        address: SocketAddrV4,
+        socket: S,
+        secret: [u8; SECRET_BYTES],
         counters: &'a Counters,
-    ) -> Result<HostLink<'a, R>, Failed> {
-        let Ok(guests) = Guests::new(alloc, MAX_GUESTS) else {
-            return Err(Failed);
-        };
-        match bound(rt, address) {
-            Ok(socket) => Ok(HostLink {
-                socket,
-                rt,
-                guests,
+    ) -> Result<HostLink<'a, S>, NoMemory>
+        ensures socket { IfOk result (λ link. link.door.socket ≡ socket) }
+        ensures secret { IfOk result (λ link. link.door.guests.secret ≡ secret) }
+        ensures holds { IfOk result (λ link. S.log socket ≡ Some [] → Holds link.door.guests (S.log link.door.socket)) }
+    {
+        match Door::new(alloc, socket, secret, MAX_GUESTS) {
+            Ok(door) => Ok(HostLink {
+                door,
                 counters,
                 faults: 0,
             }),
-            Err(_) => Err(Failed),
+            Err(NoMemory) => Err(NoMemory),
         }
     }
-}
 
-impl<R: SystemTimes> HostLink<'_, R> {
-    // What a datagram to the guest at a place tells of it: the client that it has, and whether an arrival of it was taken.
+    // A welcome tells which client the guest at a place has.
     fn look(&mut self, i: usize, bytes: &[u8])
-        requires { i < length self.old.guests.places }
-        ensures places { length self.new.guests.places ≡ length self.old.guests.places }
+        ensures socket { self.new.door.socket ≡ self.old.door.socket }
+        ensures secret { self.new.door.guests.secret ≡ self.old.door.guests.secret }
+        ensures holds { Holds self.old.door.guests (S.log self.old.door.socket) → Holds self.new.door.guests (S.log self.new.door.socket) }
         ensures faults { self.new.faults ≡ self.old.faults }
     {
-        let guest = self.guests.guest(i);
-        match guest.client {
-            Some(client) => {
-                if !guest.trusted && self.counters.is_taken(client) {
-                    self.guests.trust(i);
-                }
-            }
-            None => {
-                if let Some(client) = welcomed(bytes) {
-                    self.guests.give(i, client);
-                    self.counters.note_client();
-                }
+        if i < self.door.guests.len() && self.door.guests.guest(i).client.is_none() {
+            if let Some(client) = welcomed(bytes) {
+                self.door.guests.give(i, client);
+                self.counters.note_client();
             }
         }
     }
 
-    // Sends to the guest at a place, where so much may go to it.
-    fn send_to(&mut self, i: usize, bytes: &[u8])
-        requires { i < length self.old.guests.places }
-        ensures { self.new.faults ≡ self.old.faults }
-    {
-        self.look(i, bytes);
-        if !self.guests.may_go(i, size_of(bytes.len())) {
-            self.counters.note_held();
-            return;
+    // Counts a datagram that came.
+    fn note(&self, knock: &Knock) {
+        self.counters.note_came(knock.count as u64);
+        if knock.answered {
+            self.counters.note_sent(CHALLENGE_BYTES as u64);
         }
-        let Address { host, port } = self.guests.guest(i).address;
-        match self
-            .socket
-            .send_to(bytes, (Ipv4Addr::from_bits(host), port))
-        {
-            Ok(count) => self.counters.note_sent(count as u64),
-            Err(_) => self.counters.note_unsent(),
+        match knock.heard {
+            Heard::Stranger { number: _ } => self.counters.note_asked(),
+            Heard::Full => self.counters.note_turned(),
+            Heard::Dropped => self.counters.note_turned(),
+            _ => {}
         }
     }
 
-    // Notes a datagram of so many bytes, and tells from whom it is.
-    fn meet(&mut self, address: SocketAddr, count: usize) -> Option<Peer>
-        ensures { self.new.faults ≡ self.old.faults }
+    // From whom a datagram is, and how much of it is for the server: nothing, where it is of no guest.
+    fn admitted(&self, knock: &Knock) -> (Peer, usize)
+        ensures count { result.1 ≤ knock.now.count }
+        ensures place { 0 < result.1 → place_of knock.now.heard ≡ Some result.0.number }
     {
-        self.counters.note_came(count as u64);
-        let SocketAddr::V4(address) = address else {
-            return None;
+        self.note(knock);
+        let Some(place) = knock.heard.place() else {
+            return (NOBODY, 0);
         };
-        let address = Address {
-            host: address.ip().to_bits(),
-            port: address.port(),
-        };
-        match self.guests.hear(address, size_of(count)) {
-            Some(i) => match u32::try_from(i) {
-                Ok(number) => Some(Peer { number }),
-                Err(_) => None,
-            },
-            None => None,
+        match u32::try_from(place) {
+            Ok(number) => (Peer { number }, handed(knock)),
+            Err(_) => (NOBODY, 0),
         }
     }
 }
 
-impl<R: SystemTimes> Link for HostLink<'_, R> {
+impl<S: Socket + Drop> Link for HostLink<'_, S> {
     ghost ahead = { λ _. None };
 
     ghost sent = { λ _. None };
 
     ghost faults = { λ l. l.faults };
 
-    /// What can't go out, and what may not, is lost on the way.
-    fn send(&mut self, peer: Peer, bytes: &[u8]) -> Result<(), Failed> {
+    /// What can't go out is lost on the way.
+    fn send(&mut self, peer: Peer, bytes: &[u8]) -> Result<(), Failed>
+        ensures sends { Sends None None result peer bytes.now }
+        ensures ahead { let untold : Option Ahead = None in untold ≡ untold }
+        ensures cause { HasCause self.old.faults self.new.faults result }
+        ensures counted { self.new.faults < 2 ^ 64 }
+        ensures secret { self.new.door.guests.secret ≡ self.old.door.guests.secret }
+        ensures holds { Holds self.old.door.guests (S.log self.old.door.socket) → Holds self.new.door.guests (S.log self.new.door.socket) }
+    {
         // for its clauses
         let _faults = self.faults;
         let i = peer.number as usize;
-        if i < self.guests.len() {
-            self.send_to(i, bytes);
+        self.look(i, bytes);
+        match self.door.send(i, bytes) {
+            Sent::Taken => self.counters.note_sent(bytes.len() as u64),
+            Sent::Lost => self.counters.note_unsent(),
+            Sent::ToNobody => {}
         }
         Ok(())
     }
 
-    /// A datagram of one for whom there is no place is given with no byte. Where nothing stands ready it rests for a millisecond.
-    fn receive(&mut self, buf: &mut [u8]) -> Result<Option<(Peer, usize)>, Failed> {
+    /// A datagram of a stranger is given with no byte, and a hello that repeats its number as the hello alone.
+    fn receive(&mut self, buf: &mut [u8]) -> Result<Option<(Peer, usize)>, Failed>
+        ensures bound { IfOk result (λ answer. IfSome answer (λ x. x.1 ≤ length buf.new)) }
+        ensures takes { Receives None None result buf.new }
+        ensures sent { let untold : Option (List Datagram) = None in untold ≡ untold }
+        ensures cause { HasCause self.old.faults self.new.faults result }
+        ensures counted { self.new.faults < 2 ^ 64 }
+        ensures guests { IfOk result (λ answer. IfSome answer (λ x. 0 < x.1
+            → IsOfGuest self.old.door.guests self.new.door.guests x.0.number)) }
+        ensures secret { self.new.door.guests.secret ≡ self.old.door.guests.secret }
+        ensures holds { Holds self.old.door.guests (S.log self.old.door.socket) → Holds self.new.door.guests (S.log self.new.door.socket) }
+    {
         let faults = self.faults;
-        match self.socket.recv_from(buf) {
-            Ok((count, address)) => match self.meet(address, count) {
-                Some(peer) => Ok(Some((peer, count))),
-                None => {
-                    self.counters.note_turned();
-                    Ok(Some((NOBODY, 0)))
-                }
-            },
-            Err(e) => {
-                if is_quiet(e.kind()) {
-                    thread::sleep(self.rt, Duration::from_millis(REST_MILLISECONDS));
-                    return Ok(None);
-                }
+        match self.door.receive(buf) {
+            Ok(Some(knock)) => Ok(Some(self.admitted(&knock))),
+            Ok(None) => Ok(None),
+            Err(Failed) => {
                 self.faults = faults.saturating_add(1);
                 Err(Failed)
             }

@@ -1,0 +1,4 @@
+mod Vectors
+pub mod Passings
+pub mod Standing
+pub mod Opening

@@ -1,0 +1,80 @@
+//! A socket of the system, at any address of IPv4.
+ghost use Rattle.std.specs.Prelude.{None};
+
+use host_guests::{Address, Socket};
+use std::io::ErrorKind;
+use std::net::{Ipv4Addr, Net, SocketAddr, SocketAddrV4, UdpSocket};
+use std::time::{Clock as SystemTimes, Duration};
+use std::{io, thread};
+use tn_outside::Failed;
+
+/// How long a call that finds nothing sleeps before it says so, in milliseconds. A socket's own wait is rounded up to the kernel's ticks
+/// of 4 to 10 milliseconds, and a sleep is not.
+const REST_MILLISECONDS: u64 = 1;
+
+/// A socket that is asked without waiting, and rests by the system's clock where nothing came. It tells nothing of what passes.
+#[derive(Drop)]
+pub struct OpenSocket<'a, R: SystemTimes> {
+    socket: UdpSocket,
+    rt: &'a R,
+}
+
+fn bound<R: Net>(net: &R, address: SocketAddrV4) -> io::Result<UdpSocket> {
+    let socket = UdpSocket::bind(net, address)?;
+    socket.set_nonblocking(true)?;
+    Ok(socket)
+}
+
+// Nothing stood ready, or a datagram that was sent before found nobody: no failure.
+fn is_quiet(kind: ErrorKind) -> bool {
+    matches!(
+        kind,
+        ErrorKind::WouldBlock
+            | ErrorKind::TimedOut
+            | ErrorKind::Interrupted
+            | ErrorKind::ConnectionRefused
+            | ErrorKind::ConnectionReset
+    )
+}
+
+impl<'a, R: Net + SystemTimes> OpenSocket<'a, R> {
+    /// A socket at an address. Fails where that can't be had.
+    pub fn bind(rt: &'a R, address: SocketAddrV4) -> Result<OpenSocket<'a, R>, Failed> {
+        match bound(rt, address) {
+            Ok(socket) => Ok(OpenSocket { socket, rt }),
+            Err(_) => Err(Failed),
+        }
+    }
+}
+
+impl<R: SystemTimes> Socket for OpenSocket<'_, R> {
+    ghost log = { λ _. None };
+
+    fn send(&mut self, to: Address, bytes: &[u8]) -> bool {
+        self.socket
+            .send_to(bytes, (Ipv4Addr::from_bits(to.host), to.port))
+            .is_ok()
+    }
+
+    /// Where nothing stands ready it rests for a millisecond.
+    fn receive(&mut self, buf: &mut [u8]) -> Result<Option<(Address, usize)>, Failed> {
+        match self.socket.recv_from(buf) {
+            Ok((count, SocketAddr::V4(from))) => {
+                let from = Address {
+                    host: from.ip().to_bits(),
+                    port: from.port(),
+                };
+                Ok(Some((from, count)))
+            }
+            // A socket of IPv4 has no other.
+            Ok((_, SocketAddr::V6(_))) => Ok(None),
+            Err(e) => {
+                if is_quiet(e.kind()) {
+                    thread::sleep(self.rt, Duration::from_millis(REST_MILLISECONDS));
+                    return Ok(None);
+                }
+                Err(Failed)
+            }
+        }
+    }
+}
