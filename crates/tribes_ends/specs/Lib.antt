@@ -1,2 +1,5 @@
 pub mod Codes
+pub mod Making
+pub mod Refusals
+pub mod Lists
 pub mod Sides

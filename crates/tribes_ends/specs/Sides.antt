@@ -6,29 +6,47 @@ use Rattle.tn_types.specs.declared.moves.Move.{Move}
 use Rattle.notify_window.specs.declared.SendState.TheVariants.{Held, Worn, Room}
 use Rattle.notify_window.specs.Log.{sent_of}
 use Rattle.stream_manager.specs.event_manager.Receiving.{run_of}
+use Rattle.quantised_fields.specs.declared.kind.Kind.{Kind}
 use Rattle.stream_manager.specs.Server as server
+use Rattle.stream_manager.specs.Server.{ServerEvent}
 use Rattle.stream_manager.specs.Client as client
 use Rattle.stream_manager.specs.End.{window_log, judged_at, came_of}
 use Rattle.stream_manager.specs.EndCalls.{popped}
 use Rattle.stream_manager.specs.ConnCalls as server_calls
 use Rattle.stream_manager.specs.ClientCalls as client_calls
 use Rattle.stream_manager.specs.declared.config.Config.{Config}
+use Rattle.stream_manager.specs.Limits.{Terms}
 use Rattle.stream_manager.specs.Stands.{ConnState, ClientState, ConnStandsFor, ClientStandsFor, terms_of}
 use Rattle.ghost_model.specs.Ghosts.{scope_log, slot, is_settled}
 use Rattle.ghost_model.specs.Scope.{shows}
+use Rattle.tribes_ends.specs.Lists.{AsksAtServer}
+use Rattle.tribes_ends.specs.declared.asking.Ask.{Ask}
 use Rattle.tribes_ends.specs.declared.counts.Counts.{Counts}
 use Rattle.tribes_ends.specs.declared.link.Side.{Side}
 use Rattle.tribes_ends.specs.declared.link.Side.TheVariants.{Server, Client}
 
--- ---- a new end at which nothing happened, made with this configuration
+-- ---- a new end at which nothing happened, made with exactly these: no event waits, and no move came
 
-abbrev pub BeginsAtServer : Config → Side → Type 0
-BeginsAtServer config (Server c) = ConnStandsFor c [] × (c.common.config ≡ config)
-BeginsAtServer config (Client c) = ⊥
+pub record BeginsWith (t : Terms) (c : ConnState) : Type 0 where
+  pub stands : ConnStandsFor c []
+  pub terms : terms_of c ≡ t
+  pub none_waits : c.common.receiver.ready ≡ []
+  pub none_taken : c.taken ≡ []
 
-abbrev pub BeginsAtClient : Config → Side → Type 0
-BeginsAtClient config (Server c) = ⊥
-BeginsAtClient config (Client c) = ClientStandsFor c [] × (c.common.config ≡ config)
+-- a client's end has no blocks before they come
+pub record BeginsWithKinds (terms : Config) (table : List Kind) (c : ClientState) : Type 0 where
+  pub stands : ClientStandsFor c []
+  pub config : c.common.config ≡ terms
+  pub kinds : c.copies.kinds ≡ table
+  pub none_waits : c.common.receiver.ready ≡ []
+
+abbrev pub BeginsAtServer : Terms → Side → Type 0
+BeginsAtServer t (Server c) = BeginsWith t c
+BeginsAtServer t (Client c) = ⊥
+
+abbrev pub BeginsAtClient : Config → List Kind → Side → Type 0
+BeginsAtClient config kinds (Server c) = ⊥
+BeginsAtClient config kinds (Client c) = BeginsWithKinds config kinds c
 
 -- ---- objects, at the server
 
@@ -121,11 +139,25 @@ Takes (Server old) bytes room moves (Client new) = ⊥
 Takes (Client old) bytes room moves (Client new) = TakesDown old bytes new
 Takes (Client old) bytes room moves (Server new) = ⊥
 
--- a data packet is planned at the server
-abbrev pub Plans : Side → Side → Type 0
-Plans (Server old) (Server new) = server_calls.Planning old new
-Plans (Server old) (Client new) = ⊥
-Plans (Client old) new = ⊥
+-- a data packet is planned at the server, and the values that it carries are asked for
+pub record PlansAtServer (old : ConnState) (asked : List Ask) (new : ConnState) : Type 0 where
+  pub planning : server_calls.Planning old new
+  pub asks : AsksAtServer old asked
+
+abbrev pub Plans : Side → List Ask → Side → Type 0
+Plans (Server old) asks (Server new) = PlansAtServer old asks new
+Plans (Server old) asks (Client new) = ⊥
+Plans (Client old) asks new = ⊥
+
+-- the next datagram of the server is no data packet, and the end is as it was
+pub record MakesNone (old new : ConnState) : Type 0 where
+  pub state : (log : List ServerEvent) → ConnStandsFor old log → server.server_state old.common.config log ≡ Room → ⊥
+  pub same : new ≡ old
+
+abbrev pub AsksNothing : Side → Side → Type 0
+AsksNothing (Server old) (Server new) = MakesNone old new
+AsksNothing (Server old) (Client new) = ⊥
+AsksNothing (Client old) new = new ≡ Client old
 
 -- the data packet of these bytes is sent, at the server the one that was planned, with these values
 pub record SendsDown (old : ConnState) (values : List ℤ) (bytes : List ℕ) (new : ConnState) : Type 0 where

@@ -1,9 +1,17 @@
 //! The client's end, with each call's conditions tested.
-ghost use Rattle.std.specs.Prelude.{◌≡◌, ℕ, ◌≤◌, ◌<◌, IfOk, IfSome, IsNone, OnOk, OnErr, Ok, [], true, not, nat_eq, length, take};
+ghost use Rattle.std.specs.Prelude.{◌≡◌, ℕ, ◌≤◌, ◌<◌, IfOk, IfSome, IsNone, OnOk, OnErr, Ok, Some, [], true, false, not, nat_eq, map, length, slice_get, take, IsSome};
+ghost use Rattle.std.specs.Option.{option_copied, option_map};
+ghost use Rattle.std.specs.Result.{result_err};
 ghost use Rattle.tn_types.specs.Steps.{is_step};
 ghost use Rattle.tn_types.specs.declared.choices.Class.TheVariants.{Guaranteed};
-ghost use Rattle.stream_manager.specs.Client.{Posted, posted_at_client};
+ghost use Rattle.ghost_client.specs.State.{copy_in, field_value, first_behind};
+ghost use Rattle.stream_manager.specs.Changes.{changes_at};
+ghost use Rattle.stream_manager.specs.Client.{Posted, client_end, posted_at_client, sampled_answer};
 ghost use Rattle.stream_manager.specs.ClientCalls.{Does, Answers};
+ghost use Rattle.stream_manager.specs.Verdicts.{last_verdicts};
+ghost use Rattle.tribes_ends.specs.Codes.{move_refusal};
+ghost use Rattle.tribes_ends.specs.Lists.{judged_of, change_of, ShowsCopy, IsNextAtClient};
+ghost use Rattle.tribes_ends.specs.Refusals.{ByClient, block_held, copy_held, post_at_client, sample_refusal, room_refusal, arrival_at_client, block_refusal, copy_refusal};
 ghost use Rattle.tribes_ends.specs.Sides.{PopsAtClient, SamplesAtClient, TakesDown, SendsUp, PingsUp, WornUp, CountsAtClient};
 
 use crate::counts::Counts;
@@ -11,10 +19,11 @@ use crate::handing::{Popped, hand_event, hand_over};
 use crate::link::Packed;
 use crate::refusal::Refusal;
 use crate::rows::{Change, Copied, Judged, StepMade, list_changes, list_verdicts};
+use ghost_client::{Copies, GhostCopy};
 use stream_manager::{Client, ClientOut};
 use tn_types::{
-    Class, MAX_BLOCK_BYTES, MAX_EVENT_BYTES, MAX_FIELDS, MAX_PACKET_GHOSTS, MAX_READ_BYTES,
-    MAX_STEP, MAX_UNJUDGED_PACKETS, MIN_STEP, Move, Payload,
+    BlockBytes, Class, MAX_BLOCK_BYTES, MAX_BLOCKS, MAX_EVENT_BYTES, MAX_FIELDS, MAX_PACKET_GHOSTS,
+    MAX_READ_BYTES, MAX_SLOTS, MAX_STEP, MAX_UNJUDGED_PACKETS, MIN_STEP, Move, Payload,
 };
 
 /// Posts an event, and gives its number where it is guaranteed, else 0.
@@ -22,6 +31,7 @@ pub(crate) fn post(client: &mut Client, bytes: &[u8], class: Class) -> Result<u3
     ensures posted { OnOk result (Does client.old (Posted class bytes.now) client.new) }
     ensures number { class ≡ Guaranteed → IfOk result (λ n. Answers client.old (posted_at_client client.old.common.config) (Ok n)) }
     ensures unchanged { OnErr result (client.new ≡ client.old) }
+    ensures refused { ByClient (post_at_client bytes.now class client.old) client.old (λ r. result_err result ≡ r) }
 {
     let Some(payload) = Payload::from_slice(bytes) else {
         return Err(Refusal::TooLong {
@@ -44,6 +54,7 @@ pub(crate) fn post(client: &mut Client, bytes: &[u8], class: Class) -> Result<u3
 fn step_of(number: i32) -> Option<i8>
     ensures value { IfSome result (λ step. step ≡ number) }
     ensures range { IfSome result (λ step. is_step step ≡ true) }
+    ensures none { IsNone result → is_step number ≡ false }
 {
     if number < i32::from(MIN_STEP) || number > i32::from(MAX_STEP) {
         return None;
@@ -55,6 +66,8 @@ fn step_of(number: i32) -> Option<i8>
 fn take_up(client: &mut Client, m: Move) -> Result<u32, Refusal>
     ensures told { IfOk result (λ n. SamplesAtClient client.old m.dx m.dy m.fire m.act n client.new) }
     ensures unchanged { OnErr result (client.new ≡ client.old) }
+    ensures refused { Answers client.old (λ log. option_map move_refusal (result_err (sampled_answer client.old.common.config log)))
+        (result_err result) }
 {
     match client.sample(m) {
         Ok(number) => Ok(number),
@@ -67,6 +80,7 @@ pub(crate) fn sample(client: &mut Client, step: &StepMade) -> Result<u32, Refusa
     ensures told { let s = step.now in
         IfOk result (λ n. SamplesAtClient client.old s.dx s.dy (not (nat_eq s.fire 0)) (not (nat_eq s.act 0)) n client.new) }
     ensures unchanged { OnErr result (client.new ≡ client.old) }
+    ensures refused { ByClient (sample_refusal step.now.dx step.now.dy client.old) client.old (λ r. result_err result ≡ r) }
 {
     let Some(dx) = step_of(step.dx) else {
         return Err(Refusal::BadStep);
@@ -89,6 +103,7 @@ pub(crate) fn pack(client: &mut Client, place: &mut [u8]) -> Result<Packed, Refu
     ensures ping { (count : ℕ) → result ≡ Ok (Packed.Ping count) → PingsUp client.old (take count place.new) client.new }
     ensures nothing { result ≡ Ok Packed.Nothing → WornUp client.old client.new }
     ensures unchanged { OnErr result (client.new ≡ client.old) }
+    ensures refused { result_err result ≡ room_refusal client.old.common.config.size (length place.old) }
 {
     let size = client.config().size;
     if place.len() < size as usize {
@@ -109,6 +124,7 @@ pub(crate) fn pack(client: &mut Client, place: &mut [u8]) -> Result<Packed, Refu
 pub(crate) fn arrive(client: &mut Client, bytes: &[u8]) -> Result<u32, Refusal>
     ensures taken { OnOk result (TakesDown client.old bytes.now client.new) }
     ensures unchanged { OnErr result (client.new ≡ client.old) }
+    ensures refused { ByClient (arrival_at_client bytes.now client.old) client.old (λ r. result_err result ≡ r) }
 {
     if bytes.len() > MAX_READ_BYTES {
         return Err(Refusal::TooLong {
@@ -130,6 +146,7 @@ pub(crate) fn pop(client: &mut Client, place: &mut [u8]) -> Result<Option<Popped
     ensures popped { IfOk result (λ found. IfSome found (λ p. PopsAtClient client.old p.class (take p.count place.new) client.new)) }
     ensures none { IfOk result (λ found. IsNone found → (client.old.common.receiver.ready ≡ []) × (client.new ≡ client.old)) }
     ensures unchanged { OnErr result (client.new ≡ client.old) }
+    ensures refused { result_err result ≡ room_refusal MAX_EVENT_BYTES (length place.old) }
 {
     if place.len() < MAX_EVENT_BYTES {
         return Err(Refusal::NoRoom {
@@ -142,17 +159,29 @@ pub(crate) fn pop(client: &mut Client, place: &mut [u8]) -> Result<Option<Popped
     }
 }
 
+/// The block that came for this number.
+fn block_of(client: &Client, number: u32) -> Option<&BlockBytes>
+    ensures { Answers client.now (block_held number) (option_copied result) }
+{
+    if number < MAX_BLOCKS as u32 {
+        client.block(number as u8)
+    } else {
+        None
+    }
+}
+
 /// Hands over the bytes of a block that came; gives how many these are.
-pub(crate) fn block(client: &Client, number: u32, place: &mut [u8]) -> Result<usize, Refusal> {
+pub(crate) fn block(client: &Client, number: u32, place: &mut [u8]) -> Result<usize, Refusal>
+    ensures told { IfOk result (λ count. Answers client.now (block_held number) (Some (take count place.new))) }
+    ensures refused { ByClient (λ log. block_refusal number (length place.old) (block_held number log)) client.now
+        (λ r. result_err result ≡ r) }
+{
     if place.len() < MAX_BLOCK_BYTES {
         return Err(Refusal::NoRoom {
             needed: MAX_BLOCK_BYTES as u32,
         });
     }
-    if number > 255 {
-        return Err(Refusal::NoBlock { block: number });
-    }
-    match client.block(number as u8) {
+    match block_of(client, number) {
         Some(bytes) => Ok(hand_over(bytes.as_slice(), place)),
         None => Err(Refusal::NoBlock { block: number }),
     }
@@ -172,49 +201,75 @@ pub(crate) fn counts(client: &Client) -> Counts
 }
 
 /// Lists what became of the packets that the last datagram judged; gives how many these are.
-pub(crate) fn verdicts(client: &Client, place: &mut [Judged]) -> Result<u32, Refusal> {
+pub(crate) fn verdicts(client: &Client, place: &mut [Judged]) -> Result<u32, Refusal>
+    ensures told { IfOk result (λ count. Answers client.now (λ log. map judged_of (last_verdicts (client_end log))) (take count place.new)) }
+    ensures refused { result_err result ≡ room_refusal MAX_UNJUDGED_PACKETS (length place.old) }
+{
     if place.len() < MAX_UNJUDGED_PACKETS as usize {
         return Err(Refusal::NoRoom {
             needed: MAX_UNJUDGED_PACKETS,
         });
     }
-    let verdicts = client.verdicts();
-    list_verdicts(verdicts, place);
-    Ok(verdicts.count())
+    Ok(list_verdicts(client.verdicts(), place))
 }
 
 /// Lists what the last datagram did to slots; gives how many items these are.
-pub(crate) fn changes(client: &Client, place: &mut [Change]) -> Result<u32, Refusal> {
+pub(crate) fn changes(client: &Client, place: &mut [Change]) -> Result<u32, Refusal>
+    ensures told { IfOk result (λ count. Answers client.now (λ log. map change_of (take MAX_PACKET_GHOSTS (changes_at log))) (take count place.new)) }
+    ensures refused { result_err result ≡ room_refusal MAX_PACKET_GHOSTS (length place.old) }
+{
     if place.len() < MAX_PACKET_GHOSTS {
         return Err(Refusal::NoRoom {
             needed: MAX_PACKET_GHOSTS as u32,
         });
     }
     let items = client.changes();
-    list_changes(items, place);
-    Ok(items.len().min(MAX_PACKET_GHOSTS) as u32)
+    let (items, _) = items.split_at(items.len().min(MAX_PACKET_GHOSTS));
+    Ok(list_changes(items, place))
 }
 
 /// The least slot from this one on that holds a copy.
-pub(crate) fn next_copy(client: &Client, from: u32) -> Option<u8> {
-    if from > 255 {
+pub(crate) fn next_copy(client: &Client, from: u32) -> Option<u8>
+    ensures { IsNextAtClient client.now from result }
+{
+    if from >= MAX_SLOTS as u32 {
         return None;
     }
-    let behind = if from == 0 {
+    client.copies().next_full(slot_before(from))
+}
+
+/// The slot before this one, if any.
+fn slot_before(slot: u32) -> Option<u8>
+    requires { slot < MAX_SLOTS }
+    ensures { first_behind result ≡ slot }
+{
+    if slot == 0 {
         None
     } else {
-        Some((from - 1) as u8)
-    };
-    client.copies().next_full(behind)
+        Some((slot - 1) as u8)
+    }
+}
+
+/// The copy in a slot.
+fn copy_of(client: &Client, slot: u32) -> Option<&GhostCopy>
+    ensures held { Answers client.now (copy_held slot) (option_copied result) }
+    ensures value { IfSome result (λ found. copy_in client.now.copies.slots slot ≡ Some found.now) }
+    ensures slot { IsSome result → slot < MAX_SLOTS }
+{
+    if slot < MAX_SLOTS as u32 {
+        client.copies().get(slot as u8)
+    } else {
+        None
+    }
 }
 
 /// The copy in a slot, with the values of its fields.
-pub(crate) fn copy(client: &Client, slot: u32, values: &mut [i64]) -> Result<Copied, Refusal> {
-    if slot > 255 {
-        return Err(Refusal::NoCopy { slot });
-    }
-    let copies = client.copies();
-    let Some(found) = copies.get(slot as u8) else {
+pub(crate) fn copy(client: &Client, slot: u32, values: &mut [i64]) -> Result<Copied, Refusal>
+    ensures told { IfOk result (λ copied. ShowsCopy client.now slot copied values.new) }
+    ensures refused { ByClient (λ log. copy_refusal slot (length values.old) (copy_held slot log)) client.now
+        (λ r. result_err result ≡ r) }
+{
+    let Some(found) = copy_of(client, slot) else {
         return Err(Refusal::NoCopy { slot });
     };
     let fields = found.levels.len();
@@ -223,16 +278,23 @@ pub(crate) fn copy(client: &Client, slot: u32, values: &mut [i64]) -> Result<Cop
             needed: MAX_FIELDS as u32,
         });
     }
-    let mut field = 0u8;
-    'places: for place in values.iter_mut() {
-        if let Some(value) = copies.value(slot as u8, field) {
-            *place = value;
-        }
-        field = field.saturating_add(1);
-    }
+    read_values(client.copies(), slot as u8, found, values);
     Ok(Copied {
         kind: u32::from(found.kind),
         block: u32::from(found.block),
-        fields: fields.min(MAX_FIELDS) as u32,
+        fields: fields as u32,
     })
+}
+
+/// Puts the values of the fields of a slot's copy at the front of the place.
+fn read_values(copies: &Copies, slot: u8, found: &GhostCopy, place: &mut [i64])
+    requires held { copy_in copies.now.slots slot ≡ Some found.now }
+    requires room { length found.now.levels ≤ length place.old }
+    ensures { (field : ℕ) → field < length found.now.levels → slice_get place.new field ≡ field_value copies.now.kinds field found.now }
+{
+    'fields: for field in 0..found.levels.len() as u8 {
+        if let Some(value) = copies.value(slot, field) {
+            place[usize::from(field)] = value;
+        }
+    }
 }

@@ -1,5 +1,6 @@
 //! One end of a connection, whichever it is.
-ghost use Rattle.std.specs.Prelude.{◌≡◌, ℕ, ◌≤◌, IfOk, IfSome, IsNone, OnOk, OnErr, Ok, true, not, nat_eq, take};
+ghost use Rattle.std.specs.Prelude.{◌≡◌, ℕ, ◌≤◌, IfOk, IfSome, IsNone, OnOk, OnErr, Ok, None, true, not, nat_eq, length, take};
+ghost use Rattle.std.specs.Result.{result_err};
 ghost use Rattle.tn_types.specs.declared.choices.Class.TheVariants.{Guaranteed};
 
 use crate::asking::Ask;
@@ -13,7 +14,7 @@ use crate::{client, server};
 use std::alloc::Global;
 use std::marker::Model;
 use stream_manager::{Client, Conn};
-use tn_types::Class;
+use tn_types::{Class, MAX_EVENT_BYTES, MAX_PACKET_GHOSTS, MAX_UNJUDGED_PACKETS};
 
 /// What a pack made.
 #[derive(Clone, Copy, Debug, PartialEq, Eq)]
@@ -76,8 +77,11 @@ const NONE: Why = Why {
 
 impl Link {
     ghost use Rattle.stream_manager.specs.Server.{Scoped, Show, Hide, Near, Absorb};
-    ghost use Rattle.tribes_ends.specs.Codes.{is_refusal};
-    ghost use Rattle.tribes_ends.specs.Sides.{BeginsAtServer, BeginsAtClient, DoesAtServer, IsNextPeriod, IsSettled, HasSlot, HasControl, Posts, IsNextEvent, Pops, HasNoEvent, Samples, Takes, Plans, Sends, Pings, SendsNothing, AreCounts};
+    ghost use Rattle.tribes_ends.specs.Codes.{is_refusal, code_of};
+    ghost use Rattle.tribes_ends.specs.Lists.{ListsMoves, ListsVerdicts, ListsChanges, HasBlock, IsNextCopy, HasCopy};
+    ghost use Rattle.tribes_ends.specs.Making.{config_of, kinds_of, terms_from, server_refusal, client_refusal, IsMadeUnless};
+    ghost use Rattle.tribes_ends.specs.Refusals.{at_server, at_client, show_refusal, hide_refusal, near_refusal, changed_refusal, settled_refusal, slot_refusal, room_refusal, moves_refusal, ask_refusal, PostRefused, SampleRefused, ArrivalRefused, PackRefused, BlockRefused, CopyRefused};
+    ghost use Rattle.tribes_ends.specs.Sides.{BeginsAtServer, BeginsAtClient, DoesAtServer, IsNextPeriod, IsSettled, HasSlot, HasControl, Posts, IsNextEvent, Pops, HasNoEvent, Samples, Takes, Plans, AsksNothing, Sends, Pings, SendsNothing, AreCounts};
 
     /// The server's end of a new connection.
     pub fn server(
@@ -88,11 +92,11 @@ impl Link {
         bytes: &[u8],
         lengths: &[u32],
     ) -> Result<Link, Refusal>
-        ensures begins { let r = row.now in
-            IfOk result (BeginsAtServer (record { client = r.client; life = r.life; size = r.size; version = r.version })) }
+        ensures begins { IfOk result (BeginsAtServer (terms_from row.now kinds.now fields.now bytes.now lengths.now)) }
+        ensures refused { IsMadeUnless (server_refusal row.now kinds.now fields.now bytes.now lengths.now) result }
     {
         let config = config(row)?;
-        let table = kind_table(alloc, kinds, fields)?;
+        let table = kind_table(kinds, fields)?;
         let blocks = block_list(alloc, bytes, lengths)?;
         let conn = Conn::new(alloc, config, &table, blocks.as_slice())?;
         Ok(sendable(Link {
@@ -108,11 +112,11 @@ impl Link {
         kinds: &[KindRow],
         fields: &[FieldRow],
     ) -> Result<Link, Refusal>
-        ensures begins { let r = row.now in
-            IfOk result (BeginsAtClient (record { client = r.client; life = r.life; size = r.size; version = r.version })) }
+        ensures begins { IfOk result (BeginsAtClient (config_of row.now) (kinds_of kinds.now fields.now)) }
+        ensures refused { IsMadeUnless (client_refusal row.now kinds.now fields.now) result }
     {
         let config = config(row)?;
-        let table = kind_table(alloc, kinds, fields)?;
+        let table = kind_table(kinds, fields)?;
         let end = Client::new(alloc, config, &table)?;
         Ok(Link {
             side: Side::Client(end),
@@ -122,7 +126,8 @@ impl Link {
 
     /// Notes why a call did nothing, and gives its code.
     pub fn refuse(&mut self, refusal: Refusal) -> i32
-        ensures code { is_refusal result ≡ true }
+        ensures below { is_refusal result ≡ true }
+        ensures code { result ≡ code_of refusal }
         ensures unchanged { self.new ≡ self.old }
     {
         self.why = refusal.why();
@@ -139,6 +144,7 @@ impl Link {
         ensures told { OnOk result (DoesAtServer self.old (Scoped (Show kind block level control)) self.new) }
         ensures number { IfOk result (IsNextPeriod self.old) }
         ensures unchanged { OnErr result (self.new ≡ self.old) }
+        ensures refused { result_err result ≡ at_server (show_refusal kind block level control) self.old }
     {
         match &mut self.side {
             Side::Server(conn) => server::show(conn, kind, block, level, control),
@@ -150,6 +156,7 @@ impl Link {
     pub fn hide(&mut self, n: u32) -> Result<(), Refusal>
         ensures told { OnOk result (DoesAtServer self.old (Scoped (Hide n)) self.new) }
         ensures unchanged { OnErr result (self.new ≡ self.old) }
+        ensures refused { result_err result ≡ at_server (hide_refusal n) self.old }
     {
         match &mut self.side {
             Side::Server(conn) => server::hide(conn, n),
@@ -161,6 +168,7 @@ impl Link {
     pub fn near(&mut self, n: u32, level: u32) -> Result<(), Refusal>
         ensures told { OnOk result (DoesAtServer self.old (Scoped (Near n level)) self.new) }
         ensures unchanged { OnErr result (self.new ≡ self.old) }
+        ensures refused { result_err result ≡ at_server (near_refusal n level) self.old }
     {
         match &mut self.side {
             Side::Server(conn) => server::near(conn, n, level),
@@ -172,6 +180,7 @@ impl Link {
     pub fn changed(&mut self, n: u32, bits: u32) -> Result<(), Refusal>
         ensures told { OnOk result (DoesAtServer self.old (Scoped (Absorb n bits)) self.new) }
         ensures unchanged { OnErr result (self.new ≡ self.old) }
+        ensures refused { result_err result ≡ at_server (changed_refusal n bits) self.old }
     {
         match &mut self.side {
             Side::Server(conn) => server::changed(conn, n, bits),
@@ -182,6 +191,7 @@ impl Link {
     /// Whether the client has the newest value of a field that was noted as changed.
     pub fn settled(&self, n: u32, field: u32) -> Result<bool, Refusal>
         ensures told { IfOk result (IsSettled self.now n field) }
+        ensures refused { result_err result ≡ at_server (settled_refusal n field) self.now }
     {
         match &self.side {
             Side::Server(conn) => server::settled(conn, n, field),
@@ -192,6 +202,7 @@ impl Link {
     /// The slot that a period holds; `None` where it holds none.
     pub fn slot(&self, n: u32) -> Result<Option<u8>, Refusal>
         ensures told { IfOk result (HasSlot self.now n) }
+        ensures refused { result_err result ≡ at_server (slot_refusal n) self.now }
     {
         match &self.side {
             Side::Server(conn) => server::slot(conn, n),
@@ -202,6 +213,7 @@ impl Link {
     /// The slot of the client's own object; `None` where it has none.
     pub fn control(&self) -> Result<Option<u8>, Refusal>
         ensures told { IfOk result (HasControl self.now) }
+        ensures refused { result_err result ≡ at_client (λ c. None) self.now }
     {
         match &self.side {
             Side::Server(_) => Err(Refusal::WrongEnd),
@@ -212,9 +224,10 @@ impl Link {
     /// Plans the next data packet where one may be sent, and notes the values that it asks for; gives how many these are. `None`
     /// where the next datagram asks for nothing.
     pub fn ask(&mut self, asks: &mut [Ask]) -> Result<Option<usize>, Refusal>
-        ensures plans { IfOk result (λ found. IfSome found (λ count. Plans self.old self.new)) }
-        ensures none { IfOk result (λ found. IsNone found → self.new ≡ self.old) }
+        ensures plans { IfOk result (λ found. IfSome found (λ count. Plans self.old (take count asks.new) self.new)) }
+        ensures none { IfOk result (λ found. IsNone found → AsksNothing self.old self.new) }
         ensures unchanged { OnErr result (self.new ≡ self.old) }
+        ensures refused { result_err result ≡ ask_refusal (length asks.old) self.old }
     {
         match &mut self.side {
             Side::Server(conn) => server::ask(conn, asks),
@@ -228,6 +241,7 @@ impl Link {
         ensures ping { (count : ℕ) → result ≡ Ok (Packed.Ping count) → Pings self.old (take count place.new) self.new }
         ensures nothing { result ≡ Ok Packed.Nothing → SendsNothing self.old self.new }
         ensures unchanged { OnErr result (self.new ≡ self.old) }
+        ensures refused { PackRefused values.now (length place.old) self.old (λ r. result_err result ≡ r) }
     {
         match &mut self.side {
             Side::Server(conn) => server::pack(conn, values, place),
@@ -239,6 +253,7 @@ impl Link {
     pub fn arrive(&mut self, bytes: &[u8], room: u32) -> Result<u32, Refusal>
         ensures taken { IfOk result (λ moves. Takes self.old bytes.now room moves self.new) }
         ensures unchanged { OnErr result (self.new ≡ self.old) }
+        ensures refused { ArrivalRefused bytes.now room self.old (λ r. result_err result ≡ r) }
     {
         match &mut self.side {
             Side::Server(conn) => server::arrive(conn, bytes, room),
@@ -251,6 +266,7 @@ impl Link {
         ensures posted { OnOk result (Posts self.old class bytes.now self.new) }
         ensures number { class ≡ Guaranteed → IfOk result (IsNextEvent self.old) }
         ensures unchanged { OnErr result (self.new ≡ self.old) }
+        ensures refused { PostRefused bytes.now class self.old (λ r. result_err result ≡ r) }
     {
         match &mut self.side {
             Side::Server(conn) => server::post(conn, bytes, class),
@@ -263,6 +279,7 @@ impl Link {
         ensures popped { IfOk result (λ found. IfSome found (λ p. Pops self.old p.class (take p.count place.new) self.new)) }
         ensures none { IfOk result (λ found. IsNone found → HasNoEvent self.old self.new) }
         ensures unchanged { OnErr result (self.new ≡ self.old) }
+        ensures refused { result_err result ≡ room_refusal MAX_EVENT_BYTES (length place.old) }
     {
         match &mut self.side {
             Side::Server(conn) => server::pop(conn, place),
@@ -275,6 +292,7 @@ impl Link {
         ensures told { let s = step.now in
             IfOk result (λ n. Samples self.old s.dx s.dy (not (nat_eq s.fire 0)) (not (nat_eq s.act 0)) n self.new) }
         ensures unchanged { OnErr result (self.new ≡ self.old) }
+        ensures refused { SampleRefused step.now.dx step.now.dy self.old (λ r. result_err result ≡ r) }
     {
         match &mut self.side {
             Side::Server(_) => Err(Refusal::WrongEnd),
@@ -283,7 +301,10 @@ impl Link {
     }
 
     /// Lists the moves that the last datagram brought; gives how many these are.
-    pub fn moves(&self, place: &mut [StepMade]) -> Result<u32, Refusal> {
+    pub fn moves(&self, place: &mut [StepMade]) -> Result<u32, Refusal>
+        ensures told { IfOk result (λ count. ListsMoves self.now (take count place.new)) }
+        ensures refused { result_err result ≡ at_server (moves_refusal (length place.old)) self.now }
+    {
         match &self.side {
             Side::Server(conn) => server::moves(conn, place),
             Side::Client(_) => Err(Refusal::WrongEnd),
@@ -291,7 +312,10 @@ impl Link {
     }
 
     /// Lists what became of the data packets that the last datagram judged; gives how many these are.
-    pub fn verdicts(&self, place: &mut [Judged]) -> Result<u32, Refusal> {
+    pub fn verdicts(&self, place: &mut [Judged]) -> Result<u32, Refusal>
+        ensures told { IfOk result (λ count. ListsVerdicts self.now (take count place.new)) }
+        ensures refused { result_err result ≡ room_refusal MAX_UNJUDGED_PACKETS (length place.old) }
+    {
         match &self.side {
             Side::Server(conn) => server::verdicts(conn, place),
             Side::Client(end) => client::verdicts(end, place),
@@ -299,7 +323,10 @@ impl Link {
     }
 
     /// Hands over the bytes of a block, at the client of one that came; gives how many these are.
-    pub fn block(&self, number: u32, place: &mut [u8]) -> Result<usize, Refusal> {
+    pub fn block(&self, number: u32, place: &mut [u8]) -> Result<usize, Refusal>
+        ensures told { IfOk result (λ count. HasBlock self.now number (take count place.new)) }
+        ensures refused { BlockRefused number (length place.old) self.now (λ r. result_err result ≡ r) }
+    {
         match &self.side {
             Side::Server(conn) => server::block(conn, number, place),
             Side::Client(end) => client::block(end, number, place),
@@ -317,7 +344,10 @@ impl Link {
     }
 
     /// Lists what the last datagram did to the client's slots; gives how many items these are.
-    pub fn changes(&self, place: &mut [Change]) -> Result<u32, Refusal> {
+    pub fn changes(&self, place: &mut [Change]) -> Result<u32, Refusal>
+        ensures told { IfOk result (λ count. ListsChanges self.now (take count place.new)) }
+        ensures refused { result_err result ≡ at_client (λ c. room_refusal MAX_PACKET_GHOSTS (length place.old)) self.now }
+    {
         match &self.side {
             Side::Server(_) => Err(Refusal::WrongEnd),
             Side::Client(end) => client::changes(end, place),
@@ -325,7 +355,10 @@ impl Link {
     }
 
     /// The least slot from this one on that holds a copy; `None` where there is none.
-    pub fn next_copy(&self, from: u32) -> Result<Option<u8>, Refusal> {
+    pub fn next_copy(&self, from: u32) -> Result<Option<u8>, Refusal>
+        ensures told { IfOk result (IsNextCopy self.now from) }
+        ensures refused { result_err result ≡ at_client (λ c. None) self.now }
+    {
         match &self.side {
             Side::Server(_) => Err(Refusal::WrongEnd),
             Side::Client(end) => Ok(client::next_copy(end, from)),
@@ -333,7 +366,10 @@ impl Link {
     }
 
     /// The copy in a slot, with the values of its fields.
-    pub fn copy(&self, slot: u32, values: &mut [i64]) -> Result<Copied, Refusal> {
+    pub fn copy(&self, slot: u32, values: &mut [i64]) -> Result<Copied, Refusal>
+        ensures told { IfOk result (λ copied. HasCopy self.now slot copied values.new) }
+        ensures refused { CopyRefused slot (length values.old) self.now (λ r. result_err result ≡ r) }
+    {
         match &self.side {
             Side::Server(_) => Err(Refusal::WrongEnd),
             Side::Client(end) => client::copy(end, slot, values),

@@ -1,6 +1,5 @@
 //! Why a call did nothing.
 
-use conn_packing::TooSmall;
 use event_manager::PostFault;
 use move_manager::MoveFault;
 use quantised_fields::KindFault;
@@ -73,12 +72,22 @@ pub enum Refusal {
 }
 
 impl From<NoMemory> for Refusal {
+    ghost use Rattle.std.specs.Prelude.{◌≡◌};
+    ghost use Rattle.tribes_ends.specs.declared.refusal.Refusal.TheVariants as refused;
+
+    ghost from_gives = { λ fault refusal. refusal ≡ refused.NoMemory };
+
     fn from(_: NoMemory) -> Refusal {
         Refusal::NoMemory
     }
 }
 
 impl From<PostFault> for Refusal {
+    ghost use Rattle.std.specs.Prelude.{◌≡◌};
+    ghost use Rattle.tribes_ends.specs.Codes.{post_refusal};
+
+    ghost from_gives = { λ fault refusal. refusal ≡ post_refusal fault };
+
     fn from(fault: PostFault) -> Refusal {
         match fault {
             PostFault::Worn { life } => Refusal::EventsWorn { life },
@@ -88,18 +97,15 @@ impl From<PostFault> for Refusal {
 }
 
 impl From<MoveFault> for Refusal {
+    ghost use Rattle.std.specs.Prelude.{◌≡◌};
+    ghost use Rattle.tribes_ends.specs.Codes.{move_refusal};
+
+    ghost from_gives = { λ fault refusal. refusal ≡ move_refusal fault };
+
     fn from(fault: MoveFault) -> Refusal {
         match fault {
             MoveFault::Worn { life } => Refusal::MovesWorn { life },
             MoveFault::Full { first, last } => Refusal::MovesFull { first, last },
-        }
-    }
-}
-
-impl From<TooSmall> for Refusal {
-    fn from(fault: TooSmall) -> Refusal {
-        Refusal::NoRoom {
-            needed: fault.needed.min(u32::MAX as usize) as u32,
         }
     }
 }

@@ -1,8 +1,9 @@
 //! What an end tells in lists of numbers: moves, copies, what became of packets and of slots.
-ghost use Rattle.std.specs.Prelude.{◌≡◌, ◌≤◌, ◌<◌, ◌*◌, length};
+ghost use Rattle.std.specs.Prelude.{◌≡◌, ◌≤◌, ◌<◌, ◌-◌, ◌^◌, Some, map, length, slice_get, take};
+ghost use Rattle.tribes_ends.specs.Lists.{step_of, judged_of, change_of, received_of};
 
 use stream_manager::Verdicts;
-use tn_types::{Move, Verdict};
+use tn_types::{MAX_PACKET_GHOSTS, MAX_PACKET_MOVES, MAX_UNJUDGED_PACKETS, Move, Verdict};
 use wire_format::GhostItem;
 
 /// A player's move: steps of -8 to 7, and whether he fires and uses (0 or not).
@@ -42,7 +43,9 @@ pub struct Change {
 }
 
 /// The move as numbers.
-fn step_made(m: &Move) -> StepMade {
+fn step_made(m: &Move) -> StepMade
+    ensures { result ≡ step_of m.now }
+{
     StepMade {
         dx: i32::from(m.dx),
         dy: i32::from(m.dy),
@@ -51,39 +54,69 @@ fn step_made(m: &Move) -> StepMade {
     }
 }
 
-/// Puts these moves at the front of the place, as far as there is room.
-pub(crate) fn list_moves(moves: &[Move], place: &mut [StepMade]) {
-    'moves: for (to, m) in place.iter_mut().zip(moves) {
-        *to = step_made(m);
+/// Puts these moves at the front of the place; gives how many these are.
+pub(crate) fn list_moves(moves: &[Move], place: &mut [StepMade]) -> u32
+    requires few { length moves.now ≤ MAX_PACKET_MOVES }
+    requires room { length moves.now ≤ length place.old }
+    ensures { take result place.new ≡ map step_of moves.now }
+{
+    let mut count = 0u32;
+    'moves: for m in moves {
+        place[count as usize] = step_made(m);
+        count += 1;
+    }
+    count
+}
+
+/// What became of a packet, as a number.
+fn received(verdict: Verdict) -> u32
+    ensures { result ≡ received_of verdict }
+{
+    match verdict {
+        Verdict::Received => 1,
+        Verdict::Lost => 0,
     }
 }
 
-/// Puts these verdicts at the front of the place, as far as there is room.
-pub(crate) fn list_verdicts(verdicts: &Verdicts, place: &mut [Judged]) {
-    let mut at = 0u32;
-    'places: for to in place.iter_mut() {
-        let Some((number, verdict)) = verdicts.get(at) else {
-            return;
-        };
-        *to = Judged {
+/// What became of the packet at this place.
+#[tactic(auto, using(crate::proofs::Listing::judged_there, crate::proofs::Listing::not_past))]
+fn judged_at(verdicts: &Verdicts, place: u32) -> Judged
+    requires { place < length verdicts.now }
+    ensures { slice_get (map judged_of verdicts.now) place ≡ Some result }
+{
+    match verdicts.get(place) {
+        Some((number, verdict)) => Judged {
             number,
-            received: u32::from(verdict == Verdict::Received),
-        };
-        at = at.saturating_add(1);
+            received: received(verdict),
+        },
+        None => unreachable!(),
     }
+}
+
+/// Puts these verdicts at the front of the place; gives how many these are.
+pub(crate) fn list_verdicts(verdicts: &Verdicts, place: &mut [Judged]) -> u32
+    requires { MAX_UNJUDGED_PACKETS ≤ length place.old }
+    ensures { take result place.new ≡ map judged_of verdicts.now }
+{
+    let count = verdicts.count();
+    'verdicts: for at in 0..count {
+        place[at as usize] = judged_at(verdicts, at);
+    }
+    count
 }
 
 /// The bits of so many fields.
-fn first_bits(count: usize) -> u32 {
-    if count < 32 {
-        (1 << count) - 1
-    } else {
-        u32::MAX
-    }
+fn first_bits(count: usize) -> u32
+    requires { count < 32 }
+    ensures { result ≡ 2 ^ count - 1 }
+{
+    (1 << count) - 1
 }
 
 /// The item as numbers.
-fn item_change(item: &GhostItem) -> Change {
+fn item_change(item: &GhostItem) -> Change
+    ensures { result ≡ change_of item.now }
+{
     match item {
         GhostItem::Kill { slot } => Change {
             slot: u32::from(*slot),
@@ -103,9 +136,16 @@ fn item_change(item: &GhostItem) -> Change {
     }
 }
 
-/// Puts what these items did at the front of the place, as far as there is room.
-pub(crate) fn list_changes(items: &[GhostItem], place: &mut [Change]) {
-    'items: for (to, item) in place.iter_mut().zip(items) {
-        *to = item_change(item);
+/// Puts what these items did at the front of the place; gives how many these are.
+pub(crate) fn list_changes(items: &[GhostItem], place: &mut [Change]) -> u32
+    requires few { length items.now ≤ MAX_PACKET_GHOSTS }
+    requires room { length items.now ≤ length place.old }
+    ensures { take result place.new ≡ map change_of items.now }
+{
+    let mut count = 0u32;
+    'items: for item in items {
+        place[count as usize] = item_change(item);
+        count += 1;
     }
+    count
 }

@@ -1,12 +1,14 @@
 //! What an end is made with, from lists of numbers.
-ghost use Rattle.std.specs.Prelude.{◌≡◌, ◌≤◌, ◌<◌, length, vec_len, IfOk};
+ghost use Rattle.std.specs.Prelude.{◌≡◌, ◌≤◌, ◌<◌, ◌∷◌, ◌++◌, [], true, false, length, map, vec_len, IfOk};
+ghost use Rattle.std.specs.Result.{result_err};
 ghost use Rattle.stream_manager.specs.Limits.{IsConfig};
+ghost use Rattle.tribes_ends.specs.Making.{config_of, config_refusal, field_of, kinds_of, kinds_refusal, blocks_of, blocks_refusal, IsMadeUnless};
 
 use crate::refusal::Refusal;
 use quantised_fields::{FieldList, FieldSpec, Kind, KindFault, KindTable};
 use std::alloc::Global;
 use stream_manager::{Config, ConfigFault};
-use tn_types::{BlockBytes, MAX_BLOCKS, MAX_KINDS, MAX_LISTED_FIELDS};
+use tn_types::{BlockBytes, MAX_BLOCKS, MAX_KINDS, MAX_LISTED_FIELDS, ShortList};
 
 /// The values of a field, `lo` to `hi`, and the bits in which one travels.
 #[repr(C)]
@@ -37,7 +39,8 @@ pub struct ConfigRow {
 
 /// The number as a byte, or one that stands for none.
 fn narrow(number: u32) -> u8
-    ensures { result < 255 → result ≡ number }
+    ensures same { number < 255 → result ≡ number }
+    ensures most { 255 ≤ number → result ≡ 255 }
 {
     if number < 255 { number as u8 } else { 255 }
 }
@@ -45,8 +48,8 @@ fn narrow(number: u32) -> u8
 /// The configuration of these numbers.
 pub(crate) fn config(row: &ConfigRow) -> Result<Config, Refusal>
     ensures fits { IfOk result IsConfig }
-    ensures value { let r = row.now in
-        IfOk result (λ c. c ≡ record { client = r.client; life = r.life; size = r.size; version = r.version }) }
+    ensures value { IfOk result (λ c. c ≡ config_of row.now) }
+    ensures refused { result_err result ≡ config_refusal row.now }
 {
     match Config::new(narrow(row.client), row.life, row.size, narrow(row.version)) {
         Ok(config) => Ok(config),
@@ -62,30 +65,28 @@ pub(crate) fn config(row: &ConfigRow) -> Result<Config, Refusal>
 /// The list of these fields.
 fn field_list(rows: &[FieldRow]) -> FieldList
     requires { length rows.now ≤ MAX_LISTED_FIELDS }
+    ensures { result ≡ map field_of rows.now }
 {
     let mut list = FieldList::new();
     'rows: for row in rows {
-        if !list.is_full() {
-            list.push(FieldSpec {
-                lo: row.lo,
-                hi: row.hi,
-                bits: row.bits,
-            });
-        }
+        list.push(FieldSpec {
+            lo: row.lo,
+            hi: row.hi,
+            bits: row.bits,
+        });
     }
     list
 }
 
 /// The table of these kinds, whose fields stand one after the other.
-pub(crate) fn kind_table(
-    alloc: Global,
-    kinds: &[KindRow],
-    fields: &[FieldRow],
-) -> Result<KindTable, Refusal> {
+pub(crate) fn kind_table(kinds: &[KindRow], fields: &[FieldRow]) -> Result<KindTable, Refusal>
+    ensures table { IfOk result (λ table. table ≡ kinds_of kinds.now fields.now) }
+    ensures refused { result_err result ≡ kinds_refusal kinds.now fields.now }
+{
     if kinds.len() > MAX_KINDS {
         return Err(Refusal::BadKinds(KindFault::TooManyKinds));
     }
-    let mut list: Vec<Kind> = Vec::new(alloc);
+    let mut list: ShortList<Kind, MAX_KINDS> = ShortList::new();
     let mut rest = fields;
     'kinds: for kind in kinds {
         let count = kind.fields as usize;
@@ -94,14 +95,11 @@ pub(crate) fn kind_table(
         }
         let (own, later) = rest.split_at(count);
         rest = later;
-        let made = Kind {
+        list.push(Kind {
             fields: field_list(own),
             weight: kind.weight,
             always: false,
-        };
-        if list.push(made).is_err() {
-            return Err(Refusal::NoMemory);
-        }
+        });
     }
     if !rest.is_empty() {
         return Err(Refusal::BadFieldCounts);
@@ -112,6 +110,21 @@ pub(crate) fn kind_table(
     }
 }
 
+/// Appends a block, as long as memory was to be had; tells whether it still is.
+fn keep(list: &mut Vec<BlockBytes>, room: bool, block: BlockBytes) -> bool
+    ensures room { result ≡ true → room ≡ true }
+    ensures kept { result ≡ true → list.new.items ≡ list.old.items ++ block ∷ [] }
+{
+    if room {
+        match list.push(block) {
+            Ok(()) => true,
+            Err(_) => false,
+        }
+    } else {
+        false
+    }
+}
+
 /// The blocks of these lengths, at most 64, whose bytes stand one after the other.
 pub(crate) fn block_list(
     alloc: Global,
@@ -119,8 +132,15 @@ pub(crate) fn block_list(
     lengths: &[u32],
 ) -> Result<Vec<BlockBytes>, Refusal>
     ensures few { IfOk result (λ list. vec_len list ≤ MAX_BLOCKS) }
+    ensures blocks { IfOk result (λ list. list.items ≡ blocks_of bytes.now lengths.now) }
+    ensures refused { IsMadeUnless (blocks_refusal bytes.now lengths.now) result }
 {
+    if lengths.len() > MAX_BLOCKS {
+        return Err(Refusal::BadBlocks);
+    }
     let mut list: Vec<BlockBytes> = Vec::new(alloc);
+    // want of memory is told after all that may be wrong
+    let mut room = true;
     let mut rest = bytes;
     'lengths: for number in lengths {
         let count = *number as usize;
@@ -132,12 +152,14 @@ pub(crate) fn block_list(
         let Some(block) = BlockBytes::from_slice(own) else {
             return Err(Refusal::BadBlocks);
         };
-        if list.push(block).is_err() {
-            return Err(Refusal::NoMemory);
-        }
+        room = keep(&mut list, room, block);
     }
-    if !rest.is_empty() || list.len() > MAX_BLOCKS {
+    if !rest.is_empty() {
         return Err(Refusal::BadBlocks);
     }
-    Ok(list)
+    if room {
+        Ok(list)
+    } else {
+        Err(Refusal::NoMemory)
+    }
 }

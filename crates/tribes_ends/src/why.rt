@@ -1,6 +1,6 @@
 //! A refusal as numbers.
 ghost use Rattle.std.specs.Prelude.{◌≡◌, true};
-ghost use Rattle.tribes_ends.specs.Codes.{is_refusal};
+ghost use Rattle.tribes_ends.specs.Codes.{is_refusal, kinds_why, bits_why, ghost_why, server_why, client_why, why_of};
 
 use crate::refusal::Refusal;
 use event_manager::PostFault;
@@ -31,7 +31,7 @@ fn told(code: i32, first: u32, second: u32) -> Why
 }
 
 fn kinds_why(fault: KindFault) -> Why
-    ensures { is_refusal result.code ≡ true }
+    ensures { result ≡ kinds_why fault }
 {
     match fault {
         KindFault::TooManyKinds => told(-20, 0, 0),
@@ -44,7 +44,7 @@ fn kinds_why(fault: KindFault) -> Why
 }
 
 fn bits_why(fault: BitsFault) -> Why
-    ensures { is_refusal result.code ≡ true }
+    ensures { result ≡ bits_why fault }
 {
     match fault.cause {
         BitsCause::Short => told(-40, fault.place, 0),
@@ -61,7 +61,7 @@ fn bits_why(fault: BitsFault) -> Why
 }
 
 fn ghost_why(fault: GhostFault) -> Why
-    ensures { is_refusal result.code ≡ true }
+    ensures { result ≡ ghost_why fault }
 {
     match fault {
         GhostFault::Twice { slot } => told(-60, u32::from(slot), 0),
@@ -73,7 +73,7 @@ fn ghost_why(fault: GhostFault) -> Why
 }
 
 fn server_why(fault: ArriveFault) -> Why
-    ensures { is_refusal result.code ≡ true }
+    ensures { result ≡ server_why fault }
 {
     match fault {
         ArriveFault::Bits(fault) => bits_why(fault),
@@ -86,7 +86,7 @@ fn server_why(fault: ArriveFault) -> Why
 }
 
 fn client_why(fault: ClientFault) -> Why
-    ensures { is_refusal result.code ≡ true }
+    ensures { result ≡ client_why fault }
 {
     match fault {
         ClientFault::Bits(fault) => bits_why(fault),
@@ -103,7 +103,8 @@ fn client_why(fault: ClientFault) -> Why
 impl Refusal {
     /// The refusal as numbers.
     pub fn why(&self) -> Why
-        ensures { is_refusal result.code ≡ true }
+        ensures below { is_refusal result.code ≡ true }
+        ensures value { result ≡ why_of self.now }
     {
         match *self {
             Refusal::NoMemory => told(-3, 0, 0),

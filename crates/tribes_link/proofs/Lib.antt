@@ -1,3 +1,4 @@
 pub mod Values
 pub mod HeldValues
 pub mod Below
+pub mod MadeEnds

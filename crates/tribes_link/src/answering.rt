@@ -1,5 +1,8 @@
 //! What each export ends with: the end goes back into its handle, and the answer is a number.
 ghost use Rattle.std.specs.Prelude.{◌≡◌, ◌↔◌, pos, Ok, IsOk, IfOk, Some, None};
+ghost use Rattle.std.specs.Result.{result_err};
+ghost use Rattle.tribes_ends.specs.Codes.{code_of};
+ghost use Rattle.tribes_link.specs.Answers.{Answered};
 
 use crate::end::End;
 use tribes_ends::{Link, Refusal};
@@ -19,6 +22,7 @@ pub(crate) fn refused(link: &mut Link, refusal: Refusal) -> i32
     ensures not_zero { result ≡ pos 0 → ⊥ }
     ensures not_one { result ≡ pos 1 → ⊥ }
     ensures not_two { result ≡ pos 2 → ⊥ }
+    ensures code { result ≡ code_of refusal }
     ensures unchanged { link.new ≡ link.old }
 {
     link.refuse(refusal)
@@ -27,6 +31,7 @@ pub(crate) fn refused(link: &mut Link, refusal: Refusal) -> i32
 /// Puts the end back, and answers 0 or the refusal's code.
 pub(crate) fn finish(end: &mut End, link: Box<Link>, done: Result<(), Refusal>) -> i32
     ensures code { (result ≡ pos 0) ↔ IsOk done }
+    ensures answered { Answered 0 result (result_err done) }
     ensures held { end.new.held.value ≡ Some link.value }
 {
     let mut link = link;
@@ -46,6 +51,7 @@ pub(crate) fn finish_with(
     out: &mut u32,
 ) -> i32
     ensures code { (result ≡ pos 0) ↔ IsOk done }
+    ensures answered { Answered 0 result (result_err done) }
     ensures number { IfOk done (λ n. out.new ≡ n) }
     ensures held { end.new.held.value ≡ Some link.value }
 {
@@ -68,6 +74,9 @@ pub(crate) fn finish_count(
     done: Result<usize, Refusal>,
     out: &mut usize,
 ) -> i32
+    ensures code { (result ≡ pos 0) ↔ IsOk done }
+    ensures answered { Answered 0 result (result_err done) }
+    ensures number { IfOk done (λ n. out.new ≡ n) }
     ensures held { end.new.held.value ≡ Some link.value }
 {
     let mut link = link;
@@ -91,6 +100,7 @@ pub(crate) fn finish_maybe(
 ) -> i32
     ensures some { result ≡ pos 1 → done ≡ Ok (Some out.new) }
     ensures none { result ≡ pos 0 → done ≡ Ok None }
+    ensures answered { Answered 1 result (result_err done) }
     ensures held { end.new.held.value ≡ Some link.value }
 {
     let mut link = link;

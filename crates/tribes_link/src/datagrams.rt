@@ -1,6 +1,8 @@
 //! Datagrams: the next one planned and made, and one that came.
-ghost use Rattle.std.specs.Prelude.{◌≡◌, pos, take};
-ghost use Rattle.tribes_ends.specs.Sides.{Takes, Plans, Sends, Pings, SendsNothing};
+ghost use Rattle.std.specs.Prelude.{◌≡◌, pos, length, take};
+ghost use Rattle.tribes_ends.specs.Refusals.{ask_refusal, PackRefused, ArrivalRefused};
+ghost use Rattle.tribes_ends.specs.Sides.{Takes, Plans, AsksNothing, Sends, Pings, SendsNothing};
+ghost use Rattle.tribes_link.specs.Answers.{Answered, AnswersBy};
 ghost use Rattle.tribes_link.specs.Behind.{Behind};
 
 use crate::answering::{NO_END, finish_with, refused};
@@ -16,7 +18,11 @@ pub extern "C" fn tribes_plan(
     asks: &mut [Ask],
     count: &mut usize,
 ) -> i32
-    ensures plans { result ≡ pos 1 → Behind Plans end.old.held.value end.new.held.value }
+    ensures plans { result ≡ pos 1
+        → Behind (λ old new. Plans old (take count.new asks.new) new) end.old.held.value end.new.held.value }
+    ensures none { result ≡ pos 0 → Behind AsksNothing end.old.held.value end.new.held.value }
+    ensures none_asked { result ≡ pos 0 → count.new ≡ 0 }
+    ensures answer { AnswersBy end.old.state end.old.held.value result (λ side. Answered 1 result (ask_refusal (length asks.old) side)) }
     ensures unchanged { (result ≡ pos 1 → ⊥) → end.new.held.value ≡ end.old.held.value }
 {
     match end.take(alloc) {
@@ -54,6 +60,8 @@ pub extern "C" fn tribes_pack(
     ensures ping { result ≡ pos 1
         → Behind (λ old new. Pings old (take count.new bytes.new) new) end.old.held.value end.new.held.value }
     ensures nothing { result ≡ pos 0 → Behind SendsNothing end.old.held.value end.new.held.value }
+    ensures answer { AnswersBy end.old.state end.old.held.value result
+        (λ side. PackRefused values.now (length bytes.old) side (Answered 2 result)) }
     ensures unchanged { (result ≡ pos 0 → ⊥) → (result ≡ pos 1 → ⊥) → (result ≡ pos 2 → ⊥)
         → end.new.held.value ≡ end.old.held.value }
 {
@@ -93,6 +101,8 @@ pub extern "C" fn tribes_arrive(
 ) -> i32
     ensures taken { result ≡ pos 0
         → Behind (λ old new. Takes old bytes.now room moves.new new) end.old.held.value end.new.held.value }
+    ensures answer { AnswersBy end.old.state end.old.held.value result
+        (λ side. ArrivalRefused bytes.now room side (Answered 0 result)) }
     ensures unchanged { (result ≡ pos 0 → ⊥) → end.new.held.value ≡ end.old.held.value }
 {
     match end.take(alloc) {

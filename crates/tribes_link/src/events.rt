@@ -1,7 +1,11 @@
 //! Events both ways, and moves from the client to the server.
-ghost use Rattle.std.specs.Prelude.{◌≡◌, pos, not, nat_eq, take};
+ghost use Rattle.std.specs.Prelude.{◌≡◌, pos, not, nat_eq, length, take};
 ghost use Rattle.tn_types.specs.declared.choices.Class.TheVariants.{Guaranteed, Loose};
+ghost use Rattle.tn_types.specs.declared.limits.TheConstants.{MAX_EVENT_BYTES};
+ghost use Rattle.tribes_ends.specs.Lists.{ListsMoves};
+ghost use Rattle.tribes_ends.specs.Refusals.{at_server, room_refusal, moves_refusal, PostRefused, SampleRefused};
 ghost use Rattle.tribes_ends.specs.Sides.{Posts, IsNextEvent, Pops, HasNoEvent, Samples};
+ghost use Rattle.tribes_link.specs.Answers.{Answered, AnswersBy};
 ghost use Rattle.tribes_link.specs.Behind.{Behind, Tells};
 
 use crate::answering::{NO_END, finish_with, refused};
@@ -36,6 +40,10 @@ pub extern "C" fn tribes_post(
     ensures guaranteed { (guaranteed ≡ 0 → ⊥) → result ≡ pos 0
         → Behind (λ old new. Posts old Guaranteed bytes.now new) end.old.held.value end.new.held.value }
     ensures number { (guaranteed ≡ 0 → ⊥) → result ≡ pos 0 → Tells (λ old. IsNextEvent old number.new) end.old.held.value }
+    ensures answer_loose { guaranteed ≡ 0 → AnswersBy end.old.state end.old.held.value result
+        (λ side. PostRefused bytes.now Loose side (Answered 0 result)) }
+    ensures answer_guaranteed { (guaranteed ≡ 0 → ⊥) → AnswersBy end.old.state end.old.held.value result
+        (λ side. PostRefused bytes.now Guaranteed side (Answered 0 result)) }
     ensures unchanged { (result ≡ pos 0 → ⊥) → end.new.held.value ≡ end.old.held.value }
 {
     match end.take(alloc) {
@@ -61,6 +69,8 @@ pub extern "C" fn tribes_event(
     ensures loose { result ≡ pos 1
         → Behind (λ old new. Pops old Loose (take count.new bytes.new) new) end.old.held.value end.new.held.value }
     ensures none { result ≡ pos 0 → Behind HasNoEvent end.old.held.value end.new.held.value }
+    ensures answer { AnswersBy end.old.state end.old.held.value result
+        (λ side. Answered 2 result (room_refusal MAX_EVENT_BYTES (length bytes.old))) }
     ensures unchanged { (result ≡ pos 0 → ⊥) → (result ≡ pos 1 → ⊥) → (result ≡ pos 2 → ⊥)
         → end.new.held.value ≡ end.old.held.value }
 {
@@ -103,6 +113,8 @@ pub extern "C" fn tribes_sample(
     ensures told { let s = step.now in result ≡ pos 0
         → Behind (λ old new. Samples old s.dx s.dy (not (nat_eq s.fire 0)) (not (nat_eq s.act 0)) number.new new)
         end.old.held.value end.new.held.value }
+    ensures answer { AnswersBy end.old.state end.old.held.value result
+        (λ side. SampleRefused step.now.dx step.now.dy side (Answered 0 result)) }
     ensures unchanged { (result ≡ pos 0 → ⊥) → end.new.held.value ≡ end.old.held.value }
 {
     match end.take(alloc) {
@@ -123,6 +135,9 @@ pub extern "C" fn tribes_moves(
     steps: &mut [StepMade],
     count: &mut u32,
 ) -> i32
+    ensures told { result ≡ pos 0 → Tells (λ side. ListsMoves side (take count.new steps.new)) end.old.held.value }
+    ensures answer { AnswersBy end.old.state end.old.held.value result
+        (λ side. Answered 0 result (at_server (moves_refusal (length steps.old)) side)) }
     ensures unchanged { end.new.held.value ≡ end.old.held.value }
 {
     match end.take(alloc) {

@@ -1,6 +1,9 @@
 //! Making an end, freeing it, and asking why a call did nothing.
-ghost use Rattle.std.specs.Prelude.{◌≡◌, ◌↔◌, pos, IsOk, IsSome, IfOk, IfSome, Some};
+ghost use Rattle.std.specs.Prelude.{◌≡◌, ◌⊎◌, ◌↔◌, pos, IsOk, IsSome, IfOk, IfErr, OnOk, IfSome, Some};
+ghost use Rattle.tribes_ends.specs.Codes.{code_of, why_of};
+ghost use Rattle.tribes_ends.specs.Making.{config_of, kinds_of, terms_from, server_refusal, client_refusal};
 ghost use Rattle.tribes_ends.specs.Sides.{BeginsAtServer, BeginsAtClient};
+ghost use Rattle.tribes_link.specs.Answers.{AnswersBy, IsMade};
 
 use crate::answering::{HAS_END, NO_END, NO_MEMORY};
 use crate::end::{End, OPEN};
@@ -24,6 +27,8 @@ fn begin(alloc: Global, end: &mut End, made: Result<Link, Refusal>, reason: &mut
     ensures begun { result ≡ pos 0 → IfOk made (λ link. end.new.held.value ≡ Some link) }
     ensures unchanged { (result ≡ pos 0 → ⊥) → end.new ≡ end.old }
     ensures made { result ≡ pos 0 → IsOk made }
+    ensures answer { OnOk made ((result ≡ pos 0) ⊎ (result ≡ NO_MEMORY)) }
+    ensures refused { IfErr made (λ r. (result ≡ code_of r) × (reason.new ≡ why_of r)) }
 {
     match made {
         Ok(link) => match Box::new(alloc, link) {
@@ -56,9 +61,12 @@ pub extern "C" fn tribes_server(
     lengths: &[u32],
     reason: &mut Why,
 ) -> i32
-    ensures begins { let r = config.now in result ≡ pos 0 → IfSome end.new.held.value
-        (BeginsAtServer (record { client = r.client; life = r.life; size = r.size; version = r.version })) }
+    ensures begins { result ≡ pos 0 → IfSome end.new.held.value
+        (BeginsAtServer (terms_from config.now kinds.now fields.now bytes.now lengths.now)) }
     ensures some { result ≡ pos 0 → IsSome end.new.held.value }
+    ensures has_end { end.old.state ≡ OPEN → result ≡ HAS_END }
+    ensures answer { (end.old.state ≡ OPEN → ⊥)
+        → IsMade (server_refusal config.now kinds.now fields.now bytes.now lengths.now) result reason.new }
     ensures unchanged { (result ≡ pos 0 → ⊥) → end.new ≡ end.old }
 {
     if end.is_open() {
@@ -78,9 +86,10 @@ pub extern "C" fn tribes_client(
     fields: &[FieldRow],
     reason: &mut Why,
 ) -> i32
-    ensures begins { let r = config.now in result ≡ pos 0 → IfSome end.new.held.value
-        (BeginsAtClient (record { client = r.client; life = r.life; size = r.size; version = r.version })) }
+    ensures begins { result ≡ pos 0 → IfSome end.new.held.value (BeginsAtClient (config_of config.now) (kinds_of kinds.now fields.now)) }
     ensures some { result ≡ pos 0 → IsSome end.new.held.value }
+    ensures has_end { end.old.state ≡ OPEN → result ≡ HAS_END }
+    ensures answer { (end.old.state ≡ OPEN → ⊥) → IsMade (client_refusal config.now kinds.now fields.now) result reason.new }
     ensures unchanged { (result ≡ pos 0 → ⊥) → end.new ≡ end.old }
 {
     if end.is_open() {
@@ -94,6 +103,7 @@ pub extern "C" fn tribes_client(
 #[unsafe(no_mangle)]
 pub extern "C" fn tribes_free(alloc: Global, end: &mut End) -> i32
     ensures freed { (result ≡ pos 0) ↔ (end.old.state ≡ OPEN) }
+    ensures closed { (end.old.state ≡ OPEN → ⊥) → result ≡ NO_END }
     ensures empty { end.new.state ≡ OPEN → ⊥ }
 {
     match end.take(alloc) {
@@ -105,6 +115,7 @@ pub extern "C" fn tribes_free(alloc: Global, end: &mut End) -> i32
 /// Tells why the last call that did nothing did nothing.
 #[unsafe(no_mangle)]
 pub extern "C" fn tribes_why(alloc: Global, end: &mut End, reason: &mut Why) -> i32
+    ensures answer { AnswersBy end.old.state end.old.held.value result (λ side. result ≡ pos 0) }
     ensures unchanged { end.new.held.value ≡ end.old.held.value }
 {
     match end.take(alloc) {

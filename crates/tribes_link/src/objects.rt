@@ -1,7 +1,9 @@
 //! Objects: at the server what is shown, and at the client which of its copies is its own.
 ghost use Rattle.std.specs.Prelude.{◌≡◌, pos, true, false, not, nat_eq, Some, None};
 ghost use Rattle.stream_manager.specs.Server.{Scoped, Show, Hide, Near, Absorb};
+ghost use Rattle.tribes_ends.specs.Refusals.{at_server, at_client, show_refusal, hide_refusal, near_refusal, changed_refusal, settled_refusal, slot_refusal};
 ghost use Rattle.tribes_ends.specs.Sides.{DoesAtServer, IsNextPeriod, IsSettled, HasSlot, HasControl};
+ghost use Rattle.tribes_link.specs.Answers.{Answered, AnswersBy};
 ghost use Rattle.tribes_link.specs.Behind.{Behind, Tells};
 
 use crate::answering::{NO_END, finish, finish_maybe, finish_with, refused};
@@ -25,6 +27,8 @@ pub extern "C" fn tribes_show(alloc: Global, end: &mut End, object: &Object, n: 
         → Behind (λ old new. DoesAtServer old (Scoped (Show o.kind o.block o.level (not (nat_eq o.control 0)))) new)
         end.old.held.value end.new.held.value }
     ensures number { result ≡ pos 0 → Tells (λ old. IsNextPeriod old n.new) end.old.held.value }
+    ensures answer { let o = object.now in AnswersBy end.old.state end.old.held.value result
+        (λ side. Answered 0 result (at_server (show_refusal o.kind o.block o.level (not (nat_eq o.control 0))) side)) }
     ensures unchanged { (result ≡ pos 0 → ⊥) → end.new.held.value ≡ end.old.held.value }
 {
     match end.take(alloc) {
@@ -42,6 +46,7 @@ pub extern "C" fn tribes_show(alloc: Global, end: &mut End, object: &Object, n: 
 pub extern "C" fn tribes_hide(alloc: Global, end: &mut End, n: u32) -> i32
     ensures told { result ≡ pos 0
         → Behind (λ old new. DoesAtServer old (Scoped (Hide n)) new) end.old.held.value end.new.held.value }
+    ensures answer { AnswersBy end.old.state end.old.held.value result (λ side. Answered 0 result (at_server (hide_refusal n) side)) }
     ensures unchanged { (result ≡ pos 0 → ⊥) → end.new.held.value ≡ end.old.held.value }
 {
     match end.take(alloc) {
@@ -59,6 +64,7 @@ pub extern "C" fn tribes_hide(alloc: Global, end: &mut End, n: u32) -> i32
 pub extern "C" fn tribes_near(alloc: Global, end: &mut End, n: u32, level: u32) -> i32
     ensures told { result ≡ pos 0
         → Behind (λ old new. DoesAtServer old (Scoped (Near n level)) new) end.old.held.value end.new.held.value }
+    ensures answer { AnswersBy end.old.state end.old.held.value result (λ side. Answered 0 result (at_server (near_refusal n level) side)) }
     ensures unchanged { (result ≡ pos 0 → ⊥) → end.new.held.value ≡ end.old.held.value }
 {
     match end.take(alloc) {
@@ -76,6 +82,7 @@ pub extern "C" fn tribes_near(alloc: Global, end: &mut End, n: u32, level: u32) 
 pub extern "C" fn tribes_changed(alloc: Global, end: &mut End, n: u32, bits: u32) -> i32
     ensures told { result ≡ pos 0
         → Behind (λ old new. DoesAtServer old (Scoped (Absorb n bits)) new) end.old.held.value end.new.held.value }
+    ensures answer { AnswersBy end.old.state end.old.held.value result (λ side. Answered 0 result (at_server (changed_refusal n bits) side)) }
     ensures unchanged { (result ≡ pos 0 → ⊥) → end.new.held.value ≡ end.old.held.value }
 {
     match end.take(alloc) {
@@ -93,6 +100,7 @@ pub extern "C" fn tribes_changed(alloc: Global, end: &mut End, n: u32, bits: u32
 pub extern "C" fn tribes_settled(alloc: Global, end: &mut End, n: u32, field: u32) -> i32
     ensures settled { result ≡ pos 1 → Tells (λ side. IsSettled side n field true) end.old.held.value }
     ensures not_settled { result ≡ pos 0 → Tells (λ side. IsSettled side n field false) end.old.held.value }
+    ensures answer { AnswersBy end.old.state end.old.held.value result (λ side. Answered 1 result (at_server (settled_refusal n field) side)) }
     ensures unchanged { end.new.held.value ≡ end.old.held.value }
 {
     match end.take(alloc) {
@@ -115,6 +123,7 @@ pub extern "C" fn tribes_settled(alloc: Global, end: &mut End, n: u32, field: u3
 pub extern "C" fn tribes_slot(alloc: Global, end: &mut End, n: u32, slot: &mut u32) -> i32
     ensures holds { result ≡ pos 1 → Tells (λ side. HasSlot side n (Some slot.new)) end.old.held.value }
     ensures holds_none { result ≡ pos 0 → Tells (λ side. HasSlot side n None) end.old.held.value }
+    ensures answer { AnswersBy end.old.state end.old.held.value result (λ side. Answered 1 result (at_server (slot_refusal n) side)) }
     ensures unchanged { end.new.held.value ≡ end.old.held.value }
 {
     match end.take(alloc) {
@@ -131,6 +140,7 @@ pub extern "C" fn tribes_slot(alloc: Global, end: &mut End, n: u32, slot: &mut u
 pub extern "C" fn tribes_control(alloc: Global, end: &mut End, slot: &mut u32) -> i32
     ensures holds { result ≡ pos 1 → Tells (λ side. HasControl side (Some slot.new)) end.old.held.value }
     ensures holds_none { result ≡ pos 0 → Tells (λ side. HasControl side None) end.old.held.value }
+    ensures answer { AnswersBy end.old.state end.old.held.value result (λ side. Answered 1 result (at_client (λ c. None) side)) }
     ensures unchanged { end.new.held.value ≡ end.old.held.value }
 {
     match end.take(alloc) {

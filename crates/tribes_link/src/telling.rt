@@ -1,6 +1,10 @@
 //! What an end tells: counts, verdicts, blocks, copies and what changed of them. No call here changes the end.
-ghost use Rattle.std.specs.Prelude.{◌≡◌, pos};
+ghost use Rattle.std.specs.Prelude.{◌≡◌, pos, Some, None, length, take};
+ghost use Rattle.tn_types.specs.declared.limits.TheConstants.{MAX_PACKET_GHOSTS, MAX_UNJUDGED_PACKETS};
+ghost use Rattle.tribes_ends.specs.Lists.{ListsVerdicts, ListsChanges, HasBlock, IsNextCopy, HasCopy};
+ghost use Rattle.tribes_ends.specs.Refusals.{at_client, room_refusal, BlockRefused, CopyRefused};
 ghost use Rattle.tribes_ends.specs.Sides.{AreCounts};
+ghost use Rattle.tribes_link.specs.Answers.{Answered, AnswersBy};
 ghost use Rattle.tribes_link.specs.Behind.{Tells};
 
 use crate::answering::{NO_END, finish_count, finish_maybe, finish_with, refused};
@@ -12,6 +16,7 @@ use tribes_ends::{Change, Copied, Counts, Judged};
 #[unsafe(no_mangle)]
 pub extern "C" fn tribes_counts(alloc: Global, end: &mut End, counts: &mut Counts) -> i32
     ensures told { result ≡ pos 0 → Tells (λ side. AreCounts side counts.new) end.old.held.value }
+    ensures answer { AnswersBy end.old.state end.old.held.value result (λ side. result ≡ pos 0) }
     ensures unchanged { end.new.held.value ≡ end.old.held.value }
 {
     match end.take(alloc) {
@@ -32,6 +37,8 @@ pub extern "C" fn tribes_verdicts(
     judged: &mut [Judged],
     count: &mut u32,
 ) -> i32
+    ensures told { result ≡ pos 0 → Tells (λ side. ListsVerdicts side (take count.new judged.new)) end.old.held.value }
+    ensures answer { AnswersBy end.old.state end.old.held.value result (λ side. Answered 0 result (room_refusal MAX_UNJUDGED_PACKETS (length judged.old))) }
     ensures unchanged { end.new.held.value ≡ end.old.held.value }
 {
     match end.take(alloc) {
@@ -52,6 +59,8 @@ pub extern "C" fn tribes_block(
     bytes: &mut [u8],
     count: &mut usize,
 ) -> i32
+    ensures told { result ≡ pos 0 → Tells (λ side. HasBlock side number (take count.new bytes.new)) end.old.held.value }
+    ensures answer { AnswersBy end.old.state end.old.held.value result (λ side. BlockRefused number (length bytes.old) side (Answered 0 result)) }
     ensures unchanged { end.new.held.value ≡ end.old.held.value }
 {
     match end.take(alloc) {
@@ -71,6 +80,9 @@ pub extern "C" fn tribes_changes(
     changes: &mut [Change],
     count: &mut u32,
 ) -> i32
+    ensures told { result ≡ pos 0 → Tells (λ side. ListsChanges side (take count.new changes.new)) end.old.held.value }
+    ensures answer { AnswersBy end.old.state end.old.held.value result
+        (λ side. Answered 0 result (at_client (λ c. room_refusal MAX_PACKET_GHOSTS (length changes.old)) side)) }
     ensures unchanged { end.new.held.value ≡ end.old.held.value }
 {
     match end.take(alloc) {
@@ -85,6 +97,9 @@ pub extern "C" fn tribes_changes(
 /// Answers 1 with the least slot from this one on that holds a copy, or 0.
 #[unsafe(no_mangle)]
 pub extern "C" fn tribes_next_copy(alloc: Global, end: &mut End, from: u32, slot: &mut u32) -> i32
+    ensures found { result ≡ pos 1 → Tells (λ side. IsNextCopy side from (Some slot.new)) end.old.held.value }
+    ensures found_none { result ≡ pos 0 → Tells (λ side. IsNextCopy side from None) end.old.held.value }
+    ensures answer { AnswersBy end.old.state end.old.held.value result (λ side. Answered 1 result (at_client (λ c. None) side)) }
     ensures unchanged { end.new.held.value ≡ end.old.held.value }
 {
     match end.take(alloc) {
@@ -105,6 +120,8 @@ pub extern "C" fn tribes_copy(
     copied: &mut Copied,
     values: &mut [i64],
 ) -> i32
+    ensures told { result ≡ pos 0 → Tells (λ side. HasCopy side slot copied.new values.new) end.old.held.value }
+    ensures answer { AnswersBy end.old.state end.old.held.value result (λ side. CopyRefused slot (length values.old) side (Answered 0 result)) }
     ensures unchanged { end.new.held.value ≡ end.old.held.value }
 {
     match end.take(alloc) {

@@ -1,0 +1,6 @@
+pub mod Noted
+pub mod Tests
+pub mod Sealing
+pub mod CopiesHeld
+pub mod Listing
+pub mod Passing

@@ -1,0 +1,96 @@
+-- What an end is made with, from lists of numbers: its configuration, its kinds, whose fields stand one after the other, and its
+-- blocks, whose bytes do. And what of these is refused: the first of these tests that fails, in this order, and want of memory after
+-- all of them.
+use Rattle.std.specs.Prelude.{◌≡◌, refl, ℕ, pos, ◌==◌, ◌||◌, not, nat_lt, false, List, [], ◌∷◌, length, map, take, drop, sum, sum_by, if◌then◌else◌, Option, Some, None, Result, Err, IfErr}
+use Rattle.std.specs.List.{list_any}
+use Rattle.std.specs.Option.{option_or, option_map}
+use Rattle.tn_types.specs.declared.limits.TheConstants.{MAX_CLIENTS, MAX_LIFE, MIN_DATAGRAM_BYTES, MAX_DATAGRAM_BYTES, MAX_KINDS, MAX_LISTED_FIELDS, MAX_BLOCKS, MAX_BLOCK_BYTES}
+use Rattle.quantised_fields.specs.declared.field.FieldSpec.{FieldSpec}
+use Rattle.quantised_fields.specs.declared.kind.Kind.{Kind}
+use Rattle.quantised_fields.specs.declared.table.KindFault.TheVariants.{TooManyKinds}
+use Rattle.quantised_fields.specs.Kinds.{table_fault}
+use Rattle.stream_manager.specs.declared.config.Config.{Config}
+use Rattle.stream_manager.specs.Limits.{Terms}
+use Rattle.tribes_ends.specs.declared.tables.ConfigRow.{ConfigRow}
+use Rattle.tribes_ends.specs.declared.tables.FieldRow.{FieldRow}
+use Rattle.tribes_ends.specs.declared.tables.KindRow.{KindRow}
+use Rattle.tribes_ends.specs.declared.refusal.Refusal.{Refusal}
+use Rattle.tribes_ends.specs.declared.refusal.Refusal.TheVariants.{NoMemory, BadClient, BadLife, BadSize, BadVersion, BadKinds, BadFieldCounts, BadBlocks}
+
+-- ---- what is made
+
+abbrev pub config_of : ConfigRow → Config
+config_of r = record { client = r.client; life = r.life; size = r.size; version = r.version }
+
+abbrev pub field_of : FieldRow → FieldSpec
+field_of f = record { lo = f.lo; hi = f.hi; bits = f.bits }
+
+-- a kind with these fields. None is always seen: a caller shows what is in scope
+abbrev pub kind_of : KindRow → List FieldRow → Kind
+kind_of k fields = record { fields = map field_of fields; weight = k.weight; always = false }
+
+-- each kind takes its fields from the front of those that are left
+abbrev pub kinds_of : List KindRow → List FieldRow → List Kind
+kinds_of [] fields = []
+kinds_of (k ∷ kinds) fields = kind_of k (take k.fields fields) ∷ kinds_of kinds (drop k.fields fields)
+
+-- each block takes so many bytes from the front of those that are left
+abbrev pub blocks_of : List ℕ → List ℕ → List (List ℕ)
+blocks_of bytes [] = []
+blocks_of bytes (n ∷ lengths) = take n bytes ∷ blocks_of (drop n bytes) lengths
+
+abbrev pub terms_from : ConfigRow → List KindRow → List FieldRow → List ℕ → List ℕ → Terms
+terms_from r kinds fields bytes lengths =
+    record { config = config_of r; kinds = kinds_of kinds fields; blocks = blocks_of bytes lengths }
+
+-- ---- what is refused
+
+abbrev pub config_refusal : ConfigRow → Option Refusal
+config_refusal r =
+    if not (nat_lt r.client MAX_CLIENTS) then Some (BadClient r.client)
+    else if r.life == 0 || nat_lt MAX_LIFE r.life then Some (BadLife r.life)
+    else if nat_lt r.size MIN_DATAGRAM_BYTES || nat_lt MAX_DATAGRAM_BYTES r.size then Some (BadSize r.size)
+    else if nat_lt r.version 1 || nat_lt 2 r.version then Some (BadVersion r.version)
+    else None
+
+-- the counts are not those of the fields, or one is above what a list of fields holds
+abbrev pub kinds_refusal : List KindRow → List FieldRow → Option Refusal
+kinds_refusal kinds fields =
+    if nat_lt MAX_KINDS (length kinds) then Some (BadKinds TooManyKinds)
+    else if list_any (λ k. nat_lt MAX_LISTED_FIELDS k.fields) kinds then Some BadFieldCounts
+    else if not (sum_by (λ k. k.fields) kinds == length fields) then Some BadFieldCounts
+    else option_map BadKinds (table_fault (kinds_of kinds fields))
+
+abbrev pub blocks_refusal : List ℕ → List ℕ → Option Refusal
+blocks_refusal bytes lengths =
+    if nat_lt MAX_BLOCKS (length lengths) then Some BadBlocks
+    else if list_any (nat_lt MAX_BLOCK_BYTES) lengths then Some BadBlocks
+    else if not (sum lengths == length bytes) then Some BadBlocks
+    else None
+
+abbrev pub client_refusal : ConfigRow → List KindRow → List FieldRow → Option Refusal
+client_refusal r kinds fields = option_or (config_refusal r) (kinds_refusal kinds fields)
+
+abbrev pub server_refusal : ConfigRow → List KindRow → List FieldRow → List ℕ → List ℕ → Option Refusal
+server_refusal r kinds fields bytes lengths = option_or (client_refusal r kinds fields) (blocks_refusal bytes lengths)
+
+-- what a call that makes something answers: this refusal, or else what it makes, if memory is to be had
+abbrev pub IsMadeUnless : {T : Type 0} → Option Refusal → Result T Refusal → Type 0
+IsMadeUnless (Some refusal) result = result ≡ Err refusal
+IsMadeUnless None result = IfErr result (λ e. e ≡ NoMemory)
+
+-- ---- examples
+
+-- of three fields the first kind has two, and the second the third
+abbrev row : ℕ → FieldRow
+row bits = record { lo = pos 0; hi = pos 9; bits = bits }
+
+two_kinds : map (λ k. k.fields) (kinds_of (record { fields = 2; weight = 7 } ∷ record { fields = 1; weight = 8 } ∷ []) (row 4 ∷ row 5 ∷ row 6 ∷ []))
+    ≡ (field_of (row 4) ∷ field_of (row 5) ∷ []) ∷ (field_of (row 6) ∷ []) ∷ []
+two_kinds = refl
+
+two_blocks : blocks_of (1 ∷ 2 ∷ 3 ∷ []) (1 ∷ 2 ∷ []) ≡ (1 ∷ []) ∷ (2 ∷ 3 ∷ []) ∷ []
+two_blocks = refl
+
+a_byte_too_many : blocks_refusal (1 ∷ 2 ∷ 3 ∷ []) (1 ∷ 1 ∷ []) ≡ Some BadBlocks
+a_byte_too_many = refl
