@@ -85,7 +85,8 @@ IsMadeUnless None result = IfErr result (λ e. e ≡ NoMemory)
 abbrev row : ℕ → FieldRow
 row bits = record { lo = pos 0; hi = pos 9; bits = bits }
 
-two_kinds : map (λ k. k.fields) (kinds_of (record { fields = 2; weight = 7 } ∷ record { fields = 1; weight = 8 } ∷ []) (row 4 ∷ row 5 ∷ row 6 ∷ []))
+two_kinds : map (λ k. k.fields)
+    (kinds_of (record { fields = 2; weight = 7 } ∷ record { fields = 1; weight = 8 } ∷ []) (row 4 ∷ row 5 ∷ row 6 ∷ []))
     ≡ (field_of (row 4) ∷ field_of (row 5) ∷ []) ∷ (field_of (row 6) ∷ []) ∷ []
 two_kinds = refl
 

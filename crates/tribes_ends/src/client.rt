@@ -202,7 +202,8 @@ pub(crate) fn counts(client: &Client) -> Counts
 
 /// Lists what became of the packets that the last datagram judged; gives how many these are.
 pub(crate) fn verdicts(client: &Client, place: &mut [Judged]) -> Result<u32, Refusal>
-    ensures told { IfOk result (λ count. Answers client.now (λ log. map judged_of (last_verdicts (client_end log))) (take count place.new)) }
+    ensures told { IfOk result (λ count.
+        Answers client.now (λ log. map judged_of (last_verdicts (client_end log))) (take count place.new)) }
     ensures refused { result_err result ≡ room_refusal MAX_UNJUDGED_PACKETS (length place.old) }
 {
     if place.len() < MAX_UNJUDGED_PACKETS as usize {
@@ -215,7 +216,8 @@ pub(crate) fn verdicts(client: &Client, place: &mut [Judged]) -> Result<u32, Ref
 
 /// Lists what the last datagram did to slots; gives how many items these are.
 pub(crate) fn changes(client: &Client, place: &mut [Change]) -> Result<u32, Refusal>
-    ensures told { IfOk result (λ count. Answers client.now (λ log. map change_of (take MAX_PACKET_GHOSTS (changes_at log))) (take count place.new)) }
+    ensures told { IfOk result (λ count.
+        Answers client.now (λ log. map change_of (take MAX_PACKET_GHOSTS (changes_at log))) (take count place.new)) }
     ensures refused { result_err result ≡ room_refusal MAX_PACKET_GHOSTS (length place.old) }
 {
     if place.len() < MAX_PACKET_GHOSTS {

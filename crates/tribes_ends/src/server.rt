@@ -329,7 +329,8 @@ pub(crate) fn counts(conn: &Conn) -> Counts
 
 /// Lists what became of the packets that the last datagram judged; gives how many these are.
 pub(crate) fn verdicts(conn: &Conn, place: &mut [Judged]) -> Result<u32, Refusal>
-    ensures told { IfOk result (λ count. Answers conn.now (λ log. map judged_of (last_verdicts (server_end log))) (take count place.new)) }
+    ensures told { IfOk result (λ count.
+        Answers conn.now (λ log. map judged_of (last_verdicts (server_end log))) (take count place.new)) }
     ensures refused { result_err result ≡ room_refusal MAX_UNJUDGED_PACKETS (length place.old) }
 {
     if place.len() < MAX_UNJUDGED_PACKETS as usize {

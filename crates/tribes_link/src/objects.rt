@@ -82,7 +82,8 @@ pub extern "C" fn tribes_near(alloc: Global, end: &mut End, n: u32, level: u32) 
 pub extern "C" fn tribes_changed(alloc: Global, end: &mut End, n: u32, bits: u32) -> i32
     ensures told { result ≡ pos 0
         → Behind (λ old new. DoesAtServer old (Scoped (Absorb n bits)) new) end.old.held.value end.new.held.value }
-    ensures answer { AnswersBy end.old.state end.old.held.value result (λ side. Answered 0 result (at_server (changed_refusal n bits) side)) }
+    ensures answer { AnswersBy end.old.state end.old.held.value result
+        (λ side. Answered 0 result (at_server (changed_refusal n bits) side)) }
     ensures unchanged { (result ≡ pos 0 → ⊥) → end.new.held.value ≡ end.old.held.value }
 {
     match end.take(alloc) {
@@ -100,7 +101,8 @@ pub extern "C" fn tribes_changed(alloc: Global, end: &mut End, n: u32, bits: u32
 pub extern "C" fn tribes_settled(alloc: Global, end: &mut End, n: u32, field: u32) -> i32
     ensures settled { result ≡ pos 1 → Tells (λ side. IsSettled side n field true) end.old.held.value }
     ensures not_settled { result ≡ pos 0 → Tells (λ side. IsSettled side n field false) end.old.held.value }
-    ensures answer { AnswersBy end.old.state end.old.held.value result (λ side. Answered 1 result (at_server (settled_refusal n field) side)) }
+    ensures answer { AnswersBy end.old.state end.old.held.value result
+        (λ side. Answered 1 result (at_server (settled_refusal n field) side)) }
     ensures unchanged { end.new.held.value ≡ end.old.held.value }
 {
     match end.take(alloc) {

@@ -38,7 +38,8 @@ pub extern "C" fn tribes_verdicts(
     count: &mut u32,
 ) -> i32
     ensures told { result ≡ pos 0 → Tells (λ side. ListsVerdicts side (take count.new judged.new)) end.old.held.value }
-    ensures answer { AnswersBy end.old.state end.old.held.value result (λ side. Answered 0 result (room_refusal MAX_UNJUDGED_PACKETS (length judged.old))) }
+    ensures answer { AnswersBy end.old.state end.old.held.value result
+        (λ side. Answered 0 result (room_refusal MAX_UNJUDGED_PACKETS (length judged.old))) }
     ensures unchanged { end.new.held.value ≡ end.old.held.value }
 {
     match end.take(alloc) {
@@ -60,7 +61,8 @@ pub extern "C" fn tribes_block(
     count: &mut usize,
 ) -> i32
     ensures told { result ≡ pos 0 → Tells (λ side. HasBlock side number (take count.new bytes.new)) end.old.held.value }
-    ensures answer { AnswersBy end.old.state end.old.held.value result (λ side. BlockRefused number (length bytes.old) side (Answered 0 result)) }
+    ensures answer { AnswersBy end.old.state end.old.held.value result
+        (λ side. BlockRefused number (length bytes.old) side (Answered 0 result)) }
     ensures unchanged { end.new.held.value ≡ end.old.held.value }
 {
     match end.take(alloc) {
@@ -121,7 +123,8 @@ pub extern "C" fn tribes_copy(
     values: &mut [i64],
 ) -> i32
     ensures told { result ≡ pos 0 → Tells (λ side. HasCopy side slot copied.new values.new) end.old.held.value }
-    ensures answer { AnswersBy end.old.state end.old.held.value result (λ side. CopyRefused slot (length values.old) side (Answered 0 result)) }
+    ensures answer { AnswersBy end.old.state end.old.held.value result
+        (λ side. CopyRefused slot (length values.old) side (Answered 0 result)) }
     ensures unchanged { end.new.held.value ≡ end.old.held.value }
 {
     match end.take(alloc) {
