@@ -12,7 +12,7 @@ lines-preserved g c =
     let is : c.line-item.result ≡ get_or c.args.self.now.script.now.body c.lines.i c.line-item.result =
     c.line-item.is ∙ ap (λ (lines : List BodyLine). get_or lines c.lines.i c.line-item.result) same in
     let given : c.net_turn-stopped.result ≡ None
-        → c.net_turn-stopped.new.done ≡ c.lines.done ++ net_lines c.args.self.now.client (get_or c.args.self.now.script.now.body c.lines.i c.line-item.result ∷ []) =
+    → c.net_turn-stopped.new.done ≡ c.lines.done ++ net_lines c.args.self.now.client (get_or c.args.self.now.script.now.body c.lines.i c.line-item.result ∷ []) =
     λ none. e.given none ∙ ap (λ (line : BodyLine). c.lines.done ++ net_lines c.args.self.now.client (line ∷ [])) is in
     let inv = c.lines.invariant in
     record {
