@@ -4,4 +4,4 @@ pub mod Writing
 pub mod Reading
 pub mod Ends
 pub mod BitPlaces
-pub mod StepBits
+pub mod MovesAsNumbers

@@ -4,3 +4,4 @@ pub mod Laws
 pub mod Writer
 pub mod Reader
 pub mod Said
+pub mod WorldMoves

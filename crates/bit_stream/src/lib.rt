@@ -9,9 +9,11 @@ mod accumulator;
 mod laws;
 mod reader;
 mod said;
+mod world_moves;
 mod writer;
 
 pub use accumulator::joined;
 pub use laws::{bit_of_bytes, bits_come_back, number_comes_back};
 pub use reader::{BitReader, PaddingFault, Short};
+pub use world_moves::{bits_of_move, move_of_bits, moves_are_numbers};
 pub use writer::BitWriter;

@@ -5,7 +5,7 @@ use Rattle.std.specs.List.{AllByRecursion}
 use Rattle.std.proofs.lemmas.Bool.Decides.{nat_tests}
 use Rattle.std.proofs.lemmas.List.{take-append-drop, take-append-le, drop-append-le, drop-take, drop-drop, take_all, append-nil}
 use Rattle.std.proofs.Math.Seq.{take-add}
-use Rattle.tn_types.specs.declared.moves.Move.{Move}
+use Rattle.wire_format.specs.declared.moves.Move.{Move}
 use Rattle.move_manager.specs.Sending.{Packet, sampled_of, acked_of, packet_of}
 use Rattle.move_manager.specs.Accepting.{new_count, accept, accepted_of}
 use Rattle.move_manager.specs.InOrder.{Ends, Step, Sample, ClientPack, Pack, Up, Down, came_up, came_down, happens, history}

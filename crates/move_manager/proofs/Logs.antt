@@ -1,8 +1,13 @@
 -- What a sender and a receiver show, against their logs.
-use Rattle.std.proofs.Common.{◌≡◌, ℕ, ◌+◌, ◌-◌, ◌≤◌, max, nat_le, true, List, [], ◌∷◌, ◌++◌, length, take, drop, arith, sym, ap, ◌∙◌, length-append, length-drop, length-take}
+use Rattle.std.proofs.Common.{◌≡◌, ℕ, zero, suc, ◌+◌, ◌-◌, ◌≤◌, max, nat_le, true, List, [], ◌∷◌, ◌++◌, length, take, drop, arith, sym, ap, ◌∙◌, length-append, length-drop, length-take}
 use Rattle.std.proofs.lemmas.Bool.Decides.{nat_tests}
 use Rattle.std.proofs.lemmas.List.{drop-append-le, drop-drop}
-use Rattle.tn_types.specs.declared.moves.Move.{Move}
+use Rattle.std.specs.Prelude.{nat_lt, ◌^◌}
+use Rattle.std.specs.List.{AllByRecursion}
+use Rattle.std.proofs.lemmas.Bool.{ltb-true}
+use Rattle.wire_format.specs.declared.moves.Move.{Move}
+use Rattle.wire_format.specs.declared.wire.Wire.{Wire}
+use Rattle.wire_format.specs.Moves.{move_width, IsMove}
 use Rattle.move_manager.specs.Sending.{Sender, Sampled, Acked, sampled_of, acked_of, Packet}
 use Rattle.move_manager.specs.Sending as sending
 use Rattle.move_manager.specs.Accepting.{Receiver, Took, accepted_of, accept, new_count}
@@ -40,3 +45,14 @@ pub accepted_more : (r : Receiver) (p : Packet) (room : ℕ) (log : List accepti
 accepted_more r p room log l h =
     let few : p.first ≤ length (accepted_of r.life log) = omega (arith, h.accepted) in
     record { accepted = rw h.accepted (sym (length-accept r.life room p (accepted_of r.life log) few)) }
+
+-- ---- waiting moves have no further bits than are written
+
+pub fits_more : (w : Wire) (ms : List Move) (m : Move) → AllByRecursion (IsMove w) ms → nat_lt m.bits (2 ^ move_width w) ≡ true → AllByRecursion (IsMove w) (ms ++ m ∷ [])
+fits_more w [] m all fits = (ltb-true _ _ fits, tt)
+fits_more w (x ∷ ms) m all fits = (all.0, fits_more w ms m all.1 fits)
+
+pub fits_less : (w : Wire) (n : ℕ) (ms : List Move) → AllByRecursion (IsMove w) ms → AllByRecursion (IsMove w) (drop n ms)
+fits_less w zero ms all = all
+fits_less w (suc n) [] all = tt
+fits_less w (suc n) (m ∷ ms) all = fits_less w n ms all.1

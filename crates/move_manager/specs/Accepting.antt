@@ -1,7 +1,7 @@
 -- Moves at the server. A packet adds those of its moves that come next, as far as there is room and the
 -- connection's life lasts; so each move is accepted once and in order. A log has what was taken, the newest first.
 use Rattle.std.specs.Prelude.{ℕ, ◌≡◌, ◌+◌, ◌-◌, min, nat_le, nat_lt, List, [], ◌∷◌, ◌++◌, length, take, drop, if◌then◌else◌, Result, Ok, Err}
-use Rattle.tn_types.specs.declared.moves.Move.{Move}
+use Rattle.wire_format.specs.declared.moves.Move.{Move}
 use Rattle.move_manager.specs.declared.faults.MoveGap.{MoveGap}
 use Rattle.move_manager.specs.Sending.{Packet}
 

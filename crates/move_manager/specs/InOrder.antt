@@ -1,7 +1,7 @@
 -- A client and a server over a network that repeats, loses and delays what was sent: each datagram is named by its
 -- place among all that were sent that way. Steps stand the newest first.
 use Rattle.std.specs.Prelude.{ℕ, ◌≡◌, ◌≤◌, List, [], ◌∷◌, ◌++◌, length, slice_get, Option, Some, None}
-use Rattle.tn_types.specs.declared.moves.Move.{Move}
+use Rattle.wire_format.specs.declared.moves.Move.{Move}
 use Rattle.move_manager.specs.Sending as sending
 use Rattle.tn_types.specs.Prefix.{IsPrefixOf}
 use Rattle.move_manager.specs.Sending.{Packet, packet_of, sampled_of}

@@ -4,9 +4,10 @@ use Rattle.std.specs.Fmt.{decimal}
 use Rattle.move_manager.specs.declared.faults.MoveFault.{MoveFault}
 use Rattle.move_manager.specs.declared.faults.MoveAhead.{MoveAhead}
 use Rattle.move_manager.specs.declared.faults.MoveGap.{MoveGap}
-use Rattle.move_manager.specs.declared.faults.MoveFault.TheVariants.{Worn, Full}
+use Rattle.move_manager.specs.declared.faults.MoveFault.TheVariants.{TooWide, Worn, Full}
 
 abbrev pub move_fault_text : MoveFault → List ℕ
+move_fault_text (TooWide width) = codes "wide " ++ decimal width
 move_fault_text (Worn life) = codes "worn " ++ decimal life
 move_fault_text (Full first last) = codes "full " ++ decimal first ++ codes " " ++ decimal last
 

@@ -3,6 +3,8 @@
 /// Why a move is not sampled. Nothing changed.
 #[derive(Clone, Copy, Debug, PartialEq, Eq)]
 pub enum MoveFault {
+    /// A bit is set that is not written: a move of this connection has so many.
+    TooWide { width: u32 },
     /// As many moves were sampled as a connection has in its life, 1 to 16,777,215.
     Worn { life: u32 },
     /// The server has not told yet that it has these: the first and the last of 32.

@@ -13,6 +13,7 @@ impl fmt::Display for MoveFault {
 
     fn fmt<W: fmt::Write>(&self, f: &mut fmt::Formatter<W>) -> fmt::Result {
         match *self {
+            MoveFault::TooWide { width } => write!(f, "wide {width}"),
             MoveFault::Worn { life } => write!(f, "worn {life}"),
             MoveFault::Full { first, last } => write!(f, "full {first} {last}"),
         }

@@ -7,7 +7,7 @@ use Rattle.tn_types.specs.declared.choices.End.TheVariants.{Client, Server}
 use Rattle.tn_types.specs.declared.moves.Move.{Move as PlayerMove}
 use Rattle.match_script.specs.declared.types.BodyLine.{BodyLine}
 use Rattle.match_script.specs.declared.types.BodyLine.TheVariants.{Tick, Scan, Post, Pack, ClientPack, Down, Up, Move}
-use Rattle.bit_stream.proofs.StepBits.{step_of_four_bits}
+use Rattle.tn_types.proofs.StepRanges.{step_of_four_bits}
 use Rattle.script_maker.specs.declared.numbers.TheConstants.{STEPS, ACTS_ONCE_IN, POSTS_ONCE_IN, PAYLOADS, CHANCES}
 use Rattle.script_maker.specs.Draws.{Drawn, just, ◌>>=◌, draw, each_below}
 

@@ -61,6 +61,12 @@ pub const MAX_UNACKNOWLEDGED_EVENTS: usize = 256;
 /// Unguaranteed events of an end that wait to be sent.
 pub const MAX_WAITING_EVENTS: usize = 64;
 
+/// Bits of a move, at most.
+pub const MAX_MOVE_BITS: u32 = 64;
+
+/// Bits of a move of this project's own world: a step each way and two flags.
+pub const WORLD_MOVE_BITS: u32 = 10;
+
 /// Moves of a client that are sampled and not acknowledged.
 pub const MAX_UNACKNOWLEDGED_MOVES: usize = 32;
 

@@ -1,6 +1,7 @@
 //! What is said of want of memory.
 
 use crate::choices::NoMemory;
+use std::alloc::AllocError;
 use std::error::Error;
 use std::fmt;
 
@@ -16,3 +17,12 @@ impl fmt::Display for NoMemory {
 }
 
 impl Error for NoMemory {}
+
+/// A call of the allocator that failed is want of memory.
+impl From<AllocError> for NoMemory {
+    ghost from_gives = { λ _ _. Unit };
+
+    fn from(_fault: AllocError) -> Self {
+        NoMemory
+    }
+}

@@ -2,6 +2,7 @@ ghost use Rattle.std.specs.Prelude.{◌≡◌, ◌+◌, ◌*◌, ◌^◌, ◌<�
 ghost use Rattle.bit_stream.specs.Bits.{datagram};
 ghost use Rattle.wire_format.specs.Header.{IsHeader, IsHeaderInRange, no_header};
 ghost use Rattle.wire_format.specs.Client.{spell_client, client_at, read_client, client_rest, client_front, client_in_parts, client_body_at, client_size, IsClient, IsClientBody, IsClientInRange, IsClientBodyInRange, client_meant};
+ghost use Rattle.wire_format.specs.Moves.{old_wire};
 ghost use Rattle.wire_format.specs.Reading.{Fills, FillsAs, IsWhole};
 
 use crate::events::{EventList, put_events};
@@ -14,6 +15,7 @@ use crate::widths::{
     DATA, EVENT_COUNT_WIDTH, HEADER_BITS, KIND_WIDTH, MAX_PACKET_BITS, MOVE_COUNT_WIDTH,
     NUMBER_WIDTH, PING,
 };
+use crate::wire::Wire;
 use bit_stream::{BitReader, BitWriter};
 use tn_types::{MAX_PACKET_EVENTS, MAX_READ_BYTES, PacketKind};
 
@@ -56,16 +58,16 @@ impl ClientBody {
 #[tactic(auto, unfolding(crate::specs::Client::client_body_at))]
 fn read_client_body(
     reader: &mut BitReader<'_>,
-    version: u8,
+    wire: Wire,
     body: &mut ClientBody,
 ) -> Result<(), BitsFault>
-    ensures { Fills result body.new reader.new (client_body_at version body.old.head reader.old) }
+    ensures { Fills result body.new reader.new (client_body_at wire body.old.head reader.old) }
 {
     body.first = part(reader, NUMBER_WIDTH)?;
-    read_moves(reader, &mut body.moves)?;
+    read_moves(reader, wire, &mut body.moves)?;
     read_list(
         reader,
-        &version,
+        &wire.version,
         MAX_PACKET_EVENTS as u32,
         EVENT_COUNT_WIDTH,
         &mut body.events,
@@ -76,27 +78,27 @@ fn read_client_body(
 #[tactic(auto, unfolding(crate::specs::Client::client_at))]
 fn read_client(
     reader: &mut BitReader<'_>,
-    version: u8,
+    wire: Wire,
     body: &mut ClientBody,
 ) -> Result<PacketKind, BitsFault>
-    ensures { FillsAs client_meant result body.new reader.new (client_at version reader.old) }
+    ensures { FillsAs client_meant result body.new reader.new (client_at wire reader.old) }
 {
     let kind = within(reader, BitsCause::KindBits, DATA, PING, KIND_WIDTH)?;
     body.head = read_header(reader)?;
     if kind == PING {
         return Ok(PacketKind::Ping);
     }
-    read_client_body(reader, version, body)?;
+    read_client_body(reader, wire, body)?;
     Ok(PacketKind::Body)
 }
 
 /// The whole of these bytes, into a body.
-fn read_into(bytes: &[u8], version: u8, body: &mut ClientBody) -> Result<PacketKind, BitsFault>
+fn read_into(bytes: &[u8], wire: Wire, body: &mut ClientBody) -> Result<PacketKind, BitsFault>
     requires { length bytes.now ≤ MAX_READ_BYTES }
-    ensures { IsWhole client_meant result body.new (read_client version bytes.now) }
+    ensures { IsWhole client_meant result body.new (read_client wire bytes.now) }
 {
     let mut reader = BitReader::new(bytes);
-    let kind = read_client(&mut reader, version, body)?;
+    let kind = read_client(&mut reader, wire, body)?;
     match reader.end() {
         Ok(()) => Ok(kind),
         Err(padding) => Err(BitsFault {
@@ -107,12 +109,12 @@ fn read_into(bytes: &[u8], version: u8, body: &mut ClientBody) -> Result<PacketK
 }
 
 /// The whole of these bytes.
-fn read_whole(bytes: &[u8], version: u8) -> Result<ClientPacket, BitsFault>
+fn read_whole(bytes: &[u8], wire: Wire) -> Result<ClientPacket, BitsFault>
     requires { length bytes.now ≤ MAX_READ_BYTES }
-    ensures { result ≡ read_client version bytes.now }
+    ensures { result ≡ read_client wire bytes.now }
 {
     let mut body = ClientBody::new();
-    match read_into(bytes, version, &mut body) {
+    match read_into(bytes, wire, &mut body) {
         Ok(PacketKind::Ping) => Ok(ClientPacket::Ping(body.head)),
         Ok(PacketKind::Body) => Ok(ClientPacket::Body(body)),
         Err(fault) => Err(fault),
@@ -124,37 +126,37 @@ fn client_rest_bits(body: &ClientBody, version: u8) -> u32
     ensures value { result ≡ length (client_rest version body.now) }
     ensures few { result ≤ MAX_PACKET_BITS }
 {
-    let moves = list_bits(&(), &body.moves);
-    let events = list_bits(&version, &body.events);
+    let moves = list_bits(&wire, &body.moves);
+    let events = list_bits(&wire.version, &body.events);
     NUMBER_WIDTH + MOVE_COUNT_WIDTH + EVENT_COUNT_WIDTH + moves + events
 }
 
 /// The bits of a packet under a version.
-fn packet_bits(packet: &ClientPacket, version: u8) -> u32
-    ensures value { result ≡ length (spell_client version packet.now) }
-    ensures size { result ≡ client_size version packet.now }
+fn packet_bits(packet: &ClientPacket, wire: Wire) -> u32
+    ensures value { result ≡ length (spell_client wire packet.now) }
+    ensures size { result ≡ client_size wire packet.now }
 {
     match packet {
         ClientPacket::Ping(_) => HEADER_BITS,
-        ClientPacket::Body(body) => HEADER_BITS + client_rest_bits(body, version),
+        ClientPacket::Body(body) => HEADER_BITS + client_rest_bits(body, wire),
     }
 }
 
 /// The bits of a packet: those of the header, and in a data packet [`CLIENT_FIXED_BITS`](crate::CLIENT_FIXED_BITS)
 /// and the bits of all items.
 pub fn client_bits(packet: &ClientPacket) -> u32
-    ensures value { result ≡ length (spell_client 1 packet.now) }
-    ensures size { result ≡ client_size 1 packet.now }
+    ensures value { result ≡ length (spell_client (old_wire 1) packet.now) }
+    ensures size { result ≡ client_size (old_wire 1) packet.now }
 {
-    packet_bits(packet, 1)
+    packet_bits(packet, Wire::old(1))
 }
 
 /// The bits of a packet of version 2.
 pub fn client2_bits(packet: &ClientPacket) -> u32
-    ensures value { result ≡ length (spell_client 2 packet.now) }
-    ensures size { result ≡ client_size 2 packet.now }
+    ensures value { result ≡ length (spell_client (old_wire 2) packet.now) }
+    ensures size { result ≡ client_size (old_wire 2) packet.now }
 {
-    packet_bits(packet, 2)
+    packet_bits(packet, Wire::old(2))
 }
 
 /// Writes what stands before the lists of a data packet: its kind, its header and the number of its first move. The moves
@@ -176,72 +178,72 @@ pub fn put_client_front(out: &mut BitWriter, head: &Header, first: u32)
 
 /// Writes a data packet, part by part.
 #[tactic(auto, using(crate::proofs::Lengths::lengths))]
-fn put_client_body(out: &mut BitWriter, version: u8, body: &ClientBody)
-    requires fits { IsClientBodyInRange version body.now }
-    requires room { length out.old.bits + length (client_in_parts version body.now) ≤ 8 * out.old.size }
-    ensures spelled { IsClientBody version body.now }
-    ensures bits { out.new.bits ≡ out.old.bits ++ client_in_parts version body.now }
+fn put_client_body(out: &mut BitWriter, wire: Wire, body: &ClientBody)
+    requires fits { IsClientBodyInRange wire body.now }
+    requires room { length out.old.bits + length (client_in_parts wire body.now) ≤ 8 * out.old.size }
+    ensures spelled { IsClientBody wire body.now }
+    ensures bits { out.new.bits ≡ out.old.bits ++ client_in_parts wire body.now }
     ensures size { out.new.size ≡ out.old.size }
 {
     put_client_front(out, &body.head, body.first);
-    put_moves(out, &body.moves);
-    put_events(out, version, &body.events);
+    put_moves(out, wire, &body.moves);
+    put_events(out, wire.version, &body.events);
 }
 
 /// Writes a packet under a version.
 #[tactic(auto, using(crate::proofs::Lengths::lengths, crate::proofs::InParts::client_parts))]
-fn put_packet(packet: &ClientPacket, version: u8, out: &mut BitWriter)
-    requires fits { IsClientInRange version packet.now }
-    requires room { length out.old.bits + length (spell_client version packet.now) ≤ 8 * out.old.size }
-    ensures spelled { IsClient version packet.now }
-    ensures bits { out.new.bits ≡ out.old.bits ++ spell_client version packet.now }
+fn put_packet(packet: &ClientPacket, wire: Wire, out: &mut BitWriter)
+    requires fits { IsClientInRange wire packet.now }
+    requires room { length out.old.bits + length (spell_client wire packet.now) ≤ 8 * out.old.size }
+    ensures spelled { IsClient wire packet.now }
+    ensures bits { out.new.bits ≡ out.old.bits ++ spell_client wire packet.now }
     ensures size { out.new.size ≡ out.old.size }
 {
     match packet {
         ClientPacket::Ping(head) => put_ping(out, head),
-        ClientPacket::Body(body) => put_client_body(out, version, body),
+        ClientPacket::Body(body) => put_client_body(out, wire, body),
     }
 }
 
 /// Writes a packet in its one spelling. The caller sees to it that each number fits its part and all
 /// of [`client_bits`] fit the room.
 pub fn encode_client(packet: &ClientPacket, out: &mut BitWriter)
-    requires fits { IsClientInRange 1 packet.now }
-    requires room { length out.old.bits + length (spell_client 1 packet.now) ≤ 8 * out.old.size }
-    ensures spelled { IsClient 1 packet.now }
-    ensures bits { out.new.bits ≡ out.old.bits ++ spell_client 1 packet.now }
+    requires fits { IsClientInRange (old_wire 1) packet.now }
+    requires room { length out.old.bits + length (spell_client (old_wire 1) packet.now) ≤ 8 * out.old.size }
+    ensures spelled { IsClient (old_wire 1) packet.now }
+    ensures bits { out.new.bits ≡ out.old.bits ++ spell_client (old_wire 1) packet.now }
     ensures size { out.new.size ≡ out.old.size }
 {
-    put_packet(packet, 1, out);
+    put_packet(packet, Wire::old(1), out);
 }
 
 /// Writes a packet in its one spelling of version 2. The caller sees to it that each number fits its part, that of an event 7
 /// bits, and all of [`client2_bits`] fit the room.
 pub fn encode_client2(packet: &ClientPacket, out: &mut BitWriter)
-    requires fits { IsClientInRange 2 packet.now }
-    requires room { length out.old.bits + length (spell_client 2 packet.now) ≤ 8 * out.old.size }
-    ensures spelled { IsClient 2 packet.now }
-    ensures bits { out.new.bits ≡ out.old.bits ++ spell_client 2 packet.now }
+    requires fits { IsClientInRange (old_wire 2) packet.now }
+    requires room { length out.old.bits + length (spell_client (old_wire 2) packet.now) ≤ 8 * out.old.size }
+    ensures spelled { IsClient (old_wire 2) packet.now }
+    ensures bits { out.new.bits ≡ out.old.bits ++ spell_client (old_wire 2) packet.now }
     ensures size { out.new.size ≡ out.old.size }
 {
-    put_packet(packet, 2, out);
+    put_packet(packet, Wire::old(2), out);
 }
 
-/// Reads a packet of a version out of these bytes, at most 65,536, into a body, and tells its kind; of a ping only `head`
+/// Reads a packet of a wire out of these bytes, at most 65,536, into a body, and tells its kind; of a ping only `head`
 /// counts. Or gives the first fault in reading order with the bit at which the faulty part begins (docs/wire.md,
 /// "Datagrams"), and the body then holds nothing that counts. What the body had before plays no part.
 pub fn decode_client_into(
     bytes: &[u8],
-    version: u8,
+    wire: Wire,
     body: &mut ClientBody,
 ) -> Result<PacketKind, BitsFault>
     requires { length bytes.now ≤ MAX_READ_BYTES }
     // What is read has a spelling.
-    ensures found { IfOk result (λ kind. IsClient version (client_meant kind body.new)) }
+    ensures found { IfOk result (λ kind. IsClient wire (client_meant kind body.new)) }
     // It is the packet that these bytes spell, or their fault.
-    ensures exact { IsWhole client_meant result body.new (read_client version bytes.now) }
+    ensures exact { IsWhole client_meant result body.new (read_client wire bytes.now) }
 {
-    read_into(bytes, version, body)
+    read_into(bytes, wire, body)
 }
 
 /// The packet that these bytes spell, at most 65,536 of them, or the first fault in reading order
@@ -249,24 +251,24 @@ pub fn decode_client_into(
 pub fn decode_client(bytes: &[u8]) -> Result<ClientPacket, BitsFault>
     requires { length bytes.now ≤ MAX_READ_BYTES }
     // What is read is spelled so, and it alone.
-    ensures found { IfOk result (λ p. IsClient 1 p × (bytes.now ≡ datagram (spell_client 1 p))) }
+    ensures found { IfOk result (λ p. IsClient (old_wire 1) p × (bytes.now ≡ datagram (spell_client (old_wire 1) p))) }
     // What is spelled so is read.
-    ensures only { (p : ClientPacket) → IsClient 1 p → bytes.now ≡ datagram (spell_client 1 p) → result ≡ Ok p }
+    ensures only { (p : ClientPacket) → IsClient (old_wire 1) p → bytes.now ≡ datagram (spell_client (old_wire 1) p) → result ≡ Ok p }
     // Which fault it is.
-    ensures exact { result ≡ read_client 1 bytes.now }
+    ensures exact { result ≡ read_client (old_wire 1) bytes.now }
 {
-    read_whole(bytes, 1)
+    read_whole(bytes, Wire::old(1))
 }
 
 /// The same for packets of version 2. The number of a guaranteed event is then its low number, 0 to 127.
 pub fn decode_client2(bytes: &[u8]) -> Result<ClientPacket, BitsFault>
     requires { length bytes.now ≤ MAX_READ_BYTES }
     // What is read is spelled so, and it alone.
-    ensures found { IfOk result (λ p. IsClient 2 p × (bytes.now ≡ datagram (spell_client 2 p))) }
+    ensures found { IfOk result (λ p. IsClient (old_wire 2) p × (bytes.now ≡ datagram (spell_client (old_wire 2) p))) }
     // What is spelled so is read.
-    ensures only { (p : ClientPacket) → IsClient 2 p → bytes.now ≡ datagram (spell_client 2 p) → result ≡ Ok p }
+    ensures only { (p : ClientPacket) → IsClient (old_wire 2) p → bytes.now ≡ datagram (spell_client (old_wire 2) p) → result ≡ Ok p }
     // Which fault it is.
-    ensures exact { result ≡ read_client 2 bytes.now }
+    ensures exact { result ≡ read_client (old_wire 2) bytes.now }
 {
-    read_whole(bytes, 2)
+    read_whole(bytes, Wire::old(2))
 }

@@ -6,6 +6,6 @@ use Rattle.wire_format.proofs.moves.read_each.Given as goal
 
 abbrev pub invariant-moves : goal.invariant-moves
 invariant-moves l = record {
-  read : with_front (take l.i l.places) (counted_at move_at (l.count - l.i) l.own) ≡ counted_at move_at l.count l.fn.reader;
+  read : with_front (take l.i l.places) (counted_at (move_at l.wire) (l.count - l.i) l.own) ≡ counted_at (move_at l.wire) l.count l.fn.reader;
   len : length l.places ≡ length l.fn.places;
 }
