@@ -49,7 +49,7 @@ pub record MovesAreNumbers : Type 0 where
 -- ---- examples
 
 -- a step of one along y, with a shot
-north_firing : Move
+abbrev north_firing : Move
 north_firing = record { dx = pos 0; dy = pos 1; fire = true; act = false; dx_range = refl; dy_range = refl }
 
 north_firing_bits : number_of north_firing ≡ 8 + 16 * 9 + 256

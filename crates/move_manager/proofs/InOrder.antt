@@ -5,14 +5,14 @@ use Rattle.std.specs.List.{AllByRecursion}
 use Rattle.std.proofs.lemmas.Bool.Decides.{nat_tests}
 use Rattle.std.proofs.lemmas.List.{take-append-drop, take-append-le, drop-append-le, drop-take, drop-drop, take_all, append-nil}
 use Rattle.std.proofs.Math.Seq.{take-add}
-use Rattle.wire_format.specs.declared.moves.Move.{Move}
+use Rattle.tn_types.specs.declared.moves.MoveBits.{MoveBits}
 use Rattle.move_manager.specs.Sending.{Packet, sampled_of, acked_of, packet_of}
 use Rattle.move_manager.specs.Accepting.{new_count, accept, accepted_of}
 use Rattle.move_manager.specs.InOrder.{Ends, Step, Sample, ClientPack, Pack, Up, Down, came_up, came_down, happens, history}
 use Rattle.tn_types.specs.Prefix.{IsPrefixOf}
 
 -- a packet holds the sampled moves from its first one on
-pub record Holds (p : Packet) (sampled : List Move) : Type 0 where
+pub record Holds (p : Packet) (sampled : List MoveBits) : Type 0 where
   pub within : p.first + length p.moves ≤ length sampled
   pub moves : p.moves ≡ take (length p.moves) (drop p.first sampled)
 
@@ -29,31 +29,31 @@ all-at P [] k x e h = cc
 all-at P (y ∷ xs) zero x e h = let s : y ≡ x = cc in subst P s h.0
 all-at P (y ∷ xs) (suc k) x e h = all-at P xs k x e h.1
 
-take-take : (m n : ℕ) (xs : List Move) → m ≤ n → take m (take n xs) ≡ take m xs
+take-take : (m n : ℕ) (xs : List MoveBits) → m ≤ n → take m (take n xs) ≡ take m xs
 take-take zero n xs l = refl
 take-take (suc m) zero xs l = absurd (omega arith)
 take-take (suc m) (suc n) [] l = refl
 take-take (suc m) (suc n) (x ∷ xs) l = ap (λ t. x ∷ t) (take-take m n xs (omega arith))
 
-pub holds-push : (p : Packet) (s : List Move) (v : Move) → Holds p s → Holds p (s ++ v ∷ [])
+pub holds-push : (p : Packet) (s : List MoveBits) (v : MoveBits) → Holds p s → Holds p (s ++ v ∷ [])
 holds-push p s v h = record {
   within = omega (arith, h.within, length-append s (v ∷ []));
   moves = h.moves ∙ sym (ap (λ t. take (length p.moves) t) (drop-append-le p.first s (v ∷ []) (omega (arith, h.within))) ∙ take-append-le (length p.moves) (drop p.first s) (v ∷ []) (omega (arith, h.within, length-drop p.first s)));
 }
 
 -- what is accepted stays the first of what was sampled
-pub record IsFront (acc s : List Move) : Type 0 where
+pub record IsFront (acc s : List MoveBits) : Type 0 where
   pub within : length acc ≤ length s
   pub first : acc ≡ take (length acc) s
 
-pub front-push : (acc s : List Move) (v : Move) → IsFront acc s → IsFront acc (s ++ v ∷ [])
+pub front-push : (acc s : List MoveBits) (v : MoveBits) → IsFront acc s → IsFront acc (s ++ v ∷ [])
 front-push acc s v h = record {
   within = omega (arith, h.within, length-append s (v ∷ []));
   first = h.first ∙ sym (take-append-le (length acc) s (v ∷ []) h.within);
 }
 
 -- m further moves of a packet are the next m that were sampled
-more : (m : ℕ) (acc s : List Move) (p : Packet) → p.first ≤ length acc → m ≤ p.first + length p.moves - length acc → Holds p s → IsFront acc s →
+more : (m : ℕ) (acc s : List MoveBits) (p : Packet) → p.first ≤ length acc → m ≤ p.first + length p.moves - length acc → Holds p s → IsFront acc s →
     (acc ++ take m (drop (length acc - p.first) p.moves) ≡ take (length acc + m) s) × (length acc + m ≤ length s)
 more zero acc s p l few h f = let z : length acc + 0 ≡ length acc = omega arith in rw (z, append-nil) (f.first, f.within)
 more (suc m) acc s p l few h f =
@@ -67,20 +67,20 @@ more (suc m) acc s p l few h f =
       omega (arith, h.within),
     )
 
-pub record Grows (acc new s : List Move) : Type 0 where
+pub record Grows (acc new s : List MoveBits) : Type 0 where
   pub front : IsFront new s
   pub longer : length acc ≤ length new
 
-pub front-accept : (life room : ℕ) (p : Packet) (acc s : List Move) → Holds p s → IsFront acc s → Grows acc (accept life room p acc) s
+pub front-accept : (life room : ℕ) (p : Packet) (acc s : List MoveBits) → Holds p s → IsFront acc s → Grows acc (accept life room p acc) s
 front-accept life room p acc s h f = go (nat_le p.first (length acc)) refl
   where
-    taken : List Move
+    taken : List MoveBits
     taken = acc ++ take (new_count life room (length acc) p) (drop (length acc - p.first) p.moves)
 
     both : p.first ≤ length acc → Grows acc taken s
     both l =
         let m = more (new_count life room (length acc) p) acc s p l (omega arith) h f in
-        let n : length taken ≡ length acc + new_count life room (length acc) p = ap (λ (t : List Move). length t) m.0 ∙ length-take _ s ∙ omega (arith, m.1) in
+        let n : length taken ≡ length acc + new_count life room (length acc) p = ap (λ (t : List MoveBits). length t) m.0 ∙ length-take _ s ∙ omega (arith, m.1) in
         record {
           front = record { within = omega (arith, n, m.1); first = m.0 ∙ ap (λ k. take k s) (sym n) };
           longer = omega (arith, n);
@@ -115,7 +115,7 @@ downs : (life : ℕ) (e : Ends) (o : Option ℕ) → ((n : ℕ) → o ≡ Some n
 downs life e None h i = i
 downs life e (Some n) h i = record { up = i.up; down = i.down; acked = omega (arith, i.acked, h n refl); front = i.front }
 
-sampled : (life : ℕ) (m : Move) (e : Ends) → InOrder life e → InOrder life (happens life (Sample m) e)
+sampled : (life : ℕ) (m : MoveBits) (e : Ends) → InOrder life e → InOrder life (happens life (Sample m) e)
 sampled life m e i = record {
   up = all-map _ _ e.up (λ q g. (holds-push q (sampled_of e.client) m g.0, g.1)) i.up;
   down = i.down;
@@ -144,5 +144,5 @@ in_order life (Down k ∷ steps) =
     let i = in_order life steps in
     downs life (history life steps) _ (λ n e. all-at _ (history life steps).down k n e i.down) i
 
-pub front_is_prefix : (acc s : List Move) → IsFront acc s → IsPrefixOf acc s
+pub front_is_prefix : (acc s : List MoveBits) → IsFront acc s → IsPrefixOf acc s
 front_is_prefix acc s f = (drop (length acc) s, ap (λ t. t ++ drop (length acc) s) f.first ∙ take-append-drop (length acc) s)

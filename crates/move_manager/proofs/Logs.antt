@@ -5,7 +5,7 @@ use Rattle.std.proofs.lemmas.List.{drop-append-le, drop-drop}
 use Rattle.std.specs.Prelude.{nat_lt, ◌^◌}
 use Rattle.std.specs.List.{AllByRecursion}
 use Rattle.std.proofs.lemmas.Bool.{ltb-true}
-use Rattle.wire_format.specs.declared.moves.Move.{Move}
+use Rattle.tn_types.specs.declared.moves.MoveBits.{MoveBits}
 use Rattle.wire_format.specs.declared.wire.Wire.{Wire}
 use Rattle.wire_format.specs.Moves.{move_width, IsMove}
 use Rattle.move_manager.specs.Sending.{Sender, Sampled, Acked, sampled_of, acked_of, Packet}
@@ -13,7 +13,7 @@ use Rattle.move_manager.specs.Sending as sending
 use Rattle.move_manager.specs.Accepting.{Receiver, Took, accepted_of, accept, new_count}
 use Rattle.move_manager.specs.Accepting as accepting
 
-pub sampled_more : (s : Sender) (m : Move) (log : List sending.SenderEvent) → sending.StandsFor s log → sending.StandsFor (record s { waiting = s.waiting ++ m ∷ [] }) (Sampled m ∷ log)
+pub sampled_more : (s : Sender) (m : MoveBits) (log : List sending.SenderEvent) → sending.StandsFor s log → sending.StandsFor (record s { waiting = s.waiting ++ m ∷ [] }) (Sampled m ∷ log)
 sampled_more s m log h = record {
   first = h.first;
   within = omega (arith, h.within, length-append (sampled_of log) (m ∷ []));
@@ -34,7 +34,7 @@ acked_more s count log few h =
           ∙ ap (λ n. drop n (sampled_of log)) (omega (arith, h.first));
     }
 
-pub length-accept : (life room : ℕ) (p : Packet) (acc : List Move) → p.first ≤ length acc → length (accept life room p acc) ≡ length acc + new_count life room (length acc) p
+pub length-accept : (life room : ℕ) (p : Packet) (acc : List MoveBits) → p.first ≤ length acc → length (accept life room p acc) ≡ length acc + new_count life room (length acc) p
 length-accept life room p acc l =
     let e : nat_le p.first (length acc) ≡ true = grind (arith, nat_tests) in
     let n = new_count life room (length acc) p in
@@ -48,11 +48,11 @@ accepted_more r p room log l h =
 
 -- ---- waiting moves have no further bits than are written
 
-pub fits_more : (w : Wire) (ms : List Move) (m : Move) → AllByRecursion (IsMove w) ms → nat_lt m.bits (2 ^ move_width w) ≡ true → AllByRecursion (IsMove w) (ms ++ m ∷ [])
+pub fits_more : (w : Wire) (ms : List MoveBits) (m : MoveBits) → AllByRecursion (IsMove w) ms → nat_lt m.bits (2 ^ move_width w) ≡ true → AllByRecursion (IsMove w) (ms ++ m ∷ [])
 fits_more w [] m all fits = (ltb-true _ _ fits, tt)
 fits_more w (x ∷ ms) m all fits = (all.0, fits_more w ms m all.1 fits)
 
-pub fits_less : (w : Wire) (n : ℕ) (ms : List Move) → AllByRecursion (IsMove w) ms → AllByRecursion (IsMove w) (drop n ms)
+pub fits_less : (w : Wire) (n : ℕ) (ms : List MoveBits) → AllByRecursion (IsMove w) ms → AllByRecursion (IsMove w) (drop n ms)
 fits_less w zero ms all = all
 fits_less w (suc n) [] all = tt
 fits_less w (suc n) (m ∷ ms) all = fits_less w n ms all.1

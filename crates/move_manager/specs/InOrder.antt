@@ -1,7 +1,7 @@
 -- A client and a server over a network that repeats, loses and delays what was sent: each datagram is named by its
 -- place among all that were sent that way. Steps stand the newest first.
 use Rattle.std.specs.Prelude.{ℕ, ◌≡◌, ◌≤◌, List, [], ◌∷◌, ◌++◌, length, slice_get, Option, Some, None}
-use Rattle.wire_format.specs.declared.moves.Move.{Move}
+use Rattle.tn_types.specs.declared.moves.MoveBits.{MoveBits}
 use Rattle.move_manager.specs.Sending as sending
 use Rattle.tn_types.specs.Prefix.{IsPrefixOf}
 use Rattle.move_manager.specs.Sending.{Packet, packet_of, sampled_of}
@@ -9,7 +9,7 @@ use Rattle.move_manager.specs.Accepting as accepting
 use Rattle.move_manager.specs.Accepting.{accepted_of}
 
 pub data Step : Type 0 where
-  Sample : Move → Step
+  Sample : MoveBits → Step
   ClientPack : Step
   Pack : Step
   Up : (k room : ℕ) → Step

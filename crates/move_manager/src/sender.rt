@@ -7,7 +7,7 @@ ghost use Rattle.wire_format.specs.Moves.{IsMove};
 use crate::faults::{MoveAhead, MoveFault};
 use std::marker::Model;
 use tn_types::{MAX_LIFE, MAX_PACKET_MOVES, MAX_UNACKNOWLEDGED_MOVES};
-use wire_format::{Move, MoveList, Wire, is_move, move_width};
+use wire_format::{MoveBits, MoveList, Wire, is_move, move_width};
 
 /// The moves of a client that the server may lack. Each packet carries all of them, so a lost packet costs nothing.
 /// No call takes memory.
@@ -58,7 +58,7 @@ impl MoveSender {
     /// Takes a move of the player and gives its number. `TooWide` comes exactly where a bit is set that is not written, else `Worn`
     /// exactly where `life` moves were sampled, else `Full` exactly where 32 wait; nothing changes then (docs/connection.md, "Moves").
     #[tactic(auto, using(crate::proofs::Logs::sampled_more, crate::proofs::Logs::count_sampled, crate::proofs::Logs::fits_more))]
-    pub fn sample(&mut self, m: Move) -> Result<u32, MoveFault>
+    pub fn sample(&mut self, m: MoveBits) -> Result<u32, MoveFault>
         ensures answer { result ≡ sample_answer m self.old }
         ensures sampled { OnOk result (self.new ≡ record self.old { waiting = self.old.waiting ++ m ∷ [] }) }
         ensures refused { OnErr result (self.new ≡ self.old) }
@@ -130,7 +130,7 @@ impl MoveSender {
 }
 
 // These moves as a list.
-fn listed(moves: &[Move]) -> MoveList
+fn listed(moves: &[MoveBits]) -> MoveList
     requires { length moves.now ≤ MAX_PACKET_MOVES }
     ensures { result ≡ moves.now }
 {

@@ -1,7 +1,7 @@
 use Rattle.std.proofs.Common.{◌≡◌, ℕ, ◌∙◌, subst, Ok, take, arith}
 use Rattle.std.proofs.lemmas.List.{take_more_set, length-set}
 use Rattle.bit_stream.specs.Reading.{number_at}
-use Rattle.wire_format.specs.declared.moves.Move.{Move}
+use Rattle.tn_types.specs.declared.moves.MoveBits.{MoveBits}
 use Rattle.wire_format.specs.Moves.{move_at}
 use Rattle.wire_format.specs.Reading.{counted_at}
 use Rattle.wire_format.proofs.Counted.{goes_on, ends, is_done}
@@ -16,7 +16,7 @@ returns-in-None-clause-read c =
 pub moves-preserved : goal.moves-preserved
 moves-preserved c =
     let s = c.moves in
-    let came : Move = record { bits = c.in-Some.bits } in
+    let came : MoveBits = record { bits = c.in-Some.bits } in
     let item : move_at c.args.wire s.own ≡ Ok (came, c.take_wide.new.reader) =
     read_at_once c.args.wire s.own c.take_wide.new.reader c.in-Some.bits
     (subst (λ (w : ℕ). number_at w s.own ≡ Ok (c.in-Some.bits, c.take_wide.new.reader)) c.move_width-width.ensures.value c.in-Some.ensures.some) in
