@@ -4,7 +4,7 @@ use crate::faults::{MoveAhead, MoveFault, MoveGap};
 use std::error::Error;
 use std::fmt;
 
-/// As in a report: `worn LIFE` or `full FIRST LAST` (docs/script.md, "The report").
+/// As in a report: `wide WIDTH`, `worn LIFE` or `full FIRST LAST` (docs/script.md, "The report").
 impl fmt::Display for MoveFault {
     ghost use Rattle.std.specs.Prelude.{Some};
     ghost use Rattle.move_manager.specs.Said.{move_fault_text};

@@ -3,11 +3,13 @@ ghost use Rattle.std.specs.Prelude.{◌≡◌, [], ◌∷◌, ◌++◌, ◌+◌,
 ghost use Rattle.std.specs.List.{AllByRecursion};
 ghost use Rattle.tn_types.specs.Histories.{Does, Answers};
 ghost use Rattle.wire_format.specs.Moves.{IsMove};
+ghost use Rattle.bit_stream.specs.WorldMoves.{bits_of};
 
 use crate::faults::{MoveAhead, MoveFault};
+use bit_stream::bits_of_move;
 use std::marker::Model;
-use tn_types::{MAX_LIFE, MAX_PACKET_MOVES, MAX_UNACKNOWLEDGED_MOVES};
-use wire_format::{MoveBits, MoveList, Wire, is_move, move_width};
+use tn_types::{MAX_LIFE, MAX_PACKET_MOVES, MAX_UNACKNOWLEDGED_MOVES, Move, MoveBits};
+use wire_format::{MoveList, Wire, is_move, move_width};
 
 /// The moves of a client that the server may lack. Each packet carries all of them, so a lost packet costs nothing.
 /// No call takes memory.
@@ -40,7 +42,7 @@ impl Model for MoveSender {
 impl MoveSender {
     ghost use Rattle.move_manager.specs.Sending.{Sampled, Acked, sampled_of, pending_of, sample_answer, acked_answer, after_acked, StandsFor};
 
-    /// No move yet. `life` is 1 to 16,777,215.
+    /// No move yet, on a connection whose datagrams are of this wire. `life` is 1 to 16,777,215.
     pub fn new(wire: Wire, life: u32) -> MoveSender
         requires least { 1 ≤ life }
         requires most { life ≤ MAX_LIFE }
@@ -58,7 +60,7 @@ impl MoveSender {
     /// Takes a move of the player and gives its number. `TooWide` comes exactly where a bit is set that is not written, else `Worn`
     /// exactly where `life` moves were sampled, else `Full` exactly where 32 wait; nothing changes then (docs/connection.md, "Moves").
     #[tactic(auto, using(crate::proofs::Logs::sampled_more, crate::proofs::Logs::count_sampled, crate::proofs::Logs::fits_more))]
-    pub fn sample(&mut self, m: MoveBits) -> Result<u32, MoveFault>
+    pub fn sample_bits(&mut self, m: MoveBits) -> Result<u32, MoveFault>
         ensures answer { result ≡ sample_answer m self.old }
         ensures sampled { OnOk result (self.new ≡ record self.old { waiting = self.old.waiting ++ m ∷ [] }) }
         ensures refused { OnErr result (self.new ≡ self.old) }
@@ -81,6 +83,16 @@ impl MoveSender {
         }
         self.waiting.push(m);
         Ok(number)
+    }
+
+    /// The same for a move of this project's own world, which is a number of ten bits.
+    pub fn sample(&mut self, m: Move) -> Result<u32, MoveFault>
+        ensures answer { result ≡ sample_answer (bits_of m) self.old }
+        ensures sampled { OnOk result (self.new ≡ record self.old { waiting = self.old.waiting ++ bits_of m ∷ [] }) }
+        ensures refused { OnErr result (self.new ≡ self.old) }
+        ensures log { OnOk result (Does StandsFor self.old (Sampled (bits_of m)) self.new) }
+    {
+        self.sample_bits(bits_of_move(&m))
     }
 
     /// The server told that it has the first `count` moves. A lower count than before changes nothing;

@@ -62,7 +62,7 @@ of_one : (held : ℕ → Option ℕ) (gs : List GhostItem) → AllByRecursion (I
 of_one held [] = tt
 of_one held (Kill slot ∷ gs) = (tt, of_one held gs)
 of_one held (Create slot kind block ls ∷ gs) = (tt, of_one held gs)
-of_one held (Update slot kind mask ls ∷ gs) = ((λ v. absurd (omega (arith, v))), of_one held gs)
+of_one held (Update slot kind mask ls ∷ gs) = ((λ v. absurd (cc v)), of_one held gs)
 
 pub of_version_one : (held : ℕ → Option ℕ) (p : ServerPacket) → AreOfHeld 1 held p
 of_version_one held (Ping head) = tt

@@ -1,5 +1,5 @@
 -- A packet of the server under a version and a table of kinds: how it is spelled, and how it is read. A ping is a header alone.
--- What is read in version 2 depends on the kinds that the client's slots held before the packet.
+-- What is read from version 2 on depends on the kinds that the client's slots held before the packet.
 use Rattle.std.specs.Prelude.{ℕ, ◌+◌, ◌-◌, ◌<◌, ◌^◌, ◌==◌, if◌then◌else◌, is_some, sum_by, Option, List, [], ◌∷◌, ◌++◌, Bool, Result, Ok, IfSome}
 use Rattle.std.specs.List.{AllByRecursion}
 use Rattle.bit_stream.specs.Bits.{number}
@@ -120,7 +120,7 @@ abbrev pub IsServer : ℕ → List Kind → ServerPacket → Type 0
 IsServer version kinds (Ping head) = IsHeader head
 IsServer version kinds (Body p) = IsServerBody version kinds p
 
--- in version 2 each update is of the kind that its slot holds
+-- from version 2 on each update is of the kind that its slot holds
 abbrev pub AreOfHeld : ℕ → (ℕ → Option ℕ) → ServerPacket → Type 0
 AreOfHeld version held (Ping head) = Unit {0}
 AreOfHeld version held (Body p) = AllByRecursion (IsOfHeld version held) p.ghosts

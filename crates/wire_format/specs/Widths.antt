@@ -2,7 +2,7 @@
 -- "Datagrams", tells: who changes one of them changes the bytes of datagrams, and has to say so here as well.
 use Rattle.std.specs.Prelude.{◌≡◌, [], ◌∷◌, Some, pos, false, replicate, refl}
 use Rattle.quantised_fields.specs.declared.kind.Kind.{Kind}
-use Rattle.wire_format.specs.declared.widths.TheConstants.{BLOCK_COUNT_WIDTH, BLOCK_LENGTH_WIDTH, BLOCK_NUMBER_WIDTH, BYTE_WIDTH, CLIENT_FIXED_BITS, CLIENT_WIDTH, CREATE, DATA, EVENT_COUNT_WIDTH, EVENT_LENGTH_WIDTH, FLAG_WIDTH, GHOST_COUNT_WIDTH, HEADER_BITS, HEAD_WIDTH, KILL, KIND_NUMBER_WIDTH, KIND_WIDTH, LOW_NUMBERS, LOW_NUMBER_WIDTH, LOW_VERSION, MASK_WIDTH, MAX_BLOCK_BITS, MAX_EVENT_BITS, MAX_GHOST_BITS, MAX_MOVE_BITS, MAX_NUMBER, MOVE_BITS, MOVE_COUNT_WIDTH, NUMBER_WIDTH, OP_WIDTH, OWN_VERSION, PING, SERVER_FIXED_BITS, SLOT_WIDTH, STEP_WIDTH, UPDATE}
+use Rattle.wire_format.specs.declared.widths.TheConstants.{BLOCK_COUNT_WIDTH, BLOCK_LENGTH_WIDTH, BLOCK_NUMBER_WIDTH, BYTE_WIDTH, CLIENT_FIXED_BITS, CLIENT_WIDTH, CREATE, DATA, EVENT_COUNT_WIDTH, EVENT_LENGTH_WIDTH, FLAG_WIDTH, GHOST_COUNT_WIDTH, HEADER_BITS, HEAD_WIDTH, KILL, KIND_NUMBER_WIDTH, KIND_WIDTH, LOW_NUMBERS, LOW_NUMBER_WIDTH, LOW_VERSION, MASK_WIDTH, MAX_BLOCK_BITS, MAX_EVENT_BITS, MAX_GHOST_BITS, MAX_NUMBER, MOVE_BITS, MOVE_COUNT_WIDTH, NUMBER_WIDTH, OP_WIDTH, OWN_VERSION, PING, SERVER_FIXED_BITS, SLOT_WIDTH, STEP_WIDTH, UPDATE}
 use Rattle.wire_format.specs.declared.events.EventItem.{EventItem}
 use Rattle.wire_format.specs.declared.ghosts.GhostItem.{GhostItem}
 use Rattle.wire_format.specs.declared.ghosts.GhostItem.TheVariants.{Create, Update}
@@ -105,9 +105,6 @@ step_width = refl
 move_bits : MOVE_BITS ≡ 10
 move_bits = refl
 
-max_move_bits : MAX_MOVE_BITS ≡ 64
-max_move_bits = refl
-
 own_version : OWN_VERSION ≡ 3
 own_version = refl
 
@@ -128,17 +125,17 @@ max_event_bits = refl
 max_ghost_bits : MAX_GHOST_BITS ≡ 222
 max_ghost_bits = refl
 
--- ---- the version in which events have low numbers and updates no kind
+-- ---- from this version on events have low numbers and updates no kind
 
 low_version : LOW_VERSION ≡ 2
 low_version = refl
 
 -- ---- what differs between the versions
 
-number_widths : number_width 1 ∷ number_width 2 ∷ [] ≡ 24 ∷ 7 ∷ []
+number_widths : number_width 1 ∷ number_width 2 ∷ number_width 3 ∷ [] ≡ 24 ∷ 7 ∷ 7 ∷ []
 number_widths = refl
 
-kind_widths : kind_width 1 ∷ kind_width 2 ∷ [] ≡ 4 ∷ 0 ∷ []
+kind_widths : kind_width 1 ∷ kind_width 2 ∷ kind_width 3 ∷ [] ≡ 4 ∷ 0 ∷ 0 ∷ []
 kind_widths = refl
 
 -- a guaranteed event of 24 bytes

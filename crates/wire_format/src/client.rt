@@ -122,8 +122,8 @@ fn read_whole(bytes: &[u8], wire: Wire) -> Result<ClientPacket, BitsFault>
 }
 
 /// The bits of what stands after the header.
-fn client_rest_bits(body: &ClientBody, version: u8) -> u32
-    ensures value { result ≡ length (client_rest version body.now) }
+fn client_rest_bits(body: &ClientBody, wire: Wire) -> u32
+    ensures value { result ≡ length (client_rest wire body.now) }
     ensures few { result ≤ MAX_PACKET_BITS }
 {
     let moves = list_bits(&wire, &body.moves);

@@ -22,7 +22,6 @@ mod said;
 mod server;
 mod widths;
 mod wire;
-mod world_moves;
 
 pub use blocks::{BlockItem, BlockList, block_bits, put_block, put_block_count, put_blocks};
 pub use client::{
@@ -36,17 +35,16 @@ pub use ghosts::{
 };
 pub use header::{Header, put_ping, server_head};
 pub use held::HeldKinds;
-pub use laws::{low_numbers_are_spelled, packets_are_parts, sizes_are_bits};
+pub use laws::{low_numbers_are_spelled, old_moves_stand, packets_are_parts, sizes_are_bits};
 pub use lists::ItemList;
-pub use moves::{Move, MoveList, is_move, move_width, put_move, put_move_count, put_moves};
+pub use moves::{MoveList, is_move, move_width, put_move, put_move_count, put_moves};
 pub use server::{
     ServerBody, ServerPacket, decode_server, decode_server_into, decode_server2, encode_server,
     encode_server2, put_server_front, server_bits, server2_bits,
 };
 pub use widths::{
     BLOCK_COUNT_WIDTH, CLIENT_FIXED_BITS, EVENT_COUNT_WIDTH, GHOST_COUNT_WIDTH, HEADER_BITS,
-    LOW_NUMBERS, MAX_BLOCK_BITS, MAX_EVENT_BITS, MAX_GHOST_BITS, MAX_MOVE_BITS, MOVE_BITS,
-    MOVE_COUNT_WIDTH, SERVER_FIXED_BITS, kind_width,
+    LOW_NUMBERS, MAX_BLOCK_BITS, MAX_EVENT_BITS, MAX_GHOST_BITS, MOVE_BITS, MOVE_COUNT_WIDTH,
+    SERVER_FIXED_BITS, kind_width,
 };
 pub use wire::Wire;
-pub use world_moves::{move_of_world, old_moves_stand, world_move};
