@@ -1,12 +1,12 @@
 -- A move is its number, and a number of ten bits its move.
-use Rattle.std.proofs.Common.{◌≡◌, ℕ, zero, suc, ◌+◌, ◌*◌, ◌/◌, ◌%◌, ◌<◌, Bool, true, false, refl, sym, ap, subst, ◌∙◌, arith}
+use Rattle.std.proofs.Common.{◌≡◌, ℕ, zero, suc, ◌+◌, ◌*◌, ◌/◌, ◌%◌, ◌<◌, Bool, true, false, refl, ap, subst, ◌∙◌, arith}
 use Rattle.std.specs.Prelude.{ℤ, pos, negsuc, ◌+ℤ◌, ◌≤ℤ◌, ◌==◌}
 use Rattle.std.proofs.lemmas.Int.{ints}
 use denote.Struct.Props.{props}
 use Rattle.tn_types.specs.Steps.{is_step}
 use Rattle.tn_types.specs.declared.moves.Move.{Move}
 use Rattle.tn_types.specs.declared.moves.MoveBits.{MoveBits}
-use Rattle.bit_stream.specs.WorldMoves.{raised, step_of, flag_of, number_of, bits_of, move_from, move_of}
+use Rattle.bit_stream.specs.WorldMoves.{raised, step_of, flag_of, number_of, bits_of, move_of}
 use Rattle.tn_types.proofs.StepRanges.{step_in_range, step_of_four_bits}
 
 -- ---- steps

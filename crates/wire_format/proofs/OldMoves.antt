@@ -1,12 +1,12 @@
 -- In versions 1 and 2 a move is spelled and read as the four parts that it always had.
 use Rattle.std.proofs.Common.{Err, ◌≡◌, ℕ, ◌+◌, ◌*◌, ◌^◌, ◌<◌, true, List, [], ◌∷◌, ◌++◌, Bool, Result, Ok, refl, sym, ap, ◌∙◌, arith}
-use Rattle.std.specs.Prelude.{nat_lt, ◌==◌}
+use Rattle.std.specs.Prelude.{nat_lt}
 use Rattle.std.proofs.lemmas.List.{append-nil}
 use Rattle.std.proofs.lemmas.Bool.{lt-ltb}
 use Rattle.tn_types.specs.declared.moves.Move.{Move}
 use Rattle.bit_stream.specs.Bits.{number}
 use Rattle.bit_stream.specs.Reading.{Unread}
-use Rattle.bit_stream.specs.WorldMoves.{raised, step_of, flag_of, number_of, bits_of, move_from}
+use Rattle.bit_stream.specs.WorldMoves.{raised, flag_of, number_of, bits_of, move_from}
 use Rattle.bit_stream.proofs.Numbers.{number-join}
 use Rattle.bit_stream.proofs.MovesAsNumbers.{raised_below, raised-step_of, flag_below, flag_of-is}
 use Rattle.wire_format.specs.declared.fault.BitsFault.{BitsFault}
