@@ -1,13 +1,14 @@
 -- The parts of a datagram in their order, by the definitions of `wire_format`: each line of a packet's reading there is a part
 -- here, read in the same way, with what it is.
-use Rattle.std.specs.Prelude.{ℕ, ◌+◌, ◌/◌, ◌%◌, ◌^◌, ◌==◌, if◌then◌else◌, List, [], ◌∷◌, length, Bool, true, Option, Some, None, Result, Ok, Err}
+use Rattle.std.specs.Prelude.{ℕ, ◌+◌, ◌/◌, ◌%◌, ◌^◌, ◌==◌, ◌-◌, min, nat_le, nat_lt, if◌then◌else◌, List, [], ◌∷◌, length, Bool, true, Option, Some, None, Result, Ok, Err}
 use Rattle.quantised_fields.specs.declared.kind.Kind.{Kind}
-use Rattle.tn_types.specs.declared.limits.TheConstants.{MAX_BLOCK_BYTES, MAX_EVENT_BYTES, MAX_PACKET_BLOCKS, MAX_PACKET_EVENTS, MAX_PACKET_GHOSTS, MAX_PACKET_MOVES}
+use Rattle.tn_types.specs.declared.limits.TheConstants.{MAX_BLOCK_BYTES, MAX_EVENT_BYTES, MAX_MOVE_BITS, MAX_WORD_BITS, MAX_PACKET_BLOCKS, MAX_PACKET_EVENTS, MAX_PACKET_GHOSTS, MAX_PACKET_MOVES}
 use Rattle.wire_format.specs.declared.widths.TheConstants.{BLOCK_COUNT_WIDTH, EVENT_COUNT_WIDTH, GHOST_COUNT_WIDTH, MOVE_COUNT_WIDTH}
-use Rattle.packet_parts.specs.declared.widths.TheConstants.{BLOCK_LENGTH_WIDTH, BLOCK_NUMBER_WIDTH, BYTE_WIDTH, CLIENT_WIDTH, CREATE, DATA, EVENT_LENGTH_WIDTH, FLAG_WIDTH, KILL, KIND_NUMBER_WIDTH, KIND_WIDTH, MASK_WIDTH, MAX_NUMBER, NUMBER_WIDTH, OP_WIDTH, PING, SLOT_WIDTH, STEP_WIDTH, UPDATE}
+use Rattle.packet_parts.specs.declared.widths.TheConstants.{BLOCK_LENGTH_WIDTH, BLOCK_NUMBER_WIDTH, BYTE_WIDTH, CLIENT_WIDTH, CREATE, DATA, EVENT_LENGTH_WIDTH, FLAG_WIDTH, KILL, KIND_NUMBER_WIDTH, KIND_WIDTH, MASK_WIDTH, MAX_NUMBER, NUMBER_WIDTH, OP_WIDTH, OWN_VERSION, PING, SLOT_WIDTH, STEP_WIDTH, UPDATE}
 use Rattle.wire_format.specs.declared.fault.BitsCause.TheVariants as causes
 use Rattle.wire_format.specs.Reading.{part_at, within_at}
-use Rattle.wire_format.specs.Events.{number_width}
+use Rattle.wire_format.specs.Events.{is_low, number_width}
+use Rattle.wire_format.specs.declared.wire.Wire.{Wire}
 use Rattle.wire_format.specs.Ghosts.{widths, kind_number_at, field_mask_at, held_in}
 use Rattle.packet_parts.specs.declared.part.PartName.{PartName}
 use Rattle.packet_parts.specs.declared.part.PartName.TheVariants as names
@@ -55,13 +56,29 @@ event_told version s = do
   count ← told names.EventLength EVENT_LENGTH_WIDTH (within_at causes.LengthBits 0 MAX_EVENT_BYTES EVENT_LENGTH_WIDTH) number.1
   counted_told (byte_told names.EventByte) count.0 count.1
 
-unfoldable pub move_told : Told → Result (Unit {0} × Told) Stop
-move_told s = do
+-- in versions 1 and 2
+unfoldable pub world_move_told : Told → Result (Unit {0} × Told) Stop
+world_move_told s = do
   dx ← told names.StepX STEP_WIDTH (part_at STEP_WIDTH) s
   dy ← told names.StepY STEP_WIDTH (part_at STEP_WIDTH) dx.1
   fire ← told names.Fire FLAG_WIDTH (part_at FLAG_WIDTH) dy.1
   act ← told names.Use FLAG_WIDTH (part_at FLAG_WIDTH) fire.1
   Ok (tt, act.1)
+
+-- in version 3 a move of so many bits
+unfoldable pub wide_move_told : ℕ → Told → Result (Unit {0} × Told) Stop
+wide_move_told width s =
+    if nat_le width MAX_WORD_BITS then (do
+      low ← told names.MoveLow width (part_at width) s
+      Ok (tt, low.1))
+    else (do
+      low ← told names.MoveLow MAX_WORD_BITS (part_at MAX_WORD_BITS) s
+      high ← told names.MoveHigh (width - MAX_WORD_BITS) (part_at (width - MAX_WORD_BITS)) low.1
+      Ok (tt, high.1))
+
+abbrev pub move_told : Wire → Told → Result (Unit {0} × Told) Stop
+move_told w s =
+    if nat_lt w.version OWN_VERSION then world_move_told s else wide_move_told (min w.move_bits MAX_MOVE_BITS) s
 
 -- ---- ghosts
 
@@ -90,14 +107,14 @@ create_told kinds s = do
   block ← told names.GhostBlock BLOCK_NUMBER_WIDTH (part_at BLOCK_NUMBER_WIDTH) kind.1
   levels_told kind.0 None 0 (widths kinds kind.0) block.1
 
--- in version 2 no part tells the kind of an update: the slot held it before
+-- from version 2 on no part tells the kind of an update: the slot held it before
 abbrev pub held_told : Option ℕ → Told → Result (ℕ × Told) Stop
 held_told None s = Err (record { told = s; cause = causes.UnknownSlot })
 held_told (Some kind) s = Ok (kind, s)
 
 abbrev pub update_kind_told : ℕ → List Kind → Option ℕ → Told → Result (ℕ × Told) Stop
 update_kind_told version kinds held s =
-    if version == 2 then held_told held s else told names.GhostKind KIND_NUMBER_WIDTH (kind_number_at kinds) s
+    if is_low version then held_told held s else told names.GhostKind KIND_NUMBER_WIDTH (kind_number_at kinds) s
 
 unfoldable pub update_told : ℕ → List Kind → Option ℕ → Told → Result (Unit {0} × Told) Stop
 update_told version kinds held s = do
@@ -118,7 +135,7 @@ ghost_told version kinds held s = do
 abbrev pub item_told : Item → Told → Result (Unit {0} × Told) Stop
 item_told items.Block = block_told
 item_told (items.Event version) = event_told version
-item_told items.Move = move_told
+item_told (items.Move wire) = move_told wire
 item_told (items.Ghost version kinds held) = ghost_told version kinds.now (held_in held.now)
 
 unfoldable pub listed_told : PartName → ℕ → ℕ → (Told → Result (Unit {0} × Told) Stop) → Told → Result (Unit {0} × Told) Stop
@@ -142,22 +159,22 @@ server_told version kinds held s = do
   head ← header_told kind.1
   if kind.0 == PING then Ok (tt, head.1) else server_body_told version kinds held head.1
 
-unfoldable pub client_body_told : ℕ → Told → Result (Unit {0} × Told) Stop
-client_body_told version s = do
+unfoldable pub client_body_told : Wire → Told → Result (Unit {0} × Told) Stop
+client_body_told wire s = do
   first ← told names.FirstMove NUMBER_WIDTH (part_at NUMBER_WIDTH) s
-  moves ← listed_told names.MoveCount MAX_PACKET_MOVES MOVE_COUNT_WIDTH move_told first.1
-  listed_told names.EventCount MAX_PACKET_EVENTS EVENT_COUNT_WIDTH (event_told version) moves.1
+  moves ← listed_told names.MoveCount MAX_PACKET_MOVES MOVE_COUNT_WIDTH (move_told wire) first.1
+  listed_told names.EventCount MAX_PACKET_EVENTS EVENT_COUNT_WIDTH (event_told wire.version) moves.1
 
-unfoldable pub client_told : ℕ → Told → Result (Unit {0} × Told) Stop
-client_told version s = do
+unfoldable pub client_told : Wire → Told → Result (Unit {0} × Told) Stop
+client_told wire s = do
   kind ← told names.Kind KIND_WIDTH (within_at causes.KindBits DATA PING KIND_WIDTH) s
   head ← header_told kind.1
-  if kind.0 == PING then Ok (tt, head.1) else client_body_told version head.1
+  if kind.0 == PING then Ok (tt, head.1) else client_body_told wire head.1
 
 -- ---- whole datagrams
 
 abbrev pub server_telling : ℕ → List Kind → (ℕ → Option ℕ) → List ℕ → Telling
 server_telling version kinds held bytes = ended (server_told version kinds held (begun bytes))
 
-abbrev pub client_telling : ℕ → List ℕ → Telling
-client_telling version bytes = ended (client_told version (begun bytes))
+abbrev pub client_telling : Wire → List ℕ → Telling
+client_telling wire bytes = ended (client_told wire (begun bytes))

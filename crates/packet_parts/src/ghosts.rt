@@ -82,7 +82,7 @@ impl<'a> PartReader<'a> {
         ensures read { Tells result self.new (update_kind_told version kinds.now held self.old) }
         ensures whole { self.new.whole ≡ self.old.whole }
     {
-        if version != LOW_VERSION {
+        if version < LOW_VERSION {
             return self.kind_number(kinds);
         }
         match held {

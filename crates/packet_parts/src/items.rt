@@ -1,17 +1,18 @@
 //! The items of a packet, part by part.
 ghost use Rattle.std.specs.Prelude.{◌≡◌, ◌≤◌};
 ghost use Rattle.packet_parts.specs.Parts.{Tells, counted_told};
-ghost use Rattle.packet_parts.specs.Telling.{header_told, optional_told, byte_told, block_told, event_told, move_told, item_told, listed_told};
+ghost use Rattle.packet_parts.specs.Telling.{header_told, optional_told, byte_told, block_told, event_told, world_move_told, wide_move_told, move_told, item_told, listed_told};
 
 use crate::part::PartName;
 use crate::reader::{Halt, PartReader};
 use crate::widths::{
     BLOCK_LENGTH_WIDTH, BLOCK_NUMBER_WIDTH, BYTE_WIDTH, CLIENT_WIDTH, EVENT_LENGTH_WIDTH,
-    FLAG_WIDTH, LOW_NUMBER_WIDTH, LOW_VERSION, MASK_WIDTH, MAX_NUMBER, NUMBER_WIDTH, STEP_WIDTH,
+    FLAG_WIDTH, LOW_NUMBER_WIDTH, LOW_VERSION, MASK_WIDTH, MAX_NUMBER, NUMBER_WIDTH, OWN_VERSION,
+    STEP_WIDTH,
 };
 use quantised_fields::KindTable;
-use tn_types::{MAX_BLOCK_BYTES, MAX_EVENT_BYTES, MAX_WORD_BITS};
-use wire_format::{BitsCause, HeldKinds};
+use tn_types::{MAX_BLOCK_BYTES, MAX_EVENT_BYTES, MAX_MOVE_BITS, MAX_WORD_BITS};
+use wire_format::{BitsCause, HeldKinds, Wire};
 
 /// What stands in a list of a packet, and by what it is read.
 #[derive(Drop)]
@@ -20,7 +21,9 @@ pub(crate) enum Item<'k> {
     Event {
         version: u8,
     },
-    Move,
+    Move {
+        wire: Wire,
+    },
     Ghost {
         version: u8,
         kinds: &'k KindTable,
@@ -111,7 +114,7 @@ impl<'a> PartReader<'a> {
         ensures read { Tells result self.new (event_told version self.old) }
         ensures whole { self.new.whole ≡ self.old.whole }
     {
-        let width = if version == LOW_VERSION {
+        let width = if version >= LOW_VERSION {
             LOW_NUMBER_WIDTH
         } else {
             NUMBER_WIDTH
@@ -127,10 +130,10 @@ impl<'a> PartReader<'a> {
         self.bytes(PartName::EventByte, count)
     }
 
-    /// A move.
-    #[tactic(auto, unfolding(crate::specs::Telling::move_told))]
-    fn one_move(&mut self) -> Result<(), Halt>
-        ensures read { Tells result self.new (move_told self.old) }
+    /// A move of versions 1 and 2.
+    #[tactic(auto, unfolding(crate::specs::Telling::world_move_told))]
+    fn world_move(&mut self) -> Result<(), Halt>
+        ensures read { Tells result self.new (world_move_told self.old) }
         ensures whole { self.new.whole ≡ self.old.whole }
     {
         self.part(PartName::StepX, STEP_WIDTH)?;
@@ -138,6 +141,34 @@ impl<'a> PartReader<'a> {
         self.part(PartName::Fire, FLAG_WIDTH)?;
         self.part(PartName::Use, FLAG_WIDTH)?;
         Ok(())
+    }
+
+    /// A move of version 3.
+    #[tactic(auto, unfolding(crate::specs::Telling::wide_move_told))]
+    fn wide_move(&mut self, width: u32) -> Result<(), Halt>
+        requires { width ≤ MAX_MOVE_BITS }
+        ensures read { Tells result self.new (wide_move_told width self.old) }
+        ensures whole { self.new.whole ≡ self.old.whole }
+    {
+        if width <= MAX_WORD_BITS {
+            self.part(PartName::MoveLow, width)?;
+            return Ok(());
+        }
+        self.part(PartName::MoveLow, MAX_WORD_BITS)?;
+        self.part(PartName::MoveHigh, width - MAX_WORD_BITS)?;
+        Ok(())
+    }
+
+    /// A move.
+    fn one_move(&mut self, wire: Wire) -> Result<(), Halt>
+        ensures read { Tells result self.new (move_told wire self.old) }
+        ensures whole { self.new.whole ≡ self.old.whole }
+    {
+        if wire.version < OWN_VERSION {
+            self.world_move()
+        } else {
+            self.wide_move(u32::from(wire.move_bits).min(MAX_MOVE_BITS))
+        }
     }
 
     /// An item of a list.
@@ -148,7 +179,7 @@ impl<'a> PartReader<'a> {
         match item {
             Item::Block => self.block(),
             Item::Event { version } => self.event(*version),
-            Item::Move => self.one_move(),
+            Item::Move { wire } => self.one_move(*wire),
             Item::Ghost {
                 version,
                 kinds,

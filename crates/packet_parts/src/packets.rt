@@ -22,7 +22,7 @@ use tn_types::{
 };
 use wire_format::{
     BLOCK_COUNT_WIDTH, BitsCause, BitsFault, EVENT_COUNT_WIDTH, GHOST_COUNT_WIDTH, HeldKinds,
-    MOVE_COUNT_WIDTH,
+    MOVE_COUNT_WIDTH, Wire,
 };
 
 /// A datagram taken apart: the parts up to its end or up to its first fault, and that fault.
@@ -83,8 +83,8 @@ impl<'a> PartReader<'a> {
 
     /// What stands after the header of a client's data packet.
     #[tactic(auto, unfolding(crate::specs::Telling::client_body_told))]
-    fn client_body(&mut self, version: u8) -> Result<(), Halt>
-        ensures read { Tells result self.new (client_body_told version self.old) }
+    fn client_body(&mut self, wire: Wire) -> Result<(), Halt>
+        ensures read { Tells result self.new (client_body_told wire self.old) }
         ensures whole { self.new.whole ≡ self.old.whole }
     {
         self.part(PartName::FirstMove, NUMBER_WIDTH)?;
@@ -92,9 +92,11 @@ impl<'a> PartReader<'a> {
             PartName::MoveCount,
             MAX_PACKET_MOVES,
             MOVE_COUNT_WIDTH,
-            &Item::Move,
+            &Item::Move { wire },
         )?;
-        let event = Item::Event { version };
+        let event = Item::Event {
+            version: wire.version,
+        };
         self.list(
             PartName::EventCount,
             MAX_PACKET_EVENTS,
@@ -105,8 +107,8 @@ impl<'a> PartReader<'a> {
 
     /// A packet of a client.
     #[tactic(auto, unfolding(crate::specs::Telling::client_told))]
-    fn client(&mut self, version: u8) -> Result<(), Halt>
-        ensures read { Tells result self.new (client_told version self.old) }
+    fn client(&mut self, wire: Wire) -> Result<(), Halt>
+        ensures read { Tells result self.new (client_told wire self.old) }
         ensures whole { self.new.whole ≡ self.old.whole }
     {
         let kind = self.within(PartName::Kind, BitsCause::KindBits, DATA, PING, KIND_WIDTH)?;
@@ -114,7 +116,7 @@ impl<'a> PartReader<'a> {
         if kind == PING {
             return Ok(());
         }
-        self.client_body(version)
+        self.client_body(wire)
     }
 
     /// What was told of a whole datagram, however its reading went.
@@ -172,22 +174,22 @@ pub fn server_parts(
     reader.told(read)
 }
 
-/// The same of a datagram of a client of a version, whose fault [`wire_format::decode_client_into`] tells.
-pub fn client_parts(alloc: Global, bytes: &[u8], version: u8) -> Result<Telling, NoMemory>
+/// The same of a datagram of a client, whose fault [`wire_format::decode_client_into`] tells.
+pub fn client_parts(alloc: Global, bytes: &[u8], wire: Wire) -> Result<Telling, NoMemory>
     requires few { length bytes.now ≤ MAX_READ_BYTES }
     // Which parts, each with what it is, and which fault.
-    ensures exact { IfOk result (λ t. t ≡ client_telling version bytes.now) }
+    ensures exact { IfOk result (λ t. t ≡ client_telling wire bytes.now) }
     // They are the datagram's bits from bit 0 on.
     ensures bits { IfOk result (λ t. AreFirstOf (bits_of bytes.now) t.parts) }
     // Put together they are the packet that the decoder reads.
-    ensures packet { (p : ClientPacket) → read_client version bytes.now ≡ Ok p
-        → IfOk result (λ t. spelled t.parts ≡ spell_client version p) }
+    ensures packet { (p : ClientPacket) → read_client wire bytes.now ≡ Ok p
+        → IfOk result (λ t. spelled t.parts ≡ spell_client wire p) }
     // The fault is the decoder's, and none where it reads a packet.
-    ensures fault { IfOk result (λ t. t.fault ≡ result_err (read_client version bytes.now)) }
+    ensures fault { IfOk result (λ t. t.fault ≡ result_err (read_client wire bytes.now)) }
     // A faulty part begins after those before it.
     ensures place { IfOk result (λ t. IfSome t.fault (λ e. e.place ≡ length (spelled t.parts))) }
 {
     let mut reader = PartReader::new(alloc, bytes);
-    let read = reader.client(version);
+    let read = reader.client(wire);
     reader.told(read)
 }

@@ -36,7 +36,7 @@ pub enum PartName {
     EventCount,
     /// Whether the number of an event follows.
     EventFlag,
-    /// The number of an event, in version 2 its lowest bits.
+    /// The number of an event, from version 2 on its lowest bits.
     EventNumber,
     /// How many bytes an event has.
     EventLength,
@@ -68,6 +68,10 @@ pub enum PartName {
     Fire,
     /// Whether a move uses.
     Use,
+    /// In version 3 the lowest bits of a move, at most 32.
+    MoveLow,
+    /// In version 3 the further bits of a move that has more than 32.
+    MoveHigh,
 }
 
 /// A number of a datagram: where it begins, how many bits it has, what it is, and the number itself.

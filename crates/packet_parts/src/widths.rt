@@ -40,5 +40,7 @@ pub(crate) const UPDATE: u32 = 2;
 pub(crate) const KIND_NUMBER_WIDTH: u32 = 4;
 /// A step of a move each way, raised by 8.
 pub(crate) const STEP_WIDTH: u32 = 4;
-/// The version in which updates have no kind and events a low number.
+/// The first version in which the terms say how wide a move is.
+pub(crate) const OWN_VERSION: u8 = 3;
+/// From this version on updates have no kind and events a low number.
 pub(crate) const LOW_VERSION: u8 = 2;

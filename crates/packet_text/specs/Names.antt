@@ -46,6 +46,8 @@ plain_text names.StepX = codes "move.dx"
 plain_text names.StepY = codes "move.dy"
 plain_text names.Fire = codes "move.fire"
 plain_text names.Use = codes "move.use"
+plain_text names.MoveLow = codes "move.low"
+plain_text names.MoveHigh = codes "move.high"
 
 -- of a level its kind and its field
 abbrev pub name_text : PartName → List ℕ

@@ -71,6 +71,8 @@ fn plain_word(name: PartName) -> &'static str
         PartName::StepY => "move.dy",
         PartName::Fire => "move.fire",
         PartName::Use => "move.use",
+        PartName::MoveLow => "move.low",
+        PartName::MoveHigh => "move.high",
     }
 }
 
