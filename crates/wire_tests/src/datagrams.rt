@@ -1,11 +1,12 @@
 //! Of `wire_format`: whole datagrams with known bytes, written and read, and those that are refused, each with its reason.
-use bit_stream::BitWriter;
+use bit_stream::{BitWriter, bits_of_move};
 use std::test::Fail;
-use tn_types::{Move, PacketKind, Payload};
+use tn_types::{Move, MoveBits, PacketKind, Payload};
 use wire_format::{
     BitsCause, BitsFault, BlockList, ClientBody, ClientPacket, EventItem, EventList, GhostItem,
-    GhostList, Header, MoveList, ServerBody, ServerPacket, client_bits, decode_client,
-    decode_client_into, decode_server, encode_client, encode_server, server_bits,
+    GhostList, Header, MoveList, ServerBody, ServerPacket, Wire, client_bits, decode_client,
+    decode_client_into, decode_server, encode_client, encode_server, put_client_front,
+    put_event_count, put_moves, server_bits,
 };
 use world_rules::match_kinds;
 
@@ -33,6 +34,19 @@ const ACKNOWLEDGES: [u8; 16] = [0xc0, 0, 0, 0, 1, 0, 0x40, 3, 0, 0, 0, 0, 0, 0, 
 const MOVES: [u8; 20] = [
     0x40, 0, 0, 0, 0, 0, 0, 0, 0, 0, 0xc0, 1, 0, 0x80, 0x90, 8, 0xfc, 0x41, 8, 3,
 ];
+
+/// A first packet of a client of version 3, whose moves have 40 bits: move 7, which is 0x123456789a, and move 8, which is
+/// 0xfedcba9876.
+const WIDE_MOVES: [u8; 26] = [
+    0x40, 0, 0, 0, 0, 0, 0, 0, 0, 0, 0xc0, 1, 0, 0x80, 0xa0, 0x89, 0x67, 0x45, 0x23, 0x61, 0x87,
+    0xa9, 0xcb, 0xed, 0x0f, 0,
+];
+
+/// Version 3 with moves of 40 bits.
+const FORTY: Wire = Wire {
+    version: 3,
+    move_bits: 40,
+};
 
 const FIRST: Header = Header {
     client: 0,
@@ -78,18 +92,18 @@ fn first_event(rt: HostRuntime) -> Result<(), Fail> {
 #[test]
 fn moves_are_written(rt: HostRuntime) -> Result<(), Fail> {
     let mut moves = MoveList::new();
-    moves.push(Move {
+    moves.push(bits_of_move(&Move {
         dx: 1,
         dy: 0,
         fire: false,
         act: false,
-    });
-    moves.push(Move {
+    }));
+    moves.push(bits_of_move(&Move {
         dx: -8,
         dy: 7,
         fire: true,
         act: true,
-    });
+    }));
     let mut events = EventList::new();
     events.push(EventItem {
         number: None,
@@ -123,12 +137,51 @@ fn acknowledgement_is_read(rt: HostRuntime) -> Result<(), Fail> {
     Ok(())
 }
 
+/// Moves of version 3 have the bits that the terms count, the lowest first.
+#[test]
+fn wide_moves_are_written(rt: HostRuntime) {
+    let mut moves = MoveList::new();
+    moves.push(MoveBits {
+        bits: 0x12_3456_789a,
+    });
+    moves.push(MoveBits {
+        bits: 0xfe_dcba_9876,
+    });
+    let mut out = BitWriter::new(128);
+    put_client_front(&mut out, &FIRST, 7);
+    put_moves(&mut out, FORTY, &moves);
+    put_event_count(&mut out, 0);
+    assert_eq!(rt; out.finish().as_slice(), WIDE_MOVES.as_slice());
+}
+
+/// They come back, and a datagram that is cut inside a move is short at the part that is cut: the lowest 32 bits are one, the
+/// further bits another.
+#[test]
+fn wide_moves_are_read(rt: HostRuntime) -> Result<(), Fail> {
+    let mut body = ClientBody::new();
+    assert_eq!(rt;
+        decode_client_into(&WIDE_MOVES, FORTY, &mut body),
+        Ok(PacketKind::Body)
+    );
+    assert_eq!(rt; (body.first, body.moves.len()), (7, 2));
+    let second = body.moves.get(1).ok_or("one move")?;
+    assert_eq!(rt; second.bits, 0xfe_dcba_9876);
+    let cuts = [(18, 116), (19, 148), (23, 156), (24, 188), (25, 196)];
+    for (len, place) in cuts {
+        let (cut, _) = WIDE_MOVES.as_slice().split_at(len);
+        let answer = decode_client_into(cut, FORTY, &mut body).err();
+        let cause = BitsCause::Short;
+        assert_eq!(rt; answer, Some(BitsFault { place, cause }));
+    }
+    Ok(())
+}
+
 /// A body that had a packet with moves and an event is filled anew.
 #[test]
 fn body_is_filled_again(rt: HostRuntime) {
     let mut body = ClientBody::new();
     assert_eq!(rt;
-        decode_client_into(&MOVES, 1, &mut body),
+        decode_client_into(&MOVES, Wire::old(1), &mut body),
         Ok(PacketKind::Body)
     );
     assert_eq!(rt;
@@ -136,7 +189,7 @@ fn body_is_filled_again(rt: HostRuntime) {
         (7, 2, 1)
     );
     assert_eq!(rt;
-        decode_client_into(&ACKNOWLEDGES, 1, &mut body),
+        decode_client_into(&ACKNOWLEDGES, Wire::old(1), &mut body),
         Ok(PacketKind::Body)
     );
     assert_eq!(rt;
