@@ -4,7 +4,7 @@ use Rattle.std.specs.Prelude.{find}
 use Rattle.std.specs.List.{AllByRecursion, list_any, filter_map, cons_option, position_from}
 use Rattle.std.specs.Option.{option_or}
 use Rattle.std.proofs.lemmas.Bool.Decides.{nat_tests}
-use Rattle.tn_types.specs.declared.moves.Move.{Move}
+use Rattle.tn_types.specs.declared.moves.MoveBits.{MoveBits}
 use Rattle.tn_types.specs.declared.limits.TheConstants.{MAX_OBJECTS}
 use Rattle.world_rules.specs.declared.kinds.TheConstants.{MINE, DRONE, FLAG}
 use Rattle.world_rules.specs.declared.measures.TheConstants.{FLAG_REACH}
@@ -41,11 +41,11 @@ mortal o s alive e dies lives = absurd (never (sym dies ∙ sym (ap lives_on e) 
 lasting : (o : Object) (s : State) → o.state ≡ s → lives_on s ≡ true → LivesOn o → o.alive ≡ true
 lasting o s e lives h = h (ap lives_on e ∙ lives)
 
-carried_lives : (moves : List (Option Move)) (o : Object) (client : ℕ) (p : Option Object) → o.alive ≡ true → LivesOn (carried moves o client p)
+carried_lives : (moves : List (Option MoveBits)) (o : Object) (client : ℕ) (p : Option Object) → o.alive ≡ true → LivesOn (carried moves o client p)
 carried_lives moves o client None h = λ _. h
 carried_lives moves o client (Some p) h = either LivesOn (not (is_standing p)) _ _ (λ _. h) (either LivesOn (is_home p) _ _ (λ _. h) (λ _. h))
 
-by_kind_lives : (os : List Object) (moves : List (Option Move)) (t : Moment) (o : Object) (s : State) → o.state ≡ s → LivesOn o → LivesOn (by_kind os moves t o s)
+by_kind_lives : (os : List Object) (moves : List (Option MoveBits)) (t : Moment) (o : Object) (s : State) → o.state ≡ s → LivesOn o → LivesOn (by_kind os moves t o s)
 unfolding player_next disc_next mine_next drone_next flag_next clock_next
 by_kind_lives os moves t o (Player p) e h =
     let alive : o.alive ≡ true = lasting o (Player p) e refl h in
@@ -63,7 +63,7 @@ by_kind_lives os moves t o (Flag f) e h = held f.holder
     held (Some client) = carried_lives moves o client (find (is_player client) os) (lasting o (Flag f) e refl h)
 by_kind_lives os moves t o (Clock c) e h = λ _. lasting o (Clock c) e refl h
 
-all_live : (os : List Object) (moves : List (Option Move)) (t : Moment) (xs : List Object) → AllByRecursion LivesOn xs → AllByRecursion LivesOn (map (object_next os moves t) xs)
+all_live : (os : List Object) (moves : List (Option MoveBits)) (t : Moment) (xs : List Object) → AllByRecursion LivesOn xs → AllByRecursion LivesOn (map (object_next os moves t) xs)
 all_live os moves t [] h = tt
 all_live os moves t (o ∷ xs) h = (by_kind_lives os moves t o o.state refl h.0, all_live os moves t xs h.1)
 
@@ -83,7 +83,7 @@ by_choice : (b : Bool) (x : Option Object) → MadePlain x → MadePlain (cond b
 by_choice true x h = h
 by_choice false x h = tt
 
-fired_plain : (moves : List (Option Move)) (o : Object) (s : State) → MadePlain (fired_part moves o s)
+fired_plain : (moves : List (Option MoveBits)) (o : Object) (s : State) → MadePlain (fired_part moves o s)
 unfolding fired_by
 fired_plain moves o (Player p) = by_choice (is_firing p (move_of moves p.client)) _ (record { owner = refl; number = refl; holder = refl; lives = λ _. refl })
 fired_plain moves o (Disc d) = tt
@@ -92,7 +92,7 @@ fired_plain moves o (Drone d) = tt
 fired_plain moves o (Flag f) = tt
 fired_plain moves o (Clock c) = tt
 
-made_plain : (moves : List (Option Move)) (xs : List Object) → AllByRecursion IsPlain (filter_map (fired moves) xs)
+made_plain : (moves : List (Option MoveBits)) (xs : List Object) → AllByRecursion IsPlain (filter_map (fired moves) xs)
 made_plain moves [] = tt
 made_plain moves (o ∷ xs) = before (fired moves o) (filter_map (fired moves) xs) (fired_plain moves o o.state) (made_plain moves xs)
   where
@@ -105,7 +105,7 @@ take_plain zero xs h = tt
 take_plain (suc n) [] h = tt
 take_plain (suc n) (x ∷ xs) h = (h.0, take_plain n xs h.1)
 
-discs_plain : (os : List Object) (moves : List (Option Move)) → AllByRecursion IsPlain (discs_made os moves)
+discs_plain : (os : List Object) (moves : List (Option MoveBits)) → AllByRecursion IsPlain (discs_made os moves)
 unfolding discs_made
 discs_plain os moves = take_plain (MAX_OBJECTS - length os) (filter_map (fired moves) os) (made_plain moves os)
 
@@ -152,7 +152,7 @@ part_append f [] ys = refl
 part_append f (x ∷ xs) ys = ap (λ (is : List (Option ℕ)). f x ∷ is) (part_append f xs ys)
 
 -- the identities of the world after the tick: those before it, and the discs'
-part_next : (f : Identity → Option ℕ) (os : List Object) (moves : List (Option Move)) (t : Moment) → map f (identities (objects_next os moves t)) ≡ map f (identities os) ++ map f (identities (discs_made os moves))
+part_next : (f : Identity → Option ℕ) (os : List Object) (moves : List (Option MoveBits)) (t : Moment) → map f (identities (objects_next os moves t)) ≡ map f (identities os) ++ map f (identities (discs_made os moves))
 part_next f os moves t =
     ap (map f) (identities_append (map (object_next os moves t) os) (discs_made os moves))
     ∙ part_append f (identities (map (object_next os moves t) os)) (identities (discs_made os moves))
@@ -173,7 +173,7 @@ holder_stays None xs ys h = tt
 holder_stays (Some client) xs ys h = owner_stays client xs ys h
 
 -- whoever takes a flag is a player
-using_plays : (moves : List (Option Move)) (s : State) (client : ℕ) → using_part moves s ≡ Some client → is_owner client (owner_in s) ≡ true
+using_plays : (moves : List (Option MoveBits)) (s : State) (client : ℕ) → using_part moves s ≡ Some client → is_owner client (owner_in s) ≡ true
 using_plays moves (Player p) client h = by (move_of moves p.client).act h
   where
     by : (b : Bool) → cond b (Some p.client) None ≡ Some client → (p.client == client) ≡ true
@@ -185,7 +185,7 @@ using_plays moves (Drone d) client h = absurd (cc)
 using_plays moves (Flag f) client h = absurd (cc)
 using_plays moves (Clock c) client h = absurd (cc)
 
-taking_plays : (moves : List (Option Move)) (o p : Object) (client : ℕ) → taking moves o p ≡ Some client → is_owner client (owner_in p.state) ≡ true
+taking_plays : (moves : List (Option MoveBits)) (o p : Object) (client : ℕ) → taking moves o p ≡ Some client → is_owner client (owner_in p.state) ≡ true
 taking_plays moves o p client h = by (is_enemy_near FLAG_REACH o p) h
   where
     by : (b : Bool) → cond b (using_part moves p.state) None ≡ Some client → is_owner client (owner_in p.state) ≡ true
@@ -200,7 +200,7 @@ plays_before p os (Some client) h = by (is_owner client (owner_in p.state)) h
     by true h = refl
     by false h = h
 
-taker_plays : (os : List Object) (moves : List (Option Move)) (o : Object) → HolderPlays (owners os) (taker os moves o)
+taker_plays : (os : List Object) (moves : List (Option MoveBits)) (o : Object) → HolderPlays (owners os) (taker os moves o)
 taker_plays [] moves o = tt
 taker_plays (p ∷ os) moves o = by (taking moves o p) refl (taker_plays os moves o)
   where
@@ -211,11 +211,11 @@ taker_plays (p ∷ os) moves o = by (taking moves o p) refl (taker_plays os move
 abbrev Holds : List (Option ℕ) → Object → Type 0
 Holds ws o = HolderPlays ws (holder_in o.state)
 
-carried_holds : (ws : List (Option ℕ)) (moves : List (Option Move)) (o : Object) (client : ℕ) (p : Option Object) → Holds ws o → Holds ws (carried moves o client p)
+carried_holds : (ws : List (Option ℕ)) (moves : List (Option MoveBits)) (o : Object) (client : ℕ) (p : Option Object) → Holds ws o → Holds ws (carried moves o client p)
 carried_holds ws moves o client None h = tt
 carried_holds ws moves o client (Some p) h = either (Holds ws) (not (is_standing p)) _ _ tt (either (Holds ws) (is_home p) _ _ tt h)
 
-by_kind_holds : (os : List Object) (moves : List (Option Move)) (t : Moment) (o : Object) (s : State) → o.state ≡ s → Holds (owners os) o → Holds (owners os) (by_kind os moves t o s)
+by_kind_holds : (os : List Object) (moves : List (Option MoveBits)) (t : Moment) (o : Object) (s : State) → o.state ≡ s → Holds (owners os) o → Holds (owners os) (by_kind os moves t o s)
 unfolding player_next disc_next mine_next drone_next flag_next clock_next
 by_kind_holds os moves t o (Player p) e h = either (Holds (owners os)) (nat_lt 0 p.hp) _ _ tt tt
 by_kind_holds os moves t o (Disc d) e h =
@@ -231,7 +231,7 @@ by_kind_holds os moves t o (Flag f) e h = held f.holder
     held (Some client) = carried_holds (owners os) moves o client (find (is_player client) os) h
 by_kind_holds os moves t o (Clock c) e h = tt
 
-all_hold : (os : List Object) (moves : List (Option Move)) (t : Moment) (ws : List (Option ℕ)) (xs : List Object) → AllByRecursion (Holds (owners os)) xs → AllByRecursion (Holds (owners os ++ ws)) (map (object_next os moves t) xs)
+all_hold : (os : List Object) (moves : List (Option MoveBits)) (t : Moment) (ws : List (Option ℕ)) (xs : List Object) → AllByRecursion (Holds (owners os)) xs → AllByRecursion (Holds (owners os ++ ws)) (map (object_next os moves t) xs)
 all_hold os moves t ws [] h = tt
 all_hold os moves t ws (o ∷ xs) h = (
   holder_stays _ (owners os) ws (by_kind_holds os moves t o o.state refl h.0),
@@ -248,7 +248,7 @@ hold_append ws (x ∷ xs) ys h k = (h.0, hold_append ws xs ys h.1 k)
 
 -- ---- the whole
 
-pub peopled_next : (clients : ℕ) (os : List Object) (moves : List (Option Move)) (t : Moment) → IsPeopled clients os → IsPeopled clients (objects_next os moves t)
+pub peopled_next : (clients : ℕ) (os : List Object) (moves : List (Option MoveBits)) (t : Moment) → IsPeopled clients os → IsPeopled clients (objects_next os moves t)
 peopled_next clients os moves t h =
     let ds = discs_made os moves in
     let plain : AllByRecursion IsPlain ds = discs_plain os moves in
@@ -330,7 +330,7 @@ player_by_owner client (Drone d) = refl
 player_by_owner client (Flag f) = refl
 player_by_owner client (Clock c) = refl
 
-pub same_player : (client : ℕ) (os : List Object) (moves : List (Option Move)) (t : Moment) (o : Object) → is_player client (object_next os moves t o) ≡ is_player client o
+pub same_player : (client : ℕ) (os : List Object) (moves : List (Option MoveBits)) (t : Moment) (o : Object) → is_player client (object_next os moves t o) ≡ is_player client o
 same_player client os moves t o =
     player_by_owner client (object_next os moves t o).state
     ∙ ap (λ (i : Identity). is_owner client i.owner) (stays_itself os moves t o)
@@ -342,10 +342,10 @@ no_player client i (d ∷ ds) h =
     let none : is_player client d ≡ false = player_by_owner client d.state ∙ ap (is_owner client) h.0.owner in
     rw none (no_player client (i + 1) ds h.1)
 
-players_from : (client i : ℕ) (os : List Object) (moves : List (Option Move)) (t : Moment) (xs ds : List Object) → AllByRecursion IsPlain ds → position_from (is_player client) i (map (object_next os moves t) xs ++ ds) ≡ position_from (is_player client) i xs
+players_from : (client i : ℕ) (os : List Object) (moves : List (Option MoveBits)) (t : Moment) (xs ds : List Object) → AllByRecursion IsPlain ds → position_from (is_player client) i (map (object_next os moves t) xs ++ ds) ≡ position_from (is_player client) i xs
 players_from client i os moves t [] ds h = no_player client i ds h
 players_from client i os moves t (o ∷ xs) ds h =
     rw (same_player client os moves t o, players_from client (i + 1) os moves t xs ds h) refl
 
-pub player_stays : (client : ℕ) (os : List Object) (moves : List (Option Move)) (t : Moment) → position_from (is_player client) 0 (objects_next os moves t) ≡ position_from (is_player client) 0 os
+pub player_stays : (client : ℕ) (os : List Object) (moves : List (Option MoveBits)) (t : Moment) → position_from (is_player client) 0 (objects_next os moves t) ≡ position_from (is_player client) 0 os
 player_stays client os moves t = players_from client 0 os moves t os (discs_made os moves) (discs_plain os moves)

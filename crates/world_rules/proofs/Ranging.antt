@@ -4,6 +4,7 @@ use Rattle.std.specs.Prelude.{ℤ, pos, negsuc, find}
 use Rattle.std.specs.List.{AllByRecursion, All, filter_map, cons_option}
 use Rattle.std.proofs.lemmas.List.Elements.{recursion_from_All}
 use Rattle.tn_types.specs.declared.moves.Move.{Move}
+use Rattle.tn_types.specs.declared.moves.MoveBits.{MoveBits}
 use Rattle.world_rules.specs.declared.kinds.TheConstants.{MINE, DRONE, FLAG}
 use Rattle.world_rules.specs.declared.object.Place.{Place}
 use Rattle.world_rules.specs.declared.object.Object.{Object}
@@ -76,12 +77,12 @@ drone_fits r harm o d h s = either ObjectFits (not o.alive) o _ h (fits_at o (na
 home_fits : (o : Object) → ObjectFits o → ObjectFits (went_home o)
 home_fits o h = fits_at o o.alive o.home (Flag (record { holder = None })) h h.home tt
 
-carried_fits : (moves : List (Option Move)) (o : Object) (client : ℕ) (p : Option Object) → ObjectFits o → ObjectFits (carried moves o client p)
+carried_fits : (moves : List (Option MoveBits)) (o : Object) (client : ℕ) (p : Option Object) → ObjectFits o → ObjectFits (carried moves o client p)
 carried_fits moves o client None h = home_fits o h
 carried_fits moves o client (Some p) h = either ObjectFits (not (is_standing p)) _ _ (home_fits o h) (either ObjectFits (is_home p) _ _ (home_fits o h)
     (fits_at o o.alive (stepped p.place (move_of moves client)) o.state h (stepped_fits p.place (move_of moves client)) h.state))
 
-using_fits : (moves : List (Option Move)) (s : State) → StateFits s → HolderFits (using_part moves s)
+using_fits : (moves : List (Option MoveBits)) (s : State) → StateFits s → HolderFits (using_part moves s)
 using_fits moves (Player p) h = either HolderFits (move_of moves p.client).act _ _ h.0 tt
 using_fits moves (Disc d) h = tt
 using_fits moves (Mine m) h = tt
@@ -93,11 +94,11 @@ first_fits : (a b : Option ℕ) → HolderFits a → HolderFits b → HolderFits
 first_fits None b h k = k
 first_fits (Some c) b h k = h
 
-taker_fits : (os : List Object) (moves : List (Option Move)) (o : Object) → AllByRecursion ObjectFits os → HolderFits (taker os moves o)
+taker_fits : (os : List Object) (moves : List (Option MoveBits)) (o : Object) → AllByRecursion ObjectFits os → HolderFits (taker os moves o)
 taker_fits [] moves o h = tt
 taker_fits (p ∷ os) moves o h = first_fits (taking moves o p) (taker os moves o) (either HolderFits (is_enemy_near FLAG_REACH o p) _ _ (using_fits moves p.state h.0.state) tt) (taker_fits os moves o h.1)
 
-flag_fits : (os : List Object) (moves : List (Option Move)) (o : Object) (holder : Option ℕ) → AllByRecursion ObjectFits os → ObjectFits o → ObjectFits (flag_next os moves o holder)
+flag_fits : (os : List Object) (moves : List (Option MoveBits)) (o : Object) (holder : Option ℕ) → AllByRecursion ObjectFits os → ObjectFits o → ObjectFits (flag_next os moves o holder)
 unfolding flag_next
 flag_fits os moves o None all h = fits_at o o.alive o.place (Flag (record { holder = taker os moves o })) h h.place (taker_fits os moves o all)
 flag_fits os moves o (Some client) all h = carried_fits moves o client (find (is_player client) os) h
@@ -106,7 +107,7 @@ clock_fits : (red blue : ℕ) (o : Object) (c : ClockPart) → ObjectFits o → 
 unfolding clock_next
 clock_fits red blue o c h = fits_at o o.alive o.place _ h h.place (omega arith, omega arith, omega arith)
 
-kind_fits : (os : List Object) (moves : List (Option Move)) (t : Moment) (o : Object) (s : State) → AllByRecursion ObjectFits os → ObjectFits o → StateFits s → ObjectFits (by_kind os moves t o s)
+kind_fits : (os : List Object) (moves : List (Option MoveBits)) (t : Moment) (o : Object) (s : State) → AllByRecursion ObjectFits os → ObjectFits o → StateFits s → ObjectFits (by_kind os moves t o s)
 kind_fits os moves t o (Player p) all h k = player_fits (damage os o) (hits os p.client) o p (move_of moves p.client) h k
 kind_fits os moves t o (Disc d) all h k = disc_fits (is_hitting os o) o d h k
 kind_fits os moves t o (Mine m) all h k = mine_fits (is_triggered os o) o m h k
@@ -114,7 +115,7 @@ kind_fits os moves t o (Drone d) all h k = drone_fits (drawn t.seed d.number t.t
 kind_fits os moves t o (Flag f) all h k = flag_fits os moves o f.holder all h
 kind_fits os moves t o (Clock c) all h k = clock_fits (captures os 0) (captures os 1) o c h
 
-next_fits : (os : List Object) (moves : List (Option Move)) (t : Moment) (xs : List Object) → AllByRecursion ObjectFits os → AllByRecursion ObjectFits xs → AllByRecursion ObjectFits (map (object_next os moves t) xs)
+next_fits : (os : List Object) (moves : List (Option MoveBits)) (t : Moment) (xs : List Object) → AllByRecursion ObjectFits os → AllByRecursion ObjectFits xs → AllByRecursion ObjectFits (map (object_next os moves t) xs)
 next_fits os moves t [] all h = tt
 next_fits os moves t (o ∷ xs) all h = (kind_fits os moves t o o.state all h.0 h.0.state, next_fits os moves t xs all h.1)
 
@@ -129,7 +130,7 @@ unfolding fired_by
 fired_by_fits o p m h = either MadeFits (is_firing p m) _ _
     (record { block = h.block; team = h.team; home = stepped_fits o.place m; place = stepped_fits o.place m; state = omega arith }) tt
 
-fired_fits : (moves : List (Option Move)) (o : Object) (s : State) → ObjectFits o → MadeFits (fired_part moves o s)
+fired_fits : (moves : List (Option MoveBits)) (o : Object) (s : State) → ObjectFits o → MadeFits (fired_part moves o s)
 fired_fits moves o (Player p) h = fired_by_fits o p (move_of moves p.client) h
 fired_fits moves o (Disc d) h = tt
 fired_fits moves o (Mine m) h = tt
@@ -137,7 +138,7 @@ fired_fits moves o (Drone d) h = tt
 fired_fits moves o (Flag f) h = tt
 fired_fits moves o (Clock c) h = tt
 
-made_fits : (moves : List (Option Move)) (xs : List Object) → AllByRecursion ObjectFits xs → AllByRecursion ObjectFits (filter_map (fired moves) xs)
+made_fits : (moves : List (Option MoveBits)) (xs : List Object) → AllByRecursion ObjectFits xs → AllByRecursion ObjectFits (filter_map (fired moves) xs)
 made_fits moves [] h = tt
 made_fits moves (o ∷ xs) h = onto (fired moves o) (filter_map (fired moves) xs) (fired_fits moves o o.state h.0) (made_fits moves xs h.1)
   where
@@ -154,7 +155,7 @@ append_fits : (xs ys : List Object) → AllByRecursion ObjectFits xs → AllByRe
 append_fits [] ys h k = k
 append_fits (x ∷ xs) ys h k = (h.0, append_fits xs ys h.1 k)
 
-pub objects_fit : (os : List Object) (moves : List (Option Move)) (t : Moment) → AllByRecursion ObjectFits os → AllByRecursion ObjectFits (objects_next os moves t)
+pub objects_fit : (os : List Object) (moves : List (Option MoveBits)) (t : Moment) → AllByRecursion ObjectFits os → AllByRecursion ObjectFits (objects_next os moves t)
 unfolding discs_made
 objects_fit os moves t h = append_fits (map (object_next os moves t) os) (take (1024 - length os) (filter_map (fired moves) os)) (next_fits os moves t os h h) (take_fits (1024 - length os) (filter_map (fired moves) os) (made_fits moves os h))
 

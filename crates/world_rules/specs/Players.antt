@@ -2,6 +2,7 @@
 use Rattle.std.specs.Prelude.{ℕ, ℤ, pos, negsuc, ◌+◌, ◌-◌, ◌*◌, ◌*ℤ◌, min, List, count_by, Bool, true, false, ◌&&◌, nat_lt, ◌==◌, if◌then◌else◌, Option, Some, None}
 use Rattle.world_rules.specs.declared.object.TheConstants.{MAX_HP, MAX_AMMO, MAX_SCORE}
 use Rattle.tn_types.specs.declared.moves.Move.{Move}
+use Rattle.tn_types.specs.declared.moves.MoveBits.{MoveBits}
 use Rattle.world_rules.specs.declared.object.Place.{Place}
 use Rattle.world_rules.specs.declared.object.Player.{Player as PlayerPart}
 use Rattle.world_rules.specs.declared.object.State.{State}
@@ -75,10 +76,10 @@ fired_by o p m =
     })
     else None
 
-abbrev pub fired_part : List (Option Move) → Object → State → Option Object
+abbrev pub fired_part : List (Option MoveBits) → Object → State → Option Object
 fired_part moves o (Player p) = fired_by o p (move_of moves p.client)
 fired_part moves o _ = None
 
 -- the disc that an object makes in the tick
-abbrev pub fired : List (Option Move) → Object → Option Object
+abbrev pub fired : List (Option MoveBits) → Object → Option Object
 fired moves o = fired_part moves o o.state

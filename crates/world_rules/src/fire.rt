@@ -6,14 +6,15 @@ ghost use Rattle.world_rules.specs.Players.{is_firing, fired_by, fired, speed, i
 use crate::measures::{DISC_SPEED, STILL_DISC_SPEED};
 use crate::object::{Disc, Object, Player, State};
 use crate::places::stepped;
-use tn_types::Move;
+use bit_stream::move_of_bits;
+use tn_types::{Move, MoveBits};
 
-/// The move of this client in this tick: none has no step, no shot and no use.
-pub fn move_of(moves: &[Option<Move>], client: u8) -> Move
+/// The move of this client in this tick, read out of its number: none has no step, no shot and no use.
+pub fn move_of(moves: &[Option<MoveBits>], client: u8) -> Move
     ensures { result ≡ move_of moves.now client }
 {
     if let Some(Some(m)) = moves.get(client as usize) {
-        return *m;
+        return move_of_bits(*m);
     }
     no_move()
 }
@@ -87,7 +88,7 @@ fn fired_by(o: &Object, p: &Player, m: &Move) -> Option<Object>
 }
 
 /// The disc that an object makes in the tick.
-pub fn fired(moves: &[Option<Move>], o: &Object) -> Option<Object>
+pub fn fired(moves: &[Option<MoveBits>], o: &Object) -> Option<Object>
     ensures { result ≡ fired moves.now o.now }
 {
     match &o.state {

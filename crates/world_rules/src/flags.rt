@@ -9,7 +9,7 @@ use crate::fire::move_of;
 use crate::measures::FLAG_REACH;
 use crate::object::{Clock, Flag, MAX_SCORE, MAX_TICK, Object, State};
 use crate::places::{is_within, stepped};
-use tn_types::Move;
+use tn_types::MoveBits;
 
 /// Whether this is the client's player.
 pub fn is_player(client: u8, o: &Object) -> bool
@@ -29,7 +29,7 @@ fn player_of(client: u8, objects: &[Object]) -> Option<&Object>
 }
 
 // The client that takes the flag, if this is its player.
-fn taking(moves: &[Option<Move>], o: &Object, p: &Object) -> Option<u8>
+fn taking(moves: &[Option<MoveBits>], o: &Object, p: &Object) -> Option<u8>
     ensures { result ≡ taking moves.now o.now p.now }
 {
     if p.is_standing() && o.is_other_near(FLAG_REACH, p) {
@@ -40,7 +40,7 @@ fn taking(moves: &[Option<Move>], o: &Object, p: &Object) -> Option<u8>
 }
 
 // The client of a player, whose move uses.
-fn using(moves: &[Option<Move>], state: &State) -> Option<u8>
+fn using(moves: &[Option<MoveBits>], state: &State) -> Option<u8>
     ensures { result ≡ using_part moves.now state.now }
 {
     match state {
@@ -56,7 +56,7 @@ fn using(moves: &[Option<Move>], state: &State) -> Option<u8>
 }
 
 #[tactic(auto, using(crate::proofs::Taker::taker_passes, crate::proofs::Taker::taker_stops, crate::proofs::Taker::taker_none))]
-fn taker(objects: &[Object], moves: &[Option<Move>], o: &Object) -> Option<u8>
+fn taker(objects: &[Object], moves: &[Option<MoveBits>], o: &Object) -> Option<u8>
     ensures { result ≡ taker objects.now moves.now o.now }
 {
     for p in objects {
@@ -86,7 +86,7 @@ fn went_home(o: &Object) -> Object
 }
 
 // A flag that a client holds.
-fn carried(moves: &[Option<Move>], o: &Object, client: u8, player: Option<&Object>) -> Object
+fn carried(moves: &[Option<MoveBits>], o: &Object, client: u8, player: Option<&Object>) -> Object
     ensures { result ≡ carried moves.now o.now client (option_copied player.entry) }
 {
     match player {
@@ -111,7 +111,7 @@ fn carried(moves: &[Option<Move>], o: &Object, client: u8, player: Option<&Objec
 pub fn flag_next(
     objects: &[Object],
     standing: &[Object],
-    moves: &[Option<Move>],
+    moves: &[Option<MoveBits>],
     o: &Object,
     holder: Option<u8>,
 ) -> Object
