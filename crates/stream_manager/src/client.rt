@@ -10,6 +10,7 @@ ghost use Rattle.wire_format.specs.declared.server.ServerPacket.TheVariants as d
 ghost use Rattle.wire_format.specs.Header.{IsHeader};
 ghost use Rattle.wire_format.specs.declared.ghosts.GhostItem.{GhostItem as OneGhost};
 ghost use Rattle.wire_format.specs.Events.{IsEventInRange};
+ghost use Rattle.bit_stream.specs.WorldMoves.{bits_of};
 ghost use Rattle.ghost_client.specs.StandsFor.{StandsFor as CopiesStandFor};
 ghost use Rattle.stream_manager.specs.Client.{ClientEvent as OneEvent, ghosts_came, kind_at};
 ghost use Rattle.stream_manager.specs.EndCalls.{whole_at};
@@ -22,7 +23,7 @@ use crate::config::Config;
 use crate::end::End;
 use crate::fault::ClientFault;
 use crate::taking::take_down;
-use bit_stream::BitWriter;
+use bit_stream::{BitWriter, bits_of_move};
 use datablocks::BlockReceiver;
 use event_manager::{EventAhead, MAX_READY_EVENTS, PostFault};
 use ghost_client::Copies;
@@ -31,9 +32,9 @@ use notify_window::{Arrival, SendState};
 use quantised_fields::KindTable;
 use std::alloc::Global;
 use std::marker::Model;
-use tn_types::{Class, MAX_READ_BYTES, Move, NoMemory, PacketKind, Payload};
+use tn_types::{Class, MAX_READ_BYTES, Move, MoveBits, NoMemory, PacketKind, Payload};
 use wire_format::{
-    BitsFault, CLIENT_FIXED_BITS, EventList, Header, MOVE_BITS, ServerBody, decode_server_into,
+    BitsFault, CLIENT_FIXED_BITS, EventList, Header, ServerBody, decode_server_into, move_width,
     put_client_front, put_moves, put_ping, server_head,
 };
 
@@ -83,6 +84,7 @@ impl Drop for Client {
 
 impl Model for Client {
     ghost use Rattle.std.specs.Prelude.{◌≡◌};
+    ghost use Rattle.stream_manager.specs.Limits.{wire_of};
     ghost use Rattle.stream_manager.specs.Stands.{ClientState};
 
     ghost Value = { ClientState };
@@ -96,7 +98,7 @@ impl Model for Client {
       changes = c.took.value.ghosts;
     } };
 
-    ghost invariant = { λ c. c.moves.life ≡ c.common.config.life };
+    ghost invariant = { λ c. (c.moves.life ≡ c.common.config.life) × (c.moves.wire ≡ wire_of c.common.config) };
 }
 
 impl Client {
@@ -129,7 +131,7 @@ impl Client {
         };
         Ok(Client {
             common,
-            moves: MoveSender::new(config.life),
+            moves: MoveSender::new(config.wire(), config.life),
             blocks,
             copies,
             control: None,
@@ -189,15 +191,26 @@ impl Client {
         self.common.post_loose(payload)
     }
 
-    /// Takes up a move of the player, and gives its number, from 0 on. `Worn` comes exactly where `life` were sampled,
-    /// else `Full` exactly where the server may lack 32; nothing changes then.
-    pub fn sample(&mut self, m: Move) -> Result<u32, MoveFault>
-        ensures answer { Answers self.old (sampled_answer self.old.common.config) result }
+    /// Takes up a move of the player, and gives its number, from 0 on. `TooWide` comes exactly where a bit is set that the
+    /// connection's moves don't have, else `Worn` exactly where `life` were sampled, else `Full` exactly where the server may
+    /// lack 32; nothing changes then.
+    pub fn sample_bits(&mut self, m: MoveBits) -> Result<u32, MoveFault>
+        ensures answer { Answers self.old (sampled_answer self.old.common.config m) result }
         ensures stands { OnOk result (Does self.old (Sampled m) self.new) }
         ensures unchanged { OnErr result (self.new ≡ self.old) }
         ensures keeps { Keeps self.old self.new }
     {
-        self.moves.sample(m)
+        self.moves.sample_bits(m)
+    }
+
+    /// Takes up a move of this project's own world, as the number of ten bits that it travels as.
+    pub fn sample(&mut self, m: Move) -> Result<u32, MoveFault>
+        ensures answer { Answers self.old (sampled_answer self.old.common.config (bits_of m)) result }
+        ensures stands { OnOk result (Does self.old (Sampled (bits_of m)) self.new) }
+        ensures unchanged { OnErr result (self.new ≡ self.old) }
+        ensures keeps { Keeps self.old self.new }
+    {
+        self.sample_bits(bits_of_move(&m))
     }
 
     /// Makes the next datagram (docs/connection.md, "Sending"), and lends its bytes.
@@ -222,12 +235,13 @@ impl Client {
         ensures* after { sem 𝓛 (Rests the_row self.entry (ClientSealed self.old)) }
     {
         let size = self.common.config().size;
+        let wire = self.common.config().wire();
         let head = self.common.data_head();
         let (first, moves) = self.moves.pending();
-        let used = MOVE_BITS * moves.len() as u32;
+        let used = move_width(wire) * moves.len() as u32;
         self.out.begin(size);
         put_client_front(&mut self.out, &head, first);
-        put_moves(&mut self.out, moves);
+        put_moves(&mut self.out, wire, moves);
         self.common
             .pack(8 * size - CLIENT_FIXED_BITS - used, &mut self.out);
         self.out.end();
@@ -305,12 +319,12 @@ impl Client {
         }
     }
 
-    /// In version 2 what the header of these bytes says of whether to read the rest; nothing changes.
+    /// In versions 2 and 3 what the header of these bytes says of whether to read the rest; nothing changes.
     fn look_first(&self, bytes: &[u8]) -> Result<(), ClientFault>
         requires few { length bytes.now ≤ MAX_READ_BYTES }
         ensures answer { Answers self.now (λ log. head_first self.now.common.config log bytes.now) result }
     {
-        if self.common.config().version != 2 {
+        if self.common.config().version < 2 {
             return Ok(());
         }
         match server_head(bytes) {
@@ -477,6 +491,7 @@ pub(crate) fn take_body(
         let old = client_of common.old moves.old blocks.old copies.old control.old changes in
         TakesDown old (made_whole old body.now) (client_of common.new moves.new blocks.new copies.new control.new body.now.ghosts) }
     ensures life { moves.new.life ≡ moves.old.life }
+    ensures wire { moves.new.wire ≡ moves.old.wire }
 {
     let _ = common.take(PacketKind::Body, &body.head, &body.events);
     let _ = moves.acked(body.accepted);

@@ -1,4 +1,4 @@
-//! The events of a packet by their whole numbers, of which a packet of version 2 has the lowest bits alone.
+//! The events of a packet by their whole numbers, of which a packet of version 2 or 3 has the lowest bits alone.
 ghost use Rattle.std.specs.Prelude.{◌≡◌, ◌+◌, ◌<◌, ◌≤◌, [], Ok, All, length};
 ghost use Rattle.event_manager.specs.ReceiverStands.{TakesIn, HandsOver};
 ghost use Rattle.event_manager.specs.ReceiverState.{event_count};
@@ -20,7 +20,7 @@ pub(crate) fn check_events(
     requires numbers { All (IsEventInRange config.now.version) events.now }
     ensures answer { result ≡ take_answer receiver.now.delivered (whole_events config.now receiver.now.delivered events.now) }
 {
-    if config.version == 2 {
+    if config.version >= 2 {
         receiver.check_low(events)
     } else {
         receiver.check(events)
@@ -37,7 +37,7 @@ pub(crate) fn take_events(receiver: &mut EventReceiver, config: &Config, events:
     ensures handed { HandsOver receiver.old (whole_events config.now receiver.old.delivered events.now) receiver.new }
     ensures grown { event_count receiver.new ≤ event_count receiver.old + length events.now }
 {
-    let _ = if config.version == 2 {
+    let _ = if config.version >= 2 {
         receiver.take_low(events)
     } else {
         receiver.take(events)

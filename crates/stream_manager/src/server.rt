@@ -1,5 +1,5 @@
 //! The server's end of a connection.
-ghost use Rattle.std.specs.Prelude.{◌≡◌, ℕ, true, false, ◌+◌, ◌-◌, ◌*◌, ◌<◌, ◌≤◌, ◌^◌, ◌&&◌, ◌↔◌, ◌⊎◌, List, [], ◌∷◌, ◌++◌, All, IfOk, IfErr, OnOk, OnErr, IsNone, None, Ok, Err, length, slice_get, drop, take, count_by};
+ghost use Rattle.std.specs.Prelude.{◌≡◌, ℕ, true, false, ◌+◌, ◌-◌, ◌*◌, ◌<◌, ◌≤◌, ◌^◌, ◌&&◌, ◌↔◌, ◌⊎◌, List, [], ◌∷◌, ◌++◌, All, IfOk, IfErr, OnOk, OnErr, IsNone, None, Ok, Err, length, map, slice_get, drop, take, count_by};
 ghost use Rattle.std.specs.Option.{option_copied};
 ghost use Rattle.notify_window.specs.State.{send_state};
 ghost use Rattle.tn_types.specs.PacketKinds.{is_ping};
@@ -10,6 +10,8 @@ ghost use Rattle.wire_format.specs.Header.{IsHeader};
 ghost use Rattle.wire_format.specs.Client.{IsClientBody};
 ghost use Rattle.wire_format.specs.Events.{IsEventInRange};
 ghost use Rattle.stream_manager.specs.EndCalls.{whole_at};
+ghost use Rattle.stream_manager.specs.Limits.{wire_of};
+ghost use Rattle.bit_stream.specs.WorldMoves.{move_of};
 ghost use Rattle.stream_manager.specs.Server.{Took, moves_new};
 ghost use Rattle.stream_manager.specs.Stands.{ConnStandsForSome, terms_of};
 ghost use Rattle.stream_manager.specs.ConnCalls.{Does, Answers, Hands, Accepts, Admits, conn_of, made_whole};
@@ -18,7 +20,7 @@ use crate::config::Config;
 use crate::end::End;
 use crate::fault::ArriveFault;
 use crate::settling::{settle_blocks, settle_ghosts};
-use bit_stream::BitWriter;
+use bit_stream::{BitWriter, move_of_bits};
 use datablocks::BlockSender;
 use event_manager::{EventAhead, MAX_READY_EVENTS, PostFault};
 use ghost_masks::Masks;
@@ -28,7 +30,8 @@ use quantised_fields::KindTable;
 use std::alloc::Global;
 use std::marker::Model;
 use tn_types::{
-    BlockBytes, Class, MAX_BLOCKS, MAX_LIFE, MAX_READ_BYTES, Move, NoMemory, PacketKind, Payload,
+    BlockBytes, Class, MAX_BLOCKS, MAX_LIFE, MAX_PACKET_MOVES, MAX_READ_BYTES, Move, MoveBits,
+    NoMemory, PacketKind, Payload, ShortList,
 };
 use wire_format::{ClientBody, EventList, Header, MoveList, decode_client_into};
 
@@ -209,7 +212,7 @@ impl Conn {
         ensures unchanged { OnErr result (self.new ≡ self.old) }
         ensures terms { terms_of self.new ≡ terms_of self.old }
     {
-        match decode_client_into(bytes, self.common.config().version, &mut *self.body) {
+        match decode_client_into(bytes, self.common.config().wire(), &mut *self.body) {
             Ok(PacketKind::Ping) => {
                 let head = self.body.head;
                 self.check_ping(&head)?;
@@ -256,7 +259,7 @@ impl Conn {
 
     /// The first refusal of a data packet; nothing changes.
     fn check(&self, body: &ClientBody) -> Result<(), ArriveFault>
-        requires fits { IsClientBody self.now.common.config.version body.now }
+        requires fits { IsClientBody (wire_of self.now.common.config) body.now }
         ensures answer { Answers self.now (λ log. packet_check self.now.common.config log (up.Body (made_whole self.now body.now))) result }
         ensures admits { OnOk result (Admits self.now (made_whole self.now body.now)) }
     {
@@ -312,10 +315,21 @@ impl Conn {
     }
 
     /// The moves that the last packet newly brought, until the next call that takes a packet.
-    pub fn taken_moves(&self) -> &[Move]
+    pub fn taken_bits(&self) -> &[MoveBits]
         ensures { result.now ≡ self.now.taken }
     {
         self.taken.as_slice()
+    }
+
+    /// The same as moves of this project's own world, which reads the lowest ten bits of each.
+    pub fn taken_moves(&self) -> ShortList<Move, MAX_PACKET_MOVES>
+        ensures { result ≡ map move_of self.now.taken }
+    {
+        let mut moves = ShortList::new();
+        'moves: for m in self.taken.as_slice() {
+            moves.push(move_of_bits(*m));
+        }
+        moves
     }
 
     /// How many events wait to be handed out, at most 95.
@@ -346,7 +360,7 @@ fn take_body(
     body: &ClientBody,
     room: u32,
 ) -> u32
-    requires fits { IsClientBody common.old.config.version body.now }
+    requires fits { IsClientBody (wire_of common.old.config) body.now }
     requires some { ConnStandsForSome (conn_of common.old masks.old blocks.old moves.old taken.old) }
     requires admits { let old = conn_of common.old masks.old blocks.old moves.old taken.old in Admits old (made_whole old body.now) }
     requires none_waits { common.old.receiver.ready ≡ [] }

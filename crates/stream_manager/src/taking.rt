@@ -30,6 +30,7 @@ pub(crate) fn take_down(
         TakesDown old (made_whole old body.old.value)
         (client_of common.new moves.new blocks.new copies.new control.new took.new.value.ghosts) }
     ensures life { moves.new.life ≡ moves.old.life }
+    ensures wire { moves.new.wire ≡ moves.old.wire }
 {
     take_body(common, moves, blocks, copies, control, &**body);
     mem::swap(body, took);
