@@ -13,6 +13,7 @@ use tn_types::{NoMemory, WORLD_MOVE_BITS};
 use world_rules::match_kinds;
 
 /// A pair on which no step was made, with what the header says of the client's connection. For want of memory there is none.
+#[tactic(auto, using(crate::proofs::Configs::config_fits))]
 pub fn new_pair(alloc: Global, head: &Head, client: u8) -> Result<KeptPair, NoMemory>
     requires head { HeadFits head.now }
     requires client { client < head.now.clients }
