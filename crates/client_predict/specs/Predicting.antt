@@ -2,14 +2,14 @@
 -- are pending, or a move was sampled. The value is the base that was told last with all pending moves played on it; the offset
 -- takes each correction, and loses a quarter with each sampled move.
 use Rattle.std.specs.Prelude.{◌≡◌, ℤ, pos, List, [], ◌∷◌, ◌++◌, Option, None, option_map}
-use Rattle.tn_types.specs.declared.moves.Move.{Move}
+use Rattle.tn_types.specs.declared.moves.MoveBits.{MoveBits}
 use Rattle.tn_types.specs.Histories as histories
 use Rattle.client_predict.specs.Standing.{played}
 use Rattle.client_predict.specs.Offsets.{corrected, decayed_both}
 
 pub data PredictEvent : Type 0 where
-  Told : (base : Option (ℤ × ℤ × ℤ)) (pending : List Move) → PredictEvent
-  Sampled : Move → PredictEvent
+  Told : (base : Option (ℤ × ℤ × ℤ)) (pending : List MoveBits) → PredictEvent
+  Sampled : MoveBits → PredictEvent
 
 -- the base that was told last
 abbrev pub base_of : List PredictEvent → Option (ℤ × ℤ × ℤ)
@@ -18,7 +18,7 @@ base_of (Told base pending ∷ log) = base
 base_of (Sampled m ∷ log) = base_of log
 
 -- the pending moves, the oldest first: those that were told last, and those that were sampled since
-abbrev pub pending_of : List PredictEvent → List Move
+abbrev pub pending_of : List PredictEvent → List MoveBits
 pending_of [] = []
 pending_of (Told base pending ∷ log) = pending
 pending_of (Sampled m ∷ log) = pending_of log ++ m ∷ []

@@ -1,11 +1,12 @@
 //! The prediction, one step for each sampled move.
 ghost use Rattle.std.specs.Prelude.{◌≡◌, ◌≤◌, ◌≤ℤ◌, pos, [], IfSome, option_map};
 ghost use Rattle.std.specs.Int.RustNames.{unsigned_abs};
-ghost use Rattle.client_predict.specs.Standing.{IsStanding, stepped_by, played};
+ghost use Rattle.client_predict.specs.Standing.{IsStanding, moved_by, played};
 ghost use Rattle.client_predict.specs.Offsets.{decayed, seen_from, passes, kept, corrected, IsOffset};
 
+use bit_stream::move_of_bits;
 use std::marker::Model;
-use tn_types::{MAX_COORDINATE, Move};
+use tn_types::{MAX_COORDINATE, MoveBits};
 use wire_format::MoveList;
 use world_rules::step_player;
 
@@ -79,7 +80,7 @@ impl Predict {
 
     /// The player's move was sampled, and is pending from now on.
     #[tactic(auto, using(crate::proofs::PredictLogs::sampled_more, crate::proofs::PredictLogs::sampled_within))]
-    pub fn sampled(&mut self, m: Move)
+    pub fn sampled(&mut self, m: MoveBits)
         ensures { Does self.old (Sampled m) self.new }
     {
         self.value = stepped(self.value, m);
@@ -88,19 +89,19 @@ impl Predict {
 }
 
 // One step on.
-fn step(at: (i64, i64, i64), m: Move) -> (i64, i64, i64)
+fn step(at: (i64, i64, i64), m: MoveBits) -> (i64, i64, i64)
     requires { IsStanding at }
-    ensures value { result ≡ stepped_by at m }
+    ensures value { result ≡ moved_by at m }
     ensures stands { IsStanding result }
 {
     let (x, y, ammo) = at;
-    step_player(x, y, ammo, m)
+    step_player(x, y, ammo, move_of_bits(m))
 }
 
 // One step on, where there is a value.
-fn stepped(value: Option<(i64, i64, i64)>, m: Move) -> Option<(i64, i64, i64)>
+fn stepped(value: Option<(i64, i64, i64)>, m: MoveBits) -> Option<(i64, i64, i64)>
     requires { IfSome value IsStanding }
-    ensures value { result ≡ option_map (λ at. stepped_by at m) value }
+    ensures value { result ≡ option_map (λ at. moved_by at m) value }
     ensures stands { IfSome result IsStanding }
 {
     match value {
@@ -110,7 +111,7 @@ fn stepped(value: Option<(i64, i64, i64)>, m: Move) -> Option<(i64, i64, i64)>
 }
 
 // One step on for each move.
-fn played(base: (i64, i64, i64), moves: &[Move]) -> (i64, i64, i64)
+fn played(base: (i64, i64, i64), moves: &[MoveBits]) -> (i64, i64, i64)
     requires { IsStanding base }
     ensures value { result ≡ played base moves.now }
     ensures stands { IsStanding result }
@@ -123,7 +124,7 @@ fn played(base: (i64, i64, i64), moves: &[Move]) -> (i64, i64, i64)
 }
 
 // The same, where there is a base.
-fn played_from(base: Option<(i64, i64, i64)>, moves: &[Move]) -> Option<(i64, i64, i64)>
+fn played_from(base: Option<(i64, i64, i64)>, moves: &[MoveBits]) -> Option<(i64, i64, i64)>
     requires { IfSome base IsStanding }
     ensures value { result ≡ option_map (λ at. played at moves.now) base }
     ensures stands { IfSome result IsStanding }

@@ -4,7 +4,7 @@ use Rattle.std.proofs.Common.{◌≡◌, ℕ, ◌-◌, ◌≤◌, Bool, true, fa
 use Rattle.std.specs.Prelude.{slice_get}
 use Rattle.std.proofs.lemmas.List.{length-take}
 use Rattle.tn_types.specs.Checks.{Checked}
-use Rattle.tn_types.specs.declared.moves.Move.{Move}
+use Rattle.tn_types.specs.declared.moves.MoveBits.{MoveBits}
 use Rattle.wire_format.specs.declared.fault.BitsFault.{BitsFault}
 use Rattle.wire_format.specs.declared.client.ClientPacket.{ClientPacket}
 use Rattle.wire_format.specs.declared.client.ClientPacket.TheVariants as up
@@ -33,15 +33,15 @@ use Rattle.connection_lock.specs.Turns.{line_step, line_given}
 
 -- ---- moves
 
-pub record Grows (room : ℕ) (old new : List Move) : Type 0 where
-  pub more : List Move
+pub record Grows (room : ℕ) (old new : List MoveBits) : Type 0 where
+  pub more : List MoveBits
   pub is : new ≡ old ++ more
   pub few : length more ≤ room
 
-none-new : (room : ℕ) (old new : List Move) → new ≡ old → Grows room old new
+none-new : (room : ℕ) (old new : List MoveBits) → new ≡ old → Grows room old new
 none-new room old new same = record { more = []; is = same ∙ sym (append-nil old); few = omega arith }
 
-accept-grows : (life room : ℕ) (p : Packet) (acc : List Move) → Grows room acc (accept life room p acc)
+accept-grows : (life room : ℕ) (p : Packet) (acc : List MoveBits) → Grows room acc (accept life room p acc)
 accept-grows life room p acc = by (nat_le p.first (length acc))
   where
     by : (b : Bool) → Grows room acc (cond b (acc ++ take (new_count life room (length acc) p) (drop (length acc - p.first) p.moves)) acc)

@@ -3,7 +3,7 @@
 -- view owes, of a period that is shown and not hidden, is due.
 use Rattle.std.specs.Prelude.{◌≡◌, ℕ, ◌<◌, true, List, [], ◌∷◌, ◌++◌, length, slice_get, slice_index, Some}
 use Rattle.std.specs.List.{AllZip}
-use Rattle.tn_types.specs.declared.moves.Move.{Move}
+use Rattle.tn_types.specs.declared.moves.MoveBits.{MoveBits}
 use Rattle.tn_types.specs.declared.choices.Read.{Read}
 use Rattle.quantised_fields.specs.declared.kind.Kind.{Kind}
 use Rattle.ghost_model.specs.Legal.{IsUp}
@@ -28,7 +28,7 @@ pub record LockedState : Type 0 where
   pub objects : List ℕ  -- of each period
   pub received : List Message  -- what the inbox gave
   pub known : List Message  -- what it is known to hold
-  pub sent : List Move  -- what the outbox was given
+  pub sent : List MoveBits  -- what the outbox was given
   pub free : ℕ  -- how many places of it are known to be free
 
 abbrev pub terms_of : LockedState → Terms

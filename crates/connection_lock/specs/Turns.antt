@@ -2,7 +2,7 @@
 use Rattle.std.specs.Prelude.{◌≡◌, ℕ, ◌<◌, ◌≤◌, ◌%◌, ◌^◌, min, List, [], ◌∷◌, ◌++◌, length, map, OnOk, OnErr, IfOk, Result, Ok, Err}
 use Rattle.tn_types.specs.declared.choices.Drain.{Drain}
 use Rattle.tn_types.specs.declared.choices.Read.{Read}
-use Rattle.tn_types.specs.declared.moves.Move.{Move}
+use Rattle.tn_types.specs.declared.moves.MoveBits.{MoveBits}
 use Rattle.notify_window.specs.declared.SendState.{SendState}
 use Rattle.notify_window.specs.declared.SendState.TheVariants.{Held, Worn, Room}
 use Rattle.ghost_masks.specs.Plan.{fields_of}
@@ -141,14 +141,14 @@ line_given room (line.Raw bytes) = given.Raw bytes room
 pub record StepsLine (old : KeptState) (netline : NetLine) (room : ℕ) (answered : Answer) (new : KeptState) : Type 0 where
   pub kept : new.steps ≡ old.steps ++ line_step room netline ∷ []
   pub answer : answered ≡ answer_after old (line_step room netline)
-  pub moves : List Move
+  pub moves : List MoveBits
   pub accepted : accepted_by new new.steps ≡ accepted_by old old.steps ++ moves
   pub few : length moves ≤ room
 
 -- the step was made; the moves that were accepted in it went into the outbox, whose free places were the room
-pub record MadeLine (old : KeptState) (sent : List Move) (free : ℕ) (netline : NetLine) (answered : Answer) (new : KeptState) (now_sent : List Move) : Type 0 where
+pub record MadeLine (old : KeptState) (sent : List MoveBits) (free : ℕ) (netline : NetLine) (answered : Answer) (new : KeptState) (now_sent : List MoveBits) : Type 0 where
   pub room : ℕ
-  pub moves : List Move
+  pub moves : List MoveBits
   pub known : min free MAX_ROOM ≤ room
   pub kept : new.steps ≡ old.steps ++ line_step room netline ∷ []
   pub answer : answered ≡ answer_after old (line_step room netline)

@@ -9,7 +9,7 @@ use crate::net_line::NetLine;
 use kept_pair::KeptPair;
 use kept_pair::pair_core::{Answer, PairStep};
 use rtrb::Producer;
-use tn_types::Move;
+use tn_types::MoveBits;
 
 /// The step of a line, where so many further moves have a place.
 fn step_of(line: NetLine, room: u32) -> PairStep
@@ -26,7 +26,7 @@ fn step_of(line: NetLine, room: u32) -> PairStep
 }
 
 /// Hands moves on, each of which has a place.
-fn hand_on(outbox: &mut Producer<Move>, moves: &[Move])
+fn hand_on(outbox: &mut Producer<MoveBits>, moves: &[MoveBits])
     requires room { length moves.now ≤ known_free outbox.old }
     ensures sent { sent outbox.new ≡ sent outbox.old ++ moves.now }
 {
@@ -36,7 +36,7 @@ fn hand_on(outbox: &mut Producer<Move>, moves: &[Move])
 }
 
 /// The moves from this place on.
-fn newer(moves: &[Move], before: usize) -> &[Move]
+fn newer(moves: &[MoveBits], before: usize) -> &[MoveBits]
     requires { before ≤ length moves.now }
     ensures { result.now ≡ drop before moves.now }
 {
@@ -57,7 +57,7 @@ fn step_line(pair: &mut KeptPair, line: NetLine, room: u32) -> Answer
 }
 
 /// Makes the step of a line. The moves that are accepted in it go into the ring, whose free places are the room.
-pub(crate) fn make(pair: &mut KeptPair, outbox: &mut Producer<Move>, line: NetLine) -> Answer
+pub(crate) fn make(pair: &mut KeptPair, outbox: &mut Producer<MoveBits>, line: NetLine) -> Answer
     requires prepared { pair.old.prepared ≡ true }
     requires quiet { IsQuiet pair.old }
     ensures made { MadeLine pair.old (sent outbox.old) (known_free outbox.old) line result pair.new (sent outbox.new) }

@@ -16,7 +16,7 @@ use std::alloc::Global;
 use std::marker::Model;
 use std::snapshot::Snapshot;
 use std::sync::ledger::Ledger;
-use tn_types::{Drain, MAX_BODY_LINES, Move, NoMemory, Steps};
+use tn_types::{Drain, MAX_BODY_LINES, MoveBits, NoMemory, Steps};
 
 /// The lines of the client that were done at a connection, as an activity lists them, the oldest first. A line in it takes no bytes, and
 /// `Locked::net_turn` alone adds one.
@@ -68,7 +68,7 @@ pub struct Locked<N: LaneName> {
     pair: KeptPair,
     seat: PackSeat<N>,
     inbox: Consumer<Message>,
-    outbox: Producer<Move>,
+    outbox: Producer<MoveBits>,
     periods: Periods,
     // what the last pack drained
     drains: Vec<Drain>,
@@ -99,7 +99,7 @@ pub struct Ended<N: LaneName> {
     pub pair: KeptPair,
     pub seat: PackSeat<N>,
     pub inbox: Consumer<Message>,
-    pub outbox: Producer<Move>,
+    pub outbox: Producer<MoveBits>,
     pub objects: Objects,
 }
 
@@ -114,7 +114,7 @@ impl<N: LaneName> Locked<N> {
         pair: KeptPair,
         seat: PackSeat<N>,
         inbox: Consumer<Message>,
-        outbox: Producer<Move>,
+        outbox: Producer<MoveBits>,
     ) -> Result<Locked<N>, NoMemory>
         requires no_steps { pair.steps ≡ [] }
         requires no_seat_steps { seat.steps ≡ [] }

@@ -1,6 +1,6 @@
 //! What a client's net activity does.
 
-use tn_types::{Class, Move, Payload, RawBytes};
+use tn_types::{Class, MoveBits, Payload, RawBytes};
 
 /// One line of a client, or of the net between it and the server.
 #[derive(Drop)]
@@ -10,7 +10,7 @@ pub enum NetLine {
     /// The client gets the server's datagram of place `k`.
     Down { k: u32 },
     /// The client takes up a move of its player.
-    Move { m: Move },
+    Move { m: MoveBits },
     /// The client makes its next datagram.
     ClientPack,
     /// The server gets the client's datagram of place `k`.

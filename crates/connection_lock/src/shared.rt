@@ -14,7 +14,7 @@ use std::alloc::Global;
 use std::marker::Model;
 use std::sync::ledger::Ledger;
 use std::sync::{Mutex, Wait};
-use tn_types::{MAX_BODY_LINES, Move, NoMemory, Steps};
+use tn_types::{MAX_BODY_LINES, MoveBits, NoMemory, Steps};
 
 /// A lock round one connection. One thread packs it, and another feeds it. Contracts see whose it is: the client of the seat that lies
 /// under the lock.
@@ -39,7 +39,7 @@ impl<N: LaneName> SharedPair<N> {
         pair: KeptPair,
         seat: PackSeat<N>,
         inbox: Consumer<Message>,
-        outbox: Producer<Move>,
+        outbox: Producer<MoveBits>,
     ) -> Result<SharedPair<N>, NoMemory>
         requires no_steps { pair.steps ≡ [] }
         requires no_seat_steps { seat.steps ≡ [] }

@@ -8,7 +8,7 @@ use Rattle.std.proofs.lemmas.List.{take-append-le, length-map, map-append}
 use Rattle.std.proofs.lemmas.List.Elements.{filter_map-append}
 use Rattle.std.proofs.lemmas.List.Sums.{sum_by-append, sum_by-cons}
 use Rattle.std.proofs.Math.Seq.{take-append_seam}
-use Rattle.tn_types.specs.declared.moves.Move.{Move}
+use Rattle.tn_types.specs.declared.moves.MoveBits.{MoveBits}
 use Rattle.match_script.specs.declared.types.BodyLine.{BodyLine}
 use Rattle.pair_core.specs.stream_manager.Limits.{Terms}
 use Rattle.pair_core.specs.History.{PairStep, Show, Hide, Near, Post, ClientPost, Sample, Pack, ClientPack, Down, Up, Raw}
@@ -181,7 +181,7 @@ asked_further c lines later given left =
 take_whole : {X : Type 0} (n : ℕ) (xs ys : List X) → n ≡ length xs → take n (xs ++ ys) ≡ xs
 take_whole n xs ys e = ap (λ k. take k (xs ++ ys)) e ∙ take-append_seam xs ys
 
-module _ (c : ℕ) (lines : List BodyLine) (given : List Message) (k : KeptState) (objects : List ℕ) (ticks : List (List (Option Move))) where
+module _ (c : ℕ) (lines : List BodyLine) (given : List Message) (k : KeptState) (objects : List ℕ) (ticks : List (List (Option MoveBits))) where
   abbrev t : Terms
   t = terms_in k
 
@@ -196,7 +196,7 @@ module _ (c : ℕ) (lines : List BodyLine) (given : List Message) (k : KeptState
     packs = packs_are t c lines given k.steps objects h;
     acts = acts_are t c lines given k.steps objects h;
     rooms = rooms_are t c lines given k.steps objects h;
-    moves = (accepted_in t (newest_first k.steps), ap (λ (l : List Move). l ++ accepted_in t (newest_first k.steps)) none);
+    moves = (accepted_in t (newest_first k.steps), ap (λ (l : List MoveBits). l ++ accepted_in t (newest_first k.steps)) none);
     fullness = ((λ e. absurd (cc (e))), (λ full. absurd (let many = long t c lines given k.steps objects h in let less = full.wanting in omega (arith, many, less))));
   }
 
@@ -216,7 +216,7 @@ module _ (c : ℕ) (lines : List BodyLine) (given : List Message) (k : KeptState
         packs = let e = ap (packs_asked c) h.lines_are in omega (arith, packs, all_packs, e);
         acts = (acts_asked c h.later, ap (λ (l : List ClientAct). l ++ acts_asked c h.later) acts ∙ sym (filter_map-append (act_asked c) h.done h.later) ∙ ap (acts_asked c) (sym h.lines_are));
         rooms = rooms_are t c h.done h.taken k.steps objects h.is_done;
-        moves = (accepted_in t (newest_first k.steps), ap (λ (l : List Move). l ++ accepted_in t (newest_first k.steps)) none);
+        moves = (accepted_in t (newest_first k.steps), ap (λ (l : List MoveBits). l ++ accepted_in t (newest_first k.steps)) none);
         fullness = (
           (λ e. record {
             no_room = h.no_room;

@@ -5,7 +5,7 @@ use Rattle.std.specs.List.{AllByRecursion}
 use Rattle.std.proofs.lemmas.List.{take_more, map-append}
 use Rattle.std.proofs.lemmas.List.Elements.{recursion_from_All}
 use Rattle.tn_types.specs.declared.choices.Read.{Read}
-use Rattle.tn_types.specs.declared.moves.Move.{Move}
+use Rattle.tn_types.specs.declared.moves.MoveBits.{MoveBits}
 use Rattle.match_script.specs.declared.types.BodyLine.{BodyLine}
 use Rattle.match_script.specs.declared.types.Script.{Script}
 use Rattle.legal_race.specs.race_history.declared.race.RaceClient.{RaceClient}
@@ -171,10 +171,10 @@ plain_more script clients new n client many more each plain c k at = go (cases_l
         let it : k ≡ client = cc (one) in
         subst (λ (x : ℕ). IsPlain script x k) (sym same) (subst (IsPlain script n) (sym it) plain)
 
-pub row_more : (ticks : List (List (Option Move))) (n : ℕ) (row : List (Option Move)) → slice_get ticks n ≡ Some row → take (n + 1) ticks ≡ take n ticks ++ row ∷ []
+pub row_more : (ticks : List (List (Option MoveBits))) (n : ℕ) (row : List (Option MoveBits)) → slice_get ticks n ≡ Some row → take (n + 1) ticks ≡ take n ticks ++ row ∷ []
 row_more ticks n row e = rw add-one (go ticks n e)
   where
-    go : (ts : List (List (Option Move))) (k : ℕ) → slice_get ts k ≡ Some row → take (suc k) ts ≡ take k ts ++ row ∷ []
+    go : (ts : List (List (Option MoveBits))) (k : ℕ) → slice_get ts k ≡ Some row → take (suc k) ts ≡ take k ts ++ row ∷ []
     go [] k e = absurd (cc (e))
-    go (t ∷ ts) zero e = let same : t ≡ row = cc (e) in ap (λ (r : List (Option Move)). r ∷ []) same
-    go (t ∷ ts) (suc k) e = ap (λ (rs : List (List (Option Move))). t ∷ rs) (go ts k e)
+    go (t ∷ ts) zero e = let same : t ≡ row = cc (e) in ap (λ (r : List (Option MoveBits)). r ∷ []) same
+    go (t ∷ ts) (suc k) e = ap (λ (rs : List (List (Option MoveBits))). t ∷ rs) (go ts k e)

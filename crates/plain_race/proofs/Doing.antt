@@ -5,6 +5,7 @@ use Rattle.std.specs.List.{AllByRecursion, filter_map, cons_option}
 use Rattle.std.proofs.lemmas.List.{reverse-append, take_more, map-append, take-append-drop}
 use Rattle.std.proofs.lemmas.List.Elements.{filter_map-append}
 use Rattle.std.proofs.lemmas.List.Sums.{sum_by-append, sum_by-cons}
+use Rattle.bit_stream.specs.WorldMoves.{bits_of}
 use Rattle.match_script.specs.declared.types.BodyLine.{BodyLine}
 use Rattle.match_script.specs.declared.types.BodyLine.TheVariants as script
 use Rattle.pair_core.specs.stream_manager.Limits.{Terms}
@@ -81,7 +82,7 @@ act_is c room (script.ClientPost d class v) g e =
     subst (IsActOf c room line) s.0 (record { act = tt; asked = _; done = refl; said = said_if c d line true s.1; finds = λ r f. absurd (cc (f)); no_pack_line = refl; no_pack = refl; own = tt })
 act_is c room (script.Move d m) g e =
     let line = script.Move d m in
-    let s = asked_some c d (given.Sample m) g e in
+    let s = asked_some c d (given.Sample (bits_of m)) g e in
     subst (IsActOf c room line) s.0 (record { act = tt; asked = _; done = refl; said = said_if c d line true s.1; finds = λ r f. absurd (cc (f)); no_pack_line = refl; no_pack = refl; own = tt })
 act_is c room (script.ClientPack d) g e =
     let line = script.ClientPack d in
@@ -124,7 +125,7 @@ no_act c room (script.Show d) e = said_none (d == c) (script.Show d) refl
     said_none false l n = refl
 no_act c room script.World e = refl
 no_act c room (script.ClientPost d class v) e = said_if c d (script.ClientPost d class v) false (asked_none c d (given.ClientPost class v) e)
-no_act c room (script.Move d m) e = said_if c d (script.Move d m) false (asked_none c d (given.Sample m) e)
+no_act c room (script.Move d m) e = said_if c d (script.Move d m) false (asked_none c d (given.Sample (bits_of m)) e)
 no_act c room (script.ClientPack d) e = said_if c d (script.ClientPack d) false (asked_none c d given.ClientPack e)
 no_act c room (script.Down d k) e = said_if c d (script.Down d k) false (asked_none c d (given.Down k) e)
 no_act c room (script.Up d k) e = said_if c d (script.Up d k) false (asked_none c d (given.Up k room) e)

@@ -9,7 +9,7 @@ use Rattle.std.proofs.lemmas.Bool.Decides.{nat_tests}
 use Rattle.std.proofs.lemmas.List.{reverse-append, reverse-reverse, map-append, get_or_append_left}
 use Rattle.std.proofs.Math.Seq.{get_or-append_seam}
 use Rattle.std.proofs.lemmas.List.Elements.{recursion_from_All, All-filter, filter_map-append}
-use Rattle.tn_types.specs.declared.moves.Move.{Move}
+use Rattle.tn_types.specs.declared.moves.MoveBits.{MoveBits}
 use Rattle.tn_types.specs.declared.choices.Read.{Read}
 use Rattle.quantised_fields.specs.declared.field.FieldSpec.{FieldSpec}
 use Rattle.dirty_lanes.specs.Words.{Words}
@@ -105,7 +105,7 @@ scan_there w c scans =
 
 -- ---- it stays there
 
-one_stays : (w : Worlds) (row : List (Option Move)) → IsWorld w → (m : Message) → ShowsThere w m → ShowsThere (next w row) m
+one_stays : (w : Worlds) (row : List (Option MoveBits)) → IsWorld w → (m : Message) → ShowsThere w m → ShowsThere (next w row) m
 one_stays w row h (message.Show object kind block level control) s =
     let g = object_goes_on w row object s.found h s.there in
     record { found = g.object; there = g.there; kind_is = s.kind_is ∙ ap (λ (i : Identity). i.kind) (sym g.same) }
@@ -113,7 +113,7 @@ one_stays w row h (message.Hide n) s = tt
 one_stays w row h (message.Near n level) s = tt
 one_stays w row h (message.Post class v) s = tt
 
-all_stay : (w : Worlds) (row : List (Option Move)) → IsWorld w → (ms : List Message) → AllByRecursion (ShowsThere w) ms → AllByRecursion (ShowsThere (next w row)) ms
+all_stay : (w : Worlds) (row : List (Option MoveBits)) → IsWorld w → (ms : List Message) → AllByRecursion (ShowsThere w) ms → AllByRecursion (ShowsThere (next w row)) ms
 all_stay w row h [] all = tt
 all_stay w row h (m ∷ ms) all = (one_stays w row h m all.0, all_stay w row h ms all.1)
 

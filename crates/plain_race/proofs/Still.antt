@@ -8,7 +8,7 @@ use Rattle.std.proofs.lemmas.List.{reverse-append, take-replicate, map-append}
 use Rattle.std.proofs.lemmas.List.Elements.{All-from_recursion}
 use Rattle.tn_types.specs.declared.limits.TheConstants.{MAX_BODY_LINES}
 use Rattle.tn_types.specs.declared.choices.Class.{Class}
-use Rattle.tn_types.specs.declared.moves.Move.{Move}
+use Rattle.tn_types.specs.declared.moves.MoveBits.{MoveBits}
 use Rattle.match_script.specs.declared.types.BodyLine.{BodyLine}
 use Rattle.match_script.specs.declared.types.BodyLine.TheVariants as script
 use Rattle.match_script.specs.declared.types.Head.{Head}
@@ -84,16 +84,16 @@ pub no_moves : (t : Terms) (ms : List Message) → accepted_in t (steps_of_messa
 no_moves t ms =
     ap (accepted_in t) (sym (append-nil (steps_of_messages ms)) ∙ sym (onto_is (map step_for ms) [])) ∙ onto_none t ms []
 
-first_of_none : (n : ℕ) (ms : List Move) → ms ≡ [] → slice_get (drop n ms) 0 ≡ None
+first_of_none : (n : ℕ) (ms : List MoveBits) → ms ≡ [] → slice_get (drop n ms) 0 ≡ None
 first_of_none n ms none = rw none (go n)
   where
-    go : (k : ℕ) → (let l : List Move = [] in slice_get (drop k l) 0 ≡ None)
+    go : (k : ℕ) → (let l : List MoveBits = [] in slice_get (drop k l) 0 ≡ None)
     go zero = refl
     go (suc k) = refl
 
 -- ---- worlds
 
-still_next : (w : Worlds) (row : List (Option Move)) (k : ℕ) → world_after (next w row) (replicate k row) ≡ next (world_after w (replicate k row)) row
+still_next : (w : Worlds) (row : List (Option MoveBits)) (k : ℕ) → world_after (next w row) (replicate k row) ≡ next (world_after w (replicate k row)) row
 still_next w row zero = refl
 still_next w row (suc k) = still_next (next w row) row k
 

@@ -1,11 +1,11 @@
 -- The moves of ticks that take none.
 use Rattle.std.specs.Prelude.{ℕ, List, replicate, Option, None}
-use Rattle.tn_types.specs.declared.moves.Move.{Move}
+use Rattle.tn_types.specs.declared.moves.MoveBits.{MoveBits}
 use Rattle.match_script.specs.declared.types.Script.{Script}
 use Rattle.legal_race.specs.race_course.Messages.{Ticks, ticks_in}
 
 -- no move of any client
-abbrev pub idle_row : ℕ → List (Option Move)
+abbrev pub idle_row : ℕ → List (Option MoveBits)
 idle_row clients = replicate clients None
 
 abbrev pub idle : ℕ → ℕ → Ticks

@@ -6,7 +6,7 @@ ghost use Rattle.plain_race.specs.Idle.{idle_row, idle_in};
 use legal_race::race_history::TickMoves;
 use match_script::{BodyLine, Script};
 use std::alloc::{AllocError, Global};
-use tn_types::{Move, NoMemory};
+use tn_types::{MoveBits, NoMemory};
 
 fn is_tick(line: &BodyLine) -> bool
     ensures { result ≡ is_tick line.now }
@@ -18,7 +18,7 @@ fn is_tick(line: &BodyLine) -> bool
 }
 
 // No move of any client.
-fn no_moves(alloc: Global, clients: u8) -> Result<Vec<Option<Move>>, AllocError>
+fn no_moves(alloc: Global, clients: u8) -> Result<Vec<Option<MoveBits>>, AllocError>
     ensures { IfOk result (λ row. row.items ≡ idle_row clients) }
 {
     let mut row = Vec::new(alloc);

@@ -8,6 +8,7 @@ ghost use Rattle.plain_race.specs.Asks.{act_given};
 ghost use Rattle.plain_race.specs.Done.{IsOwnStep, AreStepsOf, DoesLine, StopsAtLine, IsStopped};
 
 use crate::steps::{act, pack, room_in};
+use bit_stream::bits_of_move;
 use legal_race::race_history::kept_pair::KeptPair;
 use match_script::BodyLine;
 use pair_core::PairStep;
@@ -42,7 +43,9 @@ fn act_of(
             class: *class,
             payload: payload.payload(),
         }),
-        BodyLine::Move { client: named, m } if *named == client => Some(PairStep::Sample { m: *m }),
+        BodyLine::Move { client: named, m } if *named == client => Some(PairStep::Sample {
+            m: bits_of_move(m),
+        }),
         BodyLine::ClientPack { client: named } if *named == client => Some(PairStep::ClientPack),
         BodyLine::Down { client: named, k } if *named == client => Some(PairStep::Down { k: *k }),
         BodyLine::Up { client: named, k } if *named == client => {

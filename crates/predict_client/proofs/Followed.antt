@@ -2,7 +2,7 @@
 use Rattle.std.proofs.Common.{◌≡◌, ◌≤◌, List, [], ◌∷◌, ◌++◌, length, Option, Some, None, refl, ap, sym, ◌∙◌, subst}
 use Rattle.std.specs.Prelude.{ℤ, option_map}
 use Rattle.std.proofs.lemmas.List.{drop-append-le}
-use Rattle.tn_types.specs.declared.moves.Move.{Move}
+use Rattle.tn_types.specs.declared.moves.MoveBits.{MoveBits}
 use Rattle.wire_format.specs.declared.server.ServerPacket.{ServerPacket}
 use Rattle.wire_format.specs.declared.server.ServerPacket.TheVariants as down
 use Rattle.move_manager.specs.Sending.{acked_of}
@@ -30,19 +30,19 @@ told_again p log h =
     }
 
 -- a packet was taken: its base and the unaccepted moves after it were told
-pub followed_packet : (old new : Prediction) (base : Option (ℤ × ℤ × ℤ)) (pending : List Move) (log : List ClientEvent) (p : ServerPacket)
+pub followed_packet : (old new : Prediction) (base : Option (ℤ × ℤ × ℤ)) (pending : List MoveBits) (log : List ClientEvent) (p : ServerPacket)
     → Does old (predicting.Told base pending) new → base ≡ base_at match_kinds (Took p ∷ log) → pending ≡ unaccepted (Took p ∷ log)
     → Follows old log → Follows new (Took p ∷ log)
 followed_packet old new base pending log (down.Body p) does b m h =
     let told = does (predict_log log) h.stands in
     let with_base : Option (ℤ × ℤ × ℤ) → Type 0 = λ b. StandsFor new (predicting.Told b pending ∷ predict_log log) in
-    let with_both : List Move → Type 0 =
+    let with_both : List MoveBits → Type 0 =
     λ m. StandsFor new (predicting.Told (base_at match_kinds (Took (down.Body p) ∷ log)) m ∷ predict_log log) in
     record { stands = subst with_both m (subst with_base b told); base = refl; pending = refl }
 followed_packet old new base pending log (down.Ping head) does b m h =
     let told = does (predict_log log) h.stands in
     let with_base : Option (ℤ × ℤ × ℤ) → Type 0 = λ b. StandsFor new (predicting.Told b pending ∷ predict_log log) in
-    let with_both : List Move → Type 0 = λ m. StandsFor new (predicting.Told (base_of (predict_log log)) m ∷ predict_log log) in
+    let with_both : List MoveBits → Type 0 = λ m. StandsFor new (predicting.Told (base_of (predict_log log)) m ∷ predict_log log) in
     record {
       stands = told_again new (predict_log log) (subst with_both (m ∙ sym h.pending) (subst with_base (b ∙ sym h.base) told));
       base = h.base;
@@ -50,7 +50,7 @@ followed_packet old new base pending log (down.Ping head) does b m h =
     }
 
 -- a move was sampled
-pub followed_move : (old new : Prediction) (m : Move) (log : List ClientEvent) → acked_of (sample_log log) ≤ length (sampled_at log)
+pub followed_move : (old new : Prediction) (m : MoveBits) (log : List ClientEvent) → acked_of (sample_log log) ≤ length (sampled_at log)
     → Does old (predicting.Sampled m) new → Follows old log → Follows new (Sampled m ∷ log)
 followed_move old new m log within does h = record {
   stands = does (predict_log log) h.stands;

@@ -2,7 +2,7 @@
 -- tells a base, by the copies after the packet, and the moves that the server has not told as accepted by then. Each move that it
 -- sampled is told. A ping tells nothing, nor does what the end posts and sends.
 use Rattle.std.specs.Prelude.{◌≡◌, ℤ, ◌==◌, if◌then◌else◌, List, [], ◌∷◌, drop, Option, Some, None, option_and_then}
-use Rattle.tn_types.specs.declared.moves.Move.{Move}
+use Rattle.tn_types.specs.declared.moves.MoveBits.{MoveBits}
 use Rattle.quantised_fields.specs.declared.kind.Kind.{Kind}
 use Rattle.wire_format.specs.declared.server.ServerPacket.{ServerPacket}
 use Rattle.wire_format.specs.declared.server.ServerPacket.TheVariants as down
@@ -39,7 +39,7 @@ base_at kinds log = option_and_then (λ slot. option_and_then (standing_of kinds
 -- ---- the pending moves
 
 -- the sampled moves that the server has not told as accepted, the oldest first
-abbrev pub unaccepted : List ClientEvent → List Move
+abbrev pub unaccepted : List ClientEvent → List MoveBits
 unaccepted log = drop (acked_of (sample_log log)) (sampled_at log)
 
 -- ---- what is told

@@ -9,7 +9,7 @@ ghost use Rattle.predict_client.specs.Following.{Follows};
 use crate::player::base;
 use client_predict::Predict;
 use stream_manager::Client;
-use tn_types::Move;
+use tn_types::MoveBits;
 
 /// The client's end took a packet. Where it was a ping, this changes nothing.
 pub fn arrived(predict: &mut Predict, client: &Client)
@@ -22,7 +22,7 @@ pub fn arrived(predict: &mut Predict, client: &Client)
 }
 
 /// The client's end sampled a move.
-pub fn moved(predict: &mut Predict, m: Move)
+pub fn moved(predict: &mut Predict, m: MoveBits)
     ensures { (log : List OneEvent) (client : ClientState) → ClientStandsFor client log
         → Follows predict.old log → Follows predict.new (Sampled m ∷ log) }
 {

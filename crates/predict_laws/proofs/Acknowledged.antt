@@ -1,6 +1,6 @@
 -- What the server told last of accepted moves is what it had accepted at the pack of the newest packet that came.
 use Rattle.std.proofs.Common.{◌≡◌, inl, inr, ℕ, ◌+◌, ◌<◌, ◌≤◌, Bool, true, false, cond, List, [], ◌∷◌, length, Option, Some, None, refl, sym, ap, ◌∙◌, subst, arith, length-append, nat_le, max, ◌++◌, take, drop, ◌-◌}
-use Rattle.tn_types.specs.declared.moves.Move.{Move}
+use Rattle.tn_types.specs.declared.moves.MoveBits.{MoveBits}
 use Rattle.wire_format.specs.declared.server.ServerBody.{ServerBody}
 use Rattle.wire_format.specs.declared.server.ServerPacket.TheVariants as down
 use Rattle.wire_format.specs.declared.client.ClientPacket.{ClientPacket}
@@ -21,7 +21,7 @@ use Rattle.predict_laws.specs.Newest.{newest_body}
 
 -- ---- what the server accepted grows
 
-accepts_more : (life room : ℕ) (p : Packet) (accepted : List Move) → length accepted ≤ length (accept life room p accepted)
+accepts_more : (life room : ℕ) (p : Packet) (accepted : List MoveBits) → length accepted ≤ length (accept life room p accepted)
 accepts_more life room p accepted = by_test (nat_le p.first (length accepted))
   where
     by_test : (b : Bool) → length accepted ≤ length (cond b (accepted ++ take (new_count life room (length accepted) p) (drop (length accepted - p.first) p.moves)) accepted)

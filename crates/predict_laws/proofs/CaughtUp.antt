@@ -5,7 +5,7 @@ use Rattle.std.proofs.Math.Seq.{drop-append_seam}
 use Rattle.std.specs.Prelude.{option_map}
 use Rattle.std.proofs.lemmas.List.{append-nil, length-drop}
 use Rattle.tn_types.specs.declared.choices.Drain.{Drain}
-use Rattle.tn_types.specs.declared.moves.Move.{Move as PlayerMove}
+use Rattle.tn_types.specs.declared.moves.MoveBits.{MoveBits}
 use Rattle.tn_types.specs.Prefix.{IsPrefixOf}
 use Rattle.move_manager.specs.Sending.{acked_of}
 use Rattle.stream_manager.specs.declared.config.Config.{Config}
@@ -122,7 +122,7 @@ module _ (own : OwnListsHold) (s : Script) (c n : ℕ) (ranges : HasRanges s) (b
   has_it up =
       let since = applied_since s.head c up.later (Pack c ∷ up.earlier) in
       value_known u (known t (terms_fit s.head c ranges.head below) steps fit)
-      ∙ ap (λ (ms : List PlayerMove). option_map (λ at. played at ms) (base_at match_kinds u)) (pending_is up)
+      ∙ ap (λ (ms : List MoveBits). option_map (λ at. played at ms) (base_at match_kinds u)) (pending_is up)
       ∙ ap (option_map (λ at. played at since)) (up.base ∙ sym up.had)
       ∙ sym (plays s.head ranges.head c below up.later (Pack c ∷ up.earlier) up.stood)
       ∙ ap (λ (past : List BodyLine). server_has s.head past c) up.whole

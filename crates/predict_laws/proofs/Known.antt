@@ -4,7 +4,7 @@ use Rattle.std.specs.Prelude.{Result, Ok, Err, is_ok, option_map, slice_get, if�
 use Rattle.std.proofs.lemmas.List.{drop-append-le}
 use Rattle.tn_types.specs.declared.choices.Class.{Class}
 use Rattle.tn_types.specs.declared.choices.Class.TheVariants.{Guaranteed, Loose}
-use Rattle.tn_types.specs.declared.moves.Move.{Move}
+use Rattle.tn_types.specs.declared.moves.MoveBits.{MoveBits}
 use Rattle.notify_window.specs.declared.SendState.{SendState}
 use Rattle.notify_window.specs.declared.SendState.TheVariants.{Held, Worn, Room}
 use Rattle.wire_format.specs.declared.server.ServerPacket.{ServerPacket}
@@ -44,11 +44,11 @@ packs t Worn u h = h
 packs t Room u h = record { base = h.base; pending = h.pending }
 
 -- a sampled move, where the server told of no more moves than were sampled
-samples : (t : Terms) (m : Move) (u : List ClientEvent) → acked_of (sample_log u) ≤ length (sampled_at u) → IsKnown u → IsKnown (client_samples t.config m u)
+samples : (t : Terms) (m : MoveBits) (u : List ClientEvent) → acked_of (sample_log u) ≤ length (sampled_at u) → IsKnown u → IsKnown (client_samples t.config m u)
 samples t m u within h =
-    quiet (client.Sampled m) (is_ok (sampled_answer t.config u)) u (record {
+    quiet (client.Sampled m) (is_ok (sampled_answer t.config m u)) u (record {
       base = h.base;
-      pending = ap (λ (ms : List Move). ms ++ m ∷ []) h.pending ∙ sym (drop-append-le (acked_of (sample_log u)) (sampled_at u) (m ∷ []) within);
+      pending = ap (λ (ms : List MoveBits). ms ++ m ∷ []) h.pending ∙ sym (drop-append-le (acked_of (sample_log u)) (sampled_at u) (m ∷ []) within);
     }) h
 
 took : (u : List ClientEvent) (r : Result ServerPacket ClientFault) → IsKnown u → IsKnown (took_at_client u r)
@@ -83,5 +83,5 @@ module _ (t : Terms) (limits : AreTerms t) where
 -- so the value is the end's base with its pending moves played on it
 pub value_known : (u : List ClientEvent) → IsKnown u → value_of (predict_log u) ≡ option_map (λ at. played at (unaccepted u)) (base_at match_kinds u)
 value_known u h =
-    ap (λ (ms : List Move). option_map (λ at. played at ms) (base_of (predict_log u))) h.pending
+    ap (λ (ms : List MoveBits). option_map (λ at. played at ms) (base_of (predict_log u))) h.pending
     ∙ ap (λ (o : Option (ℤ × ℤ × ℤ)). option_map (λ at. played at (unaccepted u)) o) h.base

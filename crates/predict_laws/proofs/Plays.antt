@@ -4,7 +4,8 @@ use Rattle.std.specs.Prelude.{ℤ, option_map, slice_get}
 use Rattle.std.proofs.lemmas.List.{append-nil}
 use Rattle.std.proofs.lemmas.List.FromFn.{length-map-range_with_len, get_or-map-range_with_len}
 use Rattle.std.proofs.lemmas.Option.{slice_get-get_or}
-use Rattle.tn_types.specs.declared.moves.Move.{Move as PlayerMove}
+use Rattle.tn_types.specs.declared.moves.Move.{Move}
+use Rattle.tn_types.specs.declared.moves.MoveBits.{MoveBits}
 use Rattle.match_script.specs.declared.types.BodyLine.{BodyLine}
 use Rattle.match_script.specs.declared.types.BodyLine.TheVariants as script
 use Rattle.match_script.specs.declared.types.Head.{Head}
@@ -21,7 +22,7 @@ use Rattle.predict_laws.specs.Promise.{server_has, StoodIn}
 use Rattle.predict_laws.proofs.Ticks.{tick_steps, tick_without_move}
 
 -- the moves that the ticks among the later lines took from a client, the oldest first
-abbrev pub applied_since : Head → ℕ → List BodyLine → List BodyLine → List PlayerMove
+abbrev pub applied_since : Head → ℕ → List BodyLine → List BodyLine → List MoveBits
 applied_since head c [] earlier = []
 applied_since head c (script.Tick ∷ later) earlier = applied_since head c later earlier ++ one_move (move_of head (after head (later ++ earlier)) c)
 applied_since head c (line ∷ later) earlier = applied_since head c later earlier
@@ -30,7 +31,7 @@ pub applied_parts : (head : Head) (c : ℕ) (later earlier : List BodyLine) → 
 applied_parts head c [] earlier = sym (append-nil (applied head c earlier))
 applied_parts head c (script.Tick ∷ later) earlier =
     let last = one_move (move_of head (after head (later ++ earlier)) c) in
-    ap (λ (ms : List PlayerMove). ms ++ last) (applied_parts head c later earlier) ∙ append_assoc (applied head c earlier) (applied_since head c later earlier) last
+    ap (λ (ms : List MoveBits). ms ++ last) (applied_parts head c later earlier) ∙ append_assoc (applied head c earlier) (applied_since head c later earlier) last
 applied_parts head c (line ∷ later) earlier = applied_parts head c later earlier
 
 -- what a tick takes from one of the clients
@@ -47,17 +48,17 @@ no_moves None = refl
 no_moves (Some at) = refl
 
 module _ (head : Head) (fits : HeadFits head) (c : ℕ) (below : c < head.clients) where
-  tick_plays : (past : List BodyLine) (o : Option PlayerMove) → move_of head (after head past) c ≡ o → stands_in (after head past).world c ≡ true
-      → (moves : List PlayerMove) (was : Option (ℤ × ℤ × ℤ)) → server_has head past c ≡ option_map (λ at. played at moves) was
+  tick_plays : (past : List BodyLine) (o : Option MoveBits) → move_of head (after head past) c ≡ o → stands_in (after head past).world c ≡ true
+      → (moves : List MoveBits) (was : Option (ℤ × ℤ × ℤ)) → server_has head past c ≡ option_map (λ at. played at moves) was
       → server_has head (script.Tick ∷ past) c ≡ option_map (λ at. played at (moves ++ one_move o)) was
   tick_plays past None e stands moves was h =
       let p = after head past in
-      tick_without_move p.world (moves_of head p) c (world_after head past fits) stands (taken_at head p c below ∙ ap (λ (x : Option PlayerMove). or_still (Some x)) e)
-      ∙ h ∙ ap (λ (ms : List PlayerMove). option_map (λ at. played at ms) was) (sym (append-nil moves))
+      tick_without_move p.world (moves_of head p) c (world_after head past fits) stands (taken_at head p c below ∙ ap (λ (x : Option MoveBits). or_still (Some x)) e)
+      ∙ h ∙ ap (λ (ms : List MoveBits). option_map (λ at. played at ms) was) (sym (append-nil moves))
   tick_plays past (Some m) e stands moves was h =
       let p = after head past in
       tick_steps p.world (moves_of head p) c stands
-      ∙ ap (λ (x : PlayerMove). option_map (λ at. stepped_by at x) (measures_in p.world c)) (taken_at head p c below ∙ ap (λ (x : Option PlayerMove). or_still (Some x)) e)
+      ∙ ap (λ (x : Move). option_map (λ at. stepped_by at x) (measures_in p.world c)) (taken_at head p c below ∙ ap (λ (x : Option MoveBits). or_still (Some x)) e)
       ∙ ap (option_map (λ at. stepped_by at m)) h
       ∙ value_more was moves m
 

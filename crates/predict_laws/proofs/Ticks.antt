@@ -5,6 +5,7 @@ use Rattle.std.specs.List.{AllByRecursion, filter_map}
 use Rattle.std.proofs.lemmas.Int.{ints}
 use Rattle.std.proofs.lemmas.Bool.Decides.{nat_tests}
 use Rattle.tn_types.specs.declared.moves.Move.{Move}
+use Rattle.tn_types.specs.declared.moves.MoveBits.{MoveBits}
 use Rattle.world_rules.specs.declared.object.Object.{Object}
 use Rattle.world_rules.specs.declared.object.State.{State}
 use Rattle.world_rules.specs.declared.object.State.TheVariants.{Player, Disc, Mine, Drone, Flag, Clock}
@@ -24,7 +25,7 @@ use Rattle.predict_laws.specs.Players.{measured, measures_of, player_in, measure
 -- ---- the player is found again
 
 -- what a player fires is no player
-fired_none : (client : ℕ) (moves : List (Option Move)) (o d : Object) → fired moves o ≡ Some d → is_player client d ≡ false
+fired_none : (client : ℕ) (moves : List (Option MoveBits)) (o d : Object) → fired moves o ≡ Some d → is_player client d ≡ false
 unfolding fired_by
 fired_none client moves o d e = by_state o.state e
   where
@@ -40,7 +41,7 @@ fired_none client moves o d e = by_state o.state e
     by_state (Flag x) e = absurd (cc)
     by_state (Clock x) e = absurd (cc)
 
-no_player : (client : ℕ) (moves : List (Option Move)) (n : ℕ) (xs : List Object) → find (is_player client) (take n (filter_map (fired moves) xs)) ≡ None
+no_player : (client : ℕ) (moves : List (Option MoveBits)) (n : ℕ) (xs : List Object) → find (is_player client) (take n (filter_map (fired moves) xs)) ≡ None
 no_player client moves zero xs = refl
 no_player client moves (suc n) [] = refl
 no_player client moves (suc n) (o ∷ xs) = by_disc (fired moves o) refl (no_player client moves (suc n) xs) (no_player client moves n xs)
@@ -63,7 +64,7 @@ found_next client f (o ∷ xs) ds same none = rw (same o) (by_test (is_player cl
     by_test true rest = refl
     by_test false rest = rest
 
-pub player_next_in : (w : Worlds) (moves : List (Option Move)) (client : ℕ)
+pub player_next_in : (w : Worlds) (moves : List (Option MoveBits)) (client : ℕ)
     → player_in (next w moves) client ≡ option_map (object_next w.objects moves (coming w)) (player_in w client)
 unfolding next discs_made
 player_next_in w moves client =
@@ -82,7 +83,7 @@ is_its client (x ∷ xs) o e = by_test (is_player client x) refl (is_its client 
     by_test true h rest e = let same : x ≡ o = cc in subst (λ (y : Object). is_player client y ≡ true) same h
     by_test false h rest e = rest e
 
-one_step : (os : List Object) (moves : List (Option Move)) (t : Moment) (client : ℕ) (o : Object) (s : State) → is_player_part client s ≡ true
+one_step : (os : List Object) (moves : List (Option MoveBits)) (t : Moment) (client : ℕ) (o : Object) (s : State) → is_player_part client s ≡ true
     → is_standing (record o { state = s }) ≡ true
     → measures_of (by_kind os moves t o s) ≡ option_map (λ at. stepped_by at (move_of moves client)) (measured o.place s)
 unfolding player_next
@@ -96,7 +97,7 @@ one_step os moves t client o (Flag f) mine stands = absurd (cc)
 one_step os moves t client o (Clock c) mine stands = absurd (cc)
 
 -- a tick is one step of a player that stands
-pub tick_steps : (w : Worlds) (moves : List (Option Move)) (client : ℕ) → stands_in w client ≡ true
+pub tick_steps : (w : Worlds) (moves : List (Option MoveBits)) (client : ℕ) → stands_in w client ≡ true
     → measures_in (next w moves) client ≡ option_map (λ at. stepped_by at (move_of moves client)) (measures_in w client)
 tick_steps w moves client stands = by_player (player_in w client) refl stands
   where
@@ -141,7 +142,7 @@ stays_measured None h = refl
 stays_measured (Some o) h = still_measured o.place o.state h.place
 
 -- a tick without a move changes none of the three
-pub tick_without_move : (w : Worlds) (moves : List (Option Move)) (client : ℕ) → IsWorld w → stands_in w client ≡ true → move_of moves client ≡ still
+pub tick_without_move : (w : Worlds) (moves : List (Option MoveBits)) (client : ℕ) → IsWorld w → stands_in w client ≡ true → move_of moves client ≡ still
     → measures_in (next w moves) client ≡ measures_in w client
 tick_without_move w moves client world stands none =
     tick_steps w moves client stands

@@ -3,7 +3,8 @@ use Rattle.std.proofs.Common.{◌≡◌, ℕ, Bool, true, false, cond, List, ◌
 use Rattle.std.specs.Prelude.{Result, Ok, Err, is_ok, ◌&&◌, if◌then◌else◌, slice_get}
 use Rattle.tn_types.specs.declared.choices.Class.{Class}
 use Rattle.tn_types.specs.declared.choices.Class.TheVariants.{Guaranteed, Loose}
-use Rattle.tn_types.specs.declared.moves.Move.{Move as PlayerMove}
+use Rattle.tn_types.specs.declared.moves.MoveBits.{MoveBits}
+use Rattle.bit_stream.specs.WorldMoves.{bits_of}
 use Rattle.notify_window.specs.declared.SendState.{SendState}
 use Rattle.notify_window.specs.declared.SendState.TheVariants.{Held, Worn, Room}
 use Rattle.move_manager.specs.declared.faults.MoveFault.{MoveFault}
@@ -100,7 +101,7 @@ module _ (t : Terms) where
 
   -- ---- a move is sampled
 
-  pub sampled_is : (c : ℕ) (m : PlayerMove) (log : List ClientEvent) (r : Result ℕ MoveFault)
+  pub sampled_is : (c : ℕ) (m : MoveBits) (log : List ClientEvent) (r : Result ℕ MoveFault)
       → IsChange (if is_sampled (told_as.Moved c r) then Sampled m else Nothing) log (if is_ok r then client.Sampled m ∷ log else log)
   sampled_is c m log (Ok n) = refl
   sampled_is c m log (Err fault) = nothing log log refl
@@ -142,9 +143,9 @@ line_changes head past c line = by_line line
     by_line (script.Raw d bytes) = quiet d (Line (script.Raw d bytes)) (same_items t own)
     by_line (script.Move d m) =
         named_case (λ same put_here e.
-        IsChange (if same && is_sampled (told_after head past (script.Move e m)) then Sampled m else Nothing) (at_end t (journal t own))
+        IsChange (if same && is_sampled (told_after head past (script.Move e m)) then Sampled (bits_of m) else Nothing) (at_end t (journal t own))
         (at_end t (journal t (cond put_here (Line (script.Move e m) ∷ p.own e) own)))) c d
-        (let log = at_end t (journal t own) in sampled_is t c m log (sampled_answer t.config log))
+        (let log = at_end t (journal t own) in sampled_is t c (bits_of m) log (sampled_answer t.config (bits_of m) log))
         (λ e. same_items t own)
     by_line (script.Show d) = quiet d (Line (script.Show d)) (same_items t own)
     by_line script.World = same_items t own

@@ -1,6 +1,7 @@
 -- What a line of a match did at one client's end, as far as a prediction hears of it: a packet came and was not refused, or a move was
 -- sampled. It is read off the line and what it told.
 use Rattle.std.specs.Prelude.{◌≡◌, ℕ, ◌==◌, ◌&&◌, Bool, true, false, if◌then◌else◌, List, ◌∷◌, Ok, Err}
+use Rattle.bit_stream.specs.WorldMoves.{bits_of}
 use Rattle.match_script.specs.declared.types.BodyLine.{BodyLine}
 use Rattle.match_script.specs.declared.types.BodyLine.TheVariants as script
 use Rattle.match_report.specs.declared.told.Told.{Told}
@@ -26,7 +27,7 @@ is_sampled other = false
 
 abbrev pub change_of : ℕ → BodyLine → Told → EndChange
 change_of c (script.Down d k) told = if (d == c) && is_taken told then Came else Nothing
-change_of c (script.Move d m) told = if (d == c) && is_sampled told then Sampled m else Nothing
+change_of c (script.Move d m) told = if (d == c) && is_sampled told then Sampled (bits_of m) else Nothing
 change_of c line told = Nothing
 
 -- ---- what it means of the list of what happened at the end

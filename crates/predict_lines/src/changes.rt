@@ -2,9 +2,10 @@
 ghost use Rattle.std.specs.Prelude.{◌≡◌};
 ghost use Rattle.predict_lines.specs.Changes.{change_of, is_taken, is_sampled};
 
+use bit_stream::bits_of_move;
 use match_report::Told;
 use match_script::BodyLine;
-use tn_types::Move;
+use tn_types::MoveBits;
 
 /// What a line did at a client's end, as far as a prediction hears of it.
 #[derive(Clone, Copy, Debug, PartialEq, Eq)]
@@ -12,7 +13,7 @@ pub enum EndChange {
     /// A packet came and was not refused: a data packet or a ping.
     Came,
     /// A move of the player was taken up.
-    Sampled(Move),
+    Sampled(MoveBits),
     /// Neither.
     Nothing,
 }
@@ -60,7 +61,7 @@ pub fn change_of(client: u8, line: &BodyLine, told: &Told) -> EndChange
         }
         BodyLine::Move { client: named, m } => {
             if *named == client && is_sampled(told) {
-                EndChange::Sampled(*m)
+                EndChange::Sampled(bits_of_move(m))
             } else {
                 EndChange::Nothing
             }

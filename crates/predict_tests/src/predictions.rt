@@ -2,21 +2,22 @@
 ghost use Rattle.std.specs.Prelude.{◌≡◌, true};
 ghost use Rattle.tn_types.specs.Steps.{is_step};
 
+use bit_stream::bits_of_move;
 use client_predict::Predict;
-use tn_types::Move;
+use tn_types::{Move, MoveBits};
 use wire_format::MoveList;
 
 // A step of so many units each way.
-fn step(dx: i8, dy: i8, fire: bool) -> Move
+fn step(dx: i8, dy: i8, fire: bool) -> MoveBits
     requires dx_range { is_step dx ≡ true }
     requires dy_range { is_step dy ≡ true }
 {
-    Move {
+    bits_of_move(&Move {
         dx,
         dy,
         fire,
         act: false,
-    }
+    })
 }
 
 #[test]
@@ -29,7 +30,7 @@ fn offset_fades(rt: HostRuntime) {
         predict.told(Some((1000, 1000, 20)), &MoveList::new());
         predict.told(Some((base, 1000, 20)), &MoveList::new());
         for part in left {
-            predict.sampled(Move::default());
+            predict.sampled(step(0, 0, false));
             assert_eq!(rt; predict.offset(), (part, 0));
         }
         assert_eq!(rt; predict.value(), Some((base, 1000, 20)));
@@ -100,9 +101,9 @@ fn settles_with_22_samples(rt: HostRuntime) {
     predict.told(Some((1000, 2000, 20)), &MoveList::new());
     assert_eq!(rt; predict.offset(), (1000, -1000));
     for _ in 0..21 {
-        predict.sampled(Move::default());
+        predict.sampled(step(0, 0, false));
     }
     assert_eq!(rt; predict.offset(), (1, -1));
-    predict.sampled(Move::default());
+    predict.sampled(step(0, 0, false));
     assert_eq!(rt; predict.offset(), (0, 0));
 }

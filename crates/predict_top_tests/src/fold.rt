@@ -4,6 +4,7 @@ ghost use Rattle.match_script.specs.Ranges.{HasRanges};
 ghost use Rattle.match_engine.specs.Match.{IsPlayed};
 
 use crate::served::served;
+use bit_stream::move_of_bits;
 use match_engine::Match;
 use match_engine::match_laws::pair_core::Pair;
 use match_report::Told;
@@ -112,7 +113,7 @@ fn packet(alloc: Global, pair: &Pair) -> Result<Heard, AllocError> {
     let (_, waiting) = pair.client().pending();
     let mut pending = Vec::new(alloc);
     for m in waiting.as_slice() {
-        pending.push(*m)?;
+        pending.push(move_of_bits(*m))?;
     }
     Ok(Heard::Told(base(pair), pending))
 }

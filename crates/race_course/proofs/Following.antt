@@ -3,7 +3,7 @@ use Rattle.std.proofs.Common.{◌≡◌, ℕ, zero, suc, ◌<◌, ◌≤◌, ◌
 use Rattle.std.specs.Prelude.{slice_get, if◌then◌else◌}
 use Rattle.std.proofs.lemmas.List.{append-nil, length-map, reverse-append, take_more, take_all, take-append-drop, length-reverse, length-take-le}
 use Rattle.std.proofs.lemmas.List.Sums.{sum_by-append, sum_by-cons}
-use Rattle.tn_types.specs.declared.moves.Move.{Move}
+use Rattle.tn_types.specs.declared.moves.MoveBits.{MoveBits}
 use Rattle.match_script.specs.declared.types.BodyLine.{BodyLine}
 use Rattle.match_script.specs.declared.types.BodyLine.TheVariants as script
 use Rattle.match_script.specs.declared.types.Script.{Script}
@@ -27,12 +27,12 @@ new_more (x ∷ clients) k h new (suc c) d l first ticks client = new_more clien
 
 -- ---- ticks
 
-row_more : (ticks : Ticks) (n : ℕ) (row : List (Option Move)) → slice_get ticks n ≡ Some row → take (n + 1) ticks ≡ take n ticks ++ row ∷ []
+row_more : (ticks : Ticks) (n : ℕ) (row : List (Option MoveBits)) → slice_get ticks n ≡ Some row → take (n + 1) ticks ≡ take n ticks ++ row ∷ []
 row_more ticks n row e = rw add-one (go ticks n e)
   where
     go : (ts : Ticks) (k : ℕ) → slice_get ts k ≡ Some row → take (suc k) ts ≡ take k ts ++ row ∷ []
     go [] k e = absurd (cc)
-    go (t ∷ ts) zero e = let same : t ≡ row = cc in ap (λ (r : List (Option Move)). r ∷ []) same
+    go (t ∷ ts) zero e = let same : t ≡ row = cc in ap (λ (r : List (Option MoveBits)). r ∷ []) same
     go (t ∷ ts) (suc k) e = ap (λ (rs : Ticks). t ∷ rs) (go ts k e)
 
 abbrev pub of_tick : BodyLine → ℕ
@@ -47,7 +47,7 @@ ticks_same line past other =
     let none : of_tick line ≡ 0 = rw other refl in
     omega (arith, e, none)
 
-pub ticks_next : (w : Worlds) (row : List (Option Move)) → (next w row).ticks ≡ w.ticks + 1
+pub ticks_next : (w : Worlds) (row : List (Option MoveBits)) → (next w row).ticks ≡ w.ticks + 1
 unfolding next
 ticks_next w row = refl
 
@@ -59,8 +59,8 @@ kept k first ticks c past h = record {
   few = let f = h.few in omega (arith, f);
 }
 
-pub ticked : (old : MakingState) (ticks : Ticks) (row : List (Option Move)) (w : Worlds) (values : Values) → slice_get ticks old.world.ticks ≡ Some row → w ≡ next old.world row
-    → ((first : Worlds) (before : Ticks) (moves : List (Option Move)) → IsHistoryOf first before old.values → w ≡ next (world_after first before) moves → IsHistoryOf first (before ++ moves ∷ []) values)
+pub ticked : (old : MakingState) (ticks : Ticks) (row : List (Option MoveBits)) (w : Worlds) (values : Values) → slice_get ticks old.world.ticks ≡ Some row → w ≡ next old.world row
+    → ((first : Worlds) (before : Ticks) (moves : List (Option MoveBits)) → IsHistoryOf first before old.values → w ≡ next (world_after first before) moves → IsHistoryOf first (before ++ moves ∷ []) values)
     → Follows old (record { world = w; values = values; clients = old.clients }) ticks script.Tick
 ticked old ticks row w values there is more first clients past h =
     let n : ℕ = ticks_in past in

@@ -2,3 +2,4 @@ pub mod Adding
 pub mod Rising
 pub mod Following
 pub mod ScanSteps
+mod Configs

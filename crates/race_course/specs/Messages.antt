@@ -2,7 +2,7 @@
 -- `post` of the client, in the order of the script. A line is done on what the lines before it left; lines and scans are listed
 -- newest first, ticks and messages oldest first.
 use Rattle.std.specs.Prelude.{ℕ, ◌==◌, Bool, true, false, List, [], ◌∷◌, ◌++◌, map, take, count_by, Option, if◌then◌else◌}
-use Rattle.tn_types.specs.declared.moves.Move.{Move}
+use Rattle.tn_types.specs.declared.moves.MoveBits.{MoveBits}
 use Rattle.match_script.specs.declared.types.BodyLine.{BodyLine}
 use Rattle.match_script.specs.declared.types.BodyLine.TheVariants as script
 use Rattle.world_sim.specs.Worlds.{Worlds}
@@ -35,7 +35,7 @@ scan_messages w c scans = map hide_message (hides scans) ++ (map near_message (n
 
 -- the moves of each tick, a move or none of each client
 abbrev pub Ticks : Type 0
-Ticks = List (List (Option Move))
+Ticks = List (List (Option MoveBits))
 
 abbrev pub is_tick : BodyLine → Bool
 is_tick script.Tick = true

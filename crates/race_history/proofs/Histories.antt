@@ -7,7 +7,7 @@ use Rattle.std.specs.List.{filter_map, cons_option}
 use Rattle.std.proofs.lemmas.List.Elements.{filter_map-append}
 use Rattle.std.proofs.lemmas.List.{append-nil, length-map}
 use Rattle.tn_types.specs.declared.limits.TheConstants.{MAX_FIELDS}
-use Rattle.tn_types.specs.declared.moves.Move.{Move}
+use Rattle.tn_types.specs.declared.moves.MoveBits.{MoveBits}
 use Rattle.world_rules.specs.declared.object.Object.{Object}
 use Rattle.world_rules.specs.declared.object.State.{State}
 use Rattle.world_rules.specs.declared.object.State.TheVariants.{Player, Disc, Mine, Drone, Flag, Clock}
@@ -135,11 +135,11 @@ begins w = record {
 
 -- ---- a world more
 
-worlds_more : (first : Worlds) (ticks : List (List (Option Move))) (moves : List (Option Move)) → worlds_from first (ticks ++ moves ∷ []) ≡ worlds_from first ticks ++ next (world_after first ticks) moves ∷ []
+worlds_more : (first : Worlds) (ticks : List (List (Option MoveBits))) (moves : List (Option MoveBits)) → worlds_from first (ticks ++ moves ∷ []) ≡ worlds_from first ticks ++ next (world_after first ticks) moves ∷ []
 worlds_more first [] moves = refl
 worlds_more first (row ∷ ticks) moves = ap (λ (ws : List Worlds). first ∷ ws) (worlds_more (next first row) ticks moves)
 
-pub after_more : (first : Worlds) (ticks : List (List (Option Move))) (moves : List (Option Move)) → world_after first (ticks ++ moves ∷ []) ≡ next (world_after first ticks) moves
+pub after_more : (first : Worlds) (ticks : List (List (Option MoveBits))) (moves : List (Option MoveBits)) → world_after first (ticks ++ moves ∷ []) ≡ next (world_after first ticks) moves
 after_more first [] moves = refl
 after_more first (row ∷ ticks) moves = after_more (next first row) ticks moves
 
@@ -154,7 +154,7 @@ within (t ∷ values) (o ∷ os) (p ∷ after) l f s =
       within values os after (omega (arith, l)) (λ k. f (suc k)) s.1,
     )
 
-within_next : (w : Worlds) (moves : List (Option Move)) (values : Values) → length values ≡ length w.objects → ((k : ℕ) → length_of_fields (slice_get values k) ≡ length_of_row (values_at w k)) → AreWithin values (rows_of (next w moves))
+within_next : (w : Worlds) (moves : List (Option MoveBits)) (values : Values) → length values ≡ length w.objects → ((k : ℕ) → length_of_fields (slice_get values k) ≡ length_of_row (values_at w k)) → AreWithin values (rows_of (next w moves))
 unfolding next
 within_next w moves values l f = within values w.objects (next w moves).objects l f (same_fields_next w.objects moves (coming w))
 
@@ -168,7 +168,7 @@ one_more worlds last w values h inside = record {
       ∙ sym (history_grows worlds w object field);
 }
 
-pub goes_on : (first : Worlds) (ticks : List (List (Option Move))) (moves : List (Option Move)) (values : Values) → IsHistoryOf first ticks values → IsHistoryOf first (ticks ++ moves ∷ []) (with_rows values (rows_of (next (world_after first ticks) moves)))
+pub goes_on : (first : Worlds) (ticks : List (List (Option MoveBits))) (moves : List (Option MoveBits)) (values : Values) → IsHistoryOf first ticks values → IsHistoryOf first (ticks ++ moves ∷ []) (with_rows values (rows_of (next (world_after first ticks) moves)))
 goes_on first ticks moves values h =
     let w = next (world_after first ticks) moves in
     let one = one_more (worlds_from first ticks) (world_after first ticks) w values h (within_next (world_after first ticks) moves values h.objects h.fields) in
@@ -180,7 +180,7 @@ goes_on first ticks moves values h =
 pub begins_by : (w : Worlds) (old new : Values) → new ≡ with_rows old (rows_of w) → old ≡ [] → IsHistoryOf w [] new
 begins_by w old new e none = subst (λ (values : Values). IsHistoryOf w [] values) (sym (e ∙ ap (λ (values : Values). with_rows values (rows_of w)) none)) (begins w)
 
-pub goes_on_by : (w : Worlds) (old new : Values) → new ≡ with_rows old (rows_of w) → (first : Worlds) (ticks : List (List (Option Move))) (moves : List (Option Move)) → IsHistoryOf first ticks old → w ≡ next (world_after first ticks) moves → IsHistoryOf first (ticks ++ moves ∷ []) new
+pub goes_on_by : (w : Worlds) (old new : Values) → new ≡ with_rows old (rows_of w) → (first : Worlds) (ticks : List (List (Option MoveBits))) (moves : List (Option MoveBits)) → IsHistoryOf first ticks old → w ≡ next (world_after first ticks) moves → IsHistoryOf first (ticks ++ moves ∷ []) new
 goes_on_by w old new e first ticks moves h is =
     subst (λ (values : Values). IsHistoryOf first (ticks ++ moves ∷ []) values) (sym (e ∙ ap (λ (v : Worlds). with_rows old (rows_of v)) is)) (goes_on first ticks moves old h)
 
@@ -205,6 +205,6 @@ pub determined : (worlds : List Worlds) (last : Worlds) (one other : Values) →
 determined worlds last one other h k =
     object_at one other (h.objects ∙ sym k.objects) (λ object. h.fields object ∙ sym (k.fields object)) (λ object field. h.each object field ∙ sym (k.each object field))
 
-pub decided : (first : Worlds) (ticks : List (List (Option Move))) (told made : Values) (same : Bool) → IsHistoryOf first ticks made → Decides same (told ≡ made) → Decides same (IsHistoryOf first ticks told)
+pub decided : (first : Worlds) (ticks : List (List (Option MoveBits))) (told made : Values) (same : Bool) → IsHistoryOf first ticks made → Decides same (told ≡ made) → Decides same (IsHistoryOf first ticks told)
 decided first ticks told made true h d = subst (λ (values : Values). IsHistoryOf first ticks values) (sym d) h
 decided first ticks told made false h d = λ k. d (determined (worlds_from first ticks) (world_after first ticks) told made k h)

@@ -3,7 +3,7 @@ use Rattle.std.proofs.Common.{◌≡◌, ℕ, zero, suc, ◌+◌, ◌-◌, ◌<�
 use Rattle.std.specs.Prelude.{ℤ, pos, negsuc, slice_get, option_map, option_and_then, if◌then◌else◌}
 use Rattle.std.specs.Option.{unwrap_or}
 use Rattle.std.specs.List.{AllByRecursion}
-use Rattle.tn_types.specs.declared.moves.Move.{Move}
+use Rattle.tn_types.specs.declared.moves.MoveBits.{MoveBits}
 use Rattle.world_rules.specs.declared.object.Object.{Object}
 use Rattle.world_sim.specs.declared.rows.Write.{Write}
 use Rattle.world_sim.specs.Rows.{differs, values_of, row_writes, world_writes}
@@ -233,13 +233,13 @@ all_settled (t ∷ values) (o ∷ os) l f h =
     let long : length t ≡ length (values_of o) = cc in
     (long, (row_settled t (values_of o) long (h 0), all_settled values os (omega (arith, l)) (λ k. f (suc k)) (λ k. h (suc k))))
 
-worlds_end : (first : Worlds) (ticks : List (List (Option Move))) → (before : List Worlds) × (worlds_from first ticks ≡ before ++ world_after first ticks ∷ [])
+worlds_end : (first : Worlds) (ticks : List (List (Option MoveBits))) → (before : List Worlds) × (worlds_from first ticks ≡ before ++ world_after first ticks ∷ [])
 worlds_end first [] = ([], refl)
 worlds_end first (moves ∷ ticks) =
     let h = worlds_end (next first moves) ticks in
     (first ∷ h.0, ap (λ (ws : List Worlds). first ∷ ws) h.1)
 
-history_settled : (first : Worlds) (ticks : List (List (Option Move))) (values : Values) → IsHistoryOf first ticks values → AreAllSettled values (world_after first ticks).objects
+history_settled : (first : Worlds) (ticks : List (List (Option MoveBits))) (values : Values) → IsHistoryOf first ticks values → AreAllSettled values (world_after first ticks).objects
 history_settled first ticks values h =
     let e = worlds_end first ticks in
     let last = world_after first ticks in
@@ -257,7 +257,7 @@ length_with_writes : (ws : List Write) (values : Values) → length (with_writes
 length_with_writes [] values = refl
 length_with_writes (w ∷ ws) values = length_with_writes ws (with_write w values) ∙ length_changed w.object (with_value w) values
 
-tick_applied : (w : Worlds) (moves : List (Option Move)) (values : Values) → HasVersions w → AreAllSettled values w.objects
+tick_applied : (w : Worlds) (moves : List (Option MoveBits)) (values : Values) → HasVersions w → AreAllSettled values w.objects
     → with_new (with_writes (next w moves).writes values) (rows_of (next w moves)) ≡ with_rows values (rows_of (next w moves))
 unfolding next
 tick_applied w moves values f h =
@@ -268,7 +268,7 @@ tick_applied w moves values f h =
     ∙ ap (λ (ts : Values). ts ++ map (with_row []) (drop (length values) rows)) (writes_applied values writes)
     ∙ world_applied 0 values w.objects (after w moves) w.versions h (same_fields_next w.objects moves (coming w)) f
 
-pub goes_on_by_writes : (w : Worlds) (old new : Values) → new ≡ with_new (with_writes w.writes old) (rows_of w) → (first : Worlds) (ticks : List (List (Option Move))) (moves : List (Option Move))
+pub goes_on_by_writes : (w : Worlds) (old new : Values) → new ≡ with_new (with_writes w.writes old) (rows_of w) → (first : Worlds) (ticks : List (List (Option MoveBits))) (moves : List (Option MoveBits))
     → HasVersions (world_after first ticks) → IsHistoryOf first ticks old → w ≡ next (world_after first ticks) moves → IsHistoryOf first (ticks ++ moves ∷ []) new
 goes_on_by_writes w old new e first ticks moves f h is = goes_on_by w old new
     (e ∙ ap (λ (v : Worlds). with_new (with_writes v.writes old) (rows_of v)) is ∙ tick_applied (world_after first ticks) moves old f (history_settled first ticks old h)

@@ -3,17 +3,17 @@
 use Rattle.std.specs.Prelude.{ℕ, ℤ, ◌≡◌, ◌-◌, List, [], ◌∷◌, length, Option, slice_get, option_map, if◌then◌else◌}
 use Rattle.std.specs.List.{filter_map}
 use Rattle.std.specs.Option.{unwrap_or}
-use Rattle.tn_types.specs.declared.moves.Move.{Move}
+use Rattle.tn_types.specs.declared.moves.MoveBits.{MoveBits}
 use Rattle.world_sim.specs.Rows.{differs}
 use Rattle.world_sim.specs.Worlds.{Worlds, AreOfFields, next, values_at, value_at}
 
 -- the worlds of a match: this one, and then one for the moves of each tick
-abbrev pub worlds_from : Worlds → List (List (Option Move)) → List Worlds
+abbrev pub worlds_from : Worlds → List (List (Option MoveBits)) → List Worlds
 worlds_from w [] = w ∷ []
 worlds_from w (moves ∷ later) = w ∷ worlds_from (next w moves) later
 
 -- the last of them
-abbrev pub world_after : Worlds → List (List (Option Move)) → Worlds
+abbrev pub world_after : Worlds → List (List (Option MoveBits)) → Worlds
 world_after w [] = w
 world_after w (moves ∷ later) = world_after (next w moves) later
 
@@ -66,5 +66,5 @@ pub record IsHistory (worlds : List Worlds) (last : Worlds) (values : Values) : 
   pub each : (object field : ℕ) → versions_told values object field ≡ field_history worlds object field
 
 -- the values are those of the worlds that these ticks make of the first one
-abbrev pub IsHistoryOf : Worlds → List (List (Option Move)) → Values → Type 0
+abbrev pub IsHistoryOf : Worlds → List (List (Option MoveBits)) → Values → Type 0
 IsHistoryOf first ticks values = IsHistory (worlds_from first ticks) (world_after first ticks) values

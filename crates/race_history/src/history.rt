@@ -1,6 +1,6 @@
 //! The values of all objects, world by world.
 ghost use Rattle.std.specs.Prelude.{◌≡◌, ◌<◌, ◌≤◌, ◌∷◌, ◌++◌, List, [], Option, IfOk, OnOk, length, map};
-ghost use Rattle.tn_types.specs.declared.moves.Move.{Move as OneMove};
+ghost use Rattle.tn_types.specs.declared.moves.MoveBits.{MoveBits as OneMove};
 ghost use Rattle.world_sim.specs.Rows.{values_of};
 ghost use Rattle.world_sim.specs.Worlds.{Worlds, next};
 ghost use Rattle.race_history.specs.Deciding.{Decides};

@@ -1,6 +1,6 @@
 //! What holds of every history.
 ghost use Rattle.std.specs.Prelude.{◌≡◌, Bool, List, Option};
-ghost use Rattle.tn_types.specs.declared.moves.Move.{Move as OneMove};
+ghost use Rattle.tn_types.specs.declared.moves.MoveBits.{MoveBits as OneMove};
 ghost use Rattle.world_sim.specs.Worlds.{Worlds};
 ghost use Rattle.race_history.specs.Deciding.{Decides};
 ghost use Rattle.race_history.specs.History.{Values, IsHistory, IsHistoryOf};

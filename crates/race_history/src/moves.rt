@@ -6,19 +6,19 @@ ghost use Rattle.race_history.specs.Moves.{HasClients, MovesFit, move_taken};
 
 use std::alloc::{AllocError, Global};
 use std::marker::Model;
-use tn_types::{Move, NoMemory};
+use tn_types::{MoveBits, NoMemory};
 
 // What one tick took: a move or none of each client.
 #[derive(Drop)]
 struct Row {
-    moves: Vec<Option<Move>>,
+    moves: Vec<Option<MoveBits>>,
 }
 
 impl Model for Row {
     ghost use Rattle.std.specs.Prelude.{List, Option};
-    ghost use Rattle.tn_types.specs.declared.moves.Move.{Move};
+    ghost use Rattle.tn_types.specs.declared.moves.MoveBits.{MoveBits};
 
-    ghost Value = { List (Option Move) };
+    ghost Value = { List (Option MoveBits) };
 
     ghost view = { λ t. t.moves.items };
 }
@@ -31,9 +31,9 @@ pub struct TickMoves {
 
 impl Model for TickMoves {
     ghost use Rattle.std.specs.Prelude.{List, Option};
-    ghost use Rattle.tn_types.specs.declared.moves.Move.{Move};
+    ghost use Rattle.tn_types.specs.declared.moves.MoveBits.{MoveBits};
 
-    ghost Value = { List (List (Option Move)) };
+    ghost Value = { List (List (Option MoveBits)) };
 
     ghost view = { λ t. t.rows.items };
 }
@@ -49,7 +49,7 @@ impl TickMoves {
     }
 
     /// Adds what one more tick took. For want of memory nothing changes.
-    pub fn push(&mut self, alloc: Global, moves: &[Option<Move>]) -> Result<(), NoMemory>
+    pub fn push(&mut self, alloc: Global, moves: &[Option<MoveBits>]) -> Result<(), NoMemory>
         ensures added { OnOk result (self.new ≡ self.old ++ moves.now ∷ []) }
         ensures unchanged { OnErr result (self.new ≡ self.old) }
     {
@@ -72,7 +72,7 @@ impl TickMoves {
     }
 
     /// What a tick took, by client; `None` exactly where there is no such tick. Ticks are numbered from 0.
-    pub fn get(&self, tick: u32) -> Option<&[Option<Move>]>
+    pub fn get(&self, tick: u32) -> Option<&[Option<MoveBits>]>
         ensures none { IsNone result ↔ (length self.now ≤ tick) }
         ensures value { IfSome result (λ row. slice_get self.now tick ≡ Some row.now) }
     {
@@ -83,7 +83,7 @@ impl TickMoves {
     }
 
     /// The move that a tick took from a client, if any; `None` too where there is no such client.
-    pub fn taken(&self, tick: u32, client: u8) -> Option<Move>
+    pub fn taken(&self, tick: u32, client: u8) -> Option<MoveBits>
         requires { tick < length self.now }
         ensures { IfSome (slice_get self.now tick) (λ row. result ≡ move_taken client row) }
     {
@@ -105,7 +105,7 @@ impl TickMoves {
     }
 }
 
-fn row_of(alloc: Global, moves: &[Option<Move>]) -> Result<Row, AllocError>
+fn row_of(alloc: Global, moves: &[Option<MoveBits>]) -> Result<Row, AllocError>
     ensures { IfOk result (λ row. row ≡ moves.now) }
 {
     Ok(Row {

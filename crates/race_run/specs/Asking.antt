@@ -1,6 +1,7 @@
 -- What a line of a script asks of a client's connection: of its packer a pack, and of its net the client's own lines.
 use Rattle.std.specs.Prelude.{◌≡◌, refl, ℕ, ◌==◌, Bool, false, List, [], ◌∷◌, Option, Some, None, if◌then◌else◌, EachIndex, slice_index}
 use Rattle.std.specs.List.{filter_map}
+use Rattle.bit_stream.specs.WorldMoves.{bits_of}
 use Rattle.match_script.specs.declared.types.BodyLine.{BodyLine}
 use Rattle.match_script.specs.declared.types.BodyLine.TheVariants as script
 use Rattle.connection_lock.specs.declared.net_line.NetLine.{NetLine}
@@ -19,7 +20,7 @@ net_line client (script.ClientPost named class payload) = asked_of client named 
 net_line client (script.ClientPack named) = asked_of client named net.ClientPack
 net_line client (script.Down named k) = asked_of client named (net.Down k)
 net_line client (script.Up named k) = asked_of client named (net.Up k)
-net_line client (script.Move named m) = asked_of client named (net.Move m)
+net_line client (script.Move named m) = asked_of client named (net.Move (bits_of m))
 net_line client (script.Raw named bytes) = asked_of client named (net.Raw bytes)
 net_line client line = None
 

@@ -2,6 +2,7 @@
 ghost use Rattle.std.specs.Prelude.{◌≡◌, IfOk, is_some};
 ghost use Rattle.race_run.specs.Asking.{is_pack_of, net_line};
 
+use bit_stream::bits_of_move;
 use connection_lock::NetLine;
 use match_script::BodyLine;
 use std::alloc::Global;
@@ -48,7 +49,9 @@ pub fn net_line(alloc: Global, client: u8, line: &BodyLine) -> Result<Option<Net
         BodyLine::ClientPack { client: named } if *named == client => Some(NetLine::ClientPack),
         BodyLine::Down { client: named, k } if *named == client => Some(NetLine::Down { k: *k }),
         BodyLine::Up { client: named, k } if *named == client => Some(NetLine::Up { k: *k }),
-        BodyLine::Move { client: named, m } if *named == client => Some(NetLine::Move { m: *m }),
+        BodyLine::Move { client: named, m } if *named == client => Some(NetLine::Move {
+            m: bits_of_move(m),
+        }),
         BodyLine::Raw {
             client: named,
             bytes,

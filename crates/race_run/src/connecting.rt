@@ -17,7 +17,7 @@ use race_messages::Message;
 use race_sim::Port;
 use rtrb::{Consumer, Producer, RingBuffer};
 use std::alloc::Global;
-use tn_types::{MAX_TAKEN_MESSAGES, Move, NoMemory};
+use tn_types::{MAX_TAKEN_MESSAGES, MoveBits, NoMemory};
 
 // How many messages the ring to a connection has places for, and how many accepted moves the ring from it.
 const INBOX_PLACES: usize = MAX_TAKEN_MESSAGES as usize;
@@ -37,8 +37,8 @@ pub(crate) struct Connections<N: LaneName> {
 struct Rings {
     to_pair: Producer<Message>,
     inbox: Consumer<Message>,
-    outbox: Producer<Move>,
-    from_pair: Consumer<Move>,
+    outbox: Producer<MoveBits>,
+    from_pair: Consumer<MoveBits>,
 }
 
 // The rings of a connection, into which nothing was put.
@@ -70,7 +70,7 @@ fn share<N: LaneName>(
     pair: KeptPair,
     seat: PackSeat<N>,
     inbox: Consumer<Message>,
-    outbox: Producer<Move>,
+    outbox: Producer<MoveBits>,
 ) -> Result<SharedPair<N>, NoMemory>
     requires steps { pair.steps ≡ [] }
     requires terms { terms_in pair ≡ client_terms _head.now seat.client }
@@ -90,7 +90,7 @@ fn new_shared<N: LaneName>(
     head: &Head,
     seat: PackSeat<N>,
     inbox: Consumer<Message>,
-    outbox: Producer<Move>,
+    outbox: Producer<MoveBits>,
 ) -> Result<SharedPair<N>, NoMemory>
     requires head { HeadFits head.now }
     requires client { seat.client < head.now.clients }

@@ -9,7 +9,7 @@ use Rattle.std.proofs.lemmas.List.Elements.{filter_map-append}
 use Rattle.std.proofs.lemmas.List.Sums.{sum_by-cons}
 use Rattle.std.proofs.lemmas.Bool.Decides.{nat_tests}
 use Rattle.tn_types.specs.declared.choices.Class.{Class}
-use Rattle.tn_types.specs.declared.moves.Move.{Move}
+use Rattle.tn_types.specs.declared.moves.MoveBits.{MoveBits}
 use Rattle.match_script.specs.declared.types.BodyLine.{BodyLine}
 use Rattle.match_script.specs.declared.types.BodyLine.TheVariants as script
 use Rattle.match_script.specs.declared.types.Script.{Script}
@@ -55,11 +55,11 @@ ticks_few (line ∷ past) =
 
 -- ---- what lies behind a tick is as it was
 
-one_or_none : (m : Option Move) → cons_option m [] ≡ option_to_list m
+one_or_none : (m : Option MoveBits) → cons_option m [] ≡ option_to_list m
 one_or_none None = refl
 one_or_none (Some m) = refl
 
-module _ (first : Worlds) (ticks : Ticks) (row : List (Option Move)) where
+module _ (first : Worlds) (ticks : Ticks) (row : List (Option MoveBits)) where
   world_same : (past : List BodyLine) → ticks_in past ≤ length ticks → world_at first (ticks ++ row ∷ []) past ≡ world_at first ticks past
   world_same past l = ap (λ (ts : Ticks). world_after first ts) (take-append-le (ticks_in past) ticks (row ∷ []) l)
 
@@ -83,26 +83,26 @@ module _ (first : Worlds) (ticks : Ticks) (row : List (Option Move)) where
       λ j. messages_same c past k j ++ gives_same c past line k j
 
   taken_more : (c : ℕ) → moves_taken c (ticks ++ row ∷ []) ≡ moves_taken c ticks ++ option_to_list (move_taken c row)
-  taken_more c = filter_map-append (move_taken c) ticks (row ∷ []) ∙ ap (λ (ms : List Move). moves_taken c ticks ++ ms) (one_or_none (move_taken c row))
+  taken_more c = filter_map-append (move_taken c) ticks (row ∷ []) ∙ ap (λ (ms : List MoveBits). moves_taken c ticks ++ ms) (one_or_none (move_taken c row))
 
   port_ticked : (p q : PortState) (c : ℕ) (past : List BodyLine) → ticks_in past ≤ length ticks → TakesOne (move_taken c row) p q
       → IsPortAt p first ticks c past → IsPortAt q first (ticks ++ row ∷ []) c (script.Tick ∷ past)
   port_ticked p q c past l t h = record {
     scope = subst (λ (scans : List (List Seen)). StandsFor q.scope scans) (sym (scans_same c past l)) (subst (λ (s : Table). StandsFor s (scans_of first ticks c past)) (sym t.scope) h.scope);
     given = ap all_given t.outgoing ∙ h.given ∙ sym (messages_same c past l) ∙ sym (append-nil (messages first (ticks ++ row ∷ []) c past));
-    taken = t.taken ∙ ap (λ (ms : List Move). ms ++ option_to_list (move_taken c row)) h.taken ∙ sym (taken_more c);
+    taken = t.taken ∙ ap (λ (ms : List MoveBits). ms ++ option_to_list (move_taken c row)) h.taken ∙ sym (taken_more c);
     few = let f = h.few in let e = ap (λ (s : Table). s.count) t.scope in omega (arith, f, e);
   }
 
-rows_more : (n : ℕ) (ticks : Ticks) (row : List (Option Move)) → AllByRecursion (HasClients n) ticks → length row ≡ n → AllByRecursion (HasClients n) (ticks ++ row ∷ [])
+rows_more : (n : ℕ) (ticks : Ticks) (row : List (Option MoveBits)) → AllByRecursion (HasClients n) ticks → length row ≡ n → AllByRecursion (HasClients n) (ticks ++ row ∷ [])
 rows_more n [] row a e = (e, tt)
 rows_more n (r ∷ ticks) row a e = (a.0, rows_more n ticks row a.1 e)
 
-versions_next : (w : Worlds) (row : List (Option Move)) → HasVersions w → HasVersions (next w row)
+versions_next : (w : Worlds) (row : List (Option MoveBits)) → HasVersions w → HasVersions (next w row)
 unfolding next
 versions_next w row h = of_fields_next w.objects (after w row) w.versions (same_fields_next w.objects row (coming w)) h
 
-ticked : (old new : SimulationState) (row : List (Option Move)) → new.world.ticks ≡ old.world.ticks + 1 → new.moves ≡ old.moves ++ row ∷ []
+ticked : (old new : SimulationState) (row : List (Option MoveBits)) → new.world.ticks ≡ old.world.ticks + 1 → new.moves ≡ old.moves ++ row ∷ []
     → ((first : Worlds) → old.world ≡ world_after first old.moves → new.world ≡ world_after first new.moves)
     → ((first : Worlds) → HasVersions old.world → old.world ≡ world_after first old.moves → IsHistoryOf first old.moves old.values → IsHistoryOf first new.moves new.values)
     → new.world ≡ next old.world row → TakesEach row old.ports new.ports → Does script.Tick old new
@@ -124,7 +124,7 @@ ticked old new row counted longer world values is taken first past h =
           (port_ticked first old.moves row (get_or old.ports c d) (get_or new.ports c d) c past same (taken.each c d k) (h.port c d k));
     }
 
-pub ticked_by : {E : Type 0} (result : Result (Unit {0}) E) (old new : SimulationState) (row : List (Option Move)) → OnOk result (new.world.ticks ≡ old.world.ticks + 1)
+pub ticked_by : {E : Type 0} (result : Result (Unit {0}) E) (old new : SimulationState) (row : List (Option MoveBits)) → OnOk result (new.world.ticks ≡ old.world.ticks + 1)
     → OnOk result (new.moves ≡ old.moves ++ row ∷ [])
     → OnOk result ((first : Worlds) → old.world ≡ world_after first old.moves → new.world ≡ world_after first new.moves)
     → OnOk result ((first : Worlds) → HasVersions old.world → old.world ≡ world_after first old.moves → IsHistoryOf first old.moves old.values → IsHistoryOf first new.moves new.values)
@@ -406,7 +406,7 @@ none_done first s h = h.world ∙ ap (λ (ts : Ticks). world_after first ts) (no
     none (t ∷ ts) e = absurd (omega (arith, e))
 
 -- a tick of a world of which the lanes have each field
-pub ticked_world : (old new : SimulationState) (had : ℕ) → MayDo script.Tick old → (row : List (Option Move)) × (new.world ≡ next old.world row) → new.seat ≡ old.seat
+pub ticked_world : (old new : SimulationState) (had : ℕ) → MayDo script.Tick old → (row : List (Option MoveBits)) × (new.world ≡ next old.world row) → new.seat ≡ old.seat
     → had ≡ length old.world.objects → IsTicked new.world had new.seat.steps
 ticked_world old new had may t same many = (
   t.0,

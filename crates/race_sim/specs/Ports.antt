@@ -1,7 +1,7 @@
 -- What the simulation has of one client: its scope, the messages on their way to its connection, and the moves that come back.
 use Rattle.std.specs.Prelude.{◌≡◌, ℕ, ◌<◌, ◌++◌, List, [], Option, IfNone, length, slice_index_or}
 use Rattle.std.specs.Option.{option_to_list}
-use Rattle.tn_types.specs.declared.moves.Move.{Move}
+use Rattle.tn_types.specs.declared.moves.MoveBits.{MoveBits}
 use Rattle.world_scope.specs.declared.viewer.Seen.{Seen}
 use Rattle.client_scope.specs.StandsFor.{Table, StandsFor}
 use Rattle.race_messages.specs.declared.message.Message.{Message}
@@ -30,8 +30,8 @@ pub record PassesOn (old new : OutgoingState) : Type 0 where
 pub record PortState : Type 0 where
   pub scope : Table
   pub outgoing : OutgoingState
-  pub taken : List Move  -- all moves that ticks took from it
-  pub known : List Move  -- those that are known to have come and were not taken
+  pub taken : List MoveBits  -- all moves that ticks took from it
+  pub known : List MoveBits  -- those that are known to have come and were not taken
 
 -- all messages to its connection
 abbrev pub given_to : PortState → List Message
@@ -65,14 +65,14 @@ pub record HaveAllPassedOn (old new : List PortState) : Type 0 where
   pub each : (c : ℕ) (d : PortState) → c < length old → HasPassedOn (slice_index_or old c d) (slice_index_or new c d)
 
 -- the oldest move that has come was taken, or none is known to be there; and all else is as it was
-pub record TakesOne (m : Option Move) (old new : PortState) : Type 0 where
+pub record TakesOne (m : Option MoveBits) (old new : PortState) : Type 0 where
   pub taken : new.taken ≡ old.taken ++ option_to_list m
   pub none : IfNone m (new.known ≡ [])
   pub scope : new.scope ≡ old.scope
   pub outgoing : new.outgoing ≡ old.outgoing
 
 -- of each port one, in the order of the ports
-pub record TakesEach (row : List (Option Move)) (old new : List PortState) : Type 0 where
+pub record TakesEach (row : List (Option MoveBits)) (old new : List PortState) : Type 0 where
   pub long : length row ≡ length old
   pub count : length new ≡ length old
   pub each : (c : ℕ) (d : PortState) → c < length old

@@ -15,7 +15,7 @@ use race_messages::Message;
 use rtrb::{Consumer, Producer};
 use std::alloc::Global;
 use std::marker::Model;
-use tn_types::{Class, MAX_OBJECTS, Move, NoMemory, Payload};
+use tn_types::{Class, MAX_OBJECTS, MoveBits, NoMemory, Payload};
 use world_sim::World;
 
 /// The scope of a client, the way to its connection, and its accepted moves that come back.
@@ -25,7 +25,7 @@ use world_sim::World;
 pub struct Port {
     scope: Scope,
     outgoing: Outgoing,
-    incoming: Consumer<Move>,
+    incoming: Consumer<MoveBits>,
 }
 
 impl Model for Port {
@@ -49,7 +49,7 @@ impl Port {
     pub fn new(
         alloc: Global,
         outbox: Producer<Message>,
-        incoming: Consumer<Move>,
+        incoming: Consumer<MoveBits>,
     ) -> Result<Port, NoMemory>
         requires none_sent { sent outbox ≡ [] }
         requires none_received { received incoming ≡ [] }
@@ -64,7 +64,7 @@ impl Port {
     }
 
     /// Takes the oldest accepted move that has come, if one has.
-    pub(crate) fn take_move(&mut self) -> Option<Move>
+    pub(crate) fn take_move(&mut self) -> Option<MoveBits>
         ensures { TakesOne result self.old self.new }
     {
         self.incoming.pop().ok()

@@ -3,7 +3,7 @@ ghost use Rattle.std.specs.Prelude.{◌≡◌, ◌<◌, ◌≤◌, ◌+◌, ◌-
 ghost use Rattle.std.specs.List.{All};
 ghost use Rattle.match_script.specs.declared.types.BodyLine.TheVariants as script;
 ghost use Rattle.match_script.specs.Ranges.{HeadFits};
-ghost use Rattle.tn_types.specs.declared.moves.Move.{Move as OneMove};
+ghost use Rattle.tn_types.specs.declared.moves.MoveBits.{MoveBits as OneMove};
 ghost use Rattle.world_rules.specs.declared.setup.Setup.{Setup};
 ghost use Rattle.world_sim.specs.Worlds.{Worlds, first_world, next};
 ghost use Rattle.world_lanes.specs.Ticked.{IsTicked};
@@ -20,7 +20,7 @@ use quantised_fields::KindTable;
 use race_history::{History, TickMoves};
 use std::alloc::{AllocError, Global};
 use std::marker::Model;
-use tn_types::{Class, MAX_OBJECTS, Move, NoMemory, Payload};
+use tn_types::{Class, MAX_OBJECTS, MoveBits, NoMemory, Payload};
 use world_lanes::{Changed, raise_all, store_world, store_writes};
 use world_rules::match_kinds;
 use world_sim::World;
@@ -36,7 +36,7 @@ pub struct Simulation<N: LaneName> {
     moves: TickMoves,
     kinds: KindTable,
     // room for the moves of a tick, and for what it changes
-    taken: Vec<Option<Move>>,
+    taken: Vec<Option<MoveBits>>,
     changed: Vec<Changed>,
 }
 
@@ -59,7 +59,7 @@ impl<N: LaneName> Model for Simulation<N> {
 }
 
 // The oldest move of each client that has come.
-fn take_moves(ports: &mut Vec<Port>, taken: &mut Vec<Option<Move>>) -> Result<(), AllocError>
+fn take_moves(ports: &mut Vec<Port>, taken: &mut Vec<Option<MoveBits>>) -> Result<(), AllocError>
     ensures ports { length ports.new.items ≡ length ports.old.items }
     ensures each { OnOk result (TakesEach taken.new.items ports.old.items ports.new.items) }
 {
@@ -76,7 +76,7 @@ fn advance(
     world: &mut World,
     values: &mut History,
     moves: &mut TickMoves,
-    taken: &[Option<Move>],
+    taken: &[Option<MoveBits>],
 ) -> Result<(), NoMemory>
     requires { world.old.ticks < 2 ^ 32 - 1 }
     ensures ticks { OnOk result (world.new.ticks ≡ world.old.ticks + 1) }

@@ -7,7 +7,8 @@ use Rattle.std.specs.Option.{option_and_then}
 use Rattle.tn_types.specs.Prefix.{IsPrefixOf}
 use Rattle.tn_types.specs.declared.limits.TheConstants.{MAX_WAITING_MOVES, MAX_KEPT_STEPS}
 use Rattle.tn_types.specs.declared.choices.Class.{Class}
-use Rattle.tn_types.specs.declared.moves.Move.{Move}
+use Rattle.tn_types.specs.declared.moves.MoveBits.{MoveBits}
+use Rattle.bit_stream.specs.WorldMoves.{bits_of}
 use Rattle.match_script.specs.declared.types.BodyLine.{BodyLine}
 use Rattle.match_script.specs.declared.types.BodyLine.TheVariants as script
 use Rattle.pair_core.specs.History as step
@@ -70,7 +71,7 @@ packs_asked c lines = count_by (is_pack_line c) lines
 
 pub data ClientAct : Type 0 where
   Posts : (class : Class) (payload : List ℕ) → ClientAct  -- the client posts an event
-  Samples : Move → ClientAct  -- it takes up a move of its player
+  Samples : MoveBits → ClientAct  -- it takes up a move of its player
   Packs : ClientAct  -- it makes a datagram
   Gets : (k : ℕ) → ClientAct  -- it gets the server's datagram of this place
   Brings : (k : ℕ) → ClientAct  -- the server gets the client's datagram of this place
@@ -89,7 +90,7 @@ act_done other = None
 -- the act of a line, whichever client it names
 abbrev pub act_said : BodyLine → Option ClientAct
 act_said (script.ClientPost d class v) = Some (Posts class v)
-act_said (script.Move d m) = Some (Samples m)
+act_said (script.Move d m) = Some (Samples (bits_of m))
 act_said (script.ClientPack d) = Some Packs
 act_said (script.Down d k) = Some (Gets k)
 act_said (script.Up d k) = Some (Brings k)
@@ -141,7 +142,7 @@ pub record IsFull (c : ℕ) (lines : List BodyLine) (given : List Message) (step
 -- room, `given` are the messages that the lines give it, and `ticks` has what each tick took, of each client a move or none
 pub record AreAsked
     (lines : List BodyLine) (c : ℕ) (k : KeptState) (objects : List ℕ) (full : Bool) (given : List Message)
-    (ticks : List (List (Option Move))) : Type 0 where
+    (ticks : List (List (Option MoveBits))) : Type 0 where
   -- the steps of messages are those of the messages that are given, in order
   pub messages : AreAllOrFirst full (messages_taken k.steps) (map step_for given)
   -- each show that was made has its object, and there is no other

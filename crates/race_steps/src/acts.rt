@@ -11,10 +11,11 @@ ghost use Rattle.race_steps.specs.Walking.{Fits};
 use crate::fit::Fit;
 use crate::moves::is_same;
 use crate::steps::step_at;
+use bit_stream::bits_of_move;
 use kept_pair::StepList;
 use match_script::{BodyLine, LineDatagram, LinePayload};
 use pair_core::PairStep;
-use tn_types::{Class, Move};
+use tn_types::{Class, MoveBits};
 
 // Whether the step is one of the client, or of the network between it and the server.
 fn is_act(step: &PairStep) -> bool
@@ -59,7 +60,7 @@ fn is_client_post(step: &PairStep, class: Class, payload: &LinePayload) -> bool
 }
 
 // Whether the client takes up this move.
-fn is_sample(step: &PairStep, m: &Move) -> bool
+fn is_sample(step: &PairStep, m: &MoveBits) -> bool
     ensures { Decides result (act_done (step_of step.now) ≡ Some (Samples m.now)) }
 {
     match step {
@@ -119,7 +120,7 @@ fn is_act_of(step: &PairStep, line: &BodyLine) -> bool
             class,
             payload,
         } => is_client_post(step, *class, payload),
-        BodyLine::Move { client: _, m } => is_sample(step, m),
+        BodyLine::Move { client: _, m } => is_sample(step, &bits_of_move(m)),
         BodyLine::ClientPack { client: _ } => is_client_pack(step),
         BodyLine::Down { client: _, k } => is_down(step, *k),
         BodyLine::Up { client: _, k } => is_up(step, *k),

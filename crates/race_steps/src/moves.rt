@@ -8,17 +8,17 @@ ghost use Rattle.race_steps.specs.Walking.{Fits};
 
 use crate::fit::Fit;
 use race_history::TickMoves;
-use tn_types::Move;
+use tn_types::MoveBits;
 
 /// Whether the moves are the same.
-pub(crate) fn is_same(a: &Move, b: &Move) -> bool
+pub(crate) fn is_same(a: &MoveBits, b: &MoveBits) -> bool
     ensures { Decides result (a.now ≡ b.now) }
 {
     *a == *b
 }
 
 // What a tick took from the client.
-fn taken(moves: &TickMoves, tick: u32, client: u8) -> Option<Move>
+fn taken(moves: &TickMoves, tick: u32, client: u8) -> Option<MoveBits>
     requires { tick < length moves.now }
     ensures { result ≡ option_and_then (move_taken client) (slice_get moves.now tick) }
 {
@@ -26,7 +26,7 @@ fn taken(moves: &TickMoves, tick: u32, client: u8) -> Option<Move>
 }
 
 // What a tick took from the client beside move k of those that were accepted.
-fn move_fit(moves: &TickMoves, tick: u32, client: u8, accepted: &[Move], k: usize) -> Fit
+fn move_fit(moves: &TickMoves, tick: u32, client: u8, accepted: &[MoveBits], k: usize) -> Fit
     requires { tick < length moves.now }
     ensures { Fits (option_and_then (move_taken client) (slice_get moves.now tick)) (slice_get accepted.now k) result }
 {
@@ -46,7 +46,7 @@ fn move_fit(moves: &TickMoves, tick: u32, client: u8, accepted: &[Move], k: usiz
 }
 
 /// Whether the moves that ticks took from the client are the first of those that the server accepted.
-pub(crate) fn moves_are_first(moves: &TickMoves, client: u8, accepted: &[Move]) -> bool
+pub(crate) fn moves_are_first(moves: &TickMoves, client: u8, accepted: &[MoveBits]) -> bool
     requires { length moves.now < 2 ^ 32 }
     ensures { Decides result (IsPrefixOf (moves_taken client moves.now) accepted.now) }
 {

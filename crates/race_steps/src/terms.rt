@@ -9,17 +9,19 @@ use crate::kinds::are_same_kinds;
 use kept_pair::KeptPair;
 use match_script::Head;
 use stream_manager::{Config, Conn};
-use tn_types::{BlockBytes, MAX_BLOCKS};
+use tn_types::{BlockBytes, MAX_BLOCKS, WORLD_MOVE_BITS};
 use world_rules::match_kinds;
 
-// Whether the connection has this client, life, size and version.
+// Whether the connection has this client, life, size and version, and moves of this project's own world.
 fn is_config(config: &Config, client: u8, life: u32, size: u32, version: u8) -> bool
-    ensures { Decides result (config.now ≡ record { client = client; life = life; size = size; version = version }) }
+    ensures { Decides result (config.now
+        ≡ record { client = client; life = life; size = size; version = version; move_bits = WORLD_MOVE_BITS }) }
 {
     config.client == client
         && config.life == life
         && config.size == size
         && config.version == version
+        && config.move_bits == WORLD_MOVE_BITS as u8
 }
 
 // Whether the connection has this block under this number.

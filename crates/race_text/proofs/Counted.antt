@@ -2,14 +2,14 @@
 use Rattle.std.proofs.Common.{◌≡◌, ℕ, zero, suc, ◌+◌, ◌<◌, cond, List, [], ◌∷◌, length, take, Option, Some, None, sym, ap, ◌∙◌, arith}
 use Rattle.std.specs.Prelude.{IfSome, is_some, slice_get}
 use Rattle.std.specs.List.{cons_option}
-use Rattle.tn_types.specs.declared.moves.Move.{Move}
+use Rattle.tn_types.specs.declared.moves.MoveBits.{MoveBits}
 use Rattle.race_history.specs.Moves.{move_taken, moves_taken}
 
-in-front : (o : Option Move) (moves : List Move) → length (cons_option o moves) ≡ length moves + cond (is_some o) 1 0
+in-front : (o : Option MoveBits) (moves : List MoveBits) → length (cons_option o moves) ≡ length moves + cond (is_some o) 1 0
 in-front None moves = omega arith
 in-front (Some m) moves = omega arith
 
-pub taken_more : (c : ℕ) (ticks : List (List (Option Move))) (i : ℕ) (m : Option Move) → i < length ticks
+pub taken_more : (c : ℕ) (ticks : List (List (Option MoveBits))) (i : ℕ) (m : Option MoveBits) → i < length ticks
     → IfSome (slice_get ticks i) (λ row. m ≡ move_taken c row)
     → length (moves_taken c (take (suc i) ticks)) ≡ length (moves_taken c (take i ticks)) + cond (is_some m) 1 0
 taken_more c [] i m lt is = absurd (omega arith)

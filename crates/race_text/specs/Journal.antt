@@ -8,6 +8,7 @@ use Rattle.std.specs.Fmt.{decimal, signed_decimal}
 use Rattle.tn_types.specs.declared.choices.Drain.{Drain}
 use Rattle.tn_types.specs.declared.choices.Read.{Read}
 use Rattle.tn_types.specs.declared.moves.Move.{Move}
+use Rattle.bit_stream.specs.WorldMoves.{move_of}
 use Rattle.world_rules.specs.Kinds.{kind_word}
 use Rattle.match_script.specs.Print.{class_word, flag_word, hex_word}
 use Rattle.kept_pair.specs.pair_core.History.{PairStep, Show, Hide, Near, Post, ClientPost, Sample, Pack, ClientPack, Down, Up, Raw}
@@ -50,7 +51,7 @@ step_words objects n (Hide m) = codes "hide " ++ decimal m
 step_words objects n (Near m level) = codes "near " ++ decimal m ++ codes " " ++ decimal level
 step_words objects n (Post class v) = codes "post " ++ class_word class ++ codes " " ++ hex_word v
 step_words objects n (ClientPost class v) = codes "cpost " ++ class_word class ++ codes " " ++ hex_word v
-step_words objects n (Sample m) = move_words m
+step_words objects n (Sample m) = move_words (move_of m)
 step_words objects n (Pack drains reads) = pack_words drains reads
 step_words objects n ClientPack = codes "cpack"
 step_words objects n (Down k) = codes "down " ++ decimal k

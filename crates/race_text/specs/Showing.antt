@@ -2,7 +2,7 @@
 -- drained, so such a field of the period of its object isn't settled.
 use Rattle.std.specs.Prelude.{◌≡◌, refl, ℕ, false, nat_lt, List, [], ◌∷◌, length, map, slice_get, if◌then◌else◌, Option, Some, None}
 use Rattle.tn_types.specs.declared.choices.Drain.{Drain}
-use Rattle.tn_types.specs.declared.moves.Move.{Move}
+use Rattle.tn_types.specs.declared.moves.MoveBits.{MoveBits}
 use Rattle.dirty_lanes.specs.Words.{Words, mask_at}
 use Rattle.ghost_model.specs.Words.{upto}
 use Rattle.stream_manager.specs.Limits.{Terms}
@@ -32,7 +32,7 @@ abbrev pub told_at_end : Terms → List PairStep → ℕ → ℕ → List ℕ �
 told_at_end t steps client taken objects words =
     show_told t (record { steps = steps; taken = taken }) client (left_over words client objects steps)
 
-abbrev pub show_line : ℕ → KeptState → List ℕ → Words → List (List (Option Move)) → List ℕ
+abbrev pub show_line : ℕ → KeptState → List ℕ → Words → List (List (Option MoveBits)) → List ℕ
 show_line client kept objects words ticks =
     report_line (told_at_end (terms_in kept) (newest_first kept.steps) client (length (moves_taken client ticks)) objects words)
 

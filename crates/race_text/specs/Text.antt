@@ -6,6 +6,8 @@ use Rattle.std.specs.List.{flat_map, range_with_len}
 use Rattle.std.specs.Option.{unwrap_or}
 use Rattle.std.specs.Fmt.{decimal, signed_decimal}
 use Rattle.tn_types.specs.declared.moves.Move.{Move}
+use Rattle.tn_types.specs.declared.moves.MoveBits.{MoveBits}
+use Rattle.bit_stream.specs.WorldMoves.{move_of}
 use Rattle.match_script.specs.Print.{flag_word}
 use Rattle.dirty_lanes.specs.Words.{Words, mask_at}
 use Rattle.race_history.specs.History.{Values, fields_told, versions_told}
@@ -36,17 +38,17 @@ move_words m =
     signed_decimal m.dx ++ codes "," ++ signed_decimal m.dy ++ codes "," ++ flag_word m.fire ++ codes "," ++ flag_word m.act
 
 -- what a tick took from one client
-abbrev pub taken_word : Option Move → List ℕ
+abbrev pub taken_word : Option MoveBits → List ℕ
 taken_word None = codes " -"
-taken_word (Some m) = codes " " ++ move_words m
+taken_word (Some m) = codes " " ++ move_words (move_of m)
 
-abbrev pub moves_of : List (List (Option Move)) → ℕ → List (Option Move)
+abbrev pub moves_of : List (List (Option MoveBits)) → ℕ → List (Option MoveBits)
 moves_of ticks place = unwrap_or (slice_get ticks place) []
 
-abbrev pub tick_line : List (List (Option Move)) → ℕ → List ℕ
+abbrev pub tick_line : List (List (Option MoveBits)) → ℕ → List ℕ
 tick_line ticks place = codes "t " ++ decimal (place + 1) ++ flat_map taken_word (moves_of ticks place) ++ codes "\n"
 
-abbrev pub moves_text : List (List (Option Move)) → List ℕ
+abbrev pub moves_text : List (List (Option MoveBits)) → List ℕ
 moves_text ticks = of_each (length ticks) (tick_line ticks)
 
 -- ---- the mask words at the end

@@ -4,8 +4,9 @@ ghost use Rattle.std.specs.List.{flat_map};
 ghost use Rattle.race_text.specs.Text.{move_words, taken_word, moves_of, tick_line, moves_text};
 
 use crate::draft::Draft;
+use bit_stream::move_of_bits;
 use race_history::TickMoves;
-use tn_types::{Move, NoMemory};
+use tn_types::{Move, MoveBits, NoMemory};
 
 // The parts of a move.
 fn put_move(text: &mut Draft, m: &Move) -> Result<(), NoMemory>
@@ -22,7 +23,7 @@ fn put_move(text: &mut Draft, m: &Move) -> Result<(), NoMemory>
 }
 
 // What a tick took from one client.
-fn put_taken(text: &mut Draft, taken: &Option<Move>) -> Result<(), NoMemory>
+fn put_taken(text: &mut Draft, taken: &Option<MoveBits>) -> Result<(), NoMemory>
     ensures added { OnOk result (text.new.added ≡ text.old.added ++ taken_word taken.now) }
     ensures before { text.new.before ≡ text.old.before }
 {
@@ -30,13 +31,13 @@ fn put_taken(text: &mut Draft, taken: &Option<Move>) -> Result<(), NoMemory>
         None => text.push_str(" -"),
         Some(m) => {
             text.push_str(" ")?;
-            put_move(text, m)
+            put_move(text, &move_of_bits(*m))
         }
     }
 }
 
 // What a tick took from each client.
-fn put_each(text: &mut Draft, moves: &[Option<Move>]) -> Result<(), NoMemory>
+fn put_each(text: &mut Draft, moves: &[Option<MoveBits>]) -> Result<(), NoMemory>
     ensures added { OnOk result (text.new.added ≡ text.old.added ++ flat_map taken_word moves.now) }
     ensures before { text.new.before ≡ text.old.before }
 {
@@ -47,7 +48,7 @@ fn put_each(text: &mut Draft, moves: &[Option<Move>]) -> Result<(), NoMemory>
 }
 
 // What the tick in a place took, counted from 0.
-fn moves_of(ticks: &TickMoves, place: u32) -> &[Option<Move>]
+fn moves_of(ticks: &TickMoves, place: u32) -> &[Option<MoveBits>]
     ensures { result.now ≡ moves_of ticks.now place }
 {
     match ticks.get(place) {

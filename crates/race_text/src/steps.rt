@@ -7,6 +7,7 @@ ghost use Rattle.race_text.specs.Journal.{object_of, show_words, move_words, ste
 
 use crate::draft::Draft;
 use crate::packs::put_pack;
+use bit_stream::move_of_bits;
 use kept_pair::pair_core::PairStep;
 use lane_periods::Objects;
 use std::alloc::Global;
@@ -125,7 +126,7 @@ pub(crate) fn put_step(
             text.push_str("cpost ")?;
             put_event(text, alloc, *class, payload)
         }
-        PairStep::Sample { m } => put_move(text, m),
+        PairStep::Sample { m } => put_move(text, &move_of_bits(*m)),
         PairStep::Pack => put_pack(text, drains, reads),
         PairStep::ClientPack => text.push_str("cpack"),
         PairStep::Down { k } => put(text, "down ", *k),

@@ -7,7 +7,7 @@ use Rattle.std.proofs.lemmas.Bool.Decides.{nat_tests}
 use Rattle.std.proofs.lemmas.List.Elements.{All-nil, All-append, All-cons}
 use Rattle.std.proofs.lemmas.List.Folds.{list_any-append}
 use Rattle.tn_types.specs.declared.limits.TheConstants.{MAX_FIELDS}
-use Rattle.tn_types.specs.declared.moves.Move.{Move}
+use Rattle.tn_types.specs.declared.moves.MoveBits.{MoveBits}
 use Rattle.dirty_lanes.specs.declared.view.SimStep.{SimStep}
 use Rattle.dirty_lanes.specs.Views.{newest}
 use Rattle.world_rules.specs.declared.object.Object.{Object}
@@ -142,7 +142,7 @@ objects_lack i (o ∷ os) (p ∷ later) (v ∷ vs) (suc k) f n s h e =
     (λ w. grind (arith, nat_tests, w)))
     (objects_lack (suc i) os later vs k f n s.1 h.1 e)
 
-tick_lacks : (before : Worlds) (moves : List (Option Move)) (steps : List SimStep) → AreOfFields before.objects before.versions → IsBrought before steps
+tick_lacks : (before : Worlds) (moves : List (Option MoveBits)) (steps : List SimStep) → AreOfFields before.objects before.versions → IsBrought before steps
     → (o f : ℕ) → Lacks (newest steps o f) (value_at (next before moves) o f) (version_at (next before moves) o f)
     (is_written (next before moves).writes o f || nat_le (length before.objects) o)
 unfolding next
@@ -252,7 +252,7 @@ world_places most i (o ∷ os) (p ∷ later) (v ∷ vs) a =
     (row_places most i 0 (values_of o) (values_of p) v (omega (arith, a)) (omega (arith, few)))
     (world_places most (suc i) os later vs (omega (arith, a)))
 
-tick_places : (before : Worlds) (moves : List (Option Move)) → All (IsPlace (length (next before moves).objects)) (next before moves).writes
+tick_places : (before : Worlds) (moves : List (Option MoveBits)) → All (IsPlace (length (next before moves).objects)) (next before moves).writes
 unfolding next
 tick_places before moves = world_places (length (after before moves)) 0 before.objects (after before moves) before.versions (omega arith)
 
@@ -261,7 +261,7 @@ as_many [] later s = omega arith
 as_many (o ∷ os) [] s = absurd s
 as_many (o ∷ os) (p ∷ later) s = let h = as_many os later s.1 in omega (arith, h)
 
-more_next : (before : Worlds) (moves : List (Option Move)) → length before.objects ≤ length (next before moves).objects
+more_next : (before : Worlds) (moves : List (Option MoveBits)) → length before.objects ≤ length (next before moves).objects
 unfolding next
 more_next before moves = as_many before.objects (after before moves) (same_fields_next before.objects moves (coming before))
 

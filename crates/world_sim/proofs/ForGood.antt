@@ -2,7 +2,7 @@
 use Rattle.std.proofs.Common.{◌≡◌, ℕ, zero, suc, ◌<◌, List, [], ◌∷◌, ◌++◌, length, map, get_or, Option, Some, refl, sym, ap, subst, ◌∙◌, arith}
 use Rattle.std.specs.Prelude.{ℤ, ◌≤◌, IfSome, slice_get, option_map, option_and_then}
 use Rattle.std.specs.List.{AllByRecursion}
-use Rattle.tn_types.specs.declared.moves.Move.{Move}
+use Rattle.tn_types.specs.declared.moves.MoveBits.{MoveBits}
 use Rattle.world_rules.specs.declared.object.Object.{Object}
 use Rattle.world_rules.specs.Kinds.{kind_of}
 use Rattle.world_rules.specs.Identity.{Identity, identity_of}
@@ -16,12 +16,12 @@ use Rattle.world_sim.specs.Rows.{values_of}
 use Rattle.world_sim.specs.RowsNext.{row_values, row_counts}
 use Rattle.world_sim.specs.Worlds.{Worlds, WasCounted, next, coming, kind_at, identity_at, player_of, values_at, version_at}
 
-identities_next : (os : List Object) (moves : List (Option Move)) (t : Moment) (xs ys : List Object) (k : ℕ) → k < length xs → option_map identity_of (slice_get (map (object_next os moves t) xs ++ ys) k) ≡ option_map identity_of (slice_get xs k)
+identities_next : (os : List Object) (moves : List (Option MoveBits)) (t : Moment) (xs ys : List Object) (k : ℕ) → k < length xs → option_map identity_of (slice_get (map (object_next os moves t) xs ++ ys) k) ≡ option_map identity_of (slice_get xs k)
 identities_next os moves t [] ys k l = absurd (omega arith)
 identities_next os moves t (o ∷ xs) ys zero l = ap Some (stays_itself os moves t o)
 identities_next os moves t (o ∷ xs) ys (suc k) l = identities_next os moves t xs ys k (omega arith)
 
-pub identity_stays : (w : Worlds) (moves : List (Option Move)) (object : ℕ) → object < length w.objects → identity_at (next w moves) object ≡ identity_at w object
+pub identity_stays : (w : Worlds) (moves : List (Option MoveBits)) (object : ℕ) → object < length w.objects → identity_at (next w moves) object ≡ identity_at w object
 unfolding next
 identity_stays w moves object l = identities_next w.objects moves (coming w) w.objects (discs_made w.objects moves) object l
 
@@ -30,14 +30,14 @@ kind_told [] k = refl
 kind_told (o ∷ os) zero = refl
 kind_told (o ∷ os) (suc k) = kind_told os k
 
-pub player_stays : (w : Worlds) (moves : List (Option Move)) (client : ℕ) → player_of (next w moves) client ≡ player_of w client
+pub player_stays : (w : Worlds) (moves : List (Option MoveBits)) (client : ℕ) → player_of (next w moves) client ≡ player_of w client
 unfolding next
 player_stays w moves client =
     position_from-zero (is_player client) (objects_next w.objects moves (coming w))
     ∙ owners_stay client w.objects moves (coming w)
     ∙ sym (position_from-zero (is_player client) w.objects)
 
-pub kind_stays : (w : Worlds) (moves : List (Option Move)) (object : ℕ) → object < length w.objects → kind_at (next w moves) object ≡ kind_at w object
+pub kind_stays : (w : Worlds) (moves : List (Option MoveBits)) (object : ℕ) → object < length w.objects → kind_at (next w moves) object ≡ kind_at w object
 kind_stays w moves object l =
     kind_told (next w moves).objects object
     ∙ ap (option_map (λ (i : Identity). i.kind)) (identity_stays w moves object l)

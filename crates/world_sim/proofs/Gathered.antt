@@ -8,6 +8,7 @@ use Rattle.std.proofs.lemmas.List.{take_more, length-map, get_or-map}
 use Rattle.std.proofs.lemmas.List.Elements.{filter-append}
 use Rattle.std.proofs.lemmas.List.Sums.{length-filter}
 use Rattle.tn_types.specs.declared.moves.Move.{Move}
+use Rattle.tn_types.specs.declared.moves.MoveBits.{MoveBits}
 use Rattle.world_rules.specs.declared.measures.TheConstants.{DISC_REACH, MINE_REACH, DISC_HARM, MINE_HARM}
 use Rattle.world_rules.specs.declared.object.Object.{Object}
 use Rattle.world_rules.specs.declared.object.Place.{Place}
@@ -124,7 +125,7 @@ captures_are os flags team e =
 
 -- ---- discs that are made
 
-fired_standing : (moves : List (Option Move)) (o : Object) (s : State) → is_standing_part s ≡ false → fired_part moves o s ≡ None
+fired_standing : (moves : List (Option MoveBits)) (o : Object) (s : State) → is_standing_part s ≡ false → fired_part moves o s ≡ None
 unfolding fired_by
 fired_standing moves o (Player p) e = rw e refl
 fired_standing moves o (Disc d) e = refl
@@ -133,18 +134,18 @@ fired_standing moves o (Drone d) e = refl
 fired_standing moves o (Flag f) e = refl
 fired_standing moves o (Clock c) e = refl
 
-made_step : (v : Bool) (moves : List (Option Move)) (o : Object) (os : List Object) → is_standing o ≡ v → filter_map (fired moves) (filter is_standing os) ≡ filter_map (fired moves) os → filter_map (fired moves) (cond v (o ∷ filter is_standing os) (filter is_standing os)) ≡ filter_map (fired moves) (o ∷ os)
+made_step : (v : Bool) (moves : List (Option MoveBits)) (o : Object) (os : List Object) → is_standing o ≡ v → filter_map (fired moves) (filter is_standing os) ≡ filter_map (fired moves) os → filter_map (fired moves) (cond v (o ∷ filter is_standing os) (filter is_standing os)) ≡ filter_map (fired moves) (o ∷ os)
 made_step true moves o os e h = ap (cons_option (fired moves o)) h
 made_step false moves o os e h = h ∙ sym (ap (λ made. cons_option made (filter_map (fired moves) os)) (fired_standing moves o o.state e))
 
-made_by_standing : (moves : List (Option Move)) (os : List Object) → filter_map (fired moves) (filter is_standing os) ≡ filter_map (fired moves) os
+made_by_standing : (moves : List (Option MoveBits)) (os : List Object) → filter_map (fired moves) (filter is_standing os) ≡ filter_map (fired moves) os
 made_by_standing moves [] = refl
 made_by_standing moves (o ∷ os) = made_step (is_standing o) moves o os refl (made_by_standing moves os)
 
-pub made_are : (os : List Object) (found : Found) (moves : List (Option Move)) → AreFound os found → filter_map (fired moves) found.standing.items ≡ filter_map (fired moves) os
+pub made_are : (os : List Object) (found : Found) (moves : List (Option MoveBits)) → AreFound os found → filter_map (fired moves) found.standing.items ≡ filter_map (fired moves) os
 made_are os found moves a = ap (filter_map (fired moves)) a.standing_are ∙ made_by_standing moves os
 
-pub prepared : (os : List Object) (found : Found) (moves : List (Option Move)) (room : ℕ) (standing made : List Object) → AreFound os found → standing ≡ found.standing.items → room ≡ 1024 - length os → made ≡ take room (filter_map (fired moves) standing) → made ≡ discs_made os moves
+pub prepared : (os : List Object) (found : Found) (moves : List (Option MoveBits)) (room : ℕ) (standing made : List Object) → AreFound os found → standing ≡ found.standing.items → room ≡ 1024 - length os → made ≡ take room (filter_map (fired moves) standing) → made ≡ discs_made os moves
 unfolding discs_made
 prepared os found moves room standing made a s k e =
     e ∙ ap (λ (xs : List Object). take room (filter_map (fired moves) xs)) s ∙ ap (take room) (made_are os found moves a) ∙ ap (λ (n : ℕ). take n (filter_map (fired moves) os)) k

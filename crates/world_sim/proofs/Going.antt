@@ -6,7 +6,7 @@ use Rattle.std.specs.List.{AllByRecursion}
 use Rattle.std.proofs.lemmas.Bool.Decides.{eqb_tells, leb_tells}
 use Rattle.std.proofs.lemmas.List.{length-map, get_or-map}
 use Rattle.std.proofs.lemmas.Option.{slice_get_cases}
-use Rattle.tn_types.specs.declared.moves.Move.{Move}
+use Rattle.tn_types.specs.declared.moves.MoveBits.{MoveBits}
 use Rattle.world_rules.specs.declared.object.Object.{Object}
 use Rattle.world_rules.specs.declared.object.State.{State}
 use Rattle.world_rules.specs.declared.object.State.TheVariants.{Player, Disc, Mine, Drone, Flag, Clock}
@@ -38,10 +38,10 @@ over_quiet b alive (Drone d) e = e
 over_quiet b alive (Flag f) e = absurd (cc)
 over_quiet b alive (Clock c) e = absurd (cc)
 
-pub over_stays : (os : List Object) (moves : List (Option Move)) (t : Moment) (o : Object) → is_over o ≡ true → o ≡ object_next os moves t o
+pub over_stays : (os : List Object) (moves : List (Option MoveBits)) (t : Moment) (o : Object) → is_over o ≡ true → o ≡ object_next os moves t o
 over_stays os moves t o e = quiet_stays os moves t o (is_ending os o) (over_quiet (is_ending os o) o.alive o.state e) refl
 
-pub over_for_good : (os : List Object) (moves : List (Option Move)) (t : Moment) (o now : Object) (place : Option Object) → place ≡ Some o → now ≡ object_next os moves t o → option_map_or is_over place false ≡ true → is_over now ≡ true
+pub over_for_good : (os : List Object) (moves : List (Option MoveBits)) (t : Moment) (o now : Object) (place : Option Object) → place ≡ Some o → now ≡ object_next os moves t o → option_map_or is_over place false ≡ true → is_over now ≡ true
 over_for_good os moves t o now place at e h =
     let over : is_over o ≡ true = ap (λ (x : Option Object). option_map_or is_over x false) (sym at) ∙ h in
     ap is_over (e ∙ sym (over_stays os moves t o over)) ∙ over
@@ -201,7 +201,7 @@ row_here (x ∷ rows) (suc n) d l = row_here rows n d (omega arith)
 abbrev no_row : Row
 no_row = record { values = record { items = [] }; versions = record { items = [] } }
 
-turned_one : (os : List Object) (moves : List (Option Move)) (t : Moment) (first : List Row) (n : ℕ) (objects : List Object) (rows : List Row) (writes : List Write) (o : Object) → map row_values first ≡ map values_of os → AllByRecursion IsSoundRow first → n < length os → n < length first → slice_get os n ≡ Some o → is_quiet (is_ending os o) o ≡ true → Turned os (object_next os moves t) first n objects rows writes → Turned os (object_next os moves t) first (suc n) objects rows writes
+turned_one : (os : List Object) (moves : List (Option MoveBits)) (t : Moment) (first : List Row) (n : ℕ) (objects : List Object) (rows : List Row) (writes : List Write) (o : Object) → map row_values first ≡ map values_of os → AllByRecursion IsSoundRow first → n < length os → n < length first → slice_get os n ≡ Some o → is_quiet (is_ending os o) o ≡ true → Turned os (object_next os moves t) first n objects rows writes → Turned os (object_next os moves t) first (suc n) objects rows writes
 turned_one os moves t first n objects rows writes o values sound l m at dead is =
     let f = object_next os moves t in
     let r = get_or first n no_row in
@@ -220,7 +220,7 @@ turned_one os moves t first n objects rows writes o values sound l m at dead is 
       writes_are = is.writes_are ∙ row_writes_at writes writes n first (map f os) r o none at_r m long ∙ ap (λ (j : ℕ). row_writes_from writes j first (map f os)) e;
     }
 
-pub turned_passed : (os : List Object) (moves : List (Option Move)) (t : Moment) (first : List Row) (from to : ℕ) (objects : List Object) (rows : List Row) (writes : List Write) → map row_values first ≡ map values_of os → AllByRecursion IsSoundRow first → length first ≡ length os → from ≤ to → to ≤ length os → AreQuiet from to os → Turned os (object_next os moves t) first from objects rows writes → Turned os (object_next os moves t) first to objects rows writes
+pub turned_passed : (os : List Object) (moves : List (Option MoveBits)) (t : Moment) (first : List Row) (from to : ℕ) (objects : List Object) (rows : List Row) (writes : List Write) → map row_values first ≡ map values_of os → AllByRecursion IsSoundRow first → length first ≡ length os → from ≤ to → to ≤ length os → AreQuiet from to os → Turned os (object_next os moves t) first from objects rows writes → Turned os (object_next os moves t) first to objects rows writes
 turned_passed os moves t first from to objects rows writes values sound many order l over is =
     passed (λ n. Turned os (object_next os moves t) first n objects rows writes) (λ o. is_quiet (is_ending os o) o ≡ true) os from to order l over
     (λ n o m at dead was. turned_one os moves t first n objects rows writes o values sound m (omega (arith, m, many)) at dead was) is

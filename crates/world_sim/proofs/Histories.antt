@@ -3,7 +3,7 @@ use Rattle.std.proofs.Common.{◌≡◌, ℕ, zero, suc, ◌+◌, Bool, true, fa
 use Rattle.std.specs.Prelude.{ℤ, pos, negsuc, slice_get, option_map, option_and_then, int_lt, ◌≤◌}
 use Rattle.std.proofs.lemmas.Bool.{or_parts, ltb-false}
 use Rattle.std.proofs.lemmas.List.{length-replicate}
-use Rattle.tn_types.specs.declared.moves.Move.{Move}
+use Rattle.tn_types.specs.declared.moves.MoveBits.{MoveBits}
 use Rattle.quantised_fields.specs.declared.kind.Kind.{Kind}
 use Rattle.world_rules.specs.declared.object.Object.{Object}
 use Rattle.world_rules.specs.declared.object.State.{State}
@@ -35,7 +35,7 @@ counted_fields o (Drone d) = refl
 counted_fields o (Flag f) = refl
 counted_fields o (Clock c) = refl
 
-same_fields : (os : List Object) (moves : List (Option Move)) (t : Moment) (o : Object) → length (values_of o) ≡ length (values_of (object_next os moves t o))
+same_fields : (os : List Object) (moves : List (Option MoveBits)) (t : Moment) (o : Object) → length (values_of o) ≡ length (values_of (object_next os moves t o))
 same_fields os moves t o =
     counted_fields o o.state
     ∙ ap (λ (i : Identity). fields_of i.kind) (sym (stays_itself os moves t o))
@@ -46,11 +46,11 @@ HaveSameFields [] after = Unit {0}
 HaveSameFields (o ∷ os) [] = ⊥
 HaveSameFields (o ∷ os) (p ∷ after) = (length (values_of o) ≡ length (values_of p)) × HaveSameFields os after
 
-each_same : (os : List Object) (moves : List (Option Move)) (t : Moment) (xs made : List Object) → HaveSameFields xs (map (object_next os moves t) xs ++ made)
+each_same : (os : List Object) (moves : List (Option MoveBits)) (t : Moment) (xs made : List Object) → HaveSameFields xs (map (object_next os moves t) xs ++ made)
 each_same os moves t [] made = tt
 each_same os moves t (o ∷ xs) made = (same_fields os moves t o, each_same os moves t xs made)
 
-pub same_fields_next : (os : List Object) (moves : List (Option Move)) (t : Moment) → HaveSameFields os (objects_next os moves t)
+pub same_fields_next : (os : List Object) (moves : List (Option MoveBits)) (t : Moment) → HaveSameFields os (objects_next os moves t)
 same_fields_next os moves t = each_same os moves t os (discs_made os moves)
 
 length_versions : (xs ys : List ℤ) (vs : List ℕ) → length xs ≡ length ys → length xs ≡ length vs → length ys ≡ length (row_versions xs ys vs)
@@ -157,14 +157,14 @@ objects_told (o ∷ os) (p ∷ after) (v ∷ vs) (suc object) field values s h t
 
 -- ---- the worlds of a match
 
-fields_after : (first : Worlds) (log : List (List (Option Move))) → AreOfFields first.objects first.versions → AreOfFields (world_after first log).objects (world_after first log).versions
+fields_after : (first : Worlds) (log : List (List (Option MoveBits))) → AreOfFields first.objects first.versions → AreOfFields (world_after first log).objects (world_after first log).versions
 unfolding next
 fields_after first [] h = h
 fields_after first (moves ∷ log) h =
     let w = world_after first log in
     of_fields_next w.objects (after w moves) w.versions (same_fields_next w.objects moves (coming w)) (fields_after first log h)
 
-all_told : (first : Worlds) (log : List (List (Option Move))) (object field : ℕ) → first.versions ≡ map fresh_versions first.objects → Tells (values_by_version (worlds first log) object field) (value_at (world_after first log) object field) (version_at (world_after first log) object field)
+all_told : (first : Worlds) (log : List (List (Option MoveBits))) (object field : ℕ) → first.versions ≡ map fresh_versions first.objects → Tells (values_by_version (worlds first log) object field) (value_at (world_after first log) object field) (version_at (world_after first log) object field)
 unfolding next
 all_told first [] object field fresh =
     subst (λ (vs : List (List ℕ)). Tells (with_value (value_in first.objects object field) []) (value_in first.objects object field) (version_in vs object field))
@@ -175,7 +175,7 @@ all_told first (moves ∷ log) object field fresh =
     objects_told w.objects (after w moves) w.versions object field (values_by_version (worlds first log) object field)
     (same_fields_next w.objects moves (coming w)) (fields_after first log of_first) (all_told first log object field fresh)
 
-pub versions_count_values : (seed : ℕ) (setup : Setup) (log : List (List (Option Move))) (object field : ℕ) → AreValuesOf (world_after (first_world seed setup) log) object field (values_by_version (worlds (first_world seed setup) log) object field)
+pub versions_count_values : (seed : ℕ) (setup : Setup) (log : List (List (Option MoveBits))) (object field : ℕ) → AreValuesOf (world_after (first_world seed setup) log) object field (values_by_version (worlds (first_world seed setup) log) object field)
 versions_count_values seed setup log object field =
     let t = all_told (first_world seed setup) log object field refl in
     record { newest = t.newest; version = t.many }

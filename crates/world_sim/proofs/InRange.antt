@@ -11,7 +11,7 @@ use Rattle.world_rules.specs.Ranges.{ObjectFits, StateFits, PlaceFits, HolderFit
 use Rattle.world_sim.specs.Rows.{values_of, part_values, as_number, holder_number, field_writes, row_writes, world_writes, differs}
 use Rattle.world_sim.specs.declared.rows.Write.{Write}
 use Rattle.world_sim.specs.Facts.{ValuesFit, ValueFits, IsWriteOf}
-use Rattle.tn_types.specs.declared.moves.Move.{Move}
+use Rattle.tn_types.specs.declared.moves.MoveBits.{MoveBits}
 use Rattle.world_rules.proofs.Ranging.{objects_fit}
 use Rattle.world_sim.specs.Worlds.{Worlds, WasCounted, IsWorld, next, after, coming, kind_at}
 use Rattle.world_sim.proofs.ForGood.{kind_stays}
@@ -122,7 +122,7 @@ writes_from old i (r ∷ os) (o ∷ after) (v ∷ vs) kinds fits few =
     both old ws (world_writes (suc i) os after vs) (told old i ws there row) (writes_from old (suc i) os after vs later fits.1 few.1)
 
 -- each write of the tick behind a world
-pub writes_fit : (w : Worlds) (moves : List (Option Move)) (ws : List Write) → ws ≡ world_writes 0 w.objects (after w moves) w.versions → IsWorld w → AllByRecursion (IsWriteOf w) ws
+pub writes_fit : (w : Worlds) (moves : List (Option MoveBits)) (ws : List Write) → ws ≡ world_writes 0 w.objects (after w moves) w.versions → IsWorld w → AllByRecursion (IsWriteOf w) ws
 unfolding next
 writes_fit w moves ws e h =
     let kinds : KindsFrom w 0 w.objects (after w moves) = λ k less. (

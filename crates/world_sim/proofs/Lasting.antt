@@ -4,7 +4,7 @@ use Rattle.std.specs.Prelude.{slice_get}
 use Rattle.std.specs.List.{AllByRecursion, filter_map, cons_option}
 use Rattle.std.specs.Option.{option_map_or}
 use Rattle.std.proofs.Math.Bool.{and-false}
-use Rattle.tn_types.specs.declared.moves.Move.{Move}
+use Rattle.tn_types.specs.declared.moves.MoveBits.{MoveBits}
 use Rattle.world_rules.specs.declared.object.Object.{Object}
 use Rattle.world_rules.specs.declared.object.State.{State}
 use Rattle.world_rules.specs.declared.object.State.TheVariants.{Player, Disc, Mine, Drone, Flag, Clock}
@@ -21,7 +21,7 @@ use Rattle.world_cells.specs.Grid.{numbers, lasts, is_always}
 abbrev always_kind : ℕ → Bool
 always_kind k = option_map_or (λ kind. kind.always) (slice_get match_kinds k) false
 
-always_stays : (os : List Object) (moves : List (Option Move)) (t : Moment) (o : Object) → is_always (object_next os moves t o) ≡ is_always o
+always_stays : (os : List Object) (moves : List (Option MoveBits)) (t : Moment) (o : Object) → is_always (object_next os moves t o) ≡ is_always o
 always_stays os moves t o = ap (λ (i : Identity). always_kind i.kind) (stays_itself os moves t o)
 
 lives : (o : Object) (s : State) → o.state ≡ s → LivesOn o → (o.alive && is_always o) ≡ is_always o
@@ -52,7 +52,7 @@ chosen : (b : Bool) (d : Object) → IsNot d → IfMadeNot (cond b (Some d) None
 chosen true d h = h
 chosen false d h = tt
 
-fired_not : (moves : List (Option Move)) (o : Object) (s : State) → IfMadeNot (fired_part moves o s)
+fired_not : (moves : List (Option MoveBits)) (o : Object) (s : State) → IfMadeNot (fired_part moves o s)
 unfolding fired_by
 fired_not moves o (Player p) = chosen _ _ refl
 fired_not moves o (Disc d) = tt
@@ -61,7 +61,7 @@ fired_not moves o (Drone d) = tt
 fired_not moves o (Flag f) = tt
 fired_not moves o (Clock c) = tt
 
-all_not : (moves : List (Option Move)) (os : List Object) → AllByRecursion IsNot (filter_map (fired moves) os)
+all_not : (moves : List (Option MoveBits)) (os : List Object) → AllByRecursion IsNot (filter_map (fired moves) os)
 all_not moves [] = tt
 all_not moves (o ∷ os) = no_more (fired moves o) (filter_map (fired moves) os) (fired_not moves o o.state) (all_not moves os)
 
@@ -74,11 +74,11 @@ none_of : (k : ℕ) (ds : List Object) → AllByRecursion IsNot ds → numbers i
 none_of k [] a = refl
 none_of k (d ∷ ds) a = rw a.0 (none_of (suc k) ds a.1)
 
-always_next : (os : List Object) (moves : List (Option Move)) (t : Moment) (k : ℕ) (xs ds : List Object) → AllByRecursion IsNot ds → numbers is_always k (map (object_next os moves t) xs ++ ds) ≡ numbers is_always k xs
+always_next : (os : List Object) (moves : List (Option MoveBits)) (t : Moment) (k : ℕ) (xs ds : List Object) → AllByRecursion IsNot ds → numbers is_always k (map (object_next os moves t) xs ++ ds) ≡ numbers is_always k xs
 always_next os moves t k [] ds a = none_of k ds a
 always_next os moves t k (o ∷ xs) ds a = rw (always_stays os moves t o, always_next os moves t (suc k) xs ds a) refl
 
-pub lasting_next : (clients : ℕ) (os : List Object) (moves : List (Option Move)) (t : Moment) → IsPeopled clients os → numbers lasts 0 (objects_next os moves t) ≡ numbers lasts 0 os
+pub lasting_next : (clients : ℕ) (os : List Object) (moves : List (Option MoveBits)) (t : Moment) → IsPeopled clients os → numbers lasts 0 (objects_next os moves t) ≡ numbers lasts 0 os
 unfolding discs_made
 lasting_next clients os moves t h =
     all_lasting 0 (objects_next os moves t) (peopled_next clients os moves t h).alive

@@ -2,7 +2,7 @@
 use Rattle.std.proofs.Common.{◌≡◌, ℕ, zero, suc, ◌+◌, ◌<◌, Bool, true, false, not, cond, ◌||◌, nat_le, refl, List, [], ◌∷◌, ◌++◌, length, map, take, drop, get_or, set, sym, ap, ◌∙◌, arith}
 use Rattle.std.proofs.lemmas.List.{take_more, length-take}
 use Rattle.std.specs.List.{AllByRecursion}
-use Rattle.tn_types.specs.declared.moves.Move.{Move}
+use Rattle.tn_types.specs.declared.moves.MoveBits.{MoveBits}
 use Rattle.std.specs.Prelude.{Option}
 use Rattle.world_rules.specs.declared.object.Object.{Object}
 use Rattle.world_rules.specs.declared.object.Drone.{Drone as DronePart}
@@ -35,11 +35,11 @@ fits_at (o ∷ os) zero d a l = a.0.place
 fits_at (o ∷ os) (suc i) d a l = fits_at os i d a.1 (omega (arith, l))
 
 -- all objects after the tick, and the discs that it makes
-pub all_fit : (os was now made : List Object) (moves : List (Option Move)) (t : Moment) → AllByRecursion ObjectFits os → was ≡ os → now ≡ map (object_next was moves t) was → made ≡ discs_made os moves → AllByRecursion ObjectFits (now ++ made)
+pub all_fit : (os was now made : List Object) (moves : List (Option MoveBits)) (t : Moment) → AllByRecursion ObjectFits os → was ≡ os → now ≡ map (object_next was moves t) was → made ≡ discs_made os moves → AllByRecursion ObjectFits (now ++ made)
 all_fit os was now made moves t fits e f g = rw (g, f, e) (objects_fit os moves t fits)
 
 -- an object after the tick stands in the field
-pub next_place_fits : (os : List Object) (moves : List (Option Move)) (t : Moment) (i : ℕ) (o : Object) → AllByRecursion ObjectFits os → i < length (map (object_next os moves t) os) → o ≡ get_or (map (object_next os moves t) os) i o → PlaceFits o.place
+pub next_place_fits : (os : List Object) (moves : List (Option MoveBits)) (t : Moment) (i : ℕ) (o : Object) → AllByRecursion ObjectFits os → i < length (map (object_next os moves t) os) → o ≡ get_or (map (object_next os moves t) os) i o → PlaceFits o.place
 next_place_fits os moves t i o fits l e = place_fits (map (object_next os moves t) os) i o (front_fits (map (object_next os moves t) os) (discs_made os moves) (objects_fit os moves t fits)) l e
 
 -- ---- one after the other

@@ -6,6 +6,7 @@ use Rattle.std.proofs.lemmas.List.{length-take}
 use Rattle.std.proofs.lemmas.Bool.{and_parts}
 use Rattle.std.proofs.lemmas.Bool.Decides.{eqb_tells}
 use Rattle.tn_types.specs.declared.moves.Move.{Move}
+use Rattle.tn_types.specs.declared.moves.MoveBits.{MoveBits}
 use Rattle.world_rules.specs.declared.object.Object.{Object}
 use Rattle.world_rules.specs.declared.object.State.{State}
 use Rattle.world_rules.specs.declared.object.State.TheVariants.{Player, Disc, Mine, Drone, Flag, Clock}
@@ -73,41 +74,41 @@ find_players : (client : ℕ) (os : List Object) → find (is_player client) (fi
 find_players client [] = refl
 find_players client (o ∷ os) = find_step (is_players o) client o os refl (find_players client os)
 
-not_taking : (moves : List (Option Move)) (o p : Object) → is_players p ≡ false → taking moves o p ≡ None
+not_taking : (moves : List (Option MoveBits)) (o p : Object) → is_players p ≡ false → taking moves o p ≡ None
 not_taking moves o p e = rw (not_standing p.state e) refl
 
-taker_step : (v : Bool) (moves : List (Option Move)) (o p : Object) (os : List Object) → is_players p ≡ v → taker (filter is_players os) moves o ≡ taker os moves o → taker (cond v (p ∷ filter is_players os) (filter is_players os)) moves o ≡ taker (p ∷ os) moves o
+taker_step : (v : Bool) (moves : List (Option MoveBits)) (o p : Object) (os : List Object) → is_players p ≡ v → taker (filter is_players os) moves o ≡ taker os moves o → taker (cond v (p ∷ filter is_players os) (filter is_players os)) moves o ≡ taker (p ∷ os) moves o
 taker_step true moves o p os e h = ap (option_or (taking moves o p)) h
 taker_step false moves o p os e h = h ∙ sym (ap (λ t. option_or t (taker os moves o)) (not_taking moves o p e))
 
-taker_players : (os : List Object) (moves : List (Option Move)) (o : Object) → taker (filter is_players os) moves o ≡ taker os moves o
+taker_players : (os : List Object) (moves : List (Option MoveBits)) (o : Object) → taker (filter is_players os) moves o ≡ taker os moves o
 taker_players [] moves o = refl
 taker_players (p ∷ os) moves o = taker_step (is_players p) moves o p os refl (taker_players os moves o)
 
-flag_same : (os players : List Object) (moves : List (Option Move)) (o : Object) (holder : Option ℕ) → players ≡ filter is_players os → flag_next players moves o holder ≡ flag_next os moves o holder
+flag_same : (os players : List Object) (moves : List (Option MoveBits)) (o : Object) (holder : Option ℕ) → players ≡ filter is_players os → flag_next players moves o holder ≡ flag_next os moves o holder
 unfolding flag_next
 flag_same os players moves o None e = rw (e, taker_players os moves o) refl
 flag_same os players moves o (Some client) e = rw (e, find_players client os) refl
 
 -- ---- one object by its kind
 
-pub player_turn : (os : List Object) (moves : List (Option Move)) (t : Moment) (o : Object) (p : PlayerPart) (m : Move) (lost scored : ℕ) → o.state ≡ Player p → m ≡ move_of moves p.client → (is_target o ≡ true → lost ≡ damage os o) → scored ≡ hits os p.client → player_next lost scored o p m ≡ object_next os moves t o
+pub player_turn : (os : List Object) (moves : List (Option MoveBits)) (t : Moment) (o : Object) (p : PlayerPart) (m : Move) (lost scored : ℕ) → o.state ≡ Player p → m ≡ move_of moves p.client → (is_target o ≡ true → lost ≡ damage os o) → scored ≡ hits os p.client → player_next lost scored o p m ≡ object_next os moves t o
 player_turn os moves t o p m lost scored e move lose score =
     player_same lost (damage os o) scored o p m e lose
     ∙ ap (λ (s : ℕ). player_next (damage os o) s o p m) score
     ∙ ap (λ (x : Move). player_next (damage os o) (hits os p.client) o p x) move
     ∙ ap (by_kind os moves t o) (sym e)
 
-pub drone_turn : (os : List Object) (moves : List (Option Move)) (t : Moment) (o : Object) (d : DronePart) (r lost : ℕ) → o.state ≡ Drone d → r ≡ drawn t.seed d.number t.tick → (is_target o ≡ true → lost ≡ harm os o) → drone_next r lost o d ≡ object_next os moves t o
+pub drone_turn : (os : List Object) (moves : List (Option MoveBits)) (t : Moment) (o : Object) (d : DronePart) (r lost : ℕ) → o.state ≡ Drone d → r ≡ drawn t.seed d.number t.tick → (is_target o ≡ true → lost ≡ harm os o) → drone_next r lost o d ≡ object_next os moves t o
 drone_turn os moves t o d r lost e chance lose =
     drone_same r lost (harm os o) o d e lose
     ∙ ap (λ (x : ℕ). drone_next x (harm os o) o d) chance
     ∙ ap (by_kind os moves t o) (sym e)
 
-pub flag_turn : (os players : List Object) (moves : List (Option Move)) (t : Moment) (o : Object) (holder : Option ℕ) → o.state ≡ Flag (record { holder = holder }) → players ≡ filter is_players os → flag_next players moves o holder ≡ object_next os moves t o
+pub flag_turn : (os players : List Object) (moves : List (Option MoveBits)) (t : Moment) (o : Object) (holder : Option ℕ) → o.state ≡ Flag (record { holder = holder }) → players ≡ filter is_players os → flag_next players moves o holder ≡ object_next os moves t o
 flag_turn os players moves t o holder e p = flag_same os players moves o holder p ∙ ap (by_kind os moves t o) (sym e)
 
-pub by_state : (os : List Object) (moves : List (Option Move)) (t : Moment) (o : Object) (s : State) → o.state ≡ s → by_kind os moves t o s ≡ object_next os moves t o
+pub by_state : (os : List Object) (moves : List (Option MoveBits)) (t : Moment) (o : Object) (s : State) → o.state ≡ s → by_kind os moves t o s ≡ object_next os moves t o
 by_state os moves t o s e = ap (by_kind os moves t o) (sym e)
 
 -- ---- what no tick changes
@@ -154,7 +155,7 @@ quiet_mine o m false e q = by_alive o.alive q
           | inr w ↦ absurd (let f = w.0 in let g = parts.1 in cc)
         ])
 
-quiet_by : (os : List Object) (moves : List (Option Move)) (t : Moment) (o : Object) (s : State) → o.state ≡ s → (ending : Bool) → is_quiet_part ending o.alive s ≡ true → ending ≡ is_ending os o → o ≡ by_kind os moves t o s
+quiet_by : (os : List Object) (moves : List (Option MoveBits)) (t : Moment) (o : Object) (s : State) → o.state ≡ s → (ending : Bool) → is_quiet_part ending o.alive s ≡ true → ending ≡ is_ending os o → o ≡ by_kind os moves t o s
 unfolding disc_next drone_next
 quiet_by os moves t o (Player p) e ending q f = absurd (cc)
 quiet_by os moves t o (Disc d) e ending q f = cond_dead o.alive o _ (dead o.alive q)
@@ -163,7 +164,7 @@ quiet_by os moves t o (Drone d) e ending q f = cond_dead o.alive o _ (dead o.ali
 quiet_by os moves t o (Flag h) e ending q f = absurd (cc)
 quiet_by os moves t o (Clock c) e ending q f = absurd (cc)
 
-pub quiet_stays : (os : List Object) (moves : List (Option Move)) (t : Moment) (o : Object) (ending : Bool) → is_quiet ending o ≡ true → ending ≡ is_ending os o → o ≡ object_next os moves t o
+pub quiet_stays : (os : List Object) (moves : List (Option MoveBits)) (t : Moment) (o : Object) (ending : Bool) → is_quiet ending o ≡ true → ending ≡ is_ending os o → o ≡ object_next os moves t o
 quiet_stays os moves t o ending q f = quiet_by os moves t o o.state refl ending q f
 
 -- ---- one after the other
@@ -281,7 +282,7 @@ values_of_mine ending o m e = still_a_mine o.alive ending o m e
 pub mine_told : (ending : Bool) (o now : Object) (m : MinePart) (armed : ℕ) → o.state ≡ Mine m → now ≡ mine_next ending o m → armed ≡ as_number (is_armed_part now.state) → values_of now ≡ pos now.place.x ∷ pos now.place.y ∷ pos armed ∷ []
 mine_told ending o now m armed e f h = rw (h, f) (values_of_mine ending o m e)
 
-pub mine_turn : (os : List Object) (moves : List (Option Move)) (t : Moment) (o : Object) (m : MinePart) (ending : Bool) → o.state ≡ Mine m → ending ≡ is_ending os o → mine_next ending o m ≡ object_next os moves t o
+pub mine_turn : (os : List Object) (moves : List (Option MoveBits)) (t : Moment) (o : Object) (m : MinePart) (ending : Bool) → o.state ≡ Mine m → ending ≡ is_ending os o → mine_next ending o m ≡ object_next os moves t o
 mine_turn os moves t o m ending e f = mine_same os o m ending e f ∙ by_state os moves t o _ e
 
 -- an object that stays as it is keeps all up

@@ -4,7 +4,7 @@ use Rattle.std.specs.Prelude.{ℤ}
 use Rattle.std.specs.List.{AllByRecursion, filter_map}
 use Rattle.std.proofs.lemmas.List.{length-map, length-take}
 use Rattle.world_rules.specs.declared.object.Object.{Object}
-use Rattle.tn_types.specs.declared.moves.Move.{Move}
+use Rattle.tn_types.specs.declared.moves.MoveBits.{MoveBits}
 use Rattle.world_sim.specs.declared.rows.Write.{Write}
 use Rattle.world_sim.specs.declared.rows.Row.{Row}
 use Rattle.world_rules.specs.Players.{fired}
@@ -69,10 +69,10 @@ counted_next t (o ∷ os) [] vs a = tt
 counted_next t (o ∷ os) (p ∷ after) [] a = fresh_counted (t + 1) (p ∷ after)
 counted_next t (o ∷ os) (p ∷ after) (v ∷ vs) a = (counted_row t (values_of o) (values_of p) v a.0, counted_next t os after vs a.1)
 
-pub more_objects : (os : List Object) (moves : List (Option Move)) (t : Moment) → length os ≤ length (objects_next os moves t)
+pub more_objects : (os : List Object) (moves : List (Option MoveBits)) (t : Moment) → length os ≤ length (objects_next os moves t)
 more_objects os moves t = let l = length-append (map (object_next os moves t) os) (discs_made os moves) in let m : length (map (object_next os moves t) os) ≡ length os = simp length-map in omega (arith, l, m)
 
-few_objects : (os : List Object) (moves : List (Option Move)) (t : Moment) → length os ≤ 1024 → length (objects_next os moves t) ≤ 1024
+few_objects : (os : List Object) (moves : List (Option MoveBits)) (t : Moment) → length os ≤ 1024 → length (objects_next os moves t) ≤ 1024
 unfolding discs_made
 few_objects os moves t h =
     let l = length-append (map (object_next os moves t) os) (discs_made os moves) in
@@ -80,7 +80,7 @@ few_objects os moves t h =
     let k = length-take (1024 - length os) (filter_map (fired moves) os) in
     omega (arith, l, m, k)
 
-pub world_next : (w : Worlds) (moves : List (Option Move)) → IsWorld w → IsWorld (next w moves)
+pub world_next : (w : Worlds) (moves : List (Option MoveBits)) → IsWorld w → IsWorld (next w moves)
 unfolding next
 world_next w moves h = record {
   few = few_objects w.objects moves (coming w) h.few;
@@ -90,11 +90,11 @@ world_next w moves h = record {
   peopled = peopled_next w.clients w.objects moves (coming w) h.peopled;
 }
 
-world_by : (w : Worlds) (moves : List (Option Move)) (os : List Object) (vs : List (List ℕ)) (ws : List Write) → os ≡ after w moves → vs ≡ versions_next w.objects (after w moves) w.versions → ws ≡ world_writes 0 w.objects (after w moves) w.versions → IsWorld w → IsWorld (record { seed = w.seed; clients = w.clients; radius = w.radius; ticks = w.ticks + 1; objects = os; versions = vs; writes = ws })
+world_by : (w : Worlds) (moves : List (Option MoveBits)) (os : List Object) (vs : List (List ℕ)) (ws : List Write) → os ≡ after w moves → vs ≡ versions_next w.objects (after w moves) w.versions → ws ≡ world_writes 0 w.objects (after w moves) w.versions → IsWorld w → IsWorld (record { seed = w.seed; clients = w.clients; radius = w.radius; ticks = w.ticks + 1; objects = os; versions = vs; writes = ws })
 unfolding next
 world_by w moves os vs ws f g h is = rw (f, g, h) (world_next w moves is)
 
-pub kept_from : (w : Worlds) (moves : List (Option Move)) (was : List Object) (had : List (List ℕ)) (os : List Object) (rows : List Row) (ws : List Write) (glances : List Glance) (cells : GridParts) (places : PlaceLists) (always going : List ℕ) → was ≡ w.objects → had ≡ w.versions → os ≡ objects_next was moves (coming w) → map row_values rows ≡ map values_of os → map row_counts rows ≡ versions_next was os had → ws ≡ world_writes 0 was os had → glances ≡ map glance_of os → IsGrid cells os → ArePlaced places os → always ≡ numbers lasts 0 was → HasGoing going os → IsWorld w → IsKept (record { seed = w.seed; clients = w.clients; radius = w.radius; ticks = w.ticks + 1; objects = os; versions = map row_counts rows; writes = ws }) rows glances cells places always going
+pub kept_from : (w : Worlds) (moves : List (Option MoveBits)) (was : List Object) (had : List (List ℕ)) (os : List Object) (rows : List Row) (ws : List Write) (glances : List Glance) (cells : GridParts) (places : PlaceLists) (always going : List ℕ) → was ≡ w.objects → had ≡ w.versions → os ≡ objects_next was moves (coming w) → map row_values rows ≡ map values_of os → map row_counts rows ≡ versions_next was os had → ws ≡ world_writes 0 was os had → glances ≡ map glance_of os → IsGrid cells os → ArePlaced places os → always ≡ numbers lasts 0 was → HasGoing going os → IsWorld w → IsKept (record { seed = w.seed; clients = w.clients; radius = w.radius; ticks = w.ticks + 1; objects = os; versions = map row_counts rows; writes = ws }) rows glances cells places always going
 kept_from w moves was had os rows ws glances cells places always going a b f k g h seen grid placed lasting stir is =
     let now : os ≡ after w moves = rw a at f in
     record {

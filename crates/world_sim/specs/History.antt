@@ -1,17 +1,17 @@
 -- The worlds of a match as a list, newest first, and the values of a field by version over it: a value counts where it
 -- differs from the one before. So the version of a field is how many values it had, less 1.
 use Rattle.std.specs.Prelude.{◌≡◌, ℕ, ℤ, List, [], ◌∷◌, length, Option, Some, None, slice_get, if◌then◌else◌}
-use Rattle.tn_types.specs.declared.moves.Move.{Move}
+use Rattle.tn_types.specs.declared.moves.MoveBits.{MoveBits}
 use Rattle.world_sim.specs.Rows.{differs}
 use Rattle.world_sim.specs.Worlds.{Worlds, next, value_at, version_at}
 
 -- the world after ticks with these moves, those of the last tick first
-abbrev pub world_after : Worlds → List (List (Option Move)) → Worlds
+abbrev pub world_after : Worlds → List (List (Option MoveBits)) → Worlds
 world_after first [] = first
 world_after first (moves ∷ earlier) = next (world_after first earlier) moves
 
 -- all worlds up to that one, the newest first
-abbrev pub worlds : Worlds → List (List (Option Move)) → List Worlds
+abbrev pub worlds : Worlds → List (List (Option MoveBits)) → List Worlds
 worlds first [] = first ∷ []
 worlds first (moves ∷ earlier) = world_after first (moves ∷ earlier) ∷ worlds first earlier
 

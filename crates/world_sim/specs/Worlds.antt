@@ -2,7 +2,7 @@
 use Rattle.std.specs.Prelude.{ℕ, ℤ, Bool, option_map, option_and_then, slice_get, position, ◌+◌, ◌≤◌, ◌≡◌, List, ◌++◌, ◌∷◌, [], length, map, Option, Some, None, nat_lt, if◌then◌else◌}
 use Rattle.std.specs.List.{AllByRecursion}
 use Rattle.tn_types.specs.declared.limits.TheConstants.{MAX_OBJECTS}
-use Rattle.tn_types.specs.declared.moves.Move.{Move}
+use Rattle.tn_types.specs.declared.moves.MoveBits.{MoveBits}
 use Rattle.world_rules.specs.declared.object.Object.{Object}
 use Rattle.world_rules.specs.Next.{Moment}
 use Rattle.world_rules.specs.Kinds.{kind_of}
@@ -42,10 +42,10 @@ added room discs (Some disc) = if nat_lt (length discs) room then discs ++ disc 
 abbrev pub coming : Worlds → Moment
 coming w = record { seed = w.seed; tick = w.ticks + 1 }
 
-abbrev pub after : Worlds → List (Option Move) → List Object
+abbrev pub after : Worlds → List (Option MoveBits) → List Object
 after w moves = objects_next w.objects moves (coming w)
 
-unfoldable pub next : Worlds → List (Option Move) → Worlds
+unfoldable pub next : Worlds → List (Option MoveBits) → Worlds
 next w moves = record {
   seed = w.seed;
   clients = w.clients;

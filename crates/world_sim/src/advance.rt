@@ -19,7 +19,7 @@ use crate::rows::{Row, Write, fresh_row};
 use crate::step::{Old, turn_all};
 use crate::table::Table;
 use std::alloc::{AllocError, Global};
-use tn_types::{MAX_CLIENTS, MAX_OBJECTS, Move};
+use tn_types::{MAX_CLIENTS, MAX_OBJECTS, MoveBits};
 use world_cells::{Cells, NumberSet};
 use world_places::Places;
 use world_rules::Object;
@@ -49,7 +49,7 @@ fn prepare(
     glances: &mut Vec<Glance>,
     cells: &Cells,
     going: &NumberSet,
-    moves: &[Option<Move>],
+    moves: &[Option<MoveBits>],
     work: &mut Work,
 ) -> Result<(), AllocError>
     requires few { length objects.old.items ≤ MAX_OBJECTS }
@@ -122,7 +122,7 @@ fn make_room(writes: &mut Vec<Write>) -> Result<(), AllocError>
 /// The objects and all that is kept of them after a tick, and what the tick writes. For want of memory all but the writes stay.
 pub fn advance(
     table: &mut Table,
-    moves: &[Option<Move>],
+    moves: &[Option<MoveBits>],
     seed: u32,
     tick: u32,
     work: &mut Work,

@@ -5,7 +5,7 @@ ghost use Rattle.world_rules.specs.Players.{fired};
 ghost use Rattle.world_sim.specs.Worlds.{added};
 
 use std::alloc::AllocError;
-use tn_types::Move;
+use tn_types::MoveBits;
 use world_rules::Object;
 use world_rules::fire::fired;
 
@@ -25,7 +25,7 @@ fn add_disc(made: Option<Object>, room: usize, discs: &mut Vec<Object>) -> Resul
 #[tactic(auto, using(crate::proofs::Made::made_few))]
 pub fn make_discs(
     objects: &[Object],
-    moves: &[Option<Move>],
+    moves: &[Option<MoveBits>],
     room: usize,
     discs: &mut Vec<Object>,
 ) -> Result<(), AllocError>

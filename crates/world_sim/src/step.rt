@@ -25,7 +25,7 @@ use crate::glance::{Glance, glance_of};
 use crate::mines::step_mine;
 use crate::rows::{Row, change_row, change_three, change_two};
 use crate::table::{Beside, Table};
-use tn_types::{MAX_OBJECTS, Move};
+use tn_types::{MAX_OBJECTS, MoveBits};
 use world_cells::{CELL_SIDE, Cells, NumberSet, spot};
 use world_rules::fire::move_of;
 use world_rules::flags::{clock_next, flag_next};
@@ -43,7 +43,7 @@ pub struct Old<'b, 'c> {
     /// Captures of both teams in this tick.
     pub red: u32,
     pub blue: u32,
-    pub moves: &'c [Option<Move>],
+    pub moves: &'c [Option<MoveBits>],
     pub seed: u32,
     pub tick: u32,
 }

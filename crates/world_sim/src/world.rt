@@ -21,7 +21,7 @@ use std::alloc::{AllocError, Global};
 use std::marker::Model;
 use std::mem;
 use std::sync::ledger::Ledger;
-use tn_types::{MAX_OBJECTS, Move, NoMemory, Steps};
+use tn_types::{MAX_OBJECTS, MoveBits, NoMemory, Steps};
 use world_cells::{CELLS_ACROSS, Cells, NumberSet, has_place};
 use world_places::Places;
 use world_rules::{Object, Setup};
@@ -142,7 +142,7 @@ impl World {
     /// The world makes one tick with a move or none of each client (docs/world.md). Nothing changes for want of
     /// memory. An object keeps its number, kind, owner, datablock, team and home for good.
     #[tactic(auto, using(crate::proofs::ForGood::identity_stays, crate::proofs::ForGood::player_stays))]
-    pub fn tick(&mut self, _alloc: Global, moves: &[Option<Move>]) -> Result<(), NoMemory>
+    pub fn tick(&mut self, _alloc: Global, moves: &[Option<MoveBits>]) -> Result<(), NoMemory>
         requires { self.old.ticks < 2 ^ 32 - 1 }
         ensures ok { OnOk result (self.new ≡ next self.old moves.now) }
         ensures err { OnErr result (self.new ≡ self.old) }
@@ -159,7 +159,7 @@ impl World {
     }
 
     #[tactic(auto, using(crate::proofs::WorldLaws::sound_rows, crate::proofs::Kept::as_many, crate::proofs::Kept::counts_kept), unfolding(crate::specs::Worlds::next))]
-    fn step(&mut self, moves: &[Option<Move>]) -> Result<(), AllocError>
+    fn step(&mut self, moves: &[Option<MoveBits>]) -> Result<(), AllocError>
         requires { self.old.ticks < 2 ^ 32 - 1 }
         ensures ok { OnOk result (self.new ≡ next self.old moves.now) }
         ensures err { OnErr result (self.new ≡ self.old) }

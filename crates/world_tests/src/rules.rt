@@ -1,4 +1,5 @@
 //! Of `world_rules`: rules at their edges, and chances as they were computed elsewhere.
+use bit_stream::bits_of_move;
 use tn_types::Move;
 use world_rules::fire::fired;
 use world_rules::movers::{disc_next, drawn, drone_next};
@@ -105,7 +106,12 @@ fn shot(hp: u32, ammo: u32, m: Move) -> Option<(i32, i32)> {
         ammo,
         score: 0,
     };
-    match fired(&[Some(m)], &object(5, 5, State::Player(player)))?.state {
+    match fired(
+        &[Some(bits_of_move(&m))],
+        &object(5, 5, State::Player(player)),
+    )?
+    .state
+    {
         State::Disc(disc) => Some((disc.vx, disc.vy)),
         _ => None,
     }

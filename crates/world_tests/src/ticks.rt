@@ -3,9 +3,10 @@ ghost use Rattle.std.specs.Prelude.{◌∷◌, [], Some, ◌≤ℤ◌, pos, negs
 ghost use Rattle.world_rules.specs.Identity.{OwnersRise};
 ghost use Rattle.world_rules.specs.Spawning.{SpawnFits};
 
+use bit_stream::bits_of_move;
 use std::alloc::Global;
 use std::test::Fail;
-use tn_types::{Move, NoMemory};
+use tn_types::{Move, MoveBits, NoMemory};
 use world_rules::{Setup, Spawn, Spawns};
 use world_sim::World;
 
@@ -43,24 +44,27 @@ const FLAG: Spawn = Spawn { kind: 4, ..MINE };
 
 const CLOCK: Spawn = Spawn { kind: 5, ..MINE };
 
-const FIRE: Move = Move {
-    dx: 0,
-    dy: 0,
-    fire: true,
-    act: false,
-};
+// Fires without a step.
+fn firing() -> MoveBits {
+    bits_of_move(&Move {
+        dx: 0,
+        dy: 0,
+        fire: true,
+        act: false,
+    })
+}
 
 // Steps along x with use.
-fn using(dx: i8) -> Move
+fn using(dx: i8) -> MoveBits
     requires least { negsuc 7 ≤ℤ dx }
     requires most { dx ≤ℤ pos 7 }
 {
-    Move {
+    bits_of_move(&Move {
         dx,
         dy: 0,
         fire: false,
         act: true,
-    }
+    })
 }
 
 // The world of two clients with the player of client 0 at (1000, 1000) and two further objects.
@@ -85,7 +89,7 @@ fn world(alloc: Global, second: Spawn, third: Spawn) -> Result<World, NoMemory>
 fn play(
     world: &mut World,
     alloc: Global,
-    moves: &[Option<Move>],
+    moves: &[Option<MoveBits>],
     ticks: u32,
 ) -> Result<(), NoMemory> {
     for _ in 0..ticks {
@@ -111,7 +115,7 @@ fn lives(world: &World, object: u32) -> bool {
 // The player fires once, and nothing else happens.
 fn fires(alloc: Global) -> Result<World, NoMemory> {
     let mut world = world(alloc, CLOCK, CLOCK)?;
-    play(&mut world, alloc, &[Some(FIRE)], 1)?;
+    play(&mut world, alloc, &[Some(firing())], 1)?;
     play(&mut world, alloc, &[], 1)?;
     Ok(world)
 }
@@ -131,7 +135,7 @@ fn disc_flies(rt: HostRuntime) -> Result<(), Fail> {
 // The player fires in each tick, and a drone starts at its place.
 fn shoots(alloc: Global, ticks: u32) -> Result<World, NoMemory> {
     let mut world = world(alloc, DRONE, CLOCK)?;
-    play(&mut world, alloc, &[Some(FIRE)], ticks)?;
+    play(&mut world, alloc, &[Some(firing())], ticks)?;
     Ok(world)
 }
 
@@ -182,7 +186,7 @@ fn mine_with_two_victims(rt: HostRuntime) -> Result<(), Fail> {
 }
 
 // The player and a friend make these moves, both 300 from a flag.
-fn taken(alloc: Global, moves: &[Option<Move>]) -> Result<World, NoMemory> {
+fn taken(alloc: Global, moves: &[Option<MoveBits>]) -> Result<World, NoMemory> {
     let mut world = world(alloc, FRIEND, FLAG)?;
     play(&mut world, alloc, moves, 1)?;
     Ok(world)
@@ -192,7 +196,7 @@ fn taken(alloc: Global, moves: &[Option<Move>]) -> Result<World, NoMemory> {
 fn two_takers(rt: HostRuntime) -> Result<(), Fail> {
     for (first, second, holder) in [
         (Some(using(0)), Some(using(0)), 1),
-        (Some(FIRE), Some(using(0)), 2),
+        (Some(firing()), Some(using(0)), 2),
         (None, Some(using(0)), 2),
         (None, None, 0),
     ] {
@@ -234,7 +238,7 @@ fn flag_comes_home(rt: HostRuntime) -> Result<(), Fail> {
 // Two enemies at one place fire in each tick: in six ticks each fires five times, falls and is home again.
 fn brawl(alloc: Global, ticks: u32) -> Result<World, NoMemory> {
     let mut world = world(alloc, ENEMY, CLOCK)?;
-    play(&mut world, alloc, &[Some(FIRE), Some(FIRE)], ticks)?;
+    play(&mut world, alloc, &[Some(firing()), Some(firing())], ticks)?;
     Ok(world)
 }
 

@@ -1,5 +1,5 @@
 use Rattle.std.proofs.Common.{◌≡◌, ◌∙◌, ◌+◌, ℕ, List, Option, take, ap, sym, subst, ◌++◌, ◌∷◌, []}
-use Rattle.tn_types.specs.declared.moves.Move.{Move}
+use Rattle.tn_types.specs.declared.moves.MoveBits.{MoveBits}
 use Rattle.world_sim.specs.Worlds.{Worlds, next, first_world}
 use Rattle.legal_race.specs.race_history.History.{IsHistoryOf, world_after}
 use Rattle.legal_race.proofs.Below.race_course.Following.{ticks_next}
@@ -18,5 +18,5 @@ loop-tick-preserved c =
     record {
       ticks = ap (λ (w : Worlds). w.ticks) c.in_ok-tick.ensures.ok ∙ ticks_next c.loop-tick.world row ∙ ap (λ (n : ℕ). n + 1) c.loop-tick.invariant.ticks;
       world = here ∙ sym (after_more first (take k ticks) row) ∙ ap (world_after first) (sym longer);
-      values = subst (λ (ts : List (List (Option Move))). IsHistoryOf first ts c.add-in-loop-tick.new.self) (sym longer) (c.in_ok-add-2.ensures.next first (take k ticks) row c.loop-tick.invariant.values here);
+      values = subst (λ (ts : List (List (Option MoveBits))). IsHistoryOf first ts c.add-in-loop-tick.new.self) (sym longer) (c.in_ok-add-2.ensures.next first (take k ticks) row c.loop-tick.invariant.values here);
     }

@@ -1,10 +1,10 @@
 use Rattle.std.proofs.Common.{ℕ, List, ◌∷◌, ap}
-use Rattle.tn_types.specs.declared.moves.Move.{Move}
+use Rattle.tn_types.specs.declared.moves.MoveBits.{MoveBits}
 use Rattle.stream_manager.specs.Client.{Took}
 use Rattle.predict_client.proofs.Followed.{followed_packet}
 use Rattle.predict_client.proofs.follow.arrived.Goals as goal
 
-second : ℕ × List Move → List Move
+second : ℕ × List MoveBits → List MoveBits
 second x = x.1
 
 pub returns : goal.returns
