@@ -29,7 +29,7 @@ pub record ViewTerms : Type 0 where
 
 -- as a connection's: of its life and size nothing is asked where nothing is sent
 abbrev pub config_of : ViewTerms → Config
-config_of t = record { client = t.client; life = 0; size = 0; version = t.version }
+config_of t = record { client = t.client; life = 0; size = 0; version = t.version; move_bits = 0 }
 
 -- how many guaranteed events were delivered
 abbrev pub count_delivered : List ServerPacket → ℕ

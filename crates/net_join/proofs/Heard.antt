@@ -191,7 +191,7 @@ if_sampled c false m log = refl
 pub played_more : (c : Config) (m : Move) (log : List ClientEvent) → Before (client_datagrams c log) (client_datagrams c (turned_by (Some c) m log))
 played_more c m log =
     let r = packed_more c (samples c m log) (client_state c (samples c m log)) in
-    (r.0, r.1 ∙ ap (λ (xs : List (List ℕ)). xs ++ r.0) (if_sampled c (is_ok (sampled_answer c log)) m log))
+    (r.0, r.1 ∙ ap (λ (xs : List (List ℕ)). xs ++ r.0) (if_sampled c (is_ok (sampled_answer c m log)) m log))
 
 turn_more : (nonce n : ℕ) (j : Option Config) (m : Move) (log : List ClientEvent)
     → Before (map to_server (replicate n (hello_with nonce) ++ datagrams_of j log))

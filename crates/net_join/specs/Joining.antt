@@ -33,7 +33,7 @@ to_server bytes = record { peer = record { number = 0 }; bytes = bytes }
 
 -- what a welcome tells a connection to be made with
 abbrev pub config_of : WelcomeTold → Config
-config_of w = record { client = w.client; life = w.life; size = w.size; version = w.version }
+config_of w = record { client = w.client; life = w.life; size = w.size; version = w.version; move_bits = WORLD_MOVE_BITS }
 
 -- each number of it is in its range
 abbrev pub is_config : Config → Bool
@@ -97,7 +97,7 @@ heard_by (Some c) d log = if is_of_server d && is_arrival d.bytes then arriving 
 
 -- a move is sampled, unless it is refused
 abbrev pub samples : Config → Move → List ClientEvent → List ClientEvent
-samples c m log = if is_ok (sampled_answer c log) then Sampled m ∷ log else log
+samples c m log = if is_ok (sampled_answer c m log) then Sampled m ∷ log else log
 
 abbrev pub packs : Config → List ClientEvent → List ClientEvent
 packs c log = with_event (packing c log) log
@@ -144,7 +144,7 @@ abbrev first : List ℕ → ℕ → Event
 first nonce peer = Heard (record { peer = record { number = peer }; bytes = welcome nonce 3 1000 400 1 })
 
 joins : joined 7 (Turned ∷ first (little 4 7) 0 ∷ Turned ∷ [])
-    ≡ Some (record { client = 3; life = 1000; size = 400; version = 1 })
+    ≡ Some (record { client = 3; life = 1000; size = 400; version = 1; move_bits = 10 })
 joins = refl
 
 other_nonce : joined 7 (first (little 4 8) 0 ∷ []) ≡ None
