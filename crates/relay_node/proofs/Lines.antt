@@ -97,7 +97,7 @@ module _ (t : Terms) where
   item_quiet items (Line (script.Raw c bytes)) q = refl
   item_quiet items (Line (script.Move c m)) q = by (is_ok (sampled_answer t.config (bits_of m) (at_end t (journal t items))))
     where
-      by : (b : Bool) → packets_at (if b then client.Sampled m ∷ at_end t (journal t items) else at_end t (journal t items)) ≡ packets_at (at_end t (journal t items))
+      by : (b : Bool) → packets_at (if b then client.Sampled (bits_of m) ∷ at_end t (journal t items) else at_end t (journal t items)) ≡ packets_at (at_end t (journal t items))
       by true = refl
       by false = refl
   item_quiet items (Line (script.Show c)) q = refl
