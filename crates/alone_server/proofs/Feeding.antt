@@ -118,6 +118,7 @@ module _ (c : ℕ) (seat : SeatState) (x : Table) (t : Terms) (items : List OwnI
     scanned new y keeping course periods = record {
       own = (may, s.own);
       config = s.config;
+      move_bits = s.move_bits;
       kinds = s.kinds;
       client = s.client;
       course = subst (SeatStandsFor new t) (sym course_is) course;
@@ -158,6 +159,7 @@ module _ (c : ℕ) (seat : SeatState) (x : Table) (t : Terms) (items : List OwnI
     tick_serves new y keeping course periods = record {
       own = (may, s.own);
       config = s.config;
+      move_bits = s.move_bits;
       kinds = s.kinds;
       client = s.client;
       course = subst (λ (z : Course). SeatStandsFor new t (ticked taken z)) (sym (wrote_course t ws k)) course;
@@ -218,6 +220,7 @@ module _ (c : ℕ) (seat : SeatState) (x : Table) (t : Terms) (items : List OwnI
   line_serves line direct may new keeping course = record {
     own = (may, s.own);
     config = s.config;
+    move_bits = s.move_bits;
     kinds = s.kinds;
     client = s.client;
     course = course;
@@ -227,4 +230,4 @@ module _ (c : ℕ) (seat : SeatState) (x : Table) (t : Terms) (items : List OwnI
 
   -- a line that shows the client changes nothing
   pub show_serves : (n : ℕ) → Serves c seat x t (Line (script.Show n) ∷ items)
-  show_serves n = record { own = (tt, s.own); config = s.config; kinds = s.kinds; client = s.client; course = s.course; keeps = s.keeps; periods = s.periods }
+  show_serves n = record { own = (tt, s.own); config = s.config; move_bits = s.move_bits; kinds = s.kinds; client = s.client; course = s.course; keeps = s.keeps; periods = s.periods }

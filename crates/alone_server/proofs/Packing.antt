@@ -172,6 +172,7 @@ module _ (client : ℕ) (seat : SeatState) (x : Table) (t : Terms) (items : List
     packed_serves st at c keeping = record {
       own = (tt, s.own);
       config = s.config;
+      move_bits = s.move_bits;
       kinds = s.kinds;
       client = s.client;
       course = subst (λ (y : List Read). SeatStandsFor new t (with_step (Pack (drains_of t k) y) k.course)) is

@@ -6,7 +6,7 @@ use Rattle.std.proofs.lemmas.List.{length-take}
 use Rattle.tn_types.specs.declared.choices.Class.{Class}
 use Rattle.tn_types.specs.declared.choices.Class.TheVariants.{Guaranteed, Loose}
 use Rattle.tn_types.specs.declared.choices.Drain.{Drain}
-use Rattle.tn_types.specs.declared.moves.Move.{Move}
+use Rattle.tn_types.specs.declared.moves.MoveBits.{MoveBits}
 use Rattle.notify_window.specs.declared.SendState.{SendState}
 use Rattle.notify_window.specs.declared.SendState.TheVariants.{Held, Worn, Room}
 use Rattle.move_manager.specs.Sending.{Packet}
@@ -69,10 +69,10 @@ module _ (t : Terms) where
   abbrev AreFew : List ServerEvent → Type 0
   AreFew s = length (accepted_at t.config s) ≤ t.config.life
 
-  accepts_few : (life room : ℕ) (p : Packet) (acc : List Move) → length acc ≤ life → length (accept life room p acc) ≤ life
+  accepts_few : (life room : ℕ) (p : Packet) (acc : List MoveBits) → length acc ≤ life → length (accept life room p acc) ≤ life
   accepts_few life room p acc few = go (nat_le p.first (length acc))
     where
-      new : List Move
+      new : List MoveBits
       new = take (new_count life room (length acc) p) (drop (length acc - p.first) p.moves)
 
       go : (b : Bool) → length (cond b (acc ++ take (new_count life room (length acc) p) (drop (length acc - p.first) p.moves)) acc) ≤ life

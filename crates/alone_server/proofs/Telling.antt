@@ -4,6 +4,7 @@ use Rattle.std.proofs.Common.{◌≡◌, ◌∙◌, ℕ, ◌<◌, true, not, Lis
 use Rattle.std.proofs.lemmas.Bool.{not-true}
 use Rattle.std.specs.List.{AllByRecursion}
 use Rattle.tn_types.specs.declared.choices.Drain.{Drain}
+use Rattle.tn_types.specs.declared.limits.TheConstants.{WORLD_MOVE_BITS}
 use Rattle.world_rules.specs.Kinds.{match_kinds}
 use Rattle.match_script.specs.declared.types.BodyLine.{BodyLine}
 use Rattle.match_script.specs.declared.types.BodyLine.TheVariants as script
@@ -17,6 +18,7 @@ use Rattle.pair_core.specs.Stands.{StandsFor as PairStandsFor}
 use Rattle.pair_steps.specs.Steps.{shows_in, is_hidden_in, up_in}
 use Rattle.pair_steps.proofs.Journals.{up_to}
 use Rattle.match_script.specs.Named.{client_named}
+use Rattle.own_lists.specs.bit_stream.WorldMoves.{bits_of}
 use Rattle.own_lists.specs.Own.{OwnItem}
 use Rattle.own_lists.specs.Kept.{kept}
 use Rattle.own_lists.specs.Past.{Past, client_terms, start}
@@ -36,7 +38,7 @@ use Rattle.alone_server.proofs.Holding.{undrained_is}
 named : (n m : ℕ) → ◌≡◌ {A = Option ℕ} (Some n) (Some m) → n ≡ m
 named n m e = cc (e)
 
-module _ (t : Terms) (kinds : t.kinds ≡ match_kinds) (items : List OwnItem) where
+module _ (t : Terms) (ten : t.config.move_bits ≡ WORLD_MOVE_BITS) (kinds : t.kinds ≡ match_kinds) (items : List OwnItem) where
   -- a header that says this of the client
   abbrev pub head : Head
   head = record {
@@ -55,7 +57,7 @@ module _ (t : Terms) (kinds : t.kinds ≡ match_kinds) (items : List OwnItem) wh
 
   same : (n : ℕ) → n ≡ t.config.client → client_terms head n ≡ t
   same n is = λ j. record {
-    config = record { client = is j; life = t.config.life; size = t.config.size; version = t.config.version };
+    config = record { client = is j; life = t.config.life; size = t.config.size; version = t.config.version; move_bits = sym ten j };
     kinds = sym kinds j;
     blocks = t.blocks;
   }
@@ -91,7 +93,7 @@ module _ (t : Terms) (kinds : t.kinds ≡ match_kinds) (items : List OwnItem) wh
       ap (λ (x : Told). Some x) (is ∙ ap (λ (u : Terms). raw_told n bytes u (kept u items).course) terms)
   direct_told (script.Move n m) d e a is =
       let terms = same n (named n t.config.client e) in
-      ap (λ (x : Told). Some x) (is ∙ ap (λ (u : Terms). move_told u (kept u items).course.steps n) terms)
+      ap (λ (x : Told). Some x) (is ∙ ap (λ (u : Terms). move_told u (kept u items).course.steps n (bits_of m)) terms)
 
 -- ---- what is held is shown and not hidden, whatever steps the connection stands for
 

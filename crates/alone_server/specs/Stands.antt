@@ -1,6 +1,6 @@
 -- The tie between a server that serves one client alone and the items that it was fed, the newest first.
 use Rattle.std.specs.Prelude.{◌≡◌, ℕ, ◌<◌, ◌≤◌, Bool, true, false, Option, Some, List, ◌∷◌, length, filter}
-use Rattle.tn_types.specs.declared.limits.TheConstants.{MAX_BLOCKS, MAX_COUNTED_LINES}
+use Rattle.tn_types.specs.declared.limits.TheConstants.{MAX_BLOCKS, MAX_COUNTED_LINES, WORLD_MOVE_BITS}
 use Rattle.match_script.specs.declared.types.BodyLine.TheVariants as script
 use Rattle.match_report.specs.declared.told.Told.{Told}
 use Rattle.world_rules.specs.Kinds.{match_kinds}
@@ -22,7 +22,7 @@ use Rattle.alone_server.specs.Telling.{item_told}
 -- what the header says of the client's connection, in a match
 abbrev pub terms_of : AloneHeader → Terms
 terms_of h = record {
-  config = record { client = h.client; life = h.life; size = h.size; version = h.version };
+  config = record { client = h.client; life = h.life; size = h.size; version = h.version; move_bits = WORLD_MOVE_BITS };
   kinds = match_kinds;
   blocks = h.blocks;
 }
@@ -48,6 +48,7 @@ counted_in items = length (filter is_counted items)
 pub record Serves (c : ℕ) (seat : SeatState) (x : Table) (t : Terms) (items : List OwnItem) : Type 0 where
   pub own : AreOwn t items
   pub config : IsConfig t.config
+  pub move_bits : t.config.move_bits ≡ WORLD_MOVE_BITS
   pub kinds : t.kinds ≡ match_kinds
   pub client : t.config.client ≡ c
   pub course : SeatStandsFor seat t (kept t items).course

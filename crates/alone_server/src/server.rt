@@ -15,7 +15,7 @@ use own_items::{OwnItem, OwnShow, OwnWrite};
 use own_lists::Showing;
 use std::alloc::{AllocError, Global};
 use stream_manager::Config;
-use tn_types::{Drain, NoMemory, RawBytes};
+use tn_types::{Drain, NoMemory, RawBytes, WORLD_MOVE_BITS};
 use world_rules::match_kinds;
 
 /// What the header of a match says of one client's connection.
@@ -96,6 +96,7 @@ impl AloneServer {
             life: header.life,
             size: header.size,
             version: header.version,
+            move_bits: WORLD_MOVE_BITS as u8,
         };
         let seat = Seat::new(alloc, config, &match_kinds(), header.blocks.as_slice())?;
         Ok(AloneServer {

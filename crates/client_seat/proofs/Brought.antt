@@ -3,7 +3,7 @@ use Rattle.std.proofs.Common.{◌≡◌, ℕ, ◌+◌, ◌-◌, ◌≤◌, Bool,
 use Rattle.std.specs.Prelude.{slice_get}
 use Rattle.std.proofs.lemmas.List.{length-take, take_all, drop-append-le}
 use Rattle.tn_types.specs.declared.limits.TheConstants.{MAX_WAITING_MOVES}
-use Rattle.tn_types.specs.declared.moves.Move.{Move}
+use Rattle.tn_types.specs.declared.moves.MoveBits.{MoveBits}
 use Rattle.move_manager.specs.Sending.{Packet}
 use Rattle.move_manager.specs.Accepting.{new_count, accept}
 use Rattle.wire_format.specs.declared.client.ClientPacket.{ClientPacket}
@@ -28,7 +28,7 @@ use Rattle.client_seat.specs.Stands.{SeatState, Holds, StandsFor}
 
 -- ---- few moves
 
-accept-few : (life room : ℕ) (p : Packet) (acc : List Move) → length (accept life room p acc) ≤ length acc + room
+accept-few : (life room : ℕ) (p : Packet) (acc : List MoveBits) → length (accept life room p acc) ≤ length acc + room
 accept-few life room p acc = by (nat_le p.first (length acc))
   where
     by : (b : Bool) → length (cond b (acc ++ take (new_count life room (length acc) p) (drop (length acc - p.first) p.moves)) acc) ≤ length acc + room
@@ -125,24 +125,24 @@ module _ (old : SeatState) (new : PairState) (g : GivenStep) (comes : ComesUp g)
   pub refused-holds : ((moves : ℕ) → answer t k.steps (step_of g) ≡ says.Came moves → ⊥) → Holds (record { pair = new; waiting = old.waiting; taken = old.taken }) t (with_step (step_of g) k)
   refused-holds refused = record {
     pair = does t k.steps s.holds.pair;
-    waiting = s.holds.waiting ∙ ap (λ (ms : List Move). drop k.taken ms) (sym (none-new t k.steps g comes refused));
+    waiting = s.holds.waiting ∙ ap (λ (ms : List MoveBits). drop k.taken ms) (sym (none-new t k.steps g comes refused));
     taken = s.holds.taken;
     few = rw (none-new t k.steps g comes refused) s.holds.few;
   }
 
-  pub came-holds : (count : ℕ) (waiting : List Move) → LendsMoves old.pair (step_of g) new → room_for g ≡ room_in t k → count ≡ min (length new.conn.taken) (MAX_WAITING_MOVES - length old.waiting) → waiting ≡ old.waiting ++ take count new.conn.taken
+  pub came-holds : (count : ℕ) (waiting : List MoveBits) → LendsMoves old.pair (step_of g) new → room_for g ≡ room_in t k → count ≡ min (length new.conn.taken) (MAX_WAITING_MOVES - length old.waiting) → waiting ≡ old.waiting ++ take count new.conn.taken
       → Holds (record { pair = new; waiting = waiting; taken = old.taken }) t (with_step (step_of g) k)
   came-holds count waiting lends room counted filled =
       let before = accepted_in t k.steps in
       let more : accepted_in t (step_of g ∷ k.steps) ≡ before ++ new.conn.taken = lends t k.steps s.holds.pair in
-      let long : length (accepted_in t (step_of g ∷ k.steps)) ≡ length before + length new.conn.taken = ap (λ (ms : List Move). length ms) more ∙ length-append before new.conn.taken in
+      let long : length (accepted_in t (step_of g ∷ k.steps)) ≡ length before + length new.conn.taken = ap (λ (ms : List MoveBits). length ms) more ∙ length-append before new.conn.taken in
       let few = few-new t k.steps g comes in
-      let same : length old.waiting ≡ length (drop k.taken before) = ap (λ (ms : List Move). length ms) s.holds.waiting in
+      let same : length old.waiting ≡ length (drop k.taken before) = ap (λ (ms : List MoveBits). length ms) s.holds.waiting in
       let all : take count new.conn.taken ≡ new.conn.taken = take_all count new.conn.taken (omega (arith, counted, few, long, room, same)) in
       let front : drop k.taken (before ++ new.conn.taken) ≡ drop k.taken before ++ new.conn.taken = drop-append-le k.taken before new.conn.taken s.holds.few in
       record {
         pair = does t k.steps s.holds.pair;
-        waiting = filled ∙ ap (λ ms. old.waiting ++ ms) all ∙ ap (λ ms. ms ++ new.conn.taken) s.holds.waiting ∙ sym front ∙ ap (λ (ms : List Move). drop k.taken ms) (sym more);
+        waiting = filled ∙ ap (λ ms. old.waiting ++ ms) all ∙ ap (λ ms. ms ++ new.conn.taken) s.holds.waiting ∙ sym front ∙ ap (λ (ms : List MoveBits). drop k.taken ms) (sym more);
         taken = s.holds.taken;
         few = omega (arith, s.holds.few, long);
       }

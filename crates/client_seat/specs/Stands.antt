@@ -3,7 +3,7 @@ use Rattle.std.specs.Prelude.{◌≡◌, ℕ, ◌≤◌, ◌+◌, List, [], leng
 use Rattle.std.specs.List.{AllByRecursion}
 use Rattle.tn_types.specs.declared.choices.Drain.{Drain}
 use Rattle.tn_types.specs.declared.choices.Read.{Read}
-use Rattle.tn_types.specs.declared.moves.Move.{Move}
+use Rattle.tn_types.specs.declared.moves.MoveBits.{MoveBits}
 use Rattle.match_report.specs.declared.told.Told.{Told}
 use Rattle.ghost_model.specs.Legal.{IsUp}
 use Rattle.stream_manager.specs.Limits.{Terms}
@@ -21,7 +21,7 @@ use Rattle.own_lists.specs.Conditions.{MeetEach}
 -- ticks took
 pub record SeatState : Type 0 where
   pub pair : PairState
-  pub waiting : List Move
+  pub waiting : List MoveBits
   pub taken : ℕ
 
 -- the seat after a course

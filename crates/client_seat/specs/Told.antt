@@ -6,6 +6,7 @@ use Rattle.tn_types.specs.declared.choices.Class.TheVariants.{Guaranteed, Loose}
 use Rattle.tn_types.specs.declared.choices.PacketKind.TheVariants.{Ping, Body}
 use Rattle.tn_types.specs.declared.choices.Drain.{Drain}
 use Rattle.tn_types.specs.declared.choices.Read.{Read}
+use Rattle.tn_types.specs.declared.moves.MoveBits.{MoveBits}
 use Rattle.tn_types.specs.declared.limits.TheConstants.{MAX_SLOTS, MAX_FIELDS}
 use Rattle.tn_types.specs.BitWords.{has_bit}
 use Rattle.wire_format.specs.declared.server.ServerPacket.TheVariants as server_packet
@@ -53,8 +54,8 @@ abbrev pub client_post_told : Terms → List PairStep → ℕ → Class → Told
 client_post_told t steps c Guaranteed = told_as.Post Client c (posted_at_client t.config (history t steps).client)
 client_post_told t steps c Loose = told_as.PostLoose Client c (dropped_of (client_end (history t steps).client))
 
-abbrev pub move_told : Terms → List PairStep → ℕ → Told
-move_told t steps c = told_as.Moved c (sampled_answer t.config (history t steps).client)
+abbrev pub move_told : Terms → List PairStep → ℕ → MoveBits → Told
+move_told t steps c m = told_as.Moved c (sampled_answer t.config m (history t steps).client)
 
 -- ---- packs
 

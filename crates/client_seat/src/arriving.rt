@@ -76,7 +76,7 @@ impl Seat {
     {
         let answer = self.pair.step(step);
         if let Answer::Came { moves: _ } = answer {
-            self.waiting.fill_from_slice(self.pair.conn().taken_moves());
+            self.waiting.fill_from_slice(self.pair.conn().taken_bits());
         }
         answer
     }

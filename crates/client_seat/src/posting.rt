@@ -13,7 +13,7 @@ ghost use Rattle.client_seat.specs.Told.{post_told, client_post_told, move_told}
 use crate::seat::Seat;
 use match_report::Told;
 use own_lists::pair_core::{Answer, PairStep};
-use tn_types::{Class, End, Move, Payload};
+use tn_types::{Class, End, MoveBits, Payload};
 
 /// What is told of a post, by its answer.
 fn posted(by: End, client: u8, answer: Answer) -> Told
@@ -85,9 +85,9 @@ impl Seat {
     }
 
     /// The client samples a move of its player.
-    pub fn sample(&mut self, client: u8, m: Move) -> Told
+    pub fn sample(&mut self, client: u8, m: MoveBits) -> Told
         requires { Stands self.old }
-        ensures told { Answers self.old (λ t k. move_told t k.steps client) result }
+        ensures told { Answers self.old (λ t k. move_told t k.steps client m) result }
         ensures stands { Becomes self.old (λ t k. with_step (Sample m) k) self.new }
         ensures keeping { self.new.pair.keeps_all ≡ self.old.pair.keeps_all }
     {

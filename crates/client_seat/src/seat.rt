@@ -12,13 +12,13 @@ use quantised_fields::KindTable;
 use std::alloc::Global;
 use std::marker::Model;
 use stream_manager::Config;
-use tn_types::{BlockBytes, MAX_BLOCKS, MAX_WAITING_MOVES, Move, NoMemory, RawBytes};
+use tn_types::{BlockBytes, MAX_BLOCKS, MAX_WAITING_MOVES, MoveBits, NoMemory, RawBytes};
 
 /// A client's connection, and its accepted moves that wait for a tick, at most 32. No event waits between two calls.
 pub struct Seat {
     pub(crate) pair: Pair,
     // the oldest first
-    pub(crate) waiting: HeapCircularBuffer<Move>,
+    pub(crate) waiting: HeapCircularBuffer<MoveBits>,
     // accepted moves that ticks took
     pub(crate) taken: u32,
     // the bytes of a datagram that was told and is told no more: the next one is told in their room
@@ -50,7 +50,7 @@ impl Model for Seat {
 }
 
 // Places for the moves that wait.
-fn places(alloc: Global) -> Result<HeapCircularBuffer<Move>, NoMemory>
+fn places(alloc: Global) -> Result<HeapCircularBuffer<MoveBits>, NoMemory>
     ensures none { IfOk result (λ b. b.items ≡ []) }
     ensures places { IfOk result (λ b. b.capacity ≡ MAX_WAITING_MOVES) }
 {
@@ -138,7 +138,7 @@ impl Seat {
     }
 
     /// The oldest move that waits, which a tick takes.
-    pub fn take_move(&mut self) -> Option<Move>
+    pub fn take_move(&mut self) -> Option<MoveBits>
         requires { self.old.taken < 2 ^ 32 - 1 }
         ensures value { result ≡ slice_get self.old.waiting 0 }
         ensures rest { self.new ≡ without_first self.old }

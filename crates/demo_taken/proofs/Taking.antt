@@ -5,7 +5,7 @@ use Rattle.std.specs.Result.{is_ok}
 use Rattle.std.proofs.lemmas.List.{append-nil}
 use Rattle.tn_types.specs.declared.choices.Class.{Class}
 use Rattle.tn_types.specs.declared.choices.Class.TheVariants.{Guaranteed, Loose}
-use Rattle.tn_types.specs.declared.moves.Move.{Move}
+use Rattle.tn_types.specs.declared.moves.MoveBits.{MoveBits}
 use Rattle.tn_types.specs.Checks.{Checked}
 use Rattle.notify_window.specs.declared.SendState.{SendState}
 use Rattle.notify_window.specs.declared.SendState.TheVariants.{Held, Worn, Room}
@@ -37,7 +37,7 @@ posts-none : (c : Config) (class : Class) (v : List ℕ) (log : List ClientEvent
 posts-none c Guaranteed v log = if-posted (is_ok (posted_at_client c log)) Guaranteed v log
 posts-none c Loose v log = refl
 
-if-sampled : (b : Bool) (m : Move) (log : List ClientEvent) → packets_at (if b then client.Sampled m ∷ log else log) ≡ packets_at log
+if-sampled : (b : Bool) (m : MoveBits) (log : List ClientEvent) → packets_at (if b then client.Sampled m ∷ log else log) ≡ packets_at log
 if-sampled true m log = refl
 if-sampled false m log = refl
 
@@ -70,7 +70,7 @@ takes-the-same t (Hide n ∷ steps) = takes-the-same t steps
 takes-the-same t (Near n level ∷ steps) = takes-the-same t steps
 takes-the-same t (Post class v ∷ steps) = takes-the-same t steps
 takes-the-same t (ClientPost class v ∷ steps) = takes-the-same t steps ∙ sym (posts-none t.config class v (history t steps).client)
-takes-the-same t (Sample m ∷ steps) = takes-the-same t steps ∙ sym (if-sampled (is_ok (sampled_answer t.config (history t steps).client)) m (history t steps).client)
+takes-the-same t (Sample m ∷ steps) = takes-the-same t steps ∙ sym (if-sampled (is_ok (sampled_answer t.config m (history t steps).client)) m (history t steps).client)
 takes-the-same t (Pack drains reads ∷ steps) = takes-the-same t steps
 takes-the-same t (ClientPack ∷ steps) = takes-the-same t steps ∙ sym (by-state t.config (history t steps).client (client_state t.config (history t steps).client))
 takes-the-same t (Down k ∷ steps) =

@@ -13,6 +13,7 @@ use Rattle.wire_format.specs.declared.server.ServerBody.{ServerBody}
 use Rattle.wire_format.specs.declared.server.ServerPacket.{ServerPacket}
 use Rattle.wire_format.specs.declared.server.ServerPacket.TheVariants.{Ping, Body}
 use Rattle.wire_format.specs.Header.{read_head}
+use Rattle.wire_format.specs.Events.{is_low}
 use Rattle.wire_format.specs.Server.{read_server}
 use Rattle.tn_types.specs.Checks.{Checked, then_check}
 use Rattle.event_manager.specs.Receiving.{run_of, take_answer}
@@ -66,7 +67,7 @@ module _ (c : Config) (kinds : List Kind) (log : List ClientEvent) where
   same-look (Err e) = refl
 
   same-first : (bytes : List ℕ) → head_first (config_of t) (took (packets_at log)) bytes ≡ head_first c log bytes
-  same-first bytes = ap (λ (r : Checked ClientFault). if c.version == 2 then r else Ok tt) (same-look (read_head bytes))
+  same-first bytes = ap (λ (r : Checked ClientFault). if is_low c.version then r else Ok tt) (same-look (read_head bytes))
 
   -- ---- what is read
 

@@ -29,7 +29,7 @@ pub record ViewTerms : Type 0 where
 
 -- as a connection's: of its life and size nothing is asked where nothing is sent
 abbrev pub config_of : ViewTerms → Config
-config_of t = record { client = t.client; life = 0; size = 0; version = t.version }
+config_of t = record { client = t.client; life = 0; size = 0; version = t.version; move_bits = 0 }
 
 -- how many guaranteed events were delivered
 abbrev pub count_delivered : List ServerPacket → ℕ
@@ -76,8 +76,8 @@ reading t packets bytes = read_at (config_of t) t.kinds (took packets) bytes
 abbrev pub whole_view : ViewTerms → List ℕ → List ServerPacket → Result ServerPacket ClientFault
 whole_view t bytes packets = viewed_packet t packets (reading t packets bytes)
 
--- what bytes meet: the first refusal whose condition holds, as a client says it, else the packet that they spell. In version 2
--- the header decides first
+-- what bytes meet: the first refusal whose condition holds, as a client says it, else the packet that they spell. From
+-- version 2 on the header decides first
 abbrev pub view_of : ViewTerms → List ℕ → List ServerPacket → Result ServerPacket ClientFault
 view_of t bytes packets = checked_then (head_first (config_of t) (took packets) bytes) (whole_view t bytes packets)
 

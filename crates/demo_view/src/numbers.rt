@@ -1,11 +1,11 @@
-//! The events of a packet by their whole numbers, of which a packet of version 2 has the lowest bits alone.
-ghost use Rattle.std.specs.Prelude.{◌≡◌, ℕ, ◌+◌, ◌<◌, ◌≤◌, ◌==◌, [], Ok, All, OnOk, length, if◌then◌else◌};
+//! The events of a packet by their whole numbers, of which a packet has the lowest bits alone from version 2 on.
+ghost use Rattle.std.specs.Prelude.{◌≡◌, ℕ, ◌+◌, ◌<◌, ◌≤◌, [], Ok, All, OnOk, length, if◌then◌else◌};
 ghost use Rattle.event_manager.specs.Low.{whole_items};
 ghost use Rattle.event_manager.specs.ReceiverStands.{TakesIn, HandsOver};
 ghost use Rattle.event_manager.specs.ReceiverState.{event_count};
 ghost use Rattle.event_manager.specs.Receiving.{take_answer};
 ghost use Rattle.event_manager.specs.declared.TheConstants.{MAX_DELIVERED_BEFORE};
-ghost use Rattle.wire_format.specs.Events.{IsEventInRange};
+ghost use Rattle.wire_format.specs.Events.{IsEventInRange, is_low};
 ghost use Rattle.stream_manager.specs.Faults.{events_at_client};
 ghost use Rattle.demo_view.specs.Viewing.{as_client};
 
@@ -21,11 +21,11 @@ pub(crate) fn check_events(
 ) -> Result<(), ViewFault>
     requires numbers { All (IsEventInRange version) events.now }
     ensures answer { as_client result ≡ events_at_client (take_answer receiver.now.delivered
-        (if version == 2 then whole_items receiver.now.delivered events.now else events.now)) }
+        (if is_low version then whole_items receiver.now.delivered events.now else events.now)) }
     ensures near { OnOk result (take_answer receiver.now.delivered
-        (if version == 2 then whole_items receiver.now.delivered events.now else events.now) ≡ Ok tt) }
+        (if is_low version then whole_items receiver.now.delivered events.now else events.now) ≡ Ok tt) }
 {
-    let answer = if version == 2 {
+    let answer = if version >= 2 {
         receiver.check_low(events)
     } else {
         receiver.check(events)
@@ -42,14 +42,14 @@ pub(crate) fn take_events(receiver: &mut EventReceiver, version: u8, events: &Ev
     requires numbers { All (IsEventInRange version) events.now }
     requires few { receiver.old.delivered < MAX_DELIVERED_BEFORE }
     requires near { take_answer receiver.old.delivered
-        (if version == 2 then whole_items receiver.old.delivered events.now else events.now) ≡ Ok tt }
+        (if is_low version then whole_items receiver.old.delivered events.now else events.now) ≡ Ok tt }
     ensures stands { TakesIn receiver.old
-        (if version == 2 then whole_items receiver.old.delivered events.now else events.now) receiver.new }
+        (if is_low version then whole_items receiver.old.delivered events.now else events.now) receiver.new }
     ensures handed { HandsOver receiver.old
-        (if version == 2 then whole_items receiver.old.delivered events.now else events.now) receiver.new }
+        (if is_low version then whole_items receiver.old.delivered events.now else events.now) receiver.new }
     ensures grown { event_count receiver.new ≤ event_count receiver.old + length events.now }
 {
-    let _ = if version == 2 {
+    let _ = if version >= 2 {
         receiver.take_low(events)
     } else {
         receiver.take(events)

@@ -268,13 +268,13 @@ impl Viewer {
         }
     }
 
-    /// In version 2 what the header of these bytes says of whether to read the rest; nothing changes.
+    /// From version 2 on what the header of these bytes says of whether to read the rest; nothing changes.
     fn look_first(&self, bytes: &[u8]) -> Result<(), ViewFault>
         requires few { length bytes.now ≤ MAX_READ_BYTES }
         ensures answer { Answers self.now
             (λ packets. head_first (config_of (terms_of self.now)) (took packets) bytes.now) (as_client result) }
     {
-        if self.version != 2 {
+        if self.version < 2 {
             return Ok(());
         }
         match server_head(bytes) {

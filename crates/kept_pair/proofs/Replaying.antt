@@ -5,7 +5,7 @@ use Rattle.std.specs.List.{AllByRecursion}
 use Rattle.std.proofs.lemmas.Bool.{ltb-true, ltb-false}
 use Rattle.std.proofs.lemmas.List.{reverse-append, take-append-le, get_or_append_left}
 use Rattle.std.proofs.Math.Seq.{get_or-append_seam, take-append_seam}
-use Rattle.tn_types.specs.declared.moves.Move.{Move}
+use Rattle.tn_types.specs.declared.moves.MoveBits.{MoveBits}
 use Rattle.pair_core.specs.stream_manager.Stands.{terms_of}
 use Rattle.pair_core.specs.History.{PairStep}
 use Rattle.pair_core.specs.Conditions.{IsMet, AreMet}
@@ -36,7 +36,7 @@ fresh-kept p fresh =
 
 -- ---- one more step
 
-module _ (old new : PairState) (steps : List PairStep) (moves more : List Move) (befores : List ℕ) (step : PairStep) (k : AreKept old steps moves befores)
+module _ (old new : PairState) (steps : List PairStep) (moves more : List MoveBits) (befores : List ℕ) (step : PairStep) (k : AreKept old steps moves befores)
     (few : length (steps ++ step ∷ []) ≤ 65536) (met : IsMet (terms_of old.conn) (newest_first steps) step) (fits : StepFits step)
     (stands : StandsFor new (terms_of old.conn) (step ∷ newest_first steps))
     (are : more ≡ accepted_in (terms_of old.conn) (step ∷ newest_first steps)) (keeping : new.keeps_all ≡ old.keeps_all) where
@@ -64,7 +64,7 @@ module _ (old new : PairState) (steps : List PairStep) (moves more : List Move) 
           let last : length steps ≡ i = omega (arith, least, lt, longer) in
           let end : length befores ≡ i = omega (arith, k.long) in
           subst (λ n. get_or (befores ++ length moves ∷ []) n 0 ≡ length (accepted_in (terms_of old.conn) (newest_first (take i (steps ++ step ∷ []))))) end
-          (get_or-append_seam befores (length moves) [] 0 ∙ ap (λ (l : List Move). length l) k.moves_are
+          (get_or-append_seam befores (length moves) [] 0 ∙ ap (λ (l : List MoveBits). length l) k.moves_are
           ∙ ap (λ l. length (accepted_in (terms_of old.conn) (newest_first l))) (sym (subst (λ n. take n (steps ++ step ∷ []) ≡ steps) last (take-append_seam steps (step ∷ [])))))
 
   pub kept-more : AreKept new (steps ++ step ∷ []) more (befores ++ length moves ∷ [])
@@ -73,7 +73,7 @@ module _ (old new : PairState) (steps : List PairStep) (moves more : List Move) 
     moves_are = subst (λ t. more ≡ accepted_in t (newest_first (steps ++ step ∷ []))) (sym stands.terms) (are ∙ ap (accepted_in (terms_of old.conn)) (sym (newest-more steps step)));
     each = λ i lt. subst (λ t. get_or (befores ++ length moves ∷ []) i 0 ≡ length (accepted_in t (newest_first (take i (steps ++ step ∷ []))))) (sym stands.terms) (each-more i lt);
     long = omega (arith, k.long, longer, length-append befores (length moves ∷ []));
-    few_moves = omega (arith, k.few_moves, longer, few-more (terms_of old.conn) (newest_first steps) step, ap (λ (l : List Move). length l) are, ap (λ (l : List Move). length l) k.moves_are);
+    few_moves = omega (arith, k.few_moves, longer, few-more (terms_of old.conn) (newest_first steps) step, ap (λ (l : List MoveBits). length l) are, ap (λ (l : List MoveBits). length l) k.moves_are);
     keeps_all = keeping ∙ k.keeps_all;
     few_down = omega (arith, k.few_down, longer, one-down (terms_of old.conn) (newest_first steps) step, stands.sent, k.replays.stands.sent);
     few_up = omega (arith, k.few_up, longer, one-up (terms_of old.conn) (newest_first steps) step, ap (λ (l : List (List ℕ)). length l) stands.up, ap (λ (l : List (List ℕ)). length l) k.replays.stands.up);

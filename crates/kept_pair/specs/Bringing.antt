@@ -1,6 +1,6 @@
 -- Which steps may bring moves to the server: those that bring it a datagram, where it takes that datagram.
 use Rattle.std.specs.Prelude.{Bool, true, false, List, [], if◌then◌else◌}
-use Rattle.tn_types.specs.declared.moves.Move.{Move}
+use Rattle.tn_types.specs.declared.moves.MoveBits.{MoveBits}
 use Rattle.pair_core.specs.declared.step.PairStep.{PairStep as GivenStep}
 use Rattle.pair_core.specs.declared.step.PairStep.TheVariants as given
 use Rattle.pair_core.specs.declared.step.Answer.{Answer}
@@ -16,5 +16,5 @@ brings (given.Raw bytes room) a = has_come a
 brings other a = false
 
 -- of the moves that the server lends, those that the step brought
-abbrev pub brought : GivenStep → Answer → List Move → List Move
+abbrev pub brought : GivenStep → Answer → List MoveBits → List MoveBits
 brought step a lent = if brings step a then lent else []

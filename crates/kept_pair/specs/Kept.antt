@@ -4,7 +4,7 @@ use Rattle.std.specs.Prelude.{◌≡◌, ℕ, ℤ, ◌*◌, ◌<◌, ◌≤◌, 
 use Rattle.std.specs.List.{AllByRecursion}
 use Rattle.tn_types.specs.declared.limits.TheConstants.{MAX_PACKET_MOVES, MAX_KEPT_STEPS}
 use Rattle.tn_types.specs.declared.choices.Drain.{Drain}
-use Rattle.tn_types.specs.declared.moves.Move.{Move}
+use Rattle.tn_types.specs.declared.moves.MoveBits.{MoveBits}
 use Rattle.pair_core.specs.stream_manager.Limits.{Terms}
 use Rattle.pair_core.specs.stream_manager.Stands.{terms_of}
 use Rattle.pair_core.specs.stream_manager.Server.{server_state, ghost_log}
@@ -51,7 +51,7 @@ pub record Replays (p : PairState) (steps : List PairStep) : Type 0 where
   pub few : length steps ≤ MAX_KEPT_STEPS
 
 -- the moves that the server accepted in these steps, the oldest first
-abbrev pub accepted_by : KeptState → List PairStep → List Move
+abbrev pub accepted_by : KeptState → List PairStep → List MoveBits
 accepted_by k steps = accepted_in (terms_in k) (newest_first steps)
 
 -- ---- calls
@@ -90,7 +90,7 @@ Prepares drains old new = new ≡ record old { pair = record old.pair { prepared
 -- ---- what is kept beside the steps
 
 -- the moves of all steps, and how many there were before each
-pub record AreKept (p : PairState) (steps : List PairStep) (moves : List Move) (befores : List ℕ) : Type 0 where
+pub record AreKept (p : PairState) (steps : List PairStep) (moves : List MoveBits) (befores : List ℕ) : Type 0 where
   pub replays : Replays p steps
   pub moves_are : moves ≡ accepted_in (terms_of p.conn) (newest_first steps)
   pub each : (i : ℕ) → i < length steps → slice_index befores i ≡ length (accepted_in (terms_of p.conn) (newest_first (take i steps)))

@@ -6,7 +6,7 @@ ghost use Rattle.kept_pair.specs.Bringing.{brings, brought};
 
 use pair_core::stream_manager::Conn;
 use pair_core::{Answer, PairStep};
-use tn_types::Move;
+use tn_types::MoveBits;
 
 /// Its payload is one of an event, as every payload is.
 pub(crate) fn learn_payload(step: &PairStep)
@@ -37,17 +37,17 @@ fn brought_moves(step: &PairStep, answer: &Answer) -> bool
 }
 
 /// The moves that it brought.
-pub(crate) fn brought<'a>(step: &PairStep, answer: &Answer, conn: &'a Conn) -> &'a [Move]
+pub(crate) fn brought<'a>(step: &PairStep, answer: &Answer, conn: &'a Conn) -> &'a [MoveBits]
     ensures { result.now ≡ brought step.now answer.now conn.now.taken }
 {
     if brought_moves(step, answer) {
-        return conn.taken_moves();
+        return conn.taken_bits();
     }
     &[]
 }
 
 /// Adds moves, for which there is room.
-pub(crate) fn add_moves(moves: &mut Vec<Move>, more: &[Move])
+pub(crate) fn add_moves(moves: &mut Vec<MoveBits>, more: &[MoveBits])
     requires { vec_len moves.old + length more.now ≤ vec_capacity moves.old }
     ensures { moves.new.items ≡ moves.old.items ++ more.now }
 {

@@ -10,7 +10,7 @@ use pair_core::{Answer, Pair, PairStep};
 use std::alloc::Global;
 use std::marker::Model;
 use tn_types::{
-    Class, Drain, MAX_KEPT_STEPS, MAX_PACKET_MOVES, MAX_SHOWN_PERIODS, Move, NoMemory, Payload,
+    Class, Drain, MAX_KEPT_STEPS, MAX_PACKET_MOVES, MAX_SHOWN_PERIODS, MoveBits, NoMemory, Payload,
     Read, Values,
 };
 
@@ -22,7 +22,7 @@ pub struct KeptPair {
     pair: Pair,
     steps: StepList,
     // the moves that the server accepted, and how many there were before each step
-    moves: Vec<Move>,
+    moves: Vec<MoveBits>,
     befores: Vec<u32>,
     // what the last pack read
     noted: Vec<Read>,
@@ -211,7 +211,7 @@ impl KeptPair {
     }
 
     /// The moves that the server accepted in these steps, in order.
-    pub fn accepted_moves(&self) -> &[Move]
+    pub fn accepted_moves(&self) -> &[MoveBits]
         ensures { result.now ≡ accepted_by self.now self.now.steps }
     {
         self.moves.as_slice()

@@ -5,7 +5,7 @@ use Rattle.std.specs.List.{All, AllByRecursion, range_with_len}
 use Rattle.std.proofs.lemmas.List.{length-map, length-drop, get_or-map, drop-drop}
 use Rattle.std.proofs.lemmas.List.Elements.{recursion_from_All, All-from_recursion}
 use Rattle.std.proofs.lemmas.Option.{slice_get_within}
-use Rattle.tn_types.specs.declared.moves.Move.{Move}
+use Rattle.tn_types.specs.declared.moves.MoveBits.{MoveBits}
 use Rattle.match_script.specs.declared.types.BodyLine.{BodyLine}
 use Rattle.match_script.specs.declared.types.BodyLine.TheVariants as script
 use Rattle.match_script.specs.declared.types.Head.{Head}
@@ -55,7 +55,7 @@ seat_ticked : (seat : SeatState) (t : Terms) (k : Course) → SeatStandsFor seat
 seat_ticked seat t k s = record {
   holds = record {
     pair = s.holds.pair;
-    waiting = drop_one k.taken (accepted_in t k.steps) seat.waiting s.holds.waiting ∙ ap (λ (ws : List Move). drop (k.taken + (if is_some (slice_get ws 0) then 1 else 0)) (accepted_in t k.steps)) s.holds.waiting;
+    waiting = drop_one k.taken (accepted_in t k.steps) seat.waiting s.holds.waiting ∙ ap (λ (ws : List MoveBits). drop (k.taken + (if is_some (slice_get ws 0) then 1 else 0)) (accepted_in t k.steps)) s.holds.waiting;
     taken = rw (s.holds.taken, s.holds.waiting) refl;
     few = one_fits k.taken (accepted_in t k.steps) (waiting_in t k) refl s.holds.few;
   };
@@ -64,7 +64,7 @@ seat_ticked seat t k s = record {
 }
 
 -- the moves that wait first are those that a tick takes
-moves_agree : (f : ℕ → Option Move) (from : ℕ) (seats : List SeatState) → ((k : ℕ) (d : SeatState) → k < length seats → slice_get (get_or seats k d).waiting 0 ≡ f (from + k))
+moves_agree : (f : ℕ → Option MoveBits) (from : ℕ) (seats : List SeatState) → ((k : ℕ) (d : SeatState) → k < length seats → slice_get (get_or seats k d).waiting 0 ≡ f (from + k))
     → map (λ (s : SeatState). slice_get s.waiting 0) seats ≡ map f (range_with_len from (length seats))
 moves_agree f from [] h = refl
 moves_agree f from (s ∷ seats) h =
@@ -167,7 +167,7 @@ each_field w (x ∷ writes) h f =
     let within = slice_get_within (fields_of match_kinds (kind_of o.0.state)) x.field is.spec is.field in
     (omega (arith, within, few_fields o.0.state), each_field w writes h.1 f.1)
 
-pub fields_there : (m : GameState) (past : List BodyLine) (moves : List (Option Move)) → StandsFor m past → AllByRecursion (IsWriteOf m.world) (next m.world moves).writes
+pub fields_there : (m : GameState) (past : List BodyLine) (moves : List (Option MoveBits)) → StandsFor m past → AllByRecursion (IsWriteOf m.world) (next m.world moves).writes
     → All (λ (x : Write). x.field < 16) (next m.world moves).writes
 fields_there m past moves s h =
     let writes = (next m.world moves).writes in
@@ -178,14 +178,14 @@ fields_there m past moves s h =
 pub moves_taken : (m : GameState) (past : List BodyLine) → StandsFor m past → map (λ (s : SeatState). slice_get s.waiting 0) m.seats ≡ moves_of m.head (after m.head past)
 moves_taken m past s =
     moves_agree (λ c. next_move (client_terms m.head c) (kept_by m.head (after m.head past) c).course) 0 m.seats
-    (λ k d l. let z : 0 + k ≡ k = omega arith in rw z (ap (λ (ws : List Move). slice_get ws 0) (s.client k d some_scope (omega (arith, l, s.seat_count))).course.holds.waiting))
+    (λ k d l. let z : 0 + k ≡ k = omega arith in rw z (ap (λ (ws : List MoveBits). slice_get ws 0) (s.client k d some_scope (omega (arith, l, s.seat_count))).course.holds.waiting))
     ∙ ap (λ n. map (λ c. next_move (client_terms m.head c) (kept_by m.head (after m.head past) c).course) (range_with_len 0 n)) s.seat_count
 
-pub next_world : (m : GameState) (past : List BodyLine) (moves : List (Option Move)) → moves ≡ map (λ (s : SeatState). slice_get s.waiting 0) m.seats → StandsFor m past
+pub next_world : (m : GameState) (past : List BodyLine) (moves : List (Option MoveBits)) → moves ≡ map (λ (s : SeatState). slice_get s.waiting 0) m.seats → StandsFor m past
     → next m.world moves ≡ (after m.head (script.Tick ∷ past)).world
 next_world m past moves are s = ap (next m.world) (are ∙ moves_taken m past s) ∙ ap (λ (w : Worlds). next w (moves_of m.head (after m.head past))) s.same_world
 
-pub ticked_match : (m : GameState) (past : List BodyLine) (moves : List (Option Move)) (lanes : Words) → moves ≡ map (λ (s : SeatState). slice_get s.waiting 0) m.seats → m.done < 4000000
+pub ticked_match : (m : GameState) (past : List BodyLine) (moves : List (Option MoveBits)) (lanes : Words) → moves ≡ map (λ (s : SeatState). slice_get s.waiting 0) m.seats → m.done < 4000000
     → ((d o : ℕ) → d < 16 → mask_at lanes d o ≡ raised_by (next m.world moves).writes o (mask_at m.lanes d o)) → SizesStay m.lanes lanes → StandsFor m past
     → StandsFor (record { head = m.head; seats = map without_first m.seats; scopes = m.scopes; world = next m.world moves; lanes = lanes; done = m.done + 1 }) (script.Tick ∷ past)
 ticked_match m past moves lanes are done masks sizes s =

@@ -27,7 +27,7 @@ use std::alloc::Global;
 use std::marker::Model;
 use stream_manager::Config;
 use tn_types::{
-    BlockBytes, MAX_BLOCKS, MAX_CLIENTS, MAX_COUNTED_LINES, MAX_OBJECTS, Move, NoMemory, RawBytes,
+    BlockBytes, MAX_BLOCKS, MAX_CLIENTS, MAX_COUNTED_LINES, MAX_OBJECTS, MoveBits, NoMemory, RawBytes, WORLD_MOVE_BITS,
 };
 use world_rules::match_kinds;
 use world_sim::World;
@@ -43,7 +43,7 @@ pub(crate) struct Game<'a> {
     world: World,
     lanes: PlainLanes,
     // room for the moves of a tick, and for what a line works in
-    moves: Vec<Option<Move>>,
+    moves: Vec<Option<MoveBits>>,
     room: Room,
     // so many lines were done of those that are counted
     done: u32,
@@ -124,6 +124,7 @@ fn seats_of(alloc: Global, head: &Head, keeps: Keeps) -> Result<Vec<Seat>, NoMem
             life: head.life,
             size: head.size,
             version: head.version,
+            move_bits: WORLD_MOVE_BITS as u8,
         };
         let seat = seat_of(alloc, config, &kinds, head.blocks.as_slice(), keeps)?;
         if seats.push(seat).is_err() {

@@ -9,6 +9,7 @@ ghost use Rattle.match_laws.specs.client_seat.Stands.{Stands, StandsFor};
 ghost use Rattle.match_laws.specs.Report.{told};
 ghost use Rattle.match_engine.specs.Stands.{IsDirect, IsDown};
 
+use bit_stream::bits_of_move;
 use match_laws::client_seat::Seat;
 use match_report::Told;
 use match_script::BodyLine;
@@ -47,7 +48,7 @@ pub fn line_on(alloc: Global, seat: &mut Seat, line: &BodyLine) -> Result<Told, 
             let bytes = bytes.raw_bytes(alloc)?;
             seat.raw(alloc, *client, bytes)
         }
-        BodyLine::Move { client, m } => Ok(seat.sample(*client, *m)),
+        BodyLine::Move { client, m } => Ok(seat.sample(*client, bits_of_move(m))),
         _ => unreachable!(),
     }
 }

@@ -7,13 +7,13 @@ ghost use Rattle.match_laws.specs.World.{living};
 use match_laws::client_seat::Seat;
 use match_report::{Living, LivingObject, ValueList};
 use std::alloc::{AllocError, Global};
-use tn_types::{Move, NoMemory};
+use tn_types::{MoveBits, NoMemory};
 use world_sim::World;
 
 /// Takes the oldest waiting move of each client.
 pub(crate) fn take_moves(
     seats: &mut Vec<Seat>,
-    moves: &mut Vec<Option<Move>>,
+    moves: &mut Vec<Option<MoveBits>>,
 ) -> Result<(), AllocError>
     requires { AreFew seats.old.items }
     ensures moves { OnOk result (moves.new.items ≡ map (λ s. slice_get s.waiting 0) seats.old.items) }

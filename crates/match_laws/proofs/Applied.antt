@@ -7,7 +7,7 @@ use Rattle.std.specs.Result.{is_ok}
 use Rattle.tn_types.specs.declared.choices.Class.{Class}
 use Rattle.tn_types.specs.declared.choices.Class.TheVariants.{Guaranteed, Loose}
 use Rattle.tn_types.specs.declared.choices.Drain.{Drain}
-use Rattle.tn_types.specs.declared.moves.Move.{Move as PlayerMove}
+use Rattle.tn_types.specs.declared.moves.MoveBits.{MoveBits}
 use Rattle.tn_types.specs.Prefix.{IsPrefixOf}
 use Rattle.notify_window.specs.declared.SendState.{SendState}
 use Rattle.notify_window.specs.declared.SendState.TheVariants.{Held, Worn, Room}
@@ -60,7 +60,7 @@ module _ (t : Terms) where
   abbrev Grows : List ServerEvent → List ServerEvent → Type 0
   Grows old new = IsPrefixOf (accepted_at t.config old) (accepted_at t.config new)
 
-  accept-grows : (life room : ℕ) (p : Packet) (acc : List PlayerMove) → IsPrefixOf acc (accept life room p acc)
+  accept-grows : (life room : ℕ) (p : Packet) (acc : List MoveBits) → IsPrefixOf acc (accept life room p acc)
   accept-grows life room p acc = go (nat_le p.first (length acc))
     where
       go : (b : Bool)
@@ -150,23 +150,23 @@ module _ (t : Terms) where
 -- ---- what a tick takes
 
 -- these are the first of the accepted moves, and so many were taken
-pub record AreTaken (xs : List PlayerMove) (t : Terms) (k : Course) : Type 0 where
+pub record AreTaken (xs : List MoveBits) (t : Terms) (k : Course) : Type 0 where
   pub front : IsPrefixOf xs (accepted_in t k.steps)
   pub count : length xs ≡ k.taken
 
 -- one more, where this is the oldest that waits
-one-more : (xs acc : List PlayerMove) (o : Option PlayerMove) → (p : IsPrefixOf xs acc) → slice_get p.0 0 ≡ o
+one-more : (xs acc : List MoveBits) (o : Option MoveBits) → (p : IsPrefixOf xs acc) → slice_get p.0 0 ≡ o
     → IsPrefixOf (xs ++ one_move o) acc
 one-more xs acc None p e = (p.0, ap (λ l. l ++ p.0) (append-nil xs) ∙ p.1)
 one-more xs acc (Some m) p e = go p.0 e p.1
   where
-    go : (rest : List PlayerMove) → slice_get rest 0 ≡ Some m → xs ++ rest ≡ acc → IsPrefixOf (xs ++ m ∷ []) acc
+    go : (rest : List MoveBits) → slice_get rest 0 ≡ Some m → xs ++ rest ≡ acc → IsPrefixOf (xs ++ m ∷ []) acc
     go [] e all = absurd cc
     go (x ∷ rest) e all =
         let same : x ≡ m = cc in
         (rest, append_assoc xs (m ∷ []) rest ∙ ap (λ y. xs ++ y ∷ rest) (sym same) ∙ all)
 
-longer-by : (xs : List PlayerMove) (o : Option PlayerMove)
+longer-by : (xs : List MoveBits) (o : Option MoveBits)
     → length (xs ++ one_move o) ≡ length xs + (if is_some o then 1 else 0)
 longer-by xs None = omega (arith, ap length (append-nil xs))
 longer-by xs (Some m) = omega (arith, length-append xs (m ∷ []))
@@ -175,23 +175,23 @@ module _ (head : Head) (c : ℕ) where
   abbrev terms : Terms
   terms = client_terms head c
 
-  abbrev Left : List PlayerMove → List OwnItem → Type 0
+  abbrev Left : List MoveBits → List OwnItem → Type 0
   Left xs items = AreTaken xs terms (kept terms items).course
 
-  stays : (xs : List PlayerMove) (old new : Course) → Leaves terms old new → AreTaken xs terms old → AreTaken xs terms new
+  stays : (xs : List MoveBits) (old new : Course) → Leaves terms old new → AreTaken xs terms old → AreTaken xs terms new
   stays xs old new l h = record {
     front = longer xs (accepted_in terms old.steps) (accepted_in terms new.steps) h.front l.accepted;
     count = h.count ∙ sym l.taken;
   }
 
   -- an item that takes no move, in the list of whichever client
-  adds-none : (xs : List PlayerMove) (own : ℕ → List OwnItem) (item : OwnItem) (d : ℕ)
+  adds-none : (xs : List MoveBits) (own : ℕ → List OwnItem) (item : OwnItem) (d : ℕ)
       → Leaves terms (kept terms (own c)).course (follows terms item (kept terms (own c))).course → Left xs (own c)
       → Left xs (put own d (item ∷ own d) c)
   adds-none xs own item d l h =
       put_own (λ old new. Left xs old → Left xs new) own item c d (stays xs _ _ l) (λ old. old) h
 
-  tick-takes : (past : List BodyLine) (xs : List PlayerMove) → Left xs ((after head past).own c)
+  tick-takes : (past : List BodyLine) (xs : List MoveBits) → Left xs ((after head past).own c)
       → Left (xs ++ one_move (move_of head (after head past) c)) ((after head (script.Tick ∷ past)).own c)
   tick-takes past xs h =
       let p = after head past in

@@ -25,6 +25,7 @@ use Rattle.pair_copies.specs.pair_laws.Laws.{posted_at}
 use Rattle.conn_packing.proofs.Lists.{all-append}
 use Rattle.client_scope.specs.declared.period.Near.{Near as NearPeriod}
 use Rattle.client_seat.specs.own_lists.declared.showing.Showing.{Showing}
+use Rattle.client_seat.specs.own_lists.bit_stream.WorldMoves.{bits_of}
 use Rattle.client_seat.specs.own_lists.Own.{OwnShow, OwnItem, Line}
 use Rattle.client_seat.specs.own_lists.Course.{Course, room_in, onto, hide_step, near_step, show_step, scan_steps}
 use Rattle.client_seat.specs.own_lists.Kept.{put, drains_of, reads_of, kept, journal}
@@ -127,7 +128,7 @@ module _ (head : Head) (c : ℕ) where
   down-line (script.ClientPack d) past quiet =
       still to_client (own_of past) (Line (script.ClientPack d)) d (ap report_words (down_same terms ClientPack (journal terms (own_of past c)) tt))
   down-line (script.Move d m) past quiet =
-      still to_client (own_of past) (Line (script.Move d m)) d (ap report_words (down_same terms (Sample m) (journal terms (own_of past c)) tt))
+      still to_client (own_of past) (Line (script.Move d m)) d (ap report_words (down_same terms (Sample (bits_of m)) (journal terms (own_of past c)) tt))
   down-line line past quiet = still to_client (own_of past) (Line line) _ refl
 
   -- ---- delivered to the server
@@ -216,7 +217,7 @@ module _ (head : Head) (c : ℕ) where
       (ap script_words (posted_up_same terms ClientPack (journal terms (own_of past c)) tt))
   client-post-line (script.Move d m) past quiet =
       still at_client (own_of past) (Line (script.Move d m)) d
-      (ap script_words (posted_up_same terms (Sample m) (journal terms (own_of past c)) tt))
+      (ap script_words (posted_up_same terms (Sample (bits_of m)) (journal terms (own_of past c)) tt))
   client-post-line (script.Down d k) past quiet =
       still at_client (own_of past) (Line (script.Down d k)) d
       (ap script_words (posted_up_same terms (Down k) (journal terms (own_of past c)) tt))

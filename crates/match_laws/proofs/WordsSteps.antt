@@ -81,7 +81,7 @@ module _ (t : Terms) where
           by : (b : Bool) → delivered_at (client_end (if b then client.Posted Guaranteed v ∷ u else u)) ≡ delivered_at (client_end u)
           by true = refl
           by false = refl
-  down_same (Sample m) steps never = go (is_ok (sampled_answer t.config (history t steps).client))
+  down_same (Sample m) steps never = go (is_ok (sampled_answer t.config m (history t steps).client))
     where
       u : List ClientEvent
       u = (history t steps).client
@@ -174,7 +174,7 @@ module _ (t : Terms) where
 
   pub posted_up_same : (step : PairStep) (steps : List PairStep) → ClientPostsNone step → posted_up (step ∷ steps) ≡ posted_up steps
   posted_up_same (ClientPost Guaranteed v) steps never = absurd never
-  posted_up_same (Sample m) steps never = go (is_ok (sampled_answer t.config (history t steps).client))
+  posted_up_same (Sample m) steps never = go (is_ok (sampled_answer t.config m (history t steps).client))
     where
       u : List ClientEvent
       u = (history t steps).client

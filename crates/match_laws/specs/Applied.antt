@@ -1,6 +1,6 @@
 -- The moves that ticks took from a client: at each tick the one by which the world went on.
 use Rattle.std.specs.Prelude.{ℕ, ◌<◌, List, [], ◌∷◌, ◌++◌, Option, Some, None}
-use Rattle.tn_types.specs.declared.moves.Move.{Move as PlayerMove}
+use Rattle.tn_types.specs.declared.moves.MoveBits.{MoveBits}
 use Rattle.tn_types.specs.Prefix.{IsPrefixOf}
 use Rattle.match_script.specs.declared.types.BodyLine.{BodyLine}
 use Rattle.match_script.specs.declared.types.BodyLine.TheVariants.{Tick}
@@ -14,13 +14,13 @@ use Rattle.client_seat.specs.own_lists.Past.{client_terms, move_of, after}
 use Rattle.match_laws.specs.Laws.{first, journal_of}
 
 -- a tick takes one move of a client, or none
-abbrev pub one_move : Option PlayerMove → List PlayerMove
+abbrev pub one_move : Option MoveBits → List MoveBits
 one_move None = []
 one_move (Some m) = m ∷ []
 
 -- the moves that the ticks among these lines took from a client, the oldest first: each is what `moves_of` has of the client
 -- after the lines before the tick
-abbrev pub applied : Head → ℕ → List BodyLine → List PlayerMove
+abbrev pub applied : Head → ℕ → List BodyLine → List MoveBits
 applied head c [] = []
 applied head c (Tick ∷ past) = applied head c past ++ one_move (move_of head (after head past) c)
 applied head c (line ∷ past) = applied head c past

@@ -12,6 +12,7 @@ use Rattle.match_report.specs.Text.{report_line}
 use Rattle.world_sim.specs.Worlds.{Worlds}
 use Rattle.world_scope.specs.declared.viewer.Seen.{Seen}
 use Rattle.client_scope.specs.Changes.{hides, nears, shows}
+use Rattle.client_seat.specs.own_lists.bit_stream.WorldMoves.{bits_of}
 use Rattle.client_seat.specs.own_lists.Kept.{undrained}
 use Rattle.client_seat.specs.own_lists.Past.{Past, client_terms, kept_by, after}
 use Rattle.client_seat.specs.Told.{post_told, client_post_told, move_told, pack_told, client_pack_told, brought_down_told, brought_up_told, raw_told, show_told}
@@ -38,7 +39,7 @@ told head p q (script.ClientPack c) = client_pack_told c (client_terms head c) (
 told head p q (script.Down c place) = brought_down_told c place (client_terms head c) (kept_by head p c).course.steps
 told head p q (script.Up c place) = brought_up_told c place (client_terms head c) (kept_by head p c).course
 told head p q (script.Raw c bytes) = raw_told c bytes (client_terms head c) (kept_by head p c).course
-told head p q (script.Move c m) = move_told (client_terms head c) (kept_by head p c).course.steps c
+told head p q (script.Move c m) = move_told (client_terms head c) (kept_by head p c).course.steps c (bits_of m)
 told head p q (script.Show c) = show_told (client_terms head c) (kept_by head p c).course c (undrained (kept_by head p c))
 told head p q script.World = world_told q.world
 

@@ -4,6 +4,7 @@ use Rattle.std.specs.Prelude.{Result, Ok, Err, OnOk, OnErr}
 use Rattle.std.specs.Result.{is_ok}
 use Rattle.rand_pcg.specs.Lcg.{Lcg}
 use Rattle.tn_types.specs.declared.moves.Move.{Move}
+use Rattle.bit_stream.specs.WorldMoves.{bits_of}
 use Rattle.tn_outside.specs.Links.{Datagram}
 use Rattle.tn_outside.specs.Totals.{Adds}
 use Rattle.quantised_fields.specs.declared.kind.Kind.{Kind}
@@ -39,14 +40,14 @@ heard_plays p mid new bytes came kept handed kept' none c log drawn h = record {
 
 -- ---- a move is sampled, or refused
 
-pub sampled_becomes : (old new : ClientState) (m : Move) (r : Result ℕ MoveFault) → Answers old (sampled_answer old.common.config) r → OnOk r (Does old (Sampled m) new)
+pub sampled_becomes : (old new : ClientState) (m : Move) (r : Result ℕ MoveFault) → Answers old (sampled_answer old.common.config (bits_of m)) r → OnOk r (Does old (Sampled (bits_of m)) new)
     → OnErr r (new ≡ old) → Becomes old (samples old.common.config m) new
 sampled_becomes old new m (Ok n) answer does same log s =
-    let e : is_ok (sampled_answer old.common.config log) ≡ true = ap (λ (r : Result ℕ MoveFault). is_ok r) (sym (answer log s)) in
-    subst (λ (l : List ClientEvent). ClientStandsFor new l) (then_is (is_ok (sampled_answer old.common.config log)) (Sampled m ∷ log) log e) (does log s)
+    let e : is_ok (sampled_answer old.common.config (bits_of m) log) ≡ true = ap (λ (r : Result ℕ MoveFault). is_ok r) (sym (answer log s)) in
+    subst (λ (l : List ClientEvent). ClientStandsFor new l) (then_is (is_ok (sampled_answer old.common.config (bits_of m) log)) (Sampled (bits_of m) ∷ log) log e) (does log s)
 sampled_becomes old new m (Err f) answer does same log s =
-    let e : is_ok (sampled_answer old.common.config log) ≡ false = ap (λ (r : Result ℕ MoveFault). is_ok r) (sym (answer log s)) in
-    subst (λ (l : List ClientEvent). ClientStandsFor new l) (else_is (is_ok (sampled_answer old.common.config log)) (Sampled m ∷ log) log e)
+    let e : is_ok (sampled_answer old.common.config (bits_of m) log) ≡ false = ap (λ (r : Result ℕ MoveFault). is_ok r) (sym (answer log s)) in
+    subst (λ (l : List ClientEvent). ClientStandsFor new l) (else_is (is_ok (sampled_answer old.common.config (bits_of m) log)) (Sampled (bits_of m) ∷ log) log e)
     (subst (λ (x : ClientState). ClientStandsFor x log) (sym same) s)
 
 -- ---- a turn
@@ -84,7 +85,7 @@ module _ (p : PlayerState) (mid new : ClientState) (m : Move) (g : Lcg) (drew : 
   turn_sends d d' sent c log drawn h first before adds =
       let own : Config = p.end.common.config in
       let there : behind before c log ≡ behind before mid.common.config (samples own m log) =
-      ap (λ (xs : List (List ℕ)). map to_server (before ++ xs)) (sym (if_sampled c (is_ok (sampled_answer own log)) m log))
+      ap (λ (xs : List (List ℕ)). map to_server (before ++ xs)) (sym (if_sampled c (is_ok (sampled_answer own (bits_of m) log)) (bits_of m) log))
       ∙ ap (λ (x : Config). behind before x (samples own m log)) (sym (config_is c log drawn h)) in
       let whole : behind before mid.common.config (packs mid.common.config (samples own m log)) ≡ behind before c (turned_by (Some c) (move_at c.client drawn) log) =
       ap (behind before mid.common.config) (turn_is c log drawn h)

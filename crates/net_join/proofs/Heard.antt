@@ -14,6 +14,8 @@ use Rattle.stream_manager.specs.End.{with_event}
 use Rattle.stream_manager.specs.Client.{ClientEvent, Sampled, took_at_client, client_answer, arriving, client_state, client_bytes, client_ping_bytes, pack_event, sampled_answer, client_datagrams}
 use Rattle.std.specs.Result.{is_ok}
 use Rattle.tn_types.specs.declared.moves.Move.{Move}
+use Rattle.tn_types.specs.declared.moves.MoveBits.{MoveBits}
+use Rattle.bit_stream.specs.WorldMoves.{bits_of}
 use Rattle.world_rules.specs.Kinds.{match_kinds}
 use Rattle.net_rules.specs.Turns.{Event, Heard, Turned}
 use Rattle.net_rules.specs.Hellos.{hello_with, is_arrival}
@@ -184,14 +186,14 @@ packed_more c log Held = (client_ping_bytes c log ∷ [], refl)
 packed_more c log Worn = ([], sym (append-nil (client_datagrams c log)))
 packed_more c log Room = (client_bytes c log ∷ [], refl)
 
-pub if_sampled : (c : Config) (b : Bool) (m : Move) (log : List ClientEvent) → client_datagrams c (if b then Sampled m ∷ log else log) ≡ client_datagrams c log
+pub if_sampled : (c : Config) (b : Bool) (m : MoveBits) (log : List ClientEvent) → client_datagrams c (if b then Sampled m ∷ log else log) ≡ client_datagrams c log
 if_sampled c true m log = refl
 if_sampled c false m log = refl
 
 pub played_more : (c : Config) (m : Move) (log : List ClientEvent) → Before (client_datagrams c log) (client_datagrams c (turned_by (Some c) m log))
 played_more c m log =
     let r = packed_more c (samples c m log) (client_state c (samples c m log)) in
-    (r.0, r.1 ∙ ap (λ (xs : List (List ℕ)). xs ++ r.0) (if_sampled c (is_ok (sampled_answer c log)) m log))
+    (r.0, r.1 ∙ ap (λ (xs : List (List ℕ)). xs ++ r.0) (if_sampled c (is_ok (sampled_answer c (bits_of m) log)) (bits_of m) log))
 
 turn_more : (nonce n : ℕ) (j : Option Config) (m : Move) (log : List ClientEvent)
     → Before (map to_server (replicate n (hello_with nonce) ++ datagrams_of j log))

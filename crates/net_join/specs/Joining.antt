@@ -6,14 +6,16 @@ use Rattle.std.specs.Option.{option_or}
 use Rattle.std.specs.Fmt.{decimal}
 use Rattle.std.specs.Result.{is_ok}
 use Rattle.rand_pcg.specs.Lcg.{Lcg}
-use Rattle.tn_types.specs.declared.limits.TheConstants.{MAX_CLIENTS, MAX_LIFE, MIN_DATAGRAM_BYTES, MAX_DATAGRAM_BYTES}
+use Rattle.tn_types.specs.declared.limits.TheConstants.{MAX_CLIENTS, MAX_LIFE, MIN_DATAGRAM_BYTES, MAX_DATAGRAM_BYTES, WORLD_MOVE_BITS}
 use Rattle.tn_types.specs.declared.moves.Move.{Move}
+use Rattle.bit_stream.specs.WorldMoves.{bits_of}
 use Rattle.tn_outside.specs.Links.{Datagram}
 use Rattle.event_manager.specs.Receiving.{run_of}
 use Rattle.stream_manager.specs.declared.config.Config.{Config}
 use Rattle.stream_manager.specs.End.{with_event, came_of}
 use Rattle.stream_manager.specs.Client.{ClientEvent, Sampled, client_end, ghosts_came, sampled_answer, packing, arriving, client_datagrams}
 use Rattle.world_rules.specs.Kinds.{match_kinds}
+use Rattle.match_script.specs.declared.limits.TheConstants.{MIN_VERSION, MAX_VERSION}
 use Rattle.match_report.specs.Replays.{shown_line}
 use Rattle.copies_told.specs.Told.{copies_told}
 use Rattle.script_maker.specs.Draws.{generator}
@@ -33,13 +35,13 @@ to_server bytes = record { peer = record { number = 0 }; bytes = bytes }
 
 -- what a welcome tells a connection to be made with
 abbrev pub config_of : WelcomeTold → Config
-config_of w = record { client = w.client; life = w.life; size = w.size; version = w.version }
+config_of w = record { client = w.client; life = w.life; size = w.size; version = w.version; move_bits = WORLD_MOVE_BITS }
 
--- each number of it is in its range
+-- each number of it is in the range of a match
 abbrev pub is_config : Config → Bool
 is_config c =
     nat_lt c.client MAX_CLIENTS && nat_le 1 c.life && nat_le c.life MAX_LIFE
-    && nat_le MIN_DATAGRAM_BYTES c.size && nat_le c.size MAX_DATAGRAM_BYTES && nat_le 1 c.version && nat_le c.version 2
+    && nat_le MIN_DATAGRAM_BYTES c.size && nat_le c.size MAX_DATAGRAM_BYTES && nat_le MIN_VERSION c.version && nat_le c.version MAX_VERSION
 
 abbrev pub taken_by : ℕ → Option WelcomeTold → Option Config
 taken_by nonce None = None
@@ -97,7 +99,7 @@ heard_by (Some c) d log = if is_of_server d && is_arrival d.bytes then arriving 
 
 -- a move is sampled, unless it is refused
 abbrev pub samples : Config → Move → List ClientEvent → List ClientEvent
-samples c m log = if is_ok (sampled_answer c log) then Sampled m ∷ log else log
+samples c m log = if is_ok (sampled_answer c (bits_of m) log) then Sampled (bits_of m) ∷ log else log
 
 abbrev pub packs : Config → List ClientEvent → List ClientEvent
 packs c log = with_event (packing c log) log
@@ -144,7 +146,7 @@ abbrev first : List ℕ → ℕ → Event
 first nonce peer = Heard (record { peer = record { number = peer }; bytes = welcome nonce 3 1000 400 1 })
 
 joins : joined 7 (Turned ∷ first (little 4 7) 0 ∷ Turned ∷ [])
-    ≡ Some (record { client = 3; life = 1000; size = 400; version = 1 })
+    ≡ Some (record { client = 3; life = 1000; size = 400; version = 1; move_bits = 10 })
 joins = refl
 
 other_nonce : joined 7 (first (little 4 8) 0 ∷ []) ≡ None

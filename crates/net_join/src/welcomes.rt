@@ -3,9 +3,11 @@ ghost use Rattle.std.specs.Prelude.{◌≡◌, [], IfSome};
 ghost use Rattle.stream_manager.specs.Limits.{IsConfig};
 ghost use Rattle.net_join.specs.Joining.{is_of_server, welcomed};
 
+use match_script::MAX_VERSION;
 use net_rules::welcome_of;
 use stream_manager::Config;
 use tn_outside::Peer;
+use tn_types::WORLD_MOVE_BITS;
 
 /// The peer that is the server.
 pub(crate) const SERVER: Peer = Peer { number: 0 };
@@ -29,5 +31,9 @@ pub(crate) fn welcomed(nonce: u32, peer: Peer, bytes: &[u8]) -> Option<Config>
     if told.nonce != nonce {
         return None;
     }
-    Config::new(told.client, told.life, told.size, told.version).ok()
+    if told.version > MAX_VERSION {
+        return None;
+    }
+    let move_bits = WORLD_MOVE_BITS as u8;
+    Config::new(told.client, told.life, told.size, told.version, move_bits).ok()
 }

@@ -7,7 +7,7 @@ use Rattle.std.proofs.lemmas.List.{map-append, take_more}
 use Rattle.std.proofs.lemmas.List.Elements.{recursion_from_All, All-from_recursion, filter_map-append}
 use Rattle.std.proofs.lemmas.List.Concat.{flat_map-append}
 use Rattle.std.proofs.lemmas.Option.{slice_get-get_or}
-use Rattle.tn_types.specs.declared.moves.Move.{Move}
+use Rattle.tn_types.specs.declared.moves.MoveBits.{MoveBits}
 use Rattle.match_script.specs.declared.types.BodyLine.{BodyLine}
 use Rattle.match_script.specs.declared.types.BodyLine.TheVariants as script
 use Rattle.match_script.specs.declared.types.Head.{Head}
@@ -90,11 +90,11 @@ all_filter P p (x ∷ xs) h = by (all_filter P p xs h.1) (p x)
     by rest true = (h.0, rest)
     by rest false = rest
 
-none_waits : (ws : List Move) → length ws ≡ 0 → ◌≡◌ {A = ℕ} 0 (if is_some (slice_get ws 0) then 1 else 0)
+none_waits : (ws : List MoveBits) → length ws ≡ 0 → ◌≡◌ {A = ℕ} 0 (if is_some (slice_get ws 0) then 1 else 0)
 none_waits [] e = refl
 none_waits (m ∷ ws) e = absurd (omega (arith, e))
 
-one_waits : (ws : List Move) → 0 < length ws → ◌≡◌ {A = ℕ} 1 (if is_some (slice_get ws 0) then 1 else 0)
+one_waits : (ws : List MoveBits) → 0 < length ws → ◌≡◌ {A = ℕ} 1 (if is_some (slice_get ws 0) then 1 else 0)
 one_waits [] e = absurd (omega (arith, e))
 one_waits (m ∷ ws) e = refl
 

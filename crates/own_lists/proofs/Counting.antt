@@ -4,10 +4,11 @@ use Rattle.std.specs.Prelude.{ℤ, Some, slice_get, map}
 use Rattle.std.specs.Result.{is_ok}
 use Rattle.tn_types.specs.declared.choices.Class.{Class}
 use Rattle.tn_types.specs.declared.choices.Class.TheVariants.{Guaranteed, Loose}
-use Rattle.tn_types.specs.declared.moves.Move.{Move}
+use Rattle.tn_types.specs.declared.moves.MoveBits.{MoveBits}
 use Rattle.notify_window.specs.declared.SendState.{SendState}
 use Rattle.notify_window.specs.declared.SendState.TheVariants.{Held, Worn, Room}
 use Rattle.wire_format.specs.declared.server.ServerPacket.TheVariants as down
+use Rattle.bit_stream.specs.WorldMoves.{bits_of}
 use Rattle.match_script.specs.declared.types.BodyLine.{BodyLine}
 use Rattle.match_script.specs.declared.types.BodyLine.TheVariants as script
 use Rattle.client_scope.specs.declared.period.Near.{Near as NearPeriod}
@@ -106,8 +107,8 @@ client-posts c Guaranteed v u = go (is_ok (posted_at_client c u))
     go true = refl
     go false = refl
 
-client-samples : (c : Config) (m : Move) (u : List ClientEvent) → client_datagrams c (client_samples c m u) ≡ client_datagrams c u
-client-samples c m u = go (is_ok (sampled_answer c u))
+client-samples : (c : Config) (m : MoveBits) (u : List ClientEvent) → client_datagrams c (client_samples c m u) ≡ client_datagrams c u
+client-samples c m u = go (is_ok (sampled_answer c m u))
   where
     go : (b : Bool) → client_datagrams c (if b then client_log.Sampled m ∷ u else u) ≡ client_datagrams c u
     go true = refl
@@ -214,7 +215,7 @@ module _ (t : Terms) where
   line-sends (script.ClientPost c class v) k =
       send-none k.course.steps _ refl (ap length (client-posts t.config class v (history t k.course.steps).client))
   line-sends (script.Move c m) k =
-      send-none k.course.steps _ refl (ap length (client-samples t.config m (history t k.course.steps).client))
+      send-none k.course.steps _ refl (ap length (client-samples t.config (bits_of m) (history t k.course.steps).client))
   line-sends (script.Down c place) k =
       let h = history t k.course.steps in
       send-none k.course.steps _ refl (ap length (gets_sends_up t (slice_get (server_datagrams t h.server) place) h.client))

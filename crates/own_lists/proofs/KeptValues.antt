@@ -14,7 +14,7 @@ use Rattle.std.proofs.lemmas.Option.{slice_get_within}
 use Rattle.tn_types.specs.declared.choices.Class.{Class}
 use Rattle.tn_types.specs.declared.choices.Class.TheVariants.{Guaranteed, Loose}
 use Rattle.tn_types.specs.declared.choices.Drain.{Drain}
-use Rattle.tn_types.specs.declared.moves.Move.{Move}
+use Rattle.tn_types.specs.declared.moves.MoveBits.{MoveBits}
 use Rattle.quantised_fields.specs.declared.field.FieldSpec.{FieldSpec}
 use Rattle.notify_window.specs.declared.SendState.{SendState}
 use Rattle.notify_window.specs.declared.SendState.TheVariants.{Held, Worn, Room}
@@ -22,6 +22,7 @@ use Rattle.move_manager.specs.Sending.{Packet}
 use Rattle.move_manager.specs.Accepting.{new_count, accept}
 use Rattle.wire_format.specs.declared.client.ClientPacket.{ClientPacket}
 use Rattle.wire_format.specs.declared.client.ClientPacket.TheVariants as up
+use Rattle.bit_stream.specs.WorldMoves.{bits_of}
 use Rattle.match_script.specs.declared.types.BodyLine.{BodyLine}
 use Rattle.match_script.specs.declared.types.BodyLine.TheVariants as script
 use Rattle.client_scope.specs.declared.period.Near.{Near as NearPeriod}
@@ -48,7 +49,7 @@ module _ (t : Terms) where
   abbrev moves : List ServerEvent → ℕ
   moves s = length (accepted_at t.config s)
 
-  accept-more : (life room : ℕ) (p : Packet) (acc : List Move) → length acc ≤ length (accept life room p acc)
+  accept-more : (life room : ℕ) (p : Packet) (acc : List MoveBits) → length acc ≤ length (accept life room p acc)
   accept-more life room p acc = go (nat_le p.first (length acc))
     where
       go : (b : Bool)
@@ -187,7 +188,7 @@ module _ (t : Terms) where
   kept-line (script.Down c place) k alone h = kept-step (Down place) k tt h
   kept-line (script.Up c place) k alone h = kept-step (Up place (room_in t k.course)) k tt h
   kept-line (script.Raw c bytes) k alone h = kept-step (Raw bytes (room_in t k.course)) k tt h
-  kept-line (script.Move c m) k alone h = kept-step (Sample m) k tt h
+  kept-line (script.Move c m) k alone h = kept-step (Sample (bits_of m)) k tt h
   kept-line (script.Show c) k alone h = h
   kept-line script.World k alone h = absurd alone
 

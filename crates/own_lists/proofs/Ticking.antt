@@ -3,7 +3,7 @@ use Rattle.std.proofs.Common.{◌≡◌, ◌≢◌, ℕ, ◌+◌, ◌≤◌, Boo
 use Rattle.std.specs.Prelude.{ℤ, slice_get, slice_set, is_some}
 use Rattle.std.specs.List.{AllByRecursion, filter_map, cons_option}
 use Rattle.std.proofs.lemmas.Bool.{ne_eqb, eqb-true, eq-eqb}
-use Rattle.tn_types.specs.declared.moves.Move.{Move}
+use Rattle.tn_types.specs.declared.moves.MoveBits.{MoveBits}
 use Rattle.ghost_model.specs.Scope.{Traits}
 use Rattle.pair_steps.specs.ghost_masks.Plan.{fields_of}
 use Rattle.pair_steps.specs.pair_core.History.{PairStep}
@@ -184,11 +184,11 @@ all_writes head w c k ws fit [] b a = tt
 all_writes head w c k ws fit (p ∷ ps) b a = (period_writes head w c k ws p b.0 a.0 fit, all_writes head w c k ws fit ps b.1 a.1)
 
 -- a tick takes a move where one waits
-taken_one : (moves : List Move) → cond (is_some (slice_get moves 0)) 1 0 ≤ 1
+taken_one : (moves : List MoveBits) → cond (is_some (slice_get moves 0)) 1 0 ≤ 1
 taken_one [] = omega arith
 taken_one (m ∷ moves) = omega arith
 
-taken_waits : (moves : List Move) → cond (is_some (slice_get moves 0)) 1 0 ≤ length moves
+taken_waits : (moves : List MoveBits) → cond (is_some (slice_get moves 0)) 1 0 ≤ length moves
 taken_waits [] = omega arith
 taken_waits (m ∷ moves) = omega arith
 

@@ -7,7 +7,7 @@ use Rattle.std.proofs.lemmas.Bool.{ne_eqb, eqb-true, eq-eqb}
 use Rattle.std.proofs.lemmas.List.Elements.{All-weaker}
 use Rattle.std.proofs.Math.Seq.{set-append_seam}
 use Rattle.tn_types.specs.declared.limits.TheConstants.{MAX_OBJECTS}
-use Rattle.tn_types.specs.declared.moves.Move.{Move}
+use Rattle.tn_types.specs.declared.moves.MoveBits.{MoveBits}
 use Rattle.quantised_fields.specs.declared.field.FieldSpec.{FieldSpec}
 use Rattle.pair_steps.specs.ghost_masks.Plan.{fields_of}
 use Rattle.pair_steps.specs.ghost_masks.Carried.{AreValues}
@@ -366,13 +366,13 @@ world_fits i (o ∷ os) (p ∷ after) (v ∷ vs) s f =
 
 -- ---- a tick
 
-each_alike : (os : List Object) (moves : List (Option Move)) (t : Moment) (xs made : List Object)
+each_alike : (os : List Object) (moves : List (Option MoveBits)) (t : Moment) (xs made : List Object)
     → AreAlike xs (map (object_next os moves t) xs ++ made)
 each_alike os moves t [] made = tt
 each_alike os moves t (o ∷ xs) made = (sym (ap (λ (i : Identity). i.kind) (stays_itself os moves t o)), each_alike os moves t xs made)
 
 -- each write of a tick is of a field of an object that was there, in the field's range
-pub tick_writes_fit : (w : Worlds) (moves : List (Option Move)) → IsWorld w
+pub tick_writes_fit : (w : Worlds) (moves : List (Option MoveBits)) → IsWorld w
     → AllByRecursion (λ (x : Write). (o : Object) → slice_get w.objects x.object ≡ Some o → IsFieldWrite (kind_of o.state) x)
     (next w moves).writes
 unfolding next
@@ -396,7 +396,7 @@ there_next f [] ys k o e = absurd (cc)
 there_next f (x ∷ xs) ys zero o e = let same : x ≡ o = cc in ap (λ y. Some (f y)) same
 there_next f (x ∷ xs) ys (suc k) o e = there_next f xs ys k o e
 
-pub object_goes_on : (w : Worlds) (moves : List (Option Move)) (k : ℕ) (o : Object) → IsWorld w → slice_get w.objects k ≡ Some o
+pub object_goes_on : (w : Worlds) (moves : List (Option MoveBits)) (k : ℕ) (o : Object) → IsWorld w → slice_get w.objects k ≡ Some o
     → GoesOn w (next w moves) k o
 unfolding next
 object_goes_on w moves k o h at =

@@ -1,7 +1,7 @@
 -- A client's connection and its moves: the steps that were made, and how many of its accepted moves ticks took.
 use Rattle.std.specs.Prelude.{ℕ, ◌+◌, ◌-◌, List, [], ◌∷◌, ◌++◌, length, drop, map, slice_get, Option}
 use Rattle.tn_types.specs.declared.limits.TheConstants.{MAX_WAITING_MOVES}
-use Rattle.tn_types.specs.declared.moves.Move.{Move}
+use Rattle.tn_types.specs.declared.moves.MoveBits.{MoveBits}
 use Rattle.client_scope.specs.declared.period.Near.{Near as NearPeriod}
 use Rattle.pair_steps.specs.stream_manager.Limits.{Terms}
 use Rattle.pair_steps.specs.pair_core.History.{PairStep, Show, Hide, Near}
@@ -17,11 +17,11 @@ abbrev pub beginning : Course
 beginning = record { steps = []; taken = 0 }
 
 -- the accepted moves that no tick took yet, the oldest first
-abbrev pub waiting_in : Terms → Course → List Move
+abbrev pub waiting_in : Terms → Course → List MoveBits
 waiting_in t k = drop k.taken (accepted_in t k.steps)
 
 -- the move that the next tick takes
-abbrev pub next_move : Terms → Course → Option Move
+abbrev pub next_move : Terms → Course → Option MoveBits
 next_move t k = slice_get (waiting_in t k) 0
 
 -- the places that are left for moves

@@ -3,6 +3,7 @@
 use Rattle.std.specs.Prelude.{ℕ, ℤ, pos, ◌^◌, ◌==◌, Bool, not, List, [], ◌∷◌, map, filter, bit_or, slice_set, slice_index_or, cond}
 use Rattle.tn_types.specs.declared.choices.Drain.{Drain}
 use Rattle.tn_types.specs.declared.choices.Read.{Read}
+use Rattle.bit_stream.specs.WorldMoves.{bits_of}
 use Rattle.match_script.specs.declared.types.BodyLine.{BodyLine}
 use Rattle.match_script.specs.declared.types.BodyLine.TheVariants as script
 use Rattle.client_scope.specs.declared.period.Near.{Near as NearPeriod}
@@ -88,7 +89,7 @@ after_line t (script.ClientPack c) k = after_step ClientPack k
 after_line t (script.Down c place) k = after_step (Down place) k
 after_line t (script.Up c place) k = after_step (Up place (room_in t k.course)) k
 after_line t (script.Raw c bytes) k = after_step (Raw bytes (room_in t k.course)) k
-after_line t (script.Move c m) k = after_step (Sample m) k
+after_line t (script.Move c m) k = after_step (Sample (bits_of m)) k
 after_line t line k = k
 
 -- ---- scans and ticks

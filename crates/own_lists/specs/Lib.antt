@@ -1,3 +1,4 @@
+pub use Rattle.bit_stream.specs as bit_stream
 pub use Rattle.pair_steps.specs as pair_steps
 pub use Rattle.pair_steps.specs.pair_core as pair_core
 pub mod Own

@@ -3,7 +3,8 @@
 use Rattle.std.specs.Prelude.{ℕ, ◌==◌, false, List, [], ◌∷◌, map, filter_map, slice_get, is_some, if◌then◌else◌, Option, Some, None}
 use Rattle.std.specs.Option.{unwrap_or, option_map_or}
 use Rattle.std.specs.List.{flat_map, range_with_len}
-use Rattle.tn_types.specs.declared.moves.Move.{Move as PlayerMove}
+use Rattle.tn_types.specs.declared.limits.TheConstants.{WORLD_MOVE_BITS}
+use Rattle.tn_types.specs.declared.moves.MoveBits.{MoveBits}
 use Rattle.match_script.specs.declared.types.BodyLine.{BodyLine}
 use Rattle.match_script.specs.declared.types.BodyLine.TheVariants as script
 use Rattle.match_script.specs.declared.types.Head.{Head}
@@ -30,7 +31,7 @@ pub record Past : Type 0 where
 -- what the header says of a client's connection
 abbrev pub client_terms : Head → ℕ → Terms
 client_terms head c = record {
-  config = record { client = c; life = head.life; size = head.size; version = head.version };
+  config = record { client = c; life = head.life; size = head.size; version = head.version; move_bits = WORLD_MOVE_BITS };
   kinds = match_kinds;
   blocks = head.blocks;
 }
@@ -67,10 +68,10 @@ abbrev pub own_writes : Worlds → List ShownPeriod → List OwnWrite
 own_writes w periods = flat_map (λ p. filter_map (write_of p) w.writes) periods
 
 -- the move that a tick takes from a client
-abbrev pub move_of : Head → Past → ℕ → Option PlayerMove
+abbrev pub move_of : Head → Past → ℕ → Option MoveBits
 move_of head p c = next_move (client_terms head c) (kept_by head p c).course
 
-abbrev pub moves_of : Head → Past → List (Option PlayerMove)
+abbrev pub moves_of : Head → Past → List (Option MoveBits)
 moves_of head p = map (move_of head p) (range_with_len 0 head.clients)
 
 abbrev pub taken_from : Head → Past → ℕ → ℕ

@@ -5,7 +5,7 @@ use Rattle.tn_types.specs.declared.choices.Class.TheVariants.{Guaranteed, Loose}
 use Rattle.tn_types.specs.declared.choices.PacketKind.TheVariants.{Ping, Body}
 use Rattle.notify_window.specs.declared.SendState.{SendState}
 use Rattle.notify_window.specs.declared.SendState.TheVariants.{Held, Worn, Room}
-use Rattle.tn_types.specs.declared.moves.Move.{Move}
+use Rattle.tn_types.specs.declared.moves.MoveBits.{MoveBits}
 use Rattle.event_manager.specs.declared.sender.PostFault.{PostFault}
 use Rattle.move_manager.specs.declared.faults.MoveFault.{MoveFault}
 use Rattle.ghost_model.specs.Scope.{shows}
@@ -71,7 +71,7 @@ answer_at t h (Post Guaranteed v) = post_answer (posted_at_server t.config h.ser
 answer_at t h (Post Loose v) = says.Loose (dropped_of (server_end h.server))
 answer_at t h (ClientPost Guaranteed v) = post_answer (posted_at_client t.config h.client)
 answer_at t h (ClientPost Loose v) = says.Loose (dropped_of (client_end h.client))
-answer_at t h (Sample m) = sample_answer (sampled_answer t.config h.client)
+answer_at t h (Sample m) = sample_answer (sampled_answer t.config m h.client)
 answer_at t h (Pack drains reads) = made (server_state t.config h.server) t.config.life (length (server_datagrams t h.server))
 answer_at t h ClientPack = made (client_state t.config h.client) t.config.life (length (client_datagrams t.config h.client))
 answer_at t h (Down k) = brought_down t h k (slice_get (server_datagrams t h.server) k)
@@ -96,16 +96,16 @@ abbrev pub client_run : Terms → List PairStep → ℕ
 client_run t steps = run_of (came_of (client_end (history t steps).client))
 
 -- the moves that the client sampled, and those that the server accepted
-abbrev pub sampled_in : Terms → List PairStep → List Move
+abbrev pub sampled_in : Terms → List PairStep → List MoveBits
 sampled_in t steps = sampled_at (history t steps).client
 
-abbrev pub accepted_in : Terms → List PairStep → List Move
+abbrev pub accepted_in : Terms → List PairStep → List MoveBits
 accepted_in t steps = accepted_at t.config (history t steps).server
 
 -- ---- examples
 
 new : Terms
-new = record { config = record { client = 0; life = 2; size = 128; version = 1 }; kinds = []; blocks = [] }
+new = record { config = record { client = 0; life = 2; size = 128; version = 1; move_bits = 10 }; kinds = []; blocks = [] }
 
 -- nothing was sent at place 3
 nothing_sent : answer new [] (Down 3) ≡ says.NotSent 3 0

@@ -8,7 +8,7 @@ use Rattle.tn_types.specs.declared.choices.Class.{Class}
 use Rattle.tn_types.specs.declared.choices.Class.TheVariants.{Guaranteed, Loose}
 use Rattle.tn_types.specs.declared.choices.Drain.{Drain}
 use Rattle.tn_types.specs.declared.choices.Read.{Read}
-use Rattle.tn_types.specs.declared.moves.Move.{Move}
+use Rattle.tn_types.specs.declared.moves.MoveBits.{MoveBits}
 use Rattle.conn_packing.specs.stream_manager.declared.config.Config.{Config}
 use Rattle.conn_packing.specs.stream_manager.Limits.{Terms}
 use Rattle.conn_packing.specs.stream_manager.End.{with_event}
@@ -24,7 +24,7 @@ pub data PairStep : Type 0 where
   Near : (n level : ℕ) → PairStep  -- its object is at another level of distance
   Post : (class : Class) (payload : List ℕ) → PairStep  -- the server posts an event
   ClientPost : (class : Class) (payload : List ℕ) → PairStep  -- the client posts one
-  Sample : Move → PairStep  -- the client takes up a move of its player
+  Sample : MoveBits → PairStep  -- the client takes up a move of its player
   Pack : (drains : List Drain) (reads : List Read) → PairStep  -- the server absorbs what was drained and makes a datagram
   ClientPack : PairStep  -- the client makes one
   Down : (k : ℕ) → PairStep  -- the client gets the server's datagram of this place
@@ -45,8 +45,8 @@ client_posts c Guaranteed v log = if is_ok (posted_at_client c log) then client.
 client_posts c Loose v log = client.Posted Loose v ∷ log
 
 -- a move, unless it is refused
-abbrev pub client_samples : Config → Move → List ClientEvent → List ClientEvent
-client_samples c m log = if is_ok (sampled_answer c log) then client.Sampled m ∷ log else log
+abbrev pub client_samples : Config → MoveBits → List ClientEvent → List ClientEvent
+client_samples c m log = if is_ok (sampled_answer c m log) then client.Sampled m ∷ log else log
 
 -- an arrival, unless nothing of that place was sent or it is refused
 abbrev pub client_gets : Terms → Option (List ℕ) → List ClientEvent → List ClientEvent
@@ -84,7 +84,7 @@ history t (step ∷ steps) = happens t step (history t steps)
 -- ---- examples: an object of kind 2 is shown, brought nearer and hidden
 
 unlimited : Terms
-unlimited = record { config = record { client = 0; life = 100; size = 128; version = 1 }; kinds = []; blocks = [] }
+unlimited = record { config = record { client = 0; life = 100; size = 128; version = 1; move_bits = 10 }; kinds = []; blocks = [] }
 
 shown_and_hidden : history unlimited (Hide 0 ∷ Near 0 1 ∷ Show 2 0 3 false ∷ [])
     ≡ record {

@@ -3,7 +3,7 @@
 use conn_packing::stream_manager::{ArriveFault, ClientFault};
 use event_manager::PostFault;
 use move_manager::MoveFault;
-use tn_types::{Class, Move, PacketKind, Payload, RawBytes};
+use tn_types::{Class, MoveBits, PacketKind, Payload, RawBytes};
 
 /// One step of a pair. Each has the condition of the call of an end that it names (docs/connection.md).
 #[derive(Drop)]
@@ -37,7 +37,7 @@ pub enum PairStep {
     },
     /// The client takes up a move of its player. It answers `Sampled` or `MoveRefused`.
     Sample {
-        m: Move,
+        m: MoveBits,
     },
     /// The server makes its next datagram. It is made by `Pair::pack`, which knows the values; no step of this kind is given.
     Pack,

@@ -6,7 +6,7 @@ use crate::pair::Pair;
 use crate::step::Answer;
 use conn_packing::stream_manager::ClientOut;
 use event_manager::PostFault;
-use tn_types::{Class, MAX_DATAGRAM_BYTES, MAX_DATAGRAMS, Move, PacketKind, Payload};
+use tn_types::{Class, MAX_DATAGRAM_BYTES, MAX_DATAGRAMS, MoveBits, PacketKind, Payload};
 
 /// What a guaranteed post answers.
 fn posted(number: Result<u32, PostFault>) -> Answer
@@ -96,14 +96,14 @@ impl Pair {
     }
 
     /// The client takes up a move.
-    pub(crate) fn sample(&mut self, m: Move) -> Answer
+    pub(crate) fn sample(&mut self, m: MoveBits) -> Answer
         ensures answer { Answers self.old (λ t steps. answer t steps (Sample m)) result }
         ensures stands { Does self.old (Sample m) self.new }
         ensures keeps { KeepsAtClient self.old self.new }
         ensures unchanged { Unchanged self.old result self.new }
         ensures keeping { self.new.keeps_all ≡ self.old.keeps_all }
     {
-        match self.client.sample(m) {
+        match self.client.sample_bits(m) {
             Ok(number) => Answer::Sampled { number },
             Err(fault) => Answer::MoveRefused(fault),
         }

@@ -1,7 +1,7 @@
 -- What goes over the network: each datagram that was sent spells a packet whose guaranteed events are those that were
 -- posted, and so are those that came.
-use Rattle.std.proofs.Common.{◌≡◌, ◌≢◌, ◌==◌, ◌-◌, length-append, length-drop, ℕ, ◌+◌, ◌<◌, ◌≤◌, ◌^◌, Bool, true, false, List, [], ◌∷◌, ◌++◌, length, reverse, Option, Some, None, Ok, Err, refl, sym, ap, subst, arith, if◌then◌else◌}
-use Rattle.std.specs.Prelude.{slice_get, ℤ}
+use Rattle.std.proofs.Common.{◌≡◌, ◌∙◌, ◌≢◌, ◌==◌, length-append, length-drop, ℕ, ◌+◌, ◌<◌, ◌≤◌, ◌^◌, Bool, true, false, List, [], ◌∷◌, ◌++◌, length, reverse, Option, Some, None, Ok, Err, refl, sym, ap, subst, arith, if◌then◌else◌}
+use Rattle.std.specs.Prelude.{slice_get, nat_lt, ℤ}
 use Rattle.std.specs.Result.{is_ok}
 use Rattle.std.specs.List.{AllByRecursion}
 use Rattle.tn_types.specs.declared.choices.Class.{Class}
@@ -14,7 +14,8 @@ use Rattle.wire_format.specs.declared.client.ClientPacket.{ClientPacket}
 use Rattle.wire_format.specs.declared.client.ClientPacket.TheVariants as up
 use Rattle.wire_format.specs.Ghosts.{IsGhost}
 use Rattle.wire_format.specs.Server.{IsServer}
-use Rattle.wire_format.specs.Client.{IsClient}
+use Rattle.wire_format.specs.declared.wire.Wire.{Wire}
+use Rattle.wire_format.specs.Moves.{move_width, IsMove}
 use Rattle.ghost_model.specs.Ghosts.{Grant, scope_log}
 use Rattle.ghost_model.specs.Legal.{IsAllowed}
 use Rattle.conn_packing.specs.stream_manager.ghost_masks.Plan.{sizes}
@@ -24,11 +25,12 @@ use Rattle.conn_packing.specs.stream_manager.declared.config.Config.{Config}
 use Rattle.move_manager.specs.declared.faults.MoveFault.TheVariants as move_refused
 use Rattle.move_manager.specs.Accepting as moves
 use Rattle.std.proofs.lemmas.Bool.Decides.{nat_tests}
+use Rattle.std.proofs.lemmas.Bool.{ltb-true}
 use Rattle.std.proofs.lemmas.List.{take_all}
-use Rattle.tn_types.specs.declared.moves.Move.{Move}
+use Rattle.tn_types.specs.declared.moves.MoveBits.{MoveBits}
 use Rattle.conn_packing.specs.stream_manager.declared.fault.ArriveFault.{ArriveFault}
 use Rattle.conn_packing.specs.stream_manager.declared.fault.ClientFault.{ClientFault}
-use Rattle.conn_packing.specs.stream_manager.Limits.{Terms, AreTerms}
+use Rattle.conn_packing.specs.stream_manager.Limits.{Terms, AreTerms, wire_of}
 use Rattle.tn_types.specs.Checks.{Checked}
 use Rattle.conn_packing.specs.stream_manager.Faults.{checked_packet}
 use Rattle.move_manager.specs.Sending as sending
@@ -39,37 +41,49 @@ use Rattle.conn_packing.specs.stream_manager.End.{came_of, with_event}
 use Rattle.conn_packing.specs.stream_manager.Server as server_log
 use Rattle.conn_packing.specs.stream_manager.Server.{ServerEvent, server_end, server_datagrams, seen_up, server_state, posted_at_server, with_plan, next_body, server_ping, ghost_log, ScopeChange, scope_event, received_at, ghost_room, took_at_server, packet_answer, accepted_at, move_log, moves_taken}
 use Rattle.conn_packing.specs.stream_manager.Client as client_log
-use Rattle.conn_packing.specs.stream_manager.Client.{ClientEvent, client_end, ghosts_in, ghosts_came, client_datagrams, seen_down, client_state, posted_at_client, client_body, client_ping, took_at_client, sampled_answer, sampled_at, sample_log, moves_acked}
+use Rattle.conn_packing.specs.stream_manager.Client.{ClientEvent, client_end, ghosts_in, ghosts_came, client_datagrams, seen_down, client_state, posted_at_client, client_body, client_ping, took_at_client, counted_answer, sampled_answer, sampled_at, sample_log, moves_acked}
 use Rattle.conn_packing.specs.Packs.{absorbing, values_of}
 use Rattle.pair_core.specs.History.{PairStep, Show, Hide, Near, Post, ClientPost, Sample, Pack, ClientPack, Down, Up, Raw, history, server_posts, client_posts, client_samples}
 use Rattle.conn_packing.specs.Reads.{MayBeDrained}
 use Rattle.pair_core.specs.Conditions.{IsPayload}
 use Rattle.pair_laws.specs.Laws.{posted_at}
+use Rattle.wire_logs.specs.Again.{IsWholeClient}
 use Rattle.conn_packing.proofs.Absorbed.{all-drained}
 use Rattle.pair_laws.proofs.Good.{IsGoodStep, AreGood, FitRoom, FitNext, reads-fit}
 use Rattle.pair_laws.proofs.GhostItems.{ghosts-fit, control-fits}
 use Rattle.pair_core.proofs.LegalLogs.{IsLegalLog, drained-still, plan-legal, packed-legal, took-legal}
 use Rattle.pair_laws.proofs.Heads.{head-ok_up}
 use Rattle.pair_laws.proofs.Windows.{head-meets}
-use Rattle.conn_packing.proofs.Lists.{all-append, all-map, all-at, all-reverse}
+use Rattle.conn_packing.proofs.Lists.{all-append, all-drop, all-map, all-at, all-reverse}
 use Rattle.pair_laws.specs.Exchange.{server_packets, client_packets, given_down, given_up}
 use Rattle.pair_laws.proofs.Fits.{EndFits, start-fits, posted-fits, loose-fits, packed-fits, pinged-fits, took-fits, data_head-fits, ping_head-fits, events-fit}
 use Rattle.event_manager.specs.Posted.{ArePosted}
 use Rattle.event_manager.proofs.Prefixes.{posted-push}
 use Rattle.pair_laws.proofs.Posted.{posted-events, posted-items}
-use Rattle.pair_laws.proofs.Sections.{blocks-fit, any-moves}
+use Rattle.pair_laws.proofs.Sections.{blocks-fit}
 
--- a move that is taken up finds room
-sample-is : (c : Config) (u : List ClientEvent) → is_ok (sampled_answer c u) ≡ true → (length (sampled_at u) ≢ c.life) × (length (sampled_at u) ≢ acked_of (sample_log u) + 32)
-sample-is c u ok = (
-  λ same. (let full : (length (sampled_at u) == c.life) ≡ true = grind (arith, nat_tests) in absurd (let h : is_ok (sampled_answer c u) ≡ false = rw full in cc)),
-  λ same. (let full : (length (sampled_at u) == acked_of (sample_log u) + 32) ≡ true = grind (arith, nat_tests) in absurd (let h : is_ok (sampled_answer c u) ≡ false = worn-or-full (length (sampled_at u) == c.life) full in cc)),
-)
+-- a move that is taken up has no further bits, and finds room
+record IsTakenUp (c : Config) (m : MoveBits) (u : List ClientEvent) : Type 0 where
+  narrow : IsMove (wire_of c) m
+  worn : length (sampled_at u) ≢ c.life
+  full : length (sampled_at u) ≢ acked_of (sample_log u) + 32
+
+sample-is : (c : Config) (m : MoveBits) (u : List ClientEvent) → is_ok (sampled_answer c m u) ≡ true → IsTakenUp c m u
+sample-is c m u ok = go (nat_lt m.bits (2 ^ move_width (wire_of c))) refl
   where
-    worn-or-full : (b : Bool) → (length (sampled_at u) == acked_of (sample_log u) + 32) ≡ true
-        → is_ok (if b then Err (move_refused.Worn c.life) else (if length (sampled_at u) == acked_of (sample_log u) + 32 then Err (move_refused.Full (acked_of (sample_log u)) (length (sampled_at u) - 1)) else Ok (length (sampled_at u)))) ≡ false
-    worn-or-full true full = refl
-    worn-or-full false full = rw full refl
+    room : (b d : Bool) → (length (sampled_at u) == c.life) ≡ b → (length (sampled_at u) == acked_of (sample_log u) + 32) ≡ d → is_ok (counted_answer c u) ≡ true
+        → (length (sampled_at u) ≢ c.life) × (length (sampled_at u) ≢ acked_of (sample_log u) + 32)
+    room true d e f here = absurd (let h : is_ok (counted_answer c u) ≡ false = rw e refl in cc)
+    room false true e f here = absurd (let h : is_ok (counted_answer c u) ≡ false = rw (e, f) refl in cc)
+    room false false e f here = (λ same. grind (arith, nat_tests, e, same), λ same. grind (arith, nat_tests, f, same))
+
+    go : (b : Bool) → nat_lt m.bits (2 ^ move_width (wire_of c)) ≡ b → IsTakenUp c m u
+    go false e = absurd (let h : is_ok (sampled_answer c m u) ≡ false = rw e refl in cc)
+    go true e =
+        let here : is_ok (counted_answer c u) ≡ true =
+        sym (ap (λ (b : Bool). is_ok (if b then counted_answer c u else Err (move_refused.TooWide (move_width (wire_of c))))) e) ∙ ok in
+        let apart = room (length (sampled_at u) == c.life) (length (sampled_at u) == acked_of (sample_log u) + 32) refl refl here in
+        record { narrow = ltb-true _ _ e; worn = apart.0; full = apart.1 }
 
 -- how many moves a packet of the server tells of
 abbrev pub TellsAtMost : ℕ → ServerPacket → Type 0
@@ -77,7 +91,7 @@ TellsAtMost count (down.Ping head) = Unit {0}
 TellsAtMost count (down.Body p) = p.accepted ≤ count
 
 -- the moves of a client's packet are those that were sampled, from its first one on
-abbrev pub HoldsMoves : List Move → ClientPacket → Type 0
+abbrev pub HoldsMoves : List MoveBits → ClientPacket → Type 0
 HoldsMoves ms (up.Ping head) = Unit {0}
 HoldsMoves ms (up.Body p) = Holds (record { first = p.first; moves = p.moves }) ms
 
@@ -88,8 +102,8 @@ pub record IsDown (t : Terms) (vs : List (List ℕ)) (count : ℕ) (p : ServerPa
   pub tells : TellsAtMost count p
 
 -- a packet of the client with these events and moves
-pub record IsUp (vs : List (List ℕ)) (ms : List Move) (p : ClientPacket) : Type 0 where
-  pub fits : IsClient 1 p
+pub record IsUp (w : Wire) (vs : List (List ℕ)) (ms : List MoveBits) (p : ClientPacket) : Type 0 where
+  pub fits : IsWholeClient w p
   pub posted : ArePosted vs (seen_up p).events
   pub moves : HoldsMoves ms p
 
@@ -97,7 +111,7 @@ tells-more : (m n : ℕ) (p : ServerPacket) → m ≤ n → TellsAtMost m p → 
 tells-more m n (down.Ping head) l h = tt
 tells-more m n (down.Body p) l h = omega arith
 
-holds-more : (ms : List Move) (m : Move) (p : ClientPacket) → HoldsMoves ms p → HoldsMoves (ms ++ m ∷ []) p
+holds-more : (ms : List MoveBits) (m : MoveBits) (p : ClientPacket) → HoldsMoves ms p → HoldsMoves (ms ++ m ∷ []) p
 holds-more ms m (up.Ping head) h = tt
 holds-more ms m (up.Body p) h = holds-push (record { first = p.first; moves = p.moves }) ms m h
 
@@ -107,14 +121,14 @@ down-push t vs w count p d = record { fits = d.fits; posted = posted-push vs w (
 down-told : (t : Terms) (vs : List (List ℕ)) (m n : ℕ) → m ≤ n → (p : ServerPacket) → IsDown t vs m p → IsDown t vs n p
 down-told t vs m n l p d = record { fits = d.fits; posted = d.posted; tells = tells-more m n p l d.tells }
 
-up-push : (vs : List (List ℕ)) (w : List ℕ) (ms : List Move) (p : ClientPacket) → IsUp vs ms p → IsUp (vs ++ w ∷ []) ms p
-up-push vs w ms p d = record { fits = d.fits; posted = posted-push vs w (seen_up p).events d.posted; moves = d.moves }
+up-push : (w : Wire) (vs : List (List ℕ)) (v : List ℕ) (ms : List MoveBits) (p : ClientPacket) → IsUp w vs ms p → IsUp w (vs ++ v ∷ []) ms p
+up-push w vs v ms p d = record { fits = d.fits; posted = posted-push vs v (seen_up p).events d.posted; moves = d.moves }
 
-up-sampled : (vs : List (List ℕ)) (ms : List Move) (m : Move) (p : ClientPacket) → IsUp vs ms p → IsUp vs (ms ++ m ∷ []) p
-up-sampled vs ms m p d = record { fits = d.fits; posted = d.posted; moves = holds-more ms m p d.moves }
+up-sampled : (w : Wire) (vs : List (List ℕ)) (ms : List MoveBits) (m : MoveBits) (p : ClientPacket) → IsUp w vs ms p → IsUp w vs (ms ++ m ∷ []) p
+up-sampled w vs ms m p d = record { fits = d.fits; posted = d.posted; moves = holds-more ms m p d.moves }
 
 -- the moves of both ends
-pub record Moves (life : ℕ) (server client : List Move) (told : ℕ) : Type 0 where
+pub record Moves (life : ℕ) (server client : List MoveBits) (told : ℕ) : Type 0 where
   pub accepted : length server ≤ life
   pub sampled : length client ≤ life
   pub front : IsFront server client
@@ -126,10 +140,11 @@ pub record Carried (t : Terms) (s : List ServerEvent) (u : List ClientEvent) : T
   pub server : EndFits t.config.life (server_end s)
   pub client : EndFits t.config.life (client_end u)
   pub down : AllByRecursion (IsDown t (posted_at (server_end s)) (length (accepted_at t.config s))) (server_packets s)
-  pub up : AllByRecursion (IsUp (posted_at (client_end u)) (sampled_at u)) (client_packets u)
+  pub up : AllByRecursion (IsUp (wire_of t.config) (posted_at (client_end u)) (sampled_at u)) (client_packets u)
   pub came_down : ArePosted (posted_at (server_end s)) (came_of (client_end u))
   pub came_up : ArePosted (posted_at (client_end u)) (came_of (server_end s))
   pub moves : Moves t.config.life (accepted_at t.config s) (sampled_at u) (acked_of (sample_log u))
+  pub narrow : AllByRecursion (IsMove (wire_of t.config)) (sampled_at u)
   pub legal : IsLegalLog t.kinds s
   pub ghosts : AllByRecursion (IsGhost t.kinds) (ghosts_came u)
 
@@ -143,6 +158,7 @@ module _ (t : Terms) (limits : AreTerms t) where
     came_down = tt;
     came_up = tt;
     moves = record { accepted = omega arith; sampled = omega arith; front = record { within = omega arith; first = refl }; acked = omega arith; few = omega arith };
+    narrow = tt;
     legal = tt;
     ghosts = tt;
   }
@@ -150,7 +166,7 @@ module _ (t : Terms) (limits : AreTerms t) where
   -- ---- posts
 
   posts-down : (class : Class) (v : List ℕ) (s : List ServerEvent) (u : List ClientEvent) → IsPayload v → Carried t s u → Carried t (server_posts t.config class v s) u
-  posts-down Loose v s u fits h = record { server = loose-fits t.config.life (server_end s) v fits h.server; client = h.client; down = h.down; up = h.up; came_down = h.came_down; came_up = h.came_up; moves = h.moves; legal = h.legal; ghosts = h.ghosts }
+  posts-down Loose v s u fits h = record { server = loose-fits t.config.life (server_end s) v fits h.server; client = h.client; down = h.down; up = h.up; came_down = h.came_down; came_up = h.came_up; moves = h.moves; narrow = h.narrow; legal = h.legal; ghosts = h.ghosts }
   posts-down Guaranteed v s u fits h = go (is_ok (posted_at_server t.config s)) refl
     where
       go : (b : Bool) → is_ok (posted_at_server t.config s) ≡ b → Carried t (if b then server_log.Posted Guaranteed v ∷ s else s) u
@@ -164,12 +180,13 @@ module _ (t : Terms) (limits : AreTerms t) where
         came_down = posted-push (posted_at (server_end s)) v (came_of (client_end u)) h.came_down;
         came_up = h.came_up;
         moves = h.moves;
+        narrow = h.narrow;
         legal = h.legal;
         ghosts = h.ghosts;
       }
 
   posts-up : (class : Class) (v : List ℕ) (s : List ServerEvent) (u : List ClientEvent) → IsPayload v → Carried t s u → Carried t s (client_posts t.config class v u)
-  posts-up Loose v s u fits h = record { server = h.server; client = loose-fits t.config.life (client_end u) v fits h.client; down = h.down; up = h.up; came_down = h.came_down; came_up = h.came_up; moves = h.moves; legal = h.legal; ghosts = h.ghosts }
+  posts-up Loose v s u fits h = record { server = h.server; client = loose-fits t.config.life (client_end u) v fits h.client; down = h.down; up = h.up; came_down = h.came_down; came_up = h.came_up; moves = h.moves; narrow = h.narrow; legal = h.legal; ghosts = h.ghosts }
   posts-up Guaranteed v s u fits h = go (is_ok (posted_at_client t.config u)) refl
     where
       go : (b : Bool) → is_ok (posted_at_client t.config u) ≡ b → Carried t s (if b then client_log.Posted Guaranteed v ∷ u else u)
@@ -178,38 +195,40 @@ module _ (t : Terms) (limits : AreTerms t) where
         server = h.server;
         client = posted-fits t.config.life (client_end u) v e fits h.client;
         down = h.down;
-        up = all-map (IsUp (posted_at (client_end u)) (sampled_at u)) (IsUp (posted_at (client_end u) ++ v ∷ []) (sampled_at u)) (up-push (posted_at (client_end u)) v (sampled_at u)) (client_packets u) h.up;
+        up = all-map (IsUp (wire_of t.config) (posted_at (client_end u)) (sampled_at u)) (IsUp (wire_of t.config) (posted_at (client_end u) ++ v ∷ []) (sampled_at u)) (up-push (wire_of t.config) (posted_at (client_end u)) v (sampled_at u)) (client_packets u) h.up;
         came_down = h.came_down;
         came_up = posted-push (posted_at (client_end u)) v (came_of (server_end s)) h.came_up;
         moves = h.moves;
+        narrow = h.narrow;
         legal = h.legal;
         ghosts = h.ghosts;
       }
 
   -- ---- samples
 
-  samples-up : (m : Move) (s : List ServerEvent) (u : List ClientEvent) → Carried t s u → Carried t s (client_samples t.config m u)
-  samples-up m s u h = go (is_ok (sampled_answer t.config u)) refl
+  samples-up : (m : MoveBits) (s : List ServerEvent) (u : List ClientEvent) → Carried t s u → Carried t s (client_samples t.config m u)
+  samples-up m s u h = go (is_ok (sampled_answer t.config m u)) refl
     where
-      go : (b : Bool) → is_ok (sampled_answer t.config u) ≡ b → Carried t s (if b then client_log.Sampled m ∷ u else u)
+      go : (b : Bool) → is_ok (sampled_answer t.config m u) ≡ b → Carried t s (if b then client_log.Sampled m ∷ u else u)
       go false e = h
       go true e =
-          let apart = sample-is t.config u e in
+          let taken = sample-is t.config m u e in
           let one = length-append (sampled_at u) (m ∷ []) in
           record {
             server = h.server;
             client = h.client;
             down = h.down;
-            up = all-map (IsUp (posted_at (client_end u)) (sampled_at u)) (IsUp (posted_at (client_end u)) (sampled_at u ++ m ∷ [])) (up-sampled (posted_at (client_end u)) (sampled_at u) m) (client_packets u) h.up;
+            up = all-map (IsUp (wire_of t.config) (posted_at (client_end u)) (sampled_at u)) (IsUp (wire_of t.config) (posted_at (client_end u)) (sampled_at u ++ m ∷ [])) (up-sampled (wire_of t.config) (posted_at (client_end u)) (sampled_at u) m) (client_packets u) h.up;
             came_down = h.came_down;
             came_up = h.came_up;
             moves = record {
               accepted = h.moves.accepted;
-              sampled = omega (arith, h.moves.sampled, apart.0, one);
+              sampled = omega (arith, h.moves.sampled, taken.worn, one);
               front = front-push (accepted_at t.config s) (sampled_at u) m h.moves.front;
               acked = h.moves.acked;
-              few = omega (arith, h.moves.few, apart.1, one);
+              few = omega (arith, h.moves.few, taken.full, one);
             };
+            narrow = all-append (IsMove (wire_of t.config)) (sampled_at u) (m ∷ []) h.narrow (taken.narrow, tt);
             legal = h.legal;
             ghosts = h.ghosts;
           }
@@ -247,6 +266,7 @@ module _ (t : Terms) (limits : AreTerms t) where
         came_down = h.came_down;
         came_up = h.came_up;
         moves = h.moves;
+        narrow = h.narrow;
         legal = h.legal;
         ghosts = h.ghosts;
       }
@@ -261,6 +281,7 @@ module _ (t : Terms) (limits : AreTerms t) where
         came_down = h.came_down;
         came_up = h.came_up;
         moves = h.moves;
+        narrow = h.narrow;
         legal = packed-legal t s values limits.kinds h.legal;
         ghosts = h.ghosts;
       }
@@ -268,7 +289,7 @@ module _ (t : Terms) (limits : AreTerms t) where
   -- ---- objects in scope
 
   scoped : (change : ScopeChange) (s : List ServerEvent) (u : List ClientEvent) → IsAllowed (sizes t.kinds) (scope_event change) (ghost_log s) → Carried t s u → Carried t (server_log.Scoped change ∷ s) u
-  scoped change s u may h = record { server = h.server; client = h.client; down = h.down; up = h.up; came_down = h.came_down; came_up = h.came_up; moves = h.moves; legal = (may, h.legal); ghosts = h.ghosts }
+  scoped change s u may h = record { server = h.server; client = h.client; down = h.down; up = h.up; came_down = h.came_down; came_up = h.came_up; moves = h.moves; narrow = h.narrow; legal = (may, h.legal); ghosts = h.ghosts }
 
   pub absorbs-down : (drains : List Drain) (s : List ServerEvent) (u : List ClientEvent) → AllByRecursion (MayBeDrained t (ghost_log s)) drains → Carried t s u → Carried t (absorbing drains s) u
   absorbs-down [] s u may h = h
@@ -280,14 +301,14 @@ module _ (t : Terms) (limits : AreTerms t) where
   waiting-moves s u h = omega (arith, length-drop (acked_of (sample_log u)) (sampled_at u), h.moves.acked, h.moves.front.within)
 
   -- the packets that the client makes
-  pub ping-up : (s : List ServerEvent) (u : List ClientEvent) → client_state t.config u ≡ Held → Carried t s u → IsClient 1 (up.Ping (client_ping t.config u))
+  pub ping-up : (s : List ServerEvent) (u : List ClientEvent) → client_state t.config u ≡ Held → Carried t s u → IsWholeClient (wire_of t.config) (up.Ping (client_ping t.config u))
   ping-up s u e h = ping_head-fits t.config.life t.config.client (client_end u) short limits.config.client e h.client
 
-  pub body-up : (s : List ServerEvent) (u : List ClientEvent) → client_state t.config u ≡ Room → Carried t s u → IsClient 1 (up.Body (client_body t.config u))
+  pub body-up : (s : List ServerEvent) (u : List ClientEvent) → client_state t.config u ≡ Room → Carried t s u → IsWholeClient (wire_of t.config) (up.Body (client_body t.config u))
   body-up s u e h = record {
     head = data_head-fits t.config.life t.config.client (client_end u) short limits.config.client e h.client;
     first = omega (arith, h.moves.acked, h.moves.accepted, short);
-    moves = record { few = omega (arith, waiting-moves s u h, h.moves.few); each = any-moves (packet_of (sample_log u)).moves };
+    moves = record { few = omega (arith, waiting-moves s u h, h.moves.few); each = all-drop (IsMove (wire_of t.config)) (acked_of (sample_log u)) (sampled_at u) h.narrow };
     events = events-fit t.config t.config.life _ (client_end u) short h.client;
   }
 
@@ -303,11 +324,12 @@ module _ (t : Terms) (limits : AreTerms t) where
         server = h.server;
         client = pinged-fits t.config.life (client_end u) _ h.client;
         down = h.down;
-        up = all-append (IsUp (posted_at (client_end u)) (sampled_at u)) (client_packets u) _ h.up
+        up = all-append (IsUp (wire_of t.config) (posted_at (client_end u)) (sampled_at u)) (client_packets u) _ h.up
             (record { fits = ping-up s u e h; posted = tt; moves = tt }, tt);
         came_down = h.came_down;
         came_up = h.came_up;
         moves = h.moves;
+        narrow = h.narrow;
         legal = h.legal;
         ghosts = h.ghosts;
       }
@@ -315,13 +337,14 @@ module _ (t : Terms) (limits : AreTerms t) where
         server = h.server;
         client = packed-fits t.config.life (client_end u) _ e h.client;
         down = h.down;
-        up = all-append (IsUp (posted_at (client_end u)) (sampled_at u)) (client_packets u) _ h.up (
+        up = all-append (IsUp (wire_of t.config) (posted_at (client_end u)) (sampled_at u)) (client_packets u) _ h.up (
           record { fits = body-up s u e h; posted = posted-events t.config _ (client_end u); moves = holds },
           tt,
         );
         came_down = h.came_down;
         came_up = h.came_up;
         moves = h.moves;
+        narrow = h.narrow;
         legal = h.legal;
         ghosts = h.ghosts;
       }
@@ -332,7 +355,7 @@ module _ (t : Terms) (limits : AreTerms t) where
   seq-down (down.Ping head) fits = fits.seq
   seq-down (down.Body body) fits = fits.head.seq
 
-  seq-up : (p : ClientPacket) → IsClient 1 p → (seen_up p).head.seq < 2 ^ 24
+  seq-up : (p : ClientPacket) → IsWholeClient (wire_of t.config) p → (seen_up p).head.seq < 2 ^ 24
   seq-up (up.Ping head) fits = fits.seq
   seq-up (up.Body body) fits = fits.head.seq
 
@@ -341,7 +364,7 @@ module _ (t : Terms) (limits : AreTerms t) where
   ghosts-of (down.Body body) fits = fits.ghosts.each
 
   -- the client learns of moves
-  moves-down : (p : ServerPacket) (accepted : List Move) (log : List sending.SenderEvent) → TellsAtMost (length accepted) p → Moves t.config.life accepted (sampled_of log) (acked_of log) → Moves t.config.life accepted (sampled_of (moves_acked p log)) (acked_of (moves_acked p log))
+  moves-down : (p : ServerPacket) (accepted : List MoveBits) (log : List sending.SenderEvent) → TellsAtMost (length accepted) p → Moves t.config.life accepted (sampled_of log) (acked_of log) → Moves t.config.life accepted (sampled_of (moves_acked p log)) (acked_of (moves_acked p log))
   moves-down (down.Ping head) accepted log tells m = m
   moves-down (down.Body p) accepted log tells m = record { accepted = m.accepted; sampled = m.sampled; front = m.front; acked = omega (arith, m.acked, tells); few = omega (arith, m.few) }
 
@@ -352,10 +375,11 @@ module _ (t : Terms) (limits : AreTerms t) where
     server = h.server;
     client = took-fits t.config.life (client_end u) (seen_down p) (seq-down p fits) h.client;
     down = h.down;
-    up = subst (λ (ms : List Move). AllByRecursion (IsUp (posted_at (client_end u)) ms) (client_packets u)) (same-sampled p) h.up;
+    up = subst (λ (ms : List MoveBits). AllByRecursion (IsUp (wire_of t.config) (posted_at (client_end u)) ms) (client_packets u)) (same-sampled p) h.up;
     came_down = posted-items (posted_at (server_end s)) (seen_down p).events (came_of (client_end u)) posted h.came_down;
     came_up = h.came_up;
     moves = moves-down p (accepted_at t.config s) (sample_log u) tells h.moves;
+    narrow = subst (AllByRecursion (IsMove (wire_of t.config))) (same-sampled p) h.narrow;
     legal = h.legal;
     ghosts = all-append (IsGhost t.kinds) (reverse (ghosts_in p)) (ghosts_came u) (all-reverse (IsGhost t.kinds) (ghosts_in p) (ghosts-of p fits)) h.ghosts;
   }
@@ -365,11 +389,11 @@ module _ (t : Terms) (limits : AreTerms t) where
       same-sampled (down.Body p) = refl
 
   -- the server accepts moves
-  pub record Accepts (old new : List Move) (sampled : List Move) (acked : ℕ) : Type 0 where
+  pub record Accepts (old new : List MoveBits) (sampled : List MoveBits) (acked : ℕ) : Type 0 where
     pub moves : Moves t.config.life new sampled acked
     pub longer : length old ≤ length new
 
-  pub moves-up : (p : ClientPacket) (room : ℕ) (log : List moves.ReceiverEvent) (sampled : List Move) (acked : ℕ) → HoldsMoves sampled p → Moves t.config.life (accepted_of t.config.life log) sampled acked
+  pub moves-up : (p : ClientPacket) (room : ℕ) (log : List moves.ReceiverEvent) (sampled : List MoveBits) (acked : ℕ) → HoldsMoves sampled p → Moves t.config.life (accepted_of t.config.life log) sampled acked
       → Accepts (accepted_of t.config.life log) (accepted_of t.config.life (moves_taken p room log)) sampled acked
   moves-up (up.Ping head) room log sampled acked holds m = record { moves = m; longer = omega arith }
   moves-up (up.Body p) room log sampled acked holds m =
@@ -379,7 +403,7 @@ module _ (t : Terms) (limits : AreTerms t) where
         longer = grows.longer;
       }
 
-  took-up : (s : List ServerEvent) (u : List ClientEvent) (room : ℕ) (p : ClientPacket) (a : Checked ArriveFault) → server_log.packet_check t.config s p ≡ a → IsClient 1 p → ArePosted (posted_at (client_end u)) (seen_up p).events → HoldsMoves (sampled_at u) p
+  took-up : (s : List ServerEvent) (u : List ClientEvent) (room : ℕ) (p : ClientPacket) (a : Checked ArriveFault) → server_log.packet_check t.config s p ≡ a → IsWholeClient (wire_of t.config) p → ArePosted (posted_at (client_end u)) (seen_up p).events → HoldsMoves (sampled_at u) p
       → Carried t s u → Carried t (took_at_server s room (checked_packet p a)) u
   took-up s u room p (Err e) is fits posted holds h = h
   took-up s u room p (Ok x) is fits posted holds h =
@@ -394,6 +418,7 @@ module _ (t : Terms) (limits : AreTerms t) where
         came_down = h.came_down;
         came_up = posted-items (posted_at (client_end u)) (seen_up p).events (came_of (server_end s)) posted h.came_up;
         moves = accepts.moves;
+        narrow = h.narrow;
         legal = took-legal t.kinds s p room meets.within h.legal;
         ghosts = h.ghosts;
       }
@@ -407,7 +432,7 @@ module _ (t : Terms) (limits : AreTerms t) where
   given-up : (s : List ServerEvent) (u : List ClientEvent) (k room : ℕ) (o : Option ClientPacket) → slice_get (client_packets u) k ≡ o → Carried t s u → Carried t (given_up t.config room o s) u
   given-up s u k room None e h = h
   given-up s u k room (Some p) e h =
-      let d : IsUp (posted_at (client_end u)) (sampled_at u) p = all-at (IsUp (posted_at (client_end u)) (sampled_at u)) (client_packets u) k p h.up e in
+      let d : IsUp (wire_of t.config) (posted_at (client_end u)) (sampled_at u) p = all-at (IsUp (wire_of t.config) (posted_at (client_end u)) (sampled_at u)) (client_packets u) k p h.up e in
       took-up s u room p (server_log.packet_check t.config s p) refl d.fits d.posted d.moves h
 
   -- ---- all steps

@@ -2,7 +2,7 @@
 -- packet that was sent at its place, and nothing more has to be asked of steps than what they are made with and who is honest.
 use Rattle.std.proofs.Common.{◌∙◌, List, [], ◌∷◌, length, refl, ap, subst}
 use Rattle.std.specs.List.{AllByRecursion}
-use Rattle.conn_packing.specs.stream_manager.Limits.{Terms, AreTerms}
+use Rattle.conn_packing.specs.stream_manager.Limits.{Terms, AreTerms, wire_of}
 use Rattle.conn_packing.specs.stream_manager.Server.{ServerEvent, server_end, seen_client_body, accepted_at}
 use Rattle.conn_packing.specs.stream_manager.Client.{ClientEvent, client_end, sampled_at}
 use Rattle.wire_logs.specs.event_logs.Joined as events
@@ -34,7 +34,7 @@ module _ (t : Terms) (s : List ServerEvent) (u : List ClientEvent) (c : Carried 
   -- and at this server
   all-up : AreJoinedUp s u → events.AreJoined (client_end u) (server_end s) → AllByRecursion (IsReadUp t.config s) (client_packets u)
   all-up j joined =
-      all-both (IsUp (posted_at (client_end u)) (sampled_at u)) (WasSentUp (client_end u)) (IsReadUp t.config s)
+      all-both (IsUp (wire_of t.config) (posted_at (client_end u)) (sampled_at u)) (WasSentUp (client_end u)) (IsReadUp t.config s)
       (λ p d sent. reads-up t.config s p d.fits (λ q is newer. finds-numbers (client_end u) (server_end s) joined (seen_client_body q) (subst (WasSentUp (client_end u)) is sent) newer))
       (client_packets u) c.up j.sent
 

@@ -5,7 +5,7 @@ use Rattle.tn_types.specs.declared.choices.Drain.{Drain}
 use Rattle.std.specs.Result.{is_ok}
 use Rattle.tn_types.specs.declared.choices.Class.{Class}
 use Rattle.tn_types.specs.declared.choices.Class.TheVariants.{Guaranteed, Loose}
-use Rattle.tn_types.specs.declared.moves.Move.{Move}
+use Rattle.tn_types.specs.declared.moves.MoveBits.{MoveBits}
 use Rattle.notify_window.specs.declared.SendState.{SendState}
 use Rattle.notify_window.specs.declared.SendState.TheVariants.{Held, Worn, Room}
 use Rattle.notify_window.specs.Log.{WindowEvent}
@@ -52,8 +52,8 @@ module _ (t : Terms) (old : List WindowEvent) where
       go true = g
       go false = g
 
-  client-samples : (m : Move) (u : List ClientEvent) → ClientGrew u → ClientGrew (client_samples t.config m u)
-  client-samples m u g = go (is_ok (sampled_answer t.config u))
+  client-samples : (m : MoveBits) (u : List ClientEvent) → ClientGrew u → ClientGrew (client_samples t.config m u)
+  client-samples m u g = go (is_ok (sampled_answer t.config m u))
     where
       go : (b : Bool) → ClientGrew (if b then client_log.Sampled m ∷ u else u)
       go true = g

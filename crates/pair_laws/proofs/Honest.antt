@@ -7,7 +7,7 @@ use Rattle.std.specs.List.{AllByRecursion, slice_index_or}
 use Rattle.tn_types.specs.declared.choices.Drain.{Drain}
 use Rattle.tn_types.specs.declared.choices.Class.{Class}
 use Rattle.tn_types.specs.declared.choices.Class.TheVariants.{Guaranteed, Loose}
-use Rattle.tn_types.specs.declared.moves.Move.{Move}
+use Rattle.tn_types.specs.declared.moves.MoveBits.{MoveBits}
 use Rattle.notify_window.specs.declared.SendState.{SendState}
 use Rattle.notify_window.specs.declared.SendState.TheVariants.{Held, Worn, Room}
 use Rattle.wire_format.specs.declared.blocks.BlockItem.{BlockItem}
@@ -23,7 +23,7 @@ use Rattle.tn_types.specs.Fitting.{fitting}
 use Rattle.move_manager.specs.Sending.{acked_of}
 use Rattle.conn_packing.specs.stream_manager.declared.fault.ArriveFault.{ArriveFault}
 use Rattle.conn_packing.specs.stream_manager.declared.fault.ClientFault.{ClientFault}
-use Rattle.conn_packing.specs.stream_manager.Limits.{Terms, AreTerms}
+use Rattle.conn_packing.specs.stream_manager.Limits.{Terms, AreTerms, wire_of}
 use Rattle.tn_types.specs.Checks.{Checked}
 use Rattle.conn_packing.specs.stream_manager.Faults.{checked_packet}
 use Rattle.event_manager.specs.Receiving.{run_of}
@@ -93,8 +93,8 @@ module _ (t : Terms) (limits : AreTerms t) where
       go true = record { down = h.down; up = h.up }
       go false = h
 
-  samples-up : (m : Move) (s : List ServerEvent) (u : List ClientEvent) → Honest t s u → Honest t s (client_samples t.config m u)
-  samples-up m s u h = go (is_ok (sampled_answer t.config u))
+  samples-up : (m : MoveBits) (s : List ServerEvent) (u : List ClientEvent) → Honest t s u → Honest t s (client_samples t.config m u)
+  samples-up m s u h = go (is_ok (sampled_answer t.config m u))
     where
       go : (b : Bool) → Honest t s (if b then client_log.Sampled m ∷ u else u)
       go true = record { down = h.down; up = h.up }
@@ -180,7 +180,7 @@ module _ (t : Terms) (limits : AreTerms t) where
   given-up : (s : List ServerEvent) (u : List ClientEvent) (k room : ℕ) (o : Option ClientPacket) → slice_get (client_packets u) k ≡ o → Carried t s u → Honest t s u → Honest t (given_up t.config room o s) u
   given-up s u k room None e c h = h
   given-up s u k room (Some p) e c h =
-      let d : IsUp (posted_at (client_end u)) (sampled_at u) p = all-at (IsUp (posted_at (client_end u)) (sampled_at u)) (client_packets u) k p c.up e in
+      let d : IsUp (wire_of t.config) (posted_at (client_end u)) (sampled_at u) p = all-at (IsUp (wire_of t.config) (posted_at (client_end u)) (sampled_at u)) (client_packets u) k p c.up e in
       took-up s u room p (server_log.packet_check t.config s p) (all-at (Brings seen_up (BeginsWithin (length (accepted_at t.config s))) t.config.client (λ n. events_of n (client_end u)) (sent_of (window_log (client_end u))) (run_of (came_of (server_end s)))) (client_packets u) k p h.up.brings e) d.moves c h
 
   -- ---- all steps

@@ -7,7 +7,7 @@ use Rattle.std.specs.List.{AllByRecursion}
 use Rattle.tn_types.specs.declared.choices.Class.{Class}
 use Rattle.tn_types.specs.declared.choices.Class.TheVariants.{Guaranteed, Loose}
 use Rattle.tn_types.specs.declared.choices.Drain.{Drain}
-use Rattle.tn_types.specs.declared.moves.Move.{Move}
+use Rattle.tn_types.specs.declared.moves.MoveBits.{MoveBits}
 use Rattle.notify_window.specs.declared.SendState.{SendState}
 use Rattle.notify_window.specs.declared.SendState.TheVariants.{Held, Worn, Room}
 use Rattle.wire_format.specs.declared.server.ServerBody.{ServerBody}
@@ -88,8 +88,8 @@ module _ (t : Terms) (limits : AreTerms t) where
       go false = h
       go true = record { made = h.made; came = h.came; sent = h.sent }
 
-  samples-up : (m : Move) (s : List ServerEvent) (u : List ClientEvent) → Joins t s u → Joins t s (client_samples t.config m u)
-  samples-up m s u h = go (is_ok (sampled_answer t.config u))
+  samples-up : (m : MoveBits) (s : List ServerEvent) (u : List ClientEvent) → Joins t s u → Joins t s (client_samples t.config m u)
+  samples-up m s u h = go (is_ok (sampled_answer t.config m u))
     where
       go : (b : Bool) → Joins t s (if b then client_log.Sampled m ∷ u else u)
       go false = h

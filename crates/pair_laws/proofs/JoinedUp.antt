@@ -8,7 +8,7 @@ use Rattle.std.specs.List.{AllByRecursion}
 use Rattle.tn_types.specs.declared.choices.Class.{Class}
 use Rattle.tn_types.specs.declared.choices.Class.TheVariants.{Guaranteed, Loose}
 use Rattle.tn_types.specs.declared.choices.Drain.{Drain}
-use Rattle.tn_types.specs.declared.moves.Move.{Move}
+use Rattle.tn_types.specs.declared.moves.MoveBits.{MoveBits}
 use Rattle.tn_types.specs.Checks.{Checked}
 use Rattle.notify_window.specs.declared.SendState.{SendState}
 use Rattle.notify_window.specs.declared.SendState.TheVariants.{Held, Worn, Room}
@@ -85,8 +85,8 @@ module _ (t : Terms) (limits : AreTerms t) where
       go false = h
       go true = alike (client_end u) (Posted Guaranteed v ∷ client_end u) (client_packets u) (server_end s) (λ p w. w) h.made h
 
-  samples-up : (m : Move) (s : List ServerEvent) (u : List ClientEvent) → AreJoinedUp s u → AreJoinedUp s (client_samples t.config m u)
-  samples-up m s u h = go (is_ok (sampled_answer t.config u))
+  samples-up : (m : MoveBits) (s : List ServerEvent) (u : List ClientEvent) → AreJoinedUp s u → AreJoinedUp s (client_samples t.config m u)
+  samples-up m s u h = go (is_ok (sampled_answer t.config m u))
     where
       go : (b : Bool) → AreJoinedUp s (if b then client_log.Sampled m ∷ u else u)
       go false = h

@@ -7,7 +7,7 @@ use Rattle.std.specs.Result.{is_ok}
 use Rattle.std.specs.List.{AllByRecursion}
 use Rattle.tn_types.specs.declared.choices.Class.{Class}
 use Rattle.tn_types.specs.declared.choices.Class.TheVariants.{Guaranteed, Loose}
-use Rattle.tn_types.specs.declared.moves.Move.{Move}
+use Rattle.tn_types.specs.declared.moves.MoveBits.{MoveBits}
 use Rattle.notify_window.specs.declared.SendState.{SendState}
 use Rattle.notify_window.specs.declared.SendState.TheVariants.{Held, Worn, Room}
 use Rattle.notify_window.specs.Log.{horizon_of}
@@ -100,8 +100,8 @@ module _ (t : Terms) (limits : AreTerms t) where
       go false = h
       go true = record { server = h.server; client = posted-sends (client_end u) v h.client; down = h.down; up = h.up; came_down = h.came_down; came_up = h.came_up }
 
-  samples-up : (m : Move) (s : List ServerEvent) (u : List ClientEvent) → Ordered t s u → Ordered t s (client_samples t.config m u)
-  samples-up m s u h = go (is_ok (sampled_answer t.config u))
+  samples-up : (m : MoveBits) (s : List ServerEvent) (u : List ClientEvent) → Ordered t s u → Ordered t s (client_samples t.config m u)
+  samples-up m s u h = go (is_ok (sampled_answer t.config m u))
     where
       go : (b : Bool) → Ordered t s (if b then client_log.Sampled m ∷ u else u)
       go false = h

@@ -9,7 +9,7 @@ use Rattle.std.proofs.lemmas.Grind.{reverse_onto}
 use Rattle.std.proofs.lemmas.Bool.Decides.{nat_tests}
 use Rattle.tn_types.specs.declared.choices.Class.{Class}
 use Rattle.tn_types.specs.declared.choices.Class.TheVariants.{Guaranteed, Loose}
-use Rattle.tn_types.specs.declared.moves.Move.{Move}
+use Rattle.tn_types.specs.declared.moves.MoveBits.{MoveBits}
 use Rattle.notify_window.specs.declared.SendState.{SendState}
 use Rattle.notify_window.specs.declared.SendState.TheVariants.{Held, Worn, Room}
 use Rattle.wire_format.specs.declared.blocks.BlockItem.{BlockItem}
@@ -126,8 +126,8 @@ module _ (t : Terms) (limits : AreTerms t) where
       go false = h
       go true = record { written = h.written; reached = h.reached; brings = h.brings }
 
-  samples-up : (m : Move) (s : List ServerEvent) (u : List ClientEvent) → BlockWay t s u → BlockWay t s (client_samples t.config m u)
-  samples-up m s u h = go (is_ok (sampled_answer t.config u))
+  samples-up : (m : MoveBits) (s : List ServerEvent) (u : List ClientEvent) → BlockWay t s u → BlockWay t s (client_samples t.config m u)
+  samples-up m s u h = go (is_ok (sampled_answer t.config m u))
     where
       go : (b : Bool) → BlockWay t s (if b then client_log.Sampled m ∷ u else u)
       go false = h

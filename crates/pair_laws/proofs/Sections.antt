@@ -1,10 +1,8 @@
 -- The sections of a data packet lie in their ranges, so that each packet has a spelling.
 use Rattle.std.proofs.Common.{◌≡◌, ℕ, zero, suc, ◌-◌, ◌*◌, ◌<◌, ◌≤◌, Bool, true, false, List, [], ◌∷◌, ◌++◌, if◌then◌else◌, length, map, take, refl, ap, arith, length-take}
 use Rattle.std.specs.List.{AllByRecursion, slice_index_or}
-use Rattle.tn_types.specs.declared.moves.Move.{Move}
 use Rattle.wire_format.specs.declared.blocks.BlockItem.{BlockItem}
 use Rattle.wire_format.specs.Blocks.{block_size, IsBlock}
-use Rattle.wire_format.specs.Moves.{AnyMove}
 use Rattle.wire_format.specs.Reading.{AreListed}
 use Rattle.tn_types.specs.Least.{those_below}
 use Rattle.conn_packing.specs.stream_manager.datablocks.Sending.{due_of, is_due}
@@ -50,9 +48,3 @@ blocks-fit t log limits =
       few = omega (arith, fitting-short block_size (4 * t.config.size - 136) (take 15 due), length-take 15 due);
       each = blocks-all IsBlock t log (λ b l. block-fits t.blocks b l limits.few limits.blocks);
     }
-
--- ---- moves
-
-pub any-moves : (ms : List Move) → AllByRecursion AnyMove ms
-any-moves [] = tt
-any-moves (m ∷ ms) = (tt, any-moves ms)

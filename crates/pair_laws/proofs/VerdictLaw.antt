@@ -6,7 +6,7 @@ use Rattle.std.specs.Result.{is_ok}
 use Rattle.std.proofs.lemmas.Bool.{cases_lt}
 use Rattle.tn_types.specs.declared.choices.Class.{Class}
 use Rattle.tn_types.specs.declared.choices.Class.TheVariants.{Guaranteed, Loose}
-use Rattle.tn_types.specs.declared.moves.Move.{Move}
+use Rattle.tn_types.specs.declared.moves.MoveBits.{MoveBits}
 use Rattle.notify_window.specs.declared.SendState.{SendState}
 use Rattle.notify_window.specs.declared.SendState.TheVariants.{Held, Worn, Room}
 use Rattle.tn_types.specs.BitWords.{bit_of}
@@ -63,8 +63,8 @@ module _ (t : Terms) (limits : AreTerms t) where
       go true = h
       go false = h
 
-  samples-up : (m : Move) (s : List ServerEvent) (u : List ClientEvent) → Windows t s u → Windows t s (client_samples t.config m u)
-  samples-up m s u h = go (is_ok (sampled_answer t.config u))
+  samples-up : (m : MoveBits) (s : List ServerEvent) (u : List ClientEvent) → Windows t s u → Windows t s (client_samples t.config m u)
+  samples-up m s u h = go (is_ok (sampled_answer t.config m u))
     where
       go : (b : Bool) → Windows t s (if b then client_log.Sampled m ∷ u else u)
       go true = h

@@ -67,7 +67,7 @@ IsExchange t steps = history t steps ≡ exchange t steps
 -- ---- an example: a client's first packet comes, and once more, when it is old
 
 abbrev no_kinds : Terms
-no_kinds = record { config = record { client = 0; life = 100; size = 128; version = 2 }; kinds = []; blocks = [] }
+no_kinds = record { config = record { client = 0; life = 100; size = 128; version = 2; move_bits = 10 }; kinds = []; blocks = [] }
 
 abbrev first_packet : ClientBody
 first_packet = record { head = record { client = 0; seq = 1; horizon = 0; mask = 0 }; first = 0; moves = []; events = [] }

@@ -179,6 +179,8 @@ spectator_limits head c s below few past h =
         size = limits.config.size;
         some_version = limits.config.some_version;
         version = limits.config.version;
+        some_bits = limits.config.some_bits;
+        move_bits = limits.config.move_bits;
       };
       kinds = limits.kinds;
       few = limits.few;

@@ -37,6 +37,7 @@ use Rattle.client_scope.specs.declared.period.Near.{Near as NearPeriod}
 use Rattle.match_script.specs.declared.types.BodyLine.{BodyLine}
 use Rattle.match_script.specs.declared.types.BodyLine.TheVariants as script
 use Rattle.own_lists.specs.declared.showing.Showing.{Showing}
+use Rattle.own_lists.specs.bit_stream.WorldMoves.{bits_of}
 use Rattle.own_lists.specs.Own.{OwnItem, OwnShow, Line, Scan, Tick}
 use Rattle.own_lists.specs.Course.{Course, onto, near_step, show_step, scan_steps, room_in}
 use Rattle.own_lists.specs.Kept.{Kept, kept, journal, after_line, drains_of, reads_of}
@@ -242,7 +243,7 @@ module _ (t : Terms) (table : table_fault t.kinds ≡ None) where
   line_same (script.Down c place) k old new = step_same (steps_of.Down place) k.course.steps new
   line_same (script.Up c place) k old new = step_same (steps_of.Up place (room_in t k.course)) k.course.steps new
   line_same (script.Raw c bytes) k old new = step_same (steps_of.Raw bytes (room_in t k.course)) k.course.steps new
-  line_same (script.Move c m) k old new = step_same (steps_of.Sample m) k.course.steps new
+  line_same (script.Move c m) k old new = step_same (steps_of.Sample (bits_of m)) k.course.steps new
   line_same (script.Show c) k old new = stays (history t k.course.steps).server (legal_steps t table k.course.steps old)
   line_same script.World k old new = stays (history t k.course.steps).server (legal_steps t table k.course.steps old)
 

@@ -18,6 +18,7 @@ use Rattle.match_script.specs.declared.types.BodyLine.{BodyLine}
 use Rattle.match_script.specs.declared.types.BodyLine.TheVariants as script
 use Rattle.match_script.specs.declared.types.Head.{Head}
 use Rattle.own_lists.specs.declared.showing.Showing.{Showing}
+use Rattle.own_lists.specs.bit_stream.WorldMoves.{bits_of}
 use Rattle.own_lists.specs.Own.{OwnItem, OwnShow, Line, Scan, Tick}
 use Rattle.own_lists.specs.Course.{Course, onto, hide_step, near_step, show_step, scan_steps, room_in}
 use Rattle.own_lists.specs.Kept.{Kept, kept, journal, after_line, drains_of, reads_of}
@@ -66,7 +67,7 @@ module _ (t : Terms) where
   step_brings (ClientPost Guaranteed v) steps =
       perhaps (is_ok (posted_at_client t.config (history t steps).client)) (history t steps).client (client.Posted Guaranteed v) refl
   step_brings (ClientPost Loose v) steps = inl refl
-  step_brings (Sample m) steps = perhaps (is_ok (sampled_answer t.config (history t steps).client)) (history t steps).client (client.Sampled m) refl
+  step_brings (Sample m) steps = perhaps (is_ok (sampled_answer t.config m (history t steps).client)) (history t steps).client (client.Sampled m) refl
   step_brings (Pack drains reads) steps = inl refl
   step_brings ClientPack steps = packed (history t steps).client (client_state t.config (history t steps).client)
   step_brings (Down k) steps = gets (history t steps).client (slice_get (server_datagrams t (history t steps).server) k)
@@ -106,7 +107,7 @@ module _ (t : Terms) where
   line_brings (script.Down c place) k = step_brings (Down place) k.course.steps
   line_brings (script.Up c place) k = step_brings (Up place (room_in t k.course)) k.course.steps
   line_brings (script.Raw c bytes) k = step_brings (Raw bytes (room_in t k.course)) k.course.steps
-  line_brings (script.Move c m) k = step_brings (Sample m) k.course.steps
+  line_brings (script.Move c m) k = step_brings (Sample (bits_of m)) k.course.steps
   line_brings (script.Show c) k = inl refl
   line_brings script.World k = inl refl
 

@@ -8,7 +8,7 @@ use Rattle.tn_types.specs.Checks.{Checked, then_check, first_fault}
 use Rattle.tn_types.specs.declared.choices.Class.{Class}
 use Rattle.tn_types.specs.declared.choices.Class.TheVariants.{Guaranteed, Loose}
 use Rattle.tn_types.specs.declared.limits.TheConstants.{MAX_SLOTS}
-use Rattle.tn_types.specs.declared.moves.Move.{Move}
+use Rattle.tn_types.specs.declared.moves.MoveBits.{MoveBits}
 use Rattle.notify_window.specs.declared.SendState.{SendState}
 use Rattle.notify_window.specs.declared.SendState.TheVariants.{Held, Worn, Room}
 use Rattle.bit_stream.specs.Bits.{bits_of}
@@ -184,8 +184,8 @@ module _ (t : Terms) (table : table_fault t.kinds ≡ None) where
       by true = more log (client.Posted Guaranteed v ∷ log) refl refl h
       by false = h
 
-  samples : (m : Move) (log : List ClientEvent) → Kept log → Kept (client_samples t.config m log)
-  samples m log h = by (is_ok (sampled_answer t.config log))
+  samples : (m : MoveBits) (log : List ClientEvent) → Kept log → Kept (client_samples t.config m log)
+  samples m log h = by (is_ok (sampled_answer t.config m log))
     where
       by : (b : Bool) → Kept (if b then client.Sampled m ∷ log else log)
       by true = more log (client.Sampled m ∷ log) refl refl h

@@ -21,6 +21,7 @@ use Rattle.own_lists.specs.pair_core.stream_manager.Packets.{packets_at, deliver
 use Rattle.own_lists.specs.pair_core.stream_manager.Server.{server_datagrams}
 use Rattle.own_lists.specs.pair_core.History.{History, history, client_gets}
 use Rattle.own_lists.specs.pair_core.Answers.{brought_down, came_down}
+use Rattle.own_lists.specs.bit_stream.WorldMoves.{bits_of}
 use Rattle.own_lists.specs.Own.{OwnItem, Line, Scan, Tick, OwnShow}
 use Rattle.own_lists.specs.Course.{Course}
 use Rattle.own_lists.specs.Kept.{kept, journal}
@@ -94,9 +95,9 @@ module _ (t : Terms) where
   item_quiet items (Line (script.Down c k)) q = absurd q
   item_quiet items (Line (script.Up c k)) q = refl
   item_quiet items (Line (script.Raw c bytes)) q = refl
-  item_quiet items (Line (script.Move c m)) q = by (is_ok (sampled_answer t.config (at_end t (journal t items))))
+  item_quiet items (Line (script.Move c m)) q = by (is_ok (sampled_answer t.config (bits_of m) (at_end t (journal t items))))
     where
-      by : (b : Bool) → packets_at (if b then client.Sampled m ∷ at_end t (journal t items) else at_end t (journal t items)) ≡ packets_at (at_end t (journal t items))
+      by : (b : Bool) → packets_at (if b then client.Sampled (bits_of m) ∷ at_end t (journal t items) else at_end t (journal t items)) ≡ packets_at (at_end t (journal t items))
       by true = refl
       by false = refl
   item_quiet items (Line (script.Show c)) q = refl

@@ -113,7 +113,7 @@ same_lists a b s terms client e =
     same_met a b s terms
     (from_a
     ∙ (λ j. met_from (record {
-      config = record { client = client j; life = terms.life j; size = terms.size j; version = terms.version j };
+      config = record { client = client j; life = terms.life j; size = terms.size j; version = terms.version j; move_bits = 10 };
       kinds = match_kinds;
       blocks = terms.blocks j;
     }) s (e j))

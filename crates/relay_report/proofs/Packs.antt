@@ -76,7 +76,7 @@ pub same_met : SameMetSamePacks
 same_met a b s same e =
     packs_are a s
     ∙ (λ j. packs_of (record {
-      config = record { client = s; life = same.life j; size = same.size j; version = same.version j };
+      config = record { client = s; life = same.life j; size = same.size j; version = same.version j; move_bits = 10 };
       kinds = match_kinds;
       blocks = same.blocks j;
     }) (e j))

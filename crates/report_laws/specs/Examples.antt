@@ -5,9 +5,11 @@ use Rattle.std.specs.Fmt.{digits}
 use Rattle.tn_types.specs.BitWords.{from_bits}
 use Rattle.tn_types.specs.declared.choices.Class.TheVariants.{Guaranteed}
 use Rattle.tn_types.specs.declared.moves.Move.{Move as PlayerMove}
+use Rattle.tn_types.specs.declared.moves.MoveBits.{MoveBits}
 use Rattle.bit_stream.specs.Reading.{number_at, is_padding, end_at}
 use Rattle.bit_stream.specs.Bits.{number, number_from, bits_of, low_bytes, datagram}
-use Rattle.pair_core.specs.stream_manager.wire_format.Moves.{move_at}
+use Rattle.bit_stream.specs.WorldMoves.{move_of}
+use Rattle.pair_core.specs.stream_manager.wire_format.Moves.{side_by_side_at, move_at}
 use Rattle.pair_core.specs.stream_manager.wire_format.Blocks.{block_at}
 use Rattle.pair_core.specs.stream_manager.wire_format.Reading.{part_at, such_at, optional_at, counted_at, listed_at}
 use Rattle.pair_core.specs.stream_manager.wire_format.Client.{client_body_at, client_at}
@@ -65,27 +67,27 @@ terms = client_terms one_clock 0
 
 -- the first of two posted events was delivered
 one_of_two : client_delivered terms (steps_of one_clock arrived 0) ≡ (Guaranteed, 104 ∷ 105 ∷ []) ∷ []
-unfolding one_clock a_move arrived terms digits from_bits number_at is_padding end_at number number_from bits_of low_bytes datagram move_at block_at part_at such_at optional_at counted_at listed_at client_body_at client_at levels_at create_at updated_at update_at ghost_at event_at server_body_at server_at header_at upto plan_of first_unacked due_guaranteed visible_list next clock_next
+unfolding one_clock a_move arrived terms digits from_bits number_at is_padding end_at number number_from bits_of low_bytes datagram side_by_side_at move_at block_at part_at such_at optional_at counted_at listed_at client_body_at client_at levels_at create_at updated_at update_at ghost_at event_at server_body_at server_at header_at upto plan_of first_unacked due_guaranteed visible_list next clock_next
 one_of_two = refl
 
 -- the copy shows 0 in the clock's first field, and it is settled
 zero_settled : shown_at (record { head = one_clock; past = arrived; client = 0 }) 0 (record { kind = 5; block = 0; levels = 0 ∷ 0 ∷ 0 ∷ [] }) 0
     ≡ Some (record { value = pos 0; settled = true })
-unfolding one_clock a_move arrived terms digits from_bits number_at is_padding end_at number number_from bits_of low_bytes datagram move_at block_at part_at such_at optional_at counted_at listed_at client_body_at client_at levels_at create_at updated_at update_at ghost_at event_at server_body_at server_at header_at upto plan_of first_unacked due_guaranteed visible_list next clock_next
+unfolding one_clock a_move arrived terms digits from_bits number_at is_padding end_at number number_from bits_of low_bytes datagram side_by_side_at move_at block_at part_at such_at optional_at counted_at listed_at client_body_at client_at levels_at create_at updated_at update_at ghost_at event_at server_body_at server_at header_at upto plan_of first_unacked due_guaranteed visible_list next clock_next
 zero_settled = refl
 
 -- a tick writes it, and so it isn't any more
 written_now : is_written_then (record { head = one_clock; past = Tick ∷ arrived; client = 0 }) 0 0 ≡ true
-unfolding one_clock a_move arrived terms digits from_bits number_at is_padding end_at number number_from bits_of low_bytes datagram move_at block_at part_at such_at optional_at counted_at listed_at client_body_at client_at levels_at create_at updated_at update_at ghost_at event_at server_body_at server_at header_at upto plan_of first_unacked due_guaranteed visible_list next clock_next row_writes world_writes
+unfolding one_clock a_move arrived terms digits from_bits number_at is_padding end_at number number_from bits_of low_bytes datagram side_by_side_at move_at block_at part_at such_at optional_at counted_at listed_at client_body_at client_at levels_at create_at updated_at update_at ghost_at event_at server_body_at server_at header_at upto plan_of first_unacked due_guaranteed visible_list next clock_next row_writes world_writes
 written_now = refl
 
 -- the tick takes the move that was sampled: one step along x
-move_applied : map (λ (m : PlayerMove). m.dx) (applied one_clock 0 (Tick ∷ arrived)) ≡ pos 1 ∷ []
-unfolding one_clock a_move arrived terms digits from_bits number_at is_padding end_at number number_from bits_of low_bytes datagram move_at block_at part_at such_at optional_at counted_at listed_at client_body_at client_at levels_at create_at updated_at update_at ghost_at event_at server_body_at server_at header_at upto plan_of first_unacked due_guaranteed visible_list next clock_next
+move_applied : map (λ (m : MoveBits). (move_of m).dx) (applied one_clock 0 (Tick ∷ arrived)) ≡ pos 1 ∷ []
+unfolding one_clock a_move arrived terms digits from_bits number_at is_padding end_at number number_from bits_of low_bytes datagram side_by_side_at move_at block_at part_at such_at optional_at counted_at listed_at client_body_at client_at levels_at create_at updated_at update_at ghost_at event_at server_body_at server_at header_at upto plan_of first_unacked due_guaranteed visible_list next clock_next
 move_applied = refl
 
 -- and so a report says it
 as_printed : line_text one_clock arrived (Show 0)
     ≡ codes "show 0 events 1 sampled 1 accepted 1 taken 0 control - ghosts 1 | 0 clock 0 0s 0s 0s\n"
-unfolding one_clock a_move arrived terms digits from_bits number_at is_padding end_at number number_from bits_of low_bytes datagram move_at block_at part_at such_at optional_at counted_at listed_at client_body_at client_at levels_at create_at updated_at update_at ghost_at event_at server_body_at server_at header_at upto plan_of first_unacked due_guaranteed visible_list next clock_next
+unfolding one_clock a_move arrived terms digits from_bits number_at is_padding end_at number number_from bits_of low_bytes datagram side_by_side_at move_at block_at part_at such_at optional_at counted_at listed_at client_body_at client_at levels_at create_at updated_at update_at ghost_at event_at server_body_at server_at header_at upto plan_of first_unacked due_guaranteed visible_list next clock_next
 as_printed = refl

@@ -1,4 +1,4 @@
--- What a datagram of either version reads as: its header, and the packet with the numbers of its events as they stand there.
+-- What a datagram of each version reads as: its header, and the packet with the numbers of its events as they stand there.
 use Rattle.std.proofs.Common.{◌≡◌, ◌∙◌, ℕ, ◌+◌, ◌++◌, ◌==◌, if◌then◌else◌, Bool, false, List, [], length, replicate, Option, Ok, refl, sym, ap, append_assoc, arith}
 use Rattle.std.proofs.Common.{lit<}
 use Rattle.std.specs.Prelude.{IfSome}
@@ -8,6 +8,7 @@ use Rattle.bit_stream.specs.Bits.{bits_of, number, datagram}
 use Rattle.bit_stream.specs.Laws.{padding}
 use Rattle.bit_stream.proofs.Datagrams.{bits_of-datagram}
 use Rattle.quantised_fields.specs.declared.kind.Kind.{Kind}
+use Rattle.wire_format.specs.declared.wire.Wire.{Wire}
 use Rattle.wire_format.specs.declared.header.Header.{Header}
 use Rattle.wire_format.specs.declared.fault.BitsCause.TheVariants.{KindBits}
 use Rattle.wire_format.specs.declared.client.ClientPacket.{ClientPacket}
@@ -23,6 +24,7 @@ use Rattle.wire_format.proofs.HeaderFormat.{a_header}
 use Rattle.wire_format.proofs.ServerFormat.{IsReadServer, a_server}
 use Rattle.wire_format.proofs.ClientFormat.{a_client}
 use Rattle.wire_format.proofs.Whole.{whole_again}
+use Rattle.wire_logs.specs.Again.{IsWholeClient}
 use Rattle.wire_logs.proofs.Numbers.{low_events, low-spelled, low-fit}
 
 abbrev pub low_down : ℕ → ServerPacket → ServerPacket
@@ -57,18 +59,18 @@ read-down version kinds held p of_table fits known =
 
 -- ---- the client's packets
 
-spelled-up : (version : ℕ) (p : ClientPacket) → spell_client version (low_up version p) ≡ spell_client version p
-spelled-up version (up.Ping head) = refl
-spelled-up version (up.Body p) = rw (low-spelled version p.events) refl
+spelled-up : (w : Wire) (p : ClientPacket) → spell_client w (low_up w.version p) ≡ spell_client w p
+spelled-up w (up.Ping head) = refl
+spelled-up w (up.Body p) = rw (low-spelled w.version p.events) refl
 
-fits-up : (version : ℕ) (p : ClientPacket) → IsClient 1 p → IsClient version (low_up version p)
-fits-up version (up.Ping head) fits = fits
-fits-up version (up.Body p) fits = record { head = fits.head; first = fits.first; moves = fits.moves; events = low-fit version p.events fits.events }
+fits-up : (w : Wire) (p : ClientPacket) → IsWholeClient w p → IsClient w (low_up w.version p)
+fits-up w (up.Ping head) fits = fits
+fits-up w (up.Body p) fits = record { head = fits.head; first = fits.first; moves = fits.moves; events = low-fit w.version p.events fits.events }
 
-pub read-up : (version : ℕ) (p : ClientPacket) → IsClient 1 p → read_client version (datagram (spell_client version p)) ≡ Ok (low_up version p)
-read-up version p fits =
-    ap (λ (bits : List Bool). read_client version (datagram bits)) (sym (spelled-up version p))
-    ∙ whole_again (client_at version) (spell_client version) (IsClient version) (a_client version) (low_up version p) (fits-up version p fits)
+pub read-up : (w : Wire) (p : ClientPacket) → IsWholeClient w p → read_client w (datagram (spell_client w p)) ≡ Ok (low_up w.version p)
+read-up w p fits =
+    ap (λ (bits : List Bool). read_client w (datagram bits)) (sym (spelled-up w p))
+    ∙ whole_again (client_at w) (spell_client w) (IsClient w) (a_client w) (low_up w.version p) (fits-up w p fits)
 
 -- ---- the header of a server's packet
 

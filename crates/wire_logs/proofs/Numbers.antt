@@ -1,14 +1,13 @@
--- The numbers of events: a packet has them whole, and its datagram their lowest bits. In version 1 these are the whole ones; in
--- version 2 the end that reads them makes them whole by what it has delivered.
-use Rattle.std.proofs.Common.{◌≡◌, ◌∙◌, ℕ, suc, ◌<◌, ◌^◌, ◌%◌, ◌==◌, Bool, true, false, List, [], ◌∷◌, ◌++◌, length, map, if◌then◌else◌, Option, Some, None, refl, ap, arith}
+-- The numbers of events: a packet has them whole, and its datagram their lowest bits. In version 1 these are the whole ones; from
+-- version 2 on the end that reads them makes them whole by what it has delivered.
+use Rattle.std.proofs.Common.{◌≡◌, ◌∙◌, ℕ, suc, ◌<◌, ◌^◌, ◌%◌, Bool, true, false, List, [], ◌∷◌, ◌++◌, length, map, if◌then◌else◌, Option, Some, None, refl, ap, arith}
 use Rattle.std.specs.Prelude.{IfSome}
 use Rattle.std.specs.List.{AllByRecursion, flat_map}
 use Rattle.std.specs.Option.{option_map}
-use Rattle.std.proofs.lemmas.Bool.Decides.{nat_tests}
 use Rattle.bit_stream.specs.Bits.{number}
 use Rattle.wire_format.specs.declared.events.EventItem.{EventItem}
 use Rattle.wire_format.specs.Reading.{AreListed}
-use Rattle.wire_format.specs.Events.{spell_event, spell_events, low_event, low_number, IsEvent}
+use Rattle.wire_format.specs.Events.{is_low, spell_event, spell_events, low_event, low_number, IsEvent}
 use Rattle.wire_format.proofs.LowNumbers.{low-event, low-fits}
 use Rattle.event_logs.specs.event_manager.Low.{whole_number, whole_items, IsFound}
 use Rattle.event_manager.proofs.WholeNumbers.{found}
@@ -45,40 +44,40 @@ low-fit version es h = record { few = omega (arith, h.few, count-low version es)
 
 -- ---- they are made whole
 
-same-number : (version n : ℕ) → (version == 2) ≡ false → n < 2 ^ 24 → low_number version n ≡ n
+same-number : (version n : ℕ) → is_low version ≡ false → n < 2 ^ 24 → low_number version n ≡ n
 same-number version n other small =
     ap (λ (b : Bool). n % 2 ^ (if b then 7 else 24)) other ∙ whole
   where
     whole : n % 2 ^ 24 ≡ n
     whole = omega (arith, small)
 
-same-option : (version : ℕ) (o : Option ℕ) → (version == 2) ≡ false → IfSome o (λ n. n < 2 ^ 24) → option_map (low_number version) o ≡ o
+same-option : (version : ℕ) (o : Option ℕ) → is_low version ≡ false → IfSome o (λ n. n < 2 ^ 24) → option_map (low_number version) o ≡ o
 same-option version None other small = refl
 same-option version (Some n) other small = ap (λ (k : ℕ). Some k) (same-number version n other small)
 
-same-events : (version : ℕ) (es : List EventItem) → (version == 2) ≡ false → AllByRecursion (IsEvent 1) es → low_events version es ≡ es
+same-events : (version : ℕ) (es : List EventItem) → is_low version ≡ false → AllByRecursion (IsEvent 1) es → low_events version es ≡ es
 same-events version [] other small = refl
 same-events version (e ∷ es) other small =
     ap (λ (o : Option ℕ). record { number = o; payload = e.payload } ∷ low_events version es) (same-option version e.number other small.0.number)
     ∙ ap (λ (t : List EventItem). e ∷ t) (same-events version es other small.1)
 
-whole-one : (delivered : ℕ) (o : Option ℕ) → IfSome o (IsFound delivered) → option_map (whole_number delivered) (option_map (low_number 2) o) ≡ o
-whole-one delivered None h = refl
-whole-one delivered (Some n) h = ap (λ (k : ℕ). Some k) (found delivered n h)
+whole-one : (version delivered : ℕ) (o : Option ℕ) → is_low version ≡ true → IfSome o (IsFound delivered) → option_map (whole_number delivered) (option_map (low_number version) o) ≡ o
+whole-one version delivered None low h = refl
+whole-one version delivered (Some n) low h =
+    ap (λ (b : Bool). Some (whole_number delivered (n % 2 ^ (if b then 7 else 24)))) low ∙ ap (λ (k : ℕ). Some k) (found delivered n h)
 
-whole-again : (delivered : ℕ) (es : List EventItem) → AllByRecursion (λ (e : EventItem). IfSome e.number (IsFound delivered)) es → whole_items delivered (low_events 2 es) ≡ es
-whole-again delivered [] h = refl
-whole-again delivered (e ∷ es) h =
-    ap (λ (o : Option ℕ). record { number = o; payload = e.payload } ∷ whole_items delivered (low_events 2 es)) (whole-one delivered e.number h.0)
-    ∙ ap (λ (t : List EventItem). e ∷ t) (whole-again delivered es h.1)
+whole-again : (version delivered : ℕ) (es : List EventItem) → is_low version ≡ true → AllByRecursion (λ (e : EventItem). IfSome e.number (IsFound delivered)) es
+    → whole_items delivered (low_events version es) ≡ es
+whole-again version delivered [] low h = refl
+whole-again version delivered (e ∷ es) low h =
+    ap (λ (o : Option ℕ). record { number = o; payload = e.payload } ∷ whole_items delivered (low_events version es)) (whole-one version delivered e.number low h.0)
+    ∙ ap (λ (t : List EventItem). e ∷ t) (whole-again version delivered es low h.1)
 
 pub made-whole : (version delivered : ℕ) (es : List EventItem) → AllByRecursion (IsEvent 1) es
-    → (version ≡ 2 → AllByRecursion (λ (e : EventItem). IfSome e.number (IsFound delivered)) es)
-    → (if version == 2 then whole_items delivered (low_events version es) else low_events version es) ≡ es
-made-whole version delivered es small near = go (version == 2) refl
+    → (is_low version ≡ true → AllByRecursion (λ (e : EventItem). IfSome e.number (IsFound delivered)) es)
+    → (if is_low version then whole_items delivered (low_events version es) else low_events version es) ≡ es
+made-whole version delivered es small near = go (is_low version) refl
   where
-    go : (b : Bool) → (version == 2) ≡ b → (if b then whole_items delivered (low_events version es) else low_events version es) ≡ es
-    go true e =
-        let two : version ≡ 2 = grind (arith, nat_tests) in
-        ap (λ (v : ℕ). whole_items delivered (low_events v es)) two ∙ whole-again delivered es (near two)
+    go : (b : Bool) → is_low version ≡ b → (if b then whole_items delivered (low_events version es) else low_events version es) ≡ es
+    go true e = whole-again version delivered es e (near e)
     go false e = same-events version es e small

@@ -18,7 +18,7 @@ seats-preserved c =
     let grown : c.push.new.self.items ≡ seats ++ new ∷ [] =
     c.push.ensures.items ∙ ap (λ ok. if ok then seats ++ new ∷ [] else seats) c.if-is_err.ensures.negation in
     let stands : StandsFor new (client_terms head n) beginning =
-    subst (λ (z : List Kind × List (List ℕ)). StandsFor new (record { config = record { client = n; life = head.life; size = head.size; version = head.version }; kinds = z.0; blocks = z.1 }) beginning)
+    subst (λ (z : List Kind × List (List ℕ)). StandsFor new (record { config = record { client = n; life = head.life; size = head.size; version = head.version; move_bits = 10 }; kinds = z.0; blocks = z.1 }) beginning)
     (λ j. (c.match_kinds-kinds.ensures j, c.as_slice.ensures j)) c.in_ok-seat.ensures.stands in
     record {
       count = ap (length {A = SeatState}) grown ∙ length_push seats new ∙ ap (λ (m : ℕ). m + 1) c.seats.invariant.count;

@@ -42,6 +42,6 @@ returns-clause-told c =
     let me = c.args.self.now in
     let line = c.args.line.now in
     let named = for c.requires.direct in
-    direct_told t s.kinds items line c.requires.direct named told
-    (f (head t s.kinds items) (past t s.kinds items) (past t s.kinds items) t.config.client named (stands_there t s.kinds items me.seat s.course)))
+    direct_told t s.move_bits s.kinds items line c.requires.direct named told
+    (f (head t s.move_bits s.kinds items) (past t s.move_bits s.kinds items) (past t s.move_bits s.kinds items) t.config.client named (stands_there t s.move_bits s.kinds items me.seat s.course)))
     c.line_on.ensures.told

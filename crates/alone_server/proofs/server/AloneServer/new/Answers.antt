@@ -16,6 +16,7 @@ returns c =
       serves = record {
         own = tt;
         config = c.requires.config;
+        move_bits = refl;
         kinds = refl;
         client = refl;
         course = subst (λ (z : List Kind × List (List ℕ)). SeatStandsFor c.in_ok-seat.seat (record { config = (terms_of h).config; kinds = z.0; blocks = z.1 }) beginning)

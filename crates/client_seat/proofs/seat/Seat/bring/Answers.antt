@@ -1,6 +1,6 @@
 use Rattle.std.proofs.Common.{◌≡◌, ◌-◌, ◌++◌, List, length, min, take, ap, sym, subst, ◌∙◌}
 use Rattle.circular_buffer.specs.Buffer.{Buffer}
-use Rattle.tn_types.specs.declared.moves.Move.{Move}
+use Rattle.tn_types.specs.declared.moves.MoveBits.{MoveBits}
 use Rattle.stream_manager.specs.Limits.{Terms}
 use Rattle.stream_manager.specs.Stands.{ConnState}
 use Rattle.own_lists.specs.pair_core.Answers.{answer}
@@ -17,11 +17,11 @@ returns-in-Came-clause-holds c t k s =
     let old : SeatState = record { pair = c.self.inside.pair; waiting = c.self.inside.waiting.items; taken = c.self.inside.taken } in
     let stood : StandsFor old t k = subst (λ (x : SeatState). StandsFor x t k) (sym c.self.view_is) s in
     let new = c.step-answer.new.self in
-    let lent : c.taken_moves.result.now ≡ new.conn.taken = c.taken_moves.ensures ∙ ap (λ (o : ConnState). o.taken) c.conn.ensures in
+    let lent : c.taken_bits.result.now ≡ new.conn.taken = c.taken_bits.ensures ∙ ap (λ (o : ConnState). o.taken) c.conn.ensures in
     came-holds old new c.args.step.now c.requires.comes c.step-answer.ensures.stands t k stood c.fill_from_slice.result c.fill_from_slice.new.self.items
     (up-lends old.pair new c.args.step.now c.in-Came.moves c.requires.comes c.in-Came.ensures.moves) (c.requires.room t k s)
     (c.fill_from_slice.ensures.count ∙ (λ j. min (length (lent j)) (c.self.invariant j - length old.waiting)))
-    (ap (λ (b : Buffer Move). b.items) c.fill_from_slice.ensures.items ∙ ap (λ (ms : List Move). old.waiting ++ take c.fill_from_slice.result ms) lent)
+    (ap (λ (b : Buffer MoveBits). b.items) c.fill_from_slice.ensures.items ∙ ap (λ (ms : List MoveBits). old.waiting ++ take c.fill_from_slice.result ms) lent)
 
 pub returns-in_default : goal.returns-in_default
 returns-in_default c =

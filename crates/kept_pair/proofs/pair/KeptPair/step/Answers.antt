@@ -1,7 +1,7 @@
 use Rattle.std.proofs.Common.{◌≡◌, ◌∙◌, ◌≤◌, ◌+◌, ◌++◌, ◌∷◌, [], ℕ, true, List, length, sym, ap, subst, arith}
 use Rattle.std.specs.Prelude.{nat_lt, nat_le, vec_len, vec_capacity}
 use Rattle.std.proofs.lemmas.Bool.{leb-true}
-use Rattle.tn_types.specs.declared.moves.Move.{Move}
+use Rattle.tn_types.specs.declared.moves.MoveBits.{MoveBits}
 use Rattle.pair_core.specs.stream_manager.Stands.{terms_of}
 use Rattle.pair_core.specs.History.{PairStep}
 use Rattle.pair_core.specs.Answers.{accepted_in}
@@ -23,7 +23,7 @@ module _ (c : After-brought) where
   accepted =
       brought-new (terms_of c.self.inside.pair.conn) (newest_first c.self.inside.steps.list) c.self.inside.pair c.step-answer.new.self c.args.step c.step-answer.result c.self.invariant.0.replays.stands
       (c.step-answer.ensures.answer (terms_of c.self.inside.pair.conn) (newest_first c.self.inside.steps.list) c.self.invariant.0.replays.stands) c.step-answer.ensures.moves
-      ∙ ap (λ (ms : List Move). accepted_in (terms_of c.self.inside.pair.conn) (newest_first c.self.inside.steps.list) ++ ms) (sym more)
+      ∙ ap (λ (ms : List MoveBits). accepted_in (terms_of c.self.inside.pair.conn) (newest_first c.self.inside.steps.list) ++ ms) (sym more)
 
 pub add_moves-requires : goal.add_moves-requires
 add_moves-requires c =
@@ -46,7 +46,7 @@ invariant_of-self c =
           (kept-more c.self.inside.pair c.step-answer.new.self c.self.inside.steps.list c.self.inside.moves.items c.add_moves.new.moves.items c.self.inside.befores.items (step_of c.args.step) c.self.invariant.0
           (subst (λ (l : List PairStep). length l ≤ 65536) list few) met c.learn_payload.ensures
           (c.step-answer.ensures.stands (terms_of c.self.inside.pair.conn) (newest_first c.self.inside.steps.list) c.self.invariant.0.replays.stands)
-          (c.add_moves.ensures ∙ ap (λ (ms : List Move). ms ++ c.brought.result.now) c.self.invariant.0.moves_are ∙ sym (accepted here)) c.step-answer.ensures.keeping),
+          (c.add_moves.ensures ∙ ap (λ (ms : List MoveBits). ms ++ c.brought.result.now) c.self.invariant.0.moves_are ∙ sym (accepted here)) c.step-answer.ensures.keeping),
       let room = c.push.ensures.drain_room in let before = c.self.invariant.1 in omega arith,
     )
 

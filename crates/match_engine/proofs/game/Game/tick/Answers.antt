@@ -1,7 +1,7 @@
 use Rattle.std.proofs.Common.{◌≡◌, ◌∙◌, ◌<◌, ◌+◌, ℕ, List, ◌∷◌, length, map, sym, ap, subst, Option}
 use Rattle.std.specs.Prelude.{slice_get}
 use Rattle.std.specs.List.{All, AllByRecursion}
-use Rattle.tn_types.specs.declared.moves.Move.{Move}
+use Rattle.tn_types.specs.declared.moves.MoveBits.{MoveBits}
 use Rattle.match_script.specs.declared.types.BodyLine.{BodyLine}
 use Rattle.match_script.specs.declared.types.BodyLine.TheVariants.{Tick}
 use Rattle.world_sim.specs.declared.rows.Write.{Write}
@@ -44,7 +44,7 @@ raise_all-requires-clause-fields c =
     subst (λ (ws : List Write). All (λ (x : Write). x.field < 16) ws) (sym (c.writes.ensures ∙ ap (λ (w : Worlds). w.writes) next_is)) (fields_there m c.requires.stands.0 c.as_slice.result.now s writes)
 
 -- the match after its tick stands for the lines with it
-after : (m : GameState) (moves : List (Option Move)) (w : Worlds) (writes : List Write) (seats : List SeatState) (lanes : Words) → m.done < 4000000
+after : (m : GameState) (moves : List (Option MoveBits)) (w : Worlds) (writes : List Write) (seats : List SeatState) (lanes : Words) → m.done < 4000000
     → moves ≡ map (λ (s : SeatState). slice_get s.waiting 0) m.seats → w ≡ next m.world moves → writes ≡ w.writes → seats ≡ map without_first m.seats
     → ((d o : ℕ) → d < 16 → mask_at lanes d o ≡ raised_by writes o (mask_at m.lanes d o)) → SizesStay m.lanes lanes
     → (past : List BodyLine) → StandsFor m past → StandsFor (record { head = m.head; seats = seats; scopes = m.scopes; world = w; lanes = lanes; done = m.done + 1 }) (Tick ∷ past)
