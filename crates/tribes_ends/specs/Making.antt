@@ -1,15 +1,16 @@
 -- What an end is made with, from lists of numbers: its configuration, its kinds, whose fields stand one after the other, and its
 -- blocks, whose bytes do. And what of these is refused: the first of these tests that fails, in this order, and want of memory after
 -- all of them.
-use Rattle.std.specs.Prelude.{◌≡◌, refl, ℕ, pos, ◌==◌, ◌||◌, ◌&&◌, not, nat_le, nat_lt, Bool, false, List, [], ◌∷◌, length, map, take, drop, sum, sum_by, if◌then◌else◌, Option, Some, None, Result, Err, IfErr}
+use Rattle.std.specs.Prelude.{◌≡◌, refl, ℕ, pos, ◌==◌, ◌||◌, ◌&&◌, not, nat_lt, Bool, false, List, [], ◌∷◌, length, map, take, drop, sum, sum_by, if◌then◌else◌, Option, Some, None, Result, Err, IfErr}
 use Rattle.std.specs.List.{list_any}
 use Rattle.std.specs.Option.{option_or, option_map}
-use Rattle.tn_types.specs.declared.limits.TheConstants.{MAX_CLIENTS, MAX_LIFE, MAX_DATAGRAM_BYTES, MAX_MOVE_BITS, MAX_KINDS, MAX_LISTED_FIELDS, MAX_BLOCKS, MAX_BLOCK_BYTES}
+use Rattle.tn_types.specs.declared.limits.TheConstants.{MAX_CLIENTS, MAX_LIFE, MAX_DATAGRAM_BYTES, MAX_KINDS, MAX_LISTED_FIELDS, MAX_BLOCKS, MAX_BLOCK_BYTES}
 use Rattle.quantised_fields.specs.declared.field.FieldSpec.{FieldSpec}
 use Rattle.quantised_fields.specs.declared.kind.Kind.{Kind}
 use Rattle.quantised_fields.specs.declared.table.KindFault.TheVariants.{TooManyKinds}
 use Rattle.quantised_fields.specs.Kinds.{table_fault}
-use Rattle.wire_format.specs.declared.widths.TheConstants.{MOVE_BITS, OWN_VERSION}
+use Rattle.wire_format.specs.declared.wire.Wire.{Wire}
+use Rattle.wire_format.specs.Moves.{move_width}
 use Rattle.stream_manager.specs.declared.config.Config.{Config}
 use Rattle.stream_manager.specs.Limits.{Terms, wire_of, least_size}
 use Rattle.tribes_ends.specs.declared.tables.ConfigRow.{ConfigRow}
@@ -20,9 +21,9 @@ use Rattle.tribes_ends.specs.declared.refusal.Refusal.TheVariants.{NoMemory, Bad
 
 -- ---- what is made
 
--- the bits of a move: in versions 1 and 2, which have ten, 0 stands for these
+-- the bits of a move: 0 stands for those that the version has by itself, ten in versions 1 and 2, and none in version 3
 abbrev pub move_bits_of : ConfigRow → ℕ
-move_bits_of r = if nat_lt r.version OWN_VERSION && r.move_bits == 0 then MOVE_BITS else r.move_bits
+move_bits_of r = if r.move_bits == 0 then move_width (record { version = r.version; move_bits = 0 }) else r.move_bits
 
 abbrev pub config_of : ConfigRow → Config
 config_of r = record { client = r.client; life = r.life; size = r.size; version = r.version; move_bits = move_bits_of r }
@@ -50,9 +51,9 @@ terms_from r kinds fields bytes lengths =
 
 -- ---- what is refused
 
--- moves have ten bits in versions 1 and 2, and else 1 to 64
-abbrev pub are_move_bits : ℕ → ℕ → Bool
-are_move_bits version bits = if nat_lt version OWN_VERSION then bits == MOVE_BITS else nat_le 1 bits && nat_le bits MAX_MOVE_BITS
+-- a move has some bits, and as many as it says: ten in versions 1 and 2, and in version 3 at most 64
+abbrev pub has_moves : Wire → Bool
+has_moves wire = nat_lt 0 wire.move_bits && move_width wire == wire.move_bits
 
 -- the least size follows from the bits of a move
 abbrev pub config_refusal : ConfigRow → Option Refusal
@@ -60,7 +61,7 @@ config_refusal r =
     if not (nat_lt r.client MAX_CLIENTS) then Some (BadClient r.client)
     else if r.life == 0 || nat_lt MAX_LIFE r.life then Some (BadLife r.life)
     else if nat_lt r.version 1 || nat_lt 3 r.version then Some (BadVersion r.version)
-    else if not (are_move_bits r.version (move_bits_of r)) then Some (BadMoveBits r.move_bits)
+    else if not (has_moves (wire_of (config_of r))) then Some (BadMoveBits r.move_bits)
     else if nat_lt r.size (least_size (wire_of (config_of r))) || nat_lt MAX_DATAGRAM_BYTES r.size then Some (BadSize r.size)
     else None
 

@@ -9,7 +9,7 @@ use quantised_fields::{FieldList, FieldSpec, Kind, KindFault, KindTable};
 use std::alloc::Global;
 use stream_manager::{Config, ConfigFault};
 use tn_types::{BlockBytes, MAX_BLOCKS, MAX_KINDS, MAX_LISTED_FIELDS, ShortList};
-use wire_format::{MOVE_BITS, OWN_VERSION};
+use wire_format::{Wire, move_width};
 
 /// The values of a field, `lo` to `hi`, and the bits in which one travels.
 #[repr(C)]
@@ -48,12 +48,15 @@ fn narrow(number: u32) -> u8
     if number < 255 { number as u8 } else { 255 }
 }
 
-/// The bits of a move: in versions 1 and 2, which have ten, 0 stands for these.
+/// The bits of a move: 0 stands for those that the version has by itself.
 fn move_bits(row: &ConfigRow) -> u32
     ensures { result ≡ move_bits_of row.now }
 {
-    if row.version < u32::from(OWN_VERSION) && row.move_bits == 0 {
-        MOVE_BITS
+    if row.move_bits == 0 {
+        move_width(Wire {
+            version: narrow(row.version),
+            move_bits: 0,
+        })
     } else {
         row.move_bits
     }
