@@ -30,7 +30,7 @@
 #ifndef TRIBES_H
 #define TRIBES_H
 
-#define TRIBES_VERSION 1
+#define TRIBES_VERSION 2
 
 #include <stddef.h>
 #include <stdint.h>
@@ -49,6 +49,7 @@ enum {
     TRIBES_MAX_SHOWN = 1024,    /* periods shown at a time */
     TRIBES_MAX_SLOTS = 256,     /* copies at a client */
     TRIBES_MAX_MOVES = 32,      /* moves of one datagram */
+    TRIBES_MAX_MOVE_BITS = 64,  /* bits of a move */
     TRIBES_MAX_ASKS = 2048,     /* values that a plan can ask for */
     TRIBES_MAX_JUDGED = 32,     /* data packets that one datagram judges */
     TRIBES_MAX_CHANGES = 128    /* slots that one datagram changes */
@@ -65,6 +66,7 @@ enum {
     TRIBES_BAD_LIFE = -16,       /* life */
     TRIBES_BAD_SIZE = -17,       /* size */
     TRIBES_BAD_VERSION = -18,    /* version */
+    TRIBES_BAD_MOVE_BITS = -19,  /* move bits */
     TRIBES_BAD_FIELD_COUNTS = -6,
     TRIBES_BAD_BLOCKS = -7,
     TRIBES_TOO_MANY_KINDS = -20,
@@ -79,7 +81,7 @@ enum {
     TRIBES_NOT_PLANNED = -10,
     TRIBES_BAD_VALUES = -11,
     TRIBES_EVENTS_WAIT = -12,    /* count: pop them first */
-    TRIBES_BAD_STEP = -13,
+    TRIBES_BAD_WIDTHS = -13,     /* of tribes_put_bits and tribes_take_bits alone */
     TRIBES_NO_COPY = -14,        /* slot */
     TRIBES_NULL = -15,           /* a null pointer: for wrappers that look for one; the library doesn't */
     TRIBES_NO_KIND = -30,        /* kind */
@@ -117,7 +119,8 @@ enum {
     TRIBES_EVENTS_WORN = -70,    /* life */
     TRIBES_EVENTS_FULL = -71,    /* first, last unacknowledged */
     TRIBES_MOVES_WORN = -72,     /* life */
-    TRIBES_MOVES_FULL = -73      /* first, last unacknowledged */
+    TRIBES_MOVES_FULL = -73,     /* first, last unacknowledged */
+    TRIBES_MOVE_TOO_WIDE = -74   /* the bits that a move has */
 };
 
 /* A handle. Fill it with zeros before the first call, and never copy it while an end is behind it. */
@@ -127,10 +130,11 @@ typedef struct tribes_end {
 } tribes_end;
 
 typedef struct tribes_config {
-    uint32_t client;  /* 0 to 15 */
-    uint32_t life;    /* what ends each counter: 1 to 16,777,215 */
-    uint32_t size;    /* bytes of a datagram: 128 to 1,200 */
-    uint32_t version; /* of the datagrams: 1 or 2, which writes updates and events shorter */
+    uint32_t client;    /* 0 to 15 */
+    uint32_t life;      /* what ends each counter: 1 to 16,777,215 */
+    uint32_t size;      /* bytes of a datagram: 128 to 1,200, and no less than 16 + 4 * move_bits */
+    uint32_t version;   /* of the datagrams: 1; 2, which writes updates and events shorter; or 3, in which moves have move_bits */
+    uint32_t move_bits; /* bits of a move: 1 to 64; in versions 1 and 2 they are 10, and 0 stands for these */
 } tribes_config;
 
 /* A field holds lo to hi and travels in bits (1 to 24): both ends are made with the same table. */
@@ -160,17 +164,23 @@ typedef struct tribes_ask {
     uint32_t n, field;
 } tribes_ask;
 
+/* A move of version 1 of this library, for tribes_move_of_step and tribes_step_of_move. No call takes it. */
 typedef struct tribes_step {
     int32_t dx, dy; /* -8 to 7 */
     uint32_t fire, act;
 } tribes_step;
 
 typedef struct tribes_count {
-    uint32_t sent;      /* the number of the last data packet that was sent */
-    uint32_t unjudged;  /* the least number that has no verdict */
-    uint32_t delivered; /* guaranteed events that came in */
-    uint32_t waiting;   /* events that wait to be popped */
-    uint32_t moves;     /* accepted at the server, sampled at the client */
+    uint32_t sent;         /* the number of the last data packet that was sent, 0: none was */
+    uint32_t unjudged;     /* the least number that has no verdict */
+    uint32_t taken;        /* the number of the last data packet that came and was taken, 0: none was */
+    uint32_t delivered;    /* guaranteed events that came in */
+    uint32_t waiting;      /* events that wait to be popped */
+    uint32_t moves;        /* accepted at the server, sampled at the client */
+    uint32_t accepted;     /* moves that the server accepted; at the client as far as it was told */
+    uint32_t event_places; /* guaranteed events that may be posted before one is refused as EVENTS_FULL */
+    uint32_t loose_places; /* others that may be before one is dropped */
+    uint32_t move_places;  /* moves that may be sampled before one is refused as MOVES_FULL; at the server 0 */
 } tribes_count;
 
 typedef struct tribes_copied {
@@ -219,9 +229,13 @@ int32_t tribes_arrive(tribes_end *end, const uint8_t *bytes, size_t count, uint3
 int32_t tribes_post(tribes_end *end, const uint8_t *bytes, size_t count, uint32_t guaranteed, uint32_t *number);
 int32_t tribes_event(tribes_end *end, uint8_t *bytes, size_t room, size_t *count);
 
-/* moves: sampled at the client, taken at the server from the datagram that arrived last */
-int32_t tribes_sample(tribes_end *end, const tribes_step *step, uint32_t *number);
-int32_t tribes_moves(tribes_end *end, tribes_step *steps, size_t room, uint32_t *count);
+/* moves: sampled at the client, taken at the server from the datagram that arrived last. A move is a number of as many bits as the
+ * configuration says, and the game says what they mean: tribes_put_bits and tribes_take_bits make it of fields. Ends of a client and a
+ * server that were made with other move_bits misread each other's moves. tribes_pending lists at the client, the oldest first, those
+ * that the server isn't known to have: from number `accepted` of tribes_counts on. Room for TRIBES_MAX_MOVES */
+int32_t tribes_sample(tribes_end *end, uint64_t move, uint32_t *number);
+int32_t tribes_moves(tribes_end *end, uint64_t *moves, size_t room, uint32_t *count);
+int32_t tribes_pending(tribes_end *end, uint64_t *moves, size_t room, uint32_t *count);
 
 /* blocks: at the server those that it was made with, at the client those that came. Answers 0 with the count of bytes */
 int32_t tribes_block(tribes_end *end, uint32_t number, uint8_t *bytes, size_t room, size_t *count);
@@ -250,8 +264,9 @@ static inline const char *tribes_text(int32_t code) {
     case TRIBES_WRONG_END: return "the call is for the other end";
     case TRIBES_BAD_CLIENT: return "the client's number is above 15";
     case TRIBES_BAD_LIFE: return "the life is 0 or above 16,777,215";
-    case TRIBES_BAD_SIZE: return "the size is below 128 or above 1,200";
-    case TRIBES_BAD_VERSION: return "the version is neither 1 nor 2";
+    case TRIBES_BAD_SIZE: return "the size is above 1,200, or below 128 or what 32 moves need";
+    case TRIBES_BAD_VERSION: return "the version is none of 1 to 3";
+    case TRIBES_BAD_MOVE_BITS: return "a move's bits are none of 1 to 64, or not the 10 of versions 1 and 2";
     case TRIBES_BAD_FIELD_COUNTS: return "the kinds have not as many fields as there are";
     case TRIBES_BAD_BLOCKS: return "the blocks are too many, too long, or not as long as said";
     case TRIBES_TOO_MANY_KINDS: return "more than 16 kinds";
@@ -265,7 +280,7 @@ static inline const char *tribes_text(int32_t code) {
     case TRIBES_NOT_PLANNED: return "nothing is planned, or something changed since";
     case TRIBES_BAD_VALUES: return "not the values that were asked for, or one is out of its range";
     case TRIBES_EVENTS_WAIT: return "events wait to be popped first";
-    case TRIBES_BAD_STEP: return "a step is none of -8 to 7";
+    case TRIBES_BAD_WIDTHS: return "the fields have more than 64 bits";
     case TRIBES_NO_COPY: return "the slot is empty";
     case TRIBES_NULL: return "a null pointer";
     case TRIBES_NO_KIND: return "no kind of this number";
@@ -302,8 +317,56 @@ static inline const char *tribes_text(int32_t code) {
     case TRIBES_EVENTS_FULL: return "256 events are unacknowledged";
     case TRIBES_MOVES_WORN: return "no further move has a number";
     case TRIBES_MOVES_FULL: return "32 moves are unacknowledged";
+    case TRIBES_MOVE_TOO_WIDE: return "a move has a bit above those that are written";
     default: return code < 0 ? "unknown" : "done";
     }
+}
+
+/* Fields side by side as one number, the first in its lowest bits: field k has widths[k] bits, and all have 64 at most. Answers 0, or
+ * TRIBES_BAD_WIDTHS, or TRIBES_BAD_VALUES where a value has more bits than its field; then `bits` is as it was. */
+static inline int32_t tribes_put_bits(const uint32_t *widths, const uint64_t *values, size_t count, uint64_t *bits) {
+    uint64_t all = 0;
+    uint32_t at = 0;
+    for (size_t k = 0; k < count; k++) {
+        if (widths[k] > 64 - at) return TRIBES_BAD_WIDTHS;
+        if (widths[k] < 64 && values[k] >> widths[k]) return TRIBES_BAD_VALUES;
+        if (widths[k]) all |= values[k] << at; /* with no bits it may stand at 64 */
+        at += widths[k];
+    }
+    *bits = all;
+    return 0;
+}
+
+/* The fields of these widths in a number. Answers 0, or TRIBES_BAD_WIDTHS, or TRIBES_MOVE_TOO_WIDE where a bit is set above them; then
+ * `values` are as they were. */
+static inline int32_t tribes_take_bits(const uint32_t *widths, uint64_t *values, size_t count, uint64_t bits) {
+    uint32_t all = 0;
+    for (size_t k = 0; k < count; k++) {
+        if (widths[k] > 64 - all) return TRIBES_BAD_WIDTHS;
+        all += widths[k];
+    }
+    if (all < 64 && bits >> all) return TRIBES_MOVE_TOO_WIDE;
+    for (size_t k = 0; k < count; k++) {
+        values[k] = widths[k] < 64 ? bits & ((UINT64_C(1) << widths[k]) - 1) : bits;
+        bits = widths[k] < 64 ? bits >> widths[k] : 0;
+    }
+    return 0;
+}
+
+/* The move of ten bits that version 1 of this library made of a step each way and two flags, each 0 or not. Of a step that is none of -8
+ * to 7 it is a number that tribes_sample refuses. */
+static inline uint64_t tribes_move_of_step(int32_t dx, int32_t dy, uint32_t fire, uint32_t act) {
+    if (dx < -8 || dx > 7 || dy < -8 || dy > 7) return UINT64_MAX;
+    return (uint64_t)(dx + 8) | (uint64_t)(dy + 8) << 4 | (uint64_t)(fire != 0) << 8 | (uint64_t)(act != 0) << 9;
+}
+
+static inline tribes_step tribes_step_of_move(uint64_t move) {
+    tribes_step step;
+    step.dx = (int32_t)(move & 15) - 8;
+    step.dy = (int32_t)(move >> 4 & 15) - 8;
+    step.fire = (uint32_t)(move >> 8 & 1);
+    step.act = (uint32_t)(move >> 9 & 1);
+    return step;
 }
 
 #ifdef __cplusplus

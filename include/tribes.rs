@@ -9,7 +9,7 @@ use core::ffi::c_void;
 use core::fmt;
 
 /// The version of the interface; `library_version` tells the library's.
-pub const VERSION: u32 = 1;
+pub const VERSION: u32 = 2;
 /// No datagram is longer.
 pub const MAX_DATAGRAM: usize = 1_200;
 /// Bytes of an event at the most.
@@ -17,12 +17,18 @@ pub const MAX_EVENT: usize = 24;
 /// Bytes of a block at the most.
 pub const MAX_BLOCK: usize = 40;
 const MAX_FIELDS: usize = 16;
+/// Bits of a move at the most.
+pub const MAX_MOVE_BITS: usize = 64;
 const MAX_MOVES: usize = 32;
 const MAX_ASKS: usize = 2_048;
 const MAX_JUDGED: usize = 32;
 const MAX_CHANGES: usize = 128;
+const BAD_VALUES: i32 = -11;
+const BAD_WIDTHS: i32 = -13;
+const MOVE_TOO_WIDE: i32 = -74;
 
-/// The client's number, 0 to 15; the life of each counter; the bytes of a datagram at the most; the version of the datagrams, 1 or 2.
+/// The client's number, 0 to 15; the life of each counter; the bytes of a datagram at the most; the version of the datagrams, 1 to 3; the
+/// bits of a move, 1 to 64, which in versions 1 and 2 are 10, and 0 stands for these.
 #[repr(C)]
 #[derive(Clone, Copy, Debug)]
 pub struct Config {
@@ -30,6 +36,7 @@ pub struct Config {
     pub life: u32,
     pub size: u32,
     pub version: u32,
+    pub move_bits: u32,
 }
 
 /// A field holds `lo` to `hi` and travels in `bits`.
@@ -60,7 +67,7 @@ pub struct Object {
     pub control: u32,
 }
 
-/// A move: steps of -8 to 7, and whether the player fires and uses.
+/// A move of version 1 of this library: steps of -8 to 7, and whether the player fires and uses.
 #[repr(C)]
 #[derive(Clone, Copy, Debug, Default, PartialEq, Eq)]
 pub struct Step {
@@ -70,15 +77,69 @@ pub struct Step {
     pub act: u32,
 }
 
-/// What an end counted.
+impl Step {
+    /// Its ten bits. Of a step out of its range it is a number that `sample` refuses.
+    pub fn bits(self) -> u64 {
+        let Step { dx, dy, fire, act } = self;
+        let range = -8..8;
+        if !range.contains(&dx) || !range.contains(&dy) {
+            return u64::MAX;
+        }
+        (dx + 8) as u64 | ((dy + 8) as u64) << 4 | u64::from(fire != 0) << 8 | u64::from(act != 0) << 9
+    }
+
+    /// The step of a move of ten bits.
+    pub fn of(bits: u64) -> Step {
+        let part = |at: u32, below: u64| (bits >> at & below) as u32;
+        Step { dx: part(0, 15) as i32 - 8, dy: part(4, 15) as i32 - 8, fire: part(8, 1), act: part(9, 1) }
+    }
+}
+
+/// Fields side by side as one number, the first in its lowest bits, of these widths, which are 64 bits at most. A value that has more bits
+/// than its field is refused, and `first` of the refusal is its place.
+pub fn put_bits<const N: usize>(widths: &[u32; N], values: &[u64; N]) -> Result<u64, Error> {
+    let (mut bits, mut at) = (0, 0);
+    for (k, (&width, &value)) in widths.iter().zip(values).enumerate() {
+        if width > 64 - at {
+            return Err(Error { code: BAD_WIDTHS, first: k as u32, second: width });
+        }
+        if width < 64 && value >> width != 0 {
+            return Err(Error { code: BAD_VALUES, first: k as u32, second: width });
+        }
+        bits |= value.checked_shl(at).unwrap_or(0);
+        at += width;
+    }
+    Ok(bits)
+}
+
+/// The fields of these widths in a number, which has no bit above them.
+pub fn take_bits<const N: usize>(widths: &[u32; N], bits: u64) -> Result<[u64; N], Error> {
+    let (mut values, mut rest, mut all) = ([0; N], bits, 0);
+    for (k, (value, &width)) in values.iter_mut().zip(widths).enumerate() {
+        if width > 64 - all {
+            return Err(Error { code: BAD_WIDTHS, first: k as u32, second: width });
+        }
+        let later = rest.checked_shr(width).unwrap_or(0);
+        *value = rest ^ later.checked_shl(width).unwrap_or(0);
+        (rest, all) = (later, all + width);
+    }
+    if rest == 0 { Ok(values) } else { Err(Error { code: MOVE_TOO_WIDE, first: all, second: 0 }) }
+}
+
+/// What an end counted, and the places that it has free.
 #[repr(C)]
 #[derive(Clone, Copy, Debug, Default)]
 pub struct Counts {
     pub sent: u32,
     pub unjudged: u32,
+    pub taken: u32,
     pub delivered: u32,
     pub waiting: u32,
     pub moves: u32,
+    pub accepted: u32,
+    pub event_places: u32,
+    pub loose_places: u32,
+    pub move_places: u32,
 }
 
 /// What became of a data packet that was sent: `received` is 1 where the other end processed it, else 0.
@@ -132,8 +193,9 @@ pub fn words(code: i32) -> &'static str {
         -4 => "the call is for the other end",
         -5 => "the client's number is above 15",
         -16 => "the life is 0 or above 16,777,215",
-        -17 => "the size is below 128 or above 1,200",
-        -18 => "the version is neither 1 nor 2",
+        -17 => "the size is above 1,200, or below 128 or what 32 moves need",
+        -18 => "the version is none of 1 to 3",
+        -19 => "a move's bits are none of 1 to 64, or not the 10 of versions 1 and 2",
         -6 => "the kinds have not as many fields as there are",
         -7 => "the blocks are too many, too long, or not as long as said",
         -20 => "more than 16 kinds",
@@ -147,7 +209,7 @@ pub fn words(code: i32) -> &'static str {
         -10 => "nothing is planned, or something changed since",
         -11 => "not the values that were asked for, or one is out of its range",
         -12 => "events wait to be popped first",
-        -13 => "a step is none of -8 to 7",
+        -13 => "the fields have more than 64 bits",
         -14 => "the slot is empty",
         -15 => "a null pointer",
         -30 => "no kind of this number",
@@ -184,6 +246,7 @@ pub fn words(code: i32) -> &'static str {
         -71 => "256 events are unacknowledged",
         -72 => "no further move has a number",
         -73 => "32 moves are unacknowledged",
+        -74 => "a move has a bit above those that are written",
         0.. => "done",
         _ => "unknown",
     }
@@ -234,8 +297,9 @@ unsafe extern "C" {
     fn tribes_arrive(end: *mut Handle, bytes: *const u8, count: usize, room: u32, moves: *mut u32) -> i32;
     fn tribes_post(end: *mut Handle, bytes: *const u8, count: usize, guaranteed: u32, number: *mut u32) -> i32;
     fn tribes_event(end: *mut Handle, bytes: *mut u8, room: usize, count: *mut usize) -> i32;
-    fn tribes_sample(end: *mut Handle, step: *const Step, number: *mut u32) -> i32;
-    fn tribes_moves(end: *mut Handle, steps: *mut Step, room: usize, count: *mut u32) -> i32;
+    fn tribes_sample(end: *mut Handle, bits: u64, number: *mut u32) -> i32;
+    fn tribes_moves(end: *mut Handle, moves: *mut u64, room: usize, count: *mut u32) -> i32;
+    fn tribes_pending(end: *mut Handle, moves: *mut u64, room: usize, count: *mut u32) -> i32;
     fn tribes_block(end: *mut Handle, number: u32, bytes: *mut u8, room: usize, count: *mut usize) -> i32;
     fn tribes_counts(end: *mut Handle, counts: *mut Counts) -> i32;
     fn tribes_verdicts(end: *mut Handle, judged: *mut Judged, room: usize, count: *mut u32) -> i32;
@@ -398,10 +462,10 @@ impl Server {
     }
 
     /// The moves that the last datagram brought.
-    pub fn moves(&mut self) -> Vec<Step> {
-        let (mut steps, mut count) = ([Step::default(); MAX_MOVES], 0);
-        let _ = unsafe { tribes_moves(&mut self.0, steps.as_mut_ptr(), steps.len(), &mut count) };
-        steps[..count as usize].to_vec()
+    pub fn moves(&mut self) -> Vec<u64> {
+        let (mut moves, mut count) = ([0; MAX_MOVES], 0);
+        let _ = unsafe { tribes_moves(&mut self.0, moves.as_mut_ptr(), moves.len(), &mut count) };
+        moves[..count as usize].to_vec()
     }
 }
 
@@ -427,10 +491,17 @@ impl Client {
     }
 
     /// Takes up a move, and gives its number.
-    pub fn sample(&mut self, step: &Step) -> Result<u32, Error> {
+    pub fn sample(&mut self, bits: u64) -> Result<u32, Error> {
         let mut number = 0;
-        let code = unsafe { tribes_sample(&mut self.0, step, &mut number) };
+        let code = unsafe { tribes_sample(&mut self.0, bits, &mut number) };
         self.0.told(code).map(|_| number)
+    }
+
+    /// The moves that the server isn't known to have, the oldest first: from number `accepted` of the counts on.
+    pub fn pending(&mut self) -> Vec<u64> {
+        let (mut moves, mut count) = ([0; MAX_MOVES], 0);
+        let _ = unsafe { tribes_pending(&mut self.0, moves.as_mut_ptr(), moves.len(), &mut count) };
+        moves[..count as usize].to_vec()
     }
 
     /// The slot of the client's own object.

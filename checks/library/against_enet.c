@@ -47,7 +47,7 @@ typedef struct { double seconds; long messages, datagrams, bytes; } tally;
 static tally tribes(long total, int burst, int length, uint32_t size, int udp) {
     tribes_field field = {0, 1, 1};
     tribes_kind kind = {1, 1};
-    tribes_config config = {0, 16777215, size, 2};
+    tribes_config config = {0, 16777215, size, 2, 10};
     tribes_end server = {0}, client = {0};
     tribes_reason why;
     uint8_t no_block = 0;

@@ -14,7 +14,7 @@ typedef struct { uint8_t bytes[MOST][TRIBES_MAX_DATAGRAM]; size_t counts[MOST]; 
 
 static way down, up;
 static tribes_end server, client;
-static tribes_config config = {0, 0, 0, 1};
+static tribes_config config = {0, 0, 0, 1, 10};
 static int64_t world[PERIODS][TRIBES_MAX_FIELDS];
 static uint32_t changes[PERIODS], shown, taken, accepted, sampled, delivered;
 static uint8_t blocks[TRIBES_MAX_BLOCKS * TRIBES_MAX_BLOCK];
@@ -152,9 +152,9 @@ static void show(void) {
     printf("\n");
 }
 
-static void move(tribes_step step) {
+static void move(uint64_t bits) {
     uint32_t number;
-    int32_t code = tribes_sample(&client, &step, &number);
+    int32_t code = tribes_sample(&client, bits, &number);
     printf("move %u ", config.client);
     if (code) print_refusal(&client);
     else printf("%u\n", number);
@@ -214,7 +214,7 @@ static void play(const char *line) {
     else if (sscanf(line, "cpack %u", &a) == 1) pack("cpack", &client, &up);
     else if (sscanf(line, "down %u %u", &a, &k) == 2) bring("down", &client, &down, k);
     else if (sscanf(line, "up %u %u", &a, &k) == 2) bring("up", &server, &up, k);
-    else if (sscanf(line, "move %u %d %d %u %u", &a, &dx, &dy, &fire, &act) == 5) move((tribes_step){dx, dy, fire, act});
+    else if (sscanf(line, "move %u %d %d %u %u", &a, &dx, &dy, &fire, &act) == 5) move(tribes_move_of_step(dx, dy, fire, act));
     else if (sscanf(line, "raw %u %8191s", &a, hex) == 2) {
         printf("raw %u ", config.client);
         arrive(&server, bytes, read_hex(hex, bytes));

@@ -29,7 +29,7 @@ static void without_end(const char *what, tribes_end *end) {
     size_t count = 0;
     tribes_reason why;
     tribes_object object = {0, 0, 0, 0};
-    tribes_step step = {0, 0, 0, 0}, steps[32];
+    uint64_t moves[32];
     tribes_count counts;
     tribes_copied copied;
     tribes_judged judged[32];
@@ -38,16 +38,16 @@ static void without_end(const char *what, tribes_end *end) {
         tribes_free(end), tribes_why(end, &why), tribes_show(end, &object, &n), tribes_hide(end, 0), tribes_near(end, 0, 0),
         tribes_changed(end, 0, 1), tribes_settled(end, 0, 0), tribes_slot(end, 0, &n), tribes_plan(end, asks, TRIBES_MAX_ASKS, &count),
         tribes_pack(end, values, 0, bytes, sizeof bytes, &count), tribes_arrive(end, bytes, 16, 0, &n), tribes_post(end, bytes, 1, 1, &n),
-        tribes_event(end, bytes, sizeof bytes, &count), tribes_sample(end, &step, &n), tribes_moves(end, steps, 32, &n),
+        tribes_event(end, bytes, sizeof bytes, &count), tribes_sample(end, 0, &n), tribes_moves(end, moves, 32, &n),
         tribes_block(end, 0, bytes, 40, &count), tribes_counts(end, &counts), tribes_verdicts(end, judged, 32, &n),
         tribes_copy(end, 0, &copied, values, 16), tribes_next_copy(end, 0, &n), tribes_changes(end, changes, 128, &n),
-        tribes_control(end, &n)};
+        tribes_control(end, &n), tribes_pending(end, moves, 32, &n)};
     for (size_t k = 0; k < sizeof codes / sizeof *codes; k++) is(what, codes[k], TRIBES_NO_END);
 }
 
 int main(int argc, char **argv) {
     long datagrams = argc > 1 ? atol(argv[1]) : 500000;
-    tribes_config config = {0, 100, 128, 1};
+    tribes_config config = {0, 100, 128, 1, 0};
     uint32_t number = 0, n = 0;
     tribes_end server = {0}, client = {0}, none = {0}, junk = {12345, (void *)8};
     tribes_reason why = {0};
@@ -56,25 +56,35 @@ int main(int argc, char **argv) {
     is("version", (int32_t)tribes_version(), TRIBES_VERSION);
     without_end("zeros", &none);
     without_end("junk", &junk);
-    tribes_config bad = {16, 100, 128, 1};
+    tribes_config bad = {16, 100, 128, 1, 10};
     is("client 16", tribes_server(&server, &bad, kinds, 1, fields, 2, blocks, 1, lengths, 1, &why), TRIBES_BAD_CLIENT);
     is("names it", (int32_t)why.first, 16);
-    bad = (tribes_config){256, 100, 128, 1};
+    bad = (tribes_config){256, 100, 128, 1, 10};
     is("client 256", tribes_client(&client, &bad, kinds, 1, fields, 2, &why), TRIBES_BAD_CLIENT);
     is("names it", (int32_t)why.first, 256);
-    bad = (tribes_config){0, 0, 128, 1};
+    bad = (tribes_config){0, 0, 128, 1, 10};
     is("life 0", tribes_server(&server, &bad, kinds, 1, fields, 2, blocks, 1, lengths, 1, &why), TRIBES_BAD_LIFE);
-    bad = (tribes_config){0, 16777216, 128, 1};
+    bad = (tribes_config){0, 16777216, 128, 1, 10};
     is("life 2^24", tribes_client(&client, &bad, kinds, 1, fields, 2, &why), TRIBES_BAD_LIFE);
-    bad = (tribes_config){0, 100, 127, 1};
+    bad = (tribes_config){0, 100, 127, 1, 10};
     is("size 127", tribes_client(&client, &bad, kinds, 1, fields, 2, &why), TRIBES_BAD_SIZE);
-    bad = (tribes_config){0, 100, 1201, 1};
+    bad = (tribes_config){0, 100, 1201, 1, 10};
     is("size 1201", tribes_client(&client, &bad, kinds, 1, fields, 2, &why), TRIBES_BAD_SIZE);
-    bad = (tribes_config){0, 100, 128, 3};
-    is("version 3", tribes_client(&client, &bad, kinds, 1, fields, 2, &why), TRIBES_BAD_VERSION);
-    bad = (tribes_config){0, 100, 128, 258};
+    bad = (tribes_config){0, 100, 271, 3, 64};
+    is("size 271", tribes_client(&client, &bad, kinds, 1, fields, 2, &why), TRIBES_BAD_SIZE);
+    bad = (tribes_config){0, 100, 128, 0, 10};
+    is("version 0", tribes_client(&client, &bad, kinds, 1, fields, 2, &why), TRIBES_BAD_VERSION);
+    bad = (tribes_config){0, 100, 128, 4, 10};
+    is("version 4", tribes_client(&client, &bad, kinds, 1, fields, 2, &why), TRIBES_BAD_VERSION);
+    bad = (tribes_config){0, 100, 128, 258, 10};
     is("version 258", tribes_server(&server, &bad, kinds, 1, fields, 2, blocks, 1, lengths, 1, &why), TRIBES_BAD_VERSION);
-    bad = (tribes_config){0xffffffffu, 0xffffffffu, 0xffffffffu, 0xffffffffu};
+    const uint32_t wrong_bits[][2] = {{1, 11}, {2, 9}, {2, 266}, {3, 0}, {3, 65}, {3, 256 + 22}, {3, 0xffffffffu}};
+    for (size_t k = 0; k < sizeof wrong_bits / sizeof *wrong_bits; k++) {
+        bad = (tribes_config){0, 100, 1200, wrong_bits[k][0], wrong_bits[k][1]};
+        is("move bits", tribes_client(&client, &bad, kinds, 1, fields, 2, &why), TRIBES_BAD_MOVE_BITS);
+        is("names them", (int32_t)why.first, (int32_t)wrong_bits[k][1]);
+    }
+    bad = (tribes_config){0xffffffffu, 0xffffffffu, 0xffffffffu, 0xffffffffu, 0xffffffffu};
     is("all ones", tribes_client(&client, &bad, kinds, 1, fields, 2, &why), TRIBES_BAD_CLIENT);
     is("no kinds", tribes_client(&client, &config, kinds, 0, fields, 0, &why), TRIBES_NO_KINDS);
     is("a field left", tribes_client(&client, &config, kinds, 1, fields, 1, &why), TRIBES_BAD_FIELD_COUNTS);
@@ -115,8 +125,19 @@ int main(int argc, char **argv) {
     if (count) is("value", tribes_pack(&server, values, count, bytes, sizeof bytes, &count), TRIBES_BAD_VALUES);
     is("values", tribes_pack(&server, values, 2, bytes, sizeof bytes, &count), TRIBES_BAD_VALUES);
     is("long event", tribes_post(&client, bytes, 25, 1, &number), TRIBES_TOO_LONG);
-    tribes_step step = {8, 0, 0, 0}; is("step 8", tribes_sample(&client, &step, &number), TRIBES_BAD_STEP);
-    step = (tribes_step){0, -2147483647 - 1, 0, 0}; is("step", tribes_sample(&client, &step, &number), TRIBES_BAD_STEP);
+    uint64_t moves[32];
+    is("eleven bits", tribes_sample(&client, 1024, &number), TRIBES_MOVE_TOO_WIDE);
+    tribes_why(&client, &why); is("of ten", (int32_t)why.first, 10);
+    is("64 bits", tribes_sample(&client, UINT64_MAX, &number), TRIBES_MOVE_TOO_WIDE);
+    is("step 8", tribes_sample(&client, tribes_move_of_step(8, 0, 0, 0), &number), TRIBES_MOVE_TOO_WIDE);
+    is("step", tribes_sample(&client, tribes_move_of_step(0, -2147483647 - 1, 0, 0), &number), TRIBES_MOVE_TOO_WIDE);
+    is("sample at the server", tribes_sample(&server, 0, &number), TRIBES_WRONG_END);
+    is("moves at the client", tribes_moves(&client, moves, 32, &n), TRIBES_WRONG_END);
+    is("moves into nothing", tribes_moves(&server, moves, 0, &n), 0);
+    is("pending at the server", tribes_pending(&server, moves, 32, &n), TRIBES_WRONG_END);
+    is("pending into little", tribes_pending(&client, moves, 31, &n), TRIBES_NO_ROOM);
+    is("pending", tribes_pending(&client, moves, 32, &n), 0);
+    is("none of them", (int32_t)n, 0);
     is("event room", tribes_event(&client, bytes, 23, &count), TRIBES_NO_ROOM);
     int64_t shown[16]; tribes_copied copied;
     is("no copy", tribes_copy(&client, 0, &copied, shown, 16), TRIBES_NO_COPY);

@@ -25,7 +25,7 @@ int main(int argc, char **argv) {
     state = argc > 2 ? (uint32_t)atoi(argv[2]) : 1;
     tribes_field fields[] = {{0, 65535, 16}, {0, 65535, 16}, {0, 100, 7}, {0, 65535, 12}, {0, 65535, 12}, {0, 31, 5}};
     tribes_kind kinds[] = {{3, 8}, {3, 4}};
-    tribes_config config = {0, 100000, 400, argc > 3 ? (uint32_t)atoi(argv[3]) : 1};
+    tribes_config config = {0, 100000, 400, argc > 3 ? (uint32_t)atoi(argv[3]) : 1, 10};
     uint8_t blocks[] = "tankdrone";
     uint32_t lengths[] = {4, 5};
     tribes_end server = {0}, client = {0};
@@ -46,8 +46,7 @@ int main(int argc, char **argv) {
             must("post", &server, tribes_post(&server, (uint8_t *)text, (size_t)length, 1, &number));
             length = snprintf(text, sizeof text, "said %d", turn);
             must("post", &client, tribes_post(&client, (uint8_t *)text, (size_t)length, 1, &number));
-            tribes_step step = {(int32_t)draw(16) - 8, (int32_t)draw(16) - 8, draw(2), 0};
-            int32_t code = tribes_sample(&client, &step, &number);
+            int32_t code = tribes_sample(&client, draw(1024), &number);
             if (code == 0) sampled++;
             else if (code != TRIBES_MOVES_FULL) must("sample", &client, code);
             int which = (int)draw(2), field = (int)draw(2);
@@ -81,9 +80,9 @@ int main(int argc, char **argv) {
         sent++;
         if (made > 0 && (int)draw(100) >= lost) {
             must("arrive", &server, tribes_arrive(&server, bytes, count, TRIBES_MAX_MOVES, &moves));
-            tribes_step steps[TRIBES_MAX_MOVES];
+            uint64_t brought[TRIBES_MAX_MOVES];
             uint32_t taken;
-            must("moves", &server, tribes_moves(&server, steps, TRIBES_MAX_MOVES, &taken));
+            must("moves", &server, tribes_moves(&server, brought, TRIBES_MAX_MOVES, &taken));
             accepted += taken;
             tribes_judged judged[TRIBES_MAX_JUDGED];
             uint32_t verdicts;

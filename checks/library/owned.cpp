@@ -4,7 +4,7 @@
 #include <cstdio>
 
 int main() {
-    const tribes_config config = {0, 1000, 400, 1};
+    const tribes_config config = {0, 1000, 400, 1, 10};
     const tribes_field field = {0, 100, 7};
     const tribes_kind kind = {1, 5};
     const uint8_t block[] = {1};

@@ -3,8 +3,9 @@
        cc -O2 -Iinclude examples/library/share.c crates/tribes_link/out/libtribes_link.a KIT/c/liblibc_c.a -o share
        share serve PORT TURNS LOSS          share join PORT NUMBER TURNS LOSS
 
-   Thing k is driven by client k, where there is one, and else moves by itself. Each side throws away LOSS of 100 datagrams that it would
-   send. In the last quarter of the server's turns nothing moves, so that with turns enough all have the newest places, which each prints.
+   Thing k is driven by client k, where there is one, by moves of a throttle, a yaw and eight buttons; else it moves by itself. Each side
+   throws away LOSS of 100 datagrams that it would send. In the last quarter of the server's turns nothing moves, so that with turns enough
+   all have the newest places, which each prints.
 
    What the library does: what was lost is told again, with the newest values; events come in order, moves are taken once. What the game
    does: sockets, turns, who joins, and the world. A client says hello until it is answered; the library has no part in that. */
@@ -19,6 +20,11 @@
 
 enum { THINGS = 10, MOST_CLIENTS = 10, EDGE = 65535, HELLO = 2, WELCOME = 3 };
 
+/* ---- a move: its parts side by side, 22 bits */
+
+enum { THROTTLE, YAW, BUTTONS, PARTS, MOVE_BITS = 22, FIRES = 1 };
+static const uint32_t widths[PARTS] = {3, 11, 8};
+
 /* ---- the game's kinds: one, a thing, with its place and its number */
 
 static const tribes_field fields[] = {{0, EDGE, 16}, {0, EDGE, 16}, {0, THINGS - 1, 4}};
@@ -26,7 +32,7 @@ static const tribes_kind kinds[] = {{3, 8}};
 static const uint8_t block[] = "thing";
 static const uint32_t block_length = 5;
 
-static tribes_config config_of(uint32_t client) { return (tribes_config){client, 1000000, 600, 2}; }
+static tribes_config config_of(uint32_t client) { return (tribes_config){client, 1000000, 600, 3, MOVE_BITS}; }
 
 typedef struct { int64_t place[3]; int64_t way[2]; } thing;
 
@@ -78,7 +84,7 @@ static void print_things(const thing *things, const int *known) {
 /* ---- the server */
 
 /* one client: its end, where it is, and for each thing its period */
-typedef struct { tribes_end end; struct sockaddr_in at; int joined; uint32_t n[THINGS]; long events, moves, lost; } seat;
+typedef struct { tribes_end end; struct sockaddr_in at; int joined; uint32_t n[THINGS]; long events, moves, shots, lost; } seat;
 
 static thing things[THINGS];
 static seat seats[MOST_CLIENTS];
@@ -102,6 +108,16 @@ static void note_moved(int k) {
             int32_t code = tribes_changed(&seats[c].end, seats[c].n[k], 3);
             if (code < 0) stop("changed", code);
         }
+}
+
+/* a thing goes where its yaw points, of 2,048 ways round; along a square, so that it needs no sine */
+static void drive(thing *t, uint32_t throttle, uint32_t yaw) {
+    static const int sides[5] = {512, 0, -512, 0, 512};
+    int side = (int)yaw / 512, part = (int)yaw % 512;
+    for (int axis = 0; axis < 2; axis++) {
+        int from = sides[(side + 3 * axis) % 4], to = sides[(side + 3 * axis) % 4 + 1];
+        moved_to(&t->place[axis], t->place[axis] + (int)throttle * 100 * (from + (to - from) * part / 512) / 512);
+    }
 }
 
 static void tick(void) {
@@ -137,11 +153,12 @@ static void take(seat *s, int k, const uint8_t *bytes, size_t count) {
     uint32_t moves;
     int32_t code = tribes_arrive(&s->end, bytes, count, TRIBES_MAX_MOVES, &moves);
     if (code < 0) return; /* old, or none of ours: nothing changed */
-    tribes_step steps[TRIBES_MAX_MOVES];
-    if ((code = tribes_moves(&s->end, steps, TRIBES_MAX_MOVES, &moves)) < 0) stop("moves", code);
+    uint64_t brought[TRIBES_MAX_MOVES], parts[PARTS];
+    if ((code = tribes_moves(&s->end, brought, TRIBES_MAX_MOVES, &moves)) < 0) stop("moves", code);
     for (uint32_t i = 0; i < moves; i++) {
-        moved_to(&things[k].place[0], things[k].place[0] + 100 * steps[i].dx);
-        moved_to(&things[k].place[1], things[k].place[1] + 100 * steps[i].dy);
+        if ((code = tribes_take_bits(widths, parts, PARTS, brought[i])) < 0) stop("a move", code);
+        drive(&things[k], (uint32_t)parts[THROTTLE], (uint32_t)parts[YAW]);
+        s->shots += parts[BUTTONS] & FIRES;
     }
     if (moves > 0) note_moved(k);
     s->moves += moves;
@@ -204,8 +221,8 @@ static void serve(wire *w, long turns) {
         int settled = 0;
         for (uint32_t k = 0; k < THINGS; k++)
             for (uint32_t f = 0; f < 2; f++) settled += tribes_settled(&seats[c].end, seats[c].n[k], f) == 1;
-        printf("client %d: %ld events, %ld moves, %ld packets told as lost, %d of 20 fields settled\n", c, seats[c].events, seats[c].moves,
-               seats[c].lost, settled);
+        printf("client %d: %ld events, %ld moves, %ld shots, %ld packets told as lost, %d of 20 fields settled\n", c, seats[c].events,
+               seats[c].moves, seats[c].shots, seats[c].lost, settled);
         tribes_free(&seats[c].end);
     }
 }
@@ -259,8 +276,9 @@ static void join(wire *w, uint16_t port, uint32_t number, long turns) {
         size_t count;
         events += listen_to(w, &end, &welcomed);
         if (!welcomed) put(w, &to, hello, sizeof hello);
-        tribes_step step = {turn / 40 % 2 ? 3 : -3, 2, 0, 0};
-        if (welcomed && turn <= turns / 2) sampled += tribes_sample(&end, &step, &made) == 0;
+        uint64_t parts[PARTS] = {3, (uint64_t)turn * 16 % 2048, turn % 40 == 0 ? FIRES : 0}, move;
+        if ((code = tribes_put_bits(widths, parts, PARTS, &move)) < 0) stop("a move", code);
+        if (welcomed && turn <= turns / 2) sampled += tribes_sample(&end, move, &made) == 0;
         if (welcomed && turn % 20 == 0) tribes_post(&end, hello, sizeof hello, 1, &made);
         code = welcomed ? tribes_pack(&end, &none, 0, bytes, sizeof bytes, &count) : 0;
         if (code < 0) stop("pack", code);
@@ -270,7 +288,9 @@ static void join(wire *w, uint16_t port, uint32_t number, long turns) {
     events += listen_to(w, &end, &welcomed);
     look(&end, seen, known);
     print_things(seen, known);
-    printf("client %u: %ld events, %ld moves\n", number, events, sampled);
+    tribes_count counts;
+    if ((code = tribes_counts(&end, &counts)) < 0) stop("counts", code);
+    printf("client %u: %ld events, %ld moves, of which %u are accepted\n", number, events, sampled, counts.accepted);
     tribes_free(&end);
 }
 

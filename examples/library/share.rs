@@ -4,8 +4,9 @@
 //!     rustc --edition 2024 -O examples/library/share.rs -C link-arg=crates/tribes_link/out/libtribes_link.a -C link-arg=KIT/c/liblibc_c.a
 //!     share serve PORT TURNS LOSS          share join PORT NUMBER TURNS LOSS
 //!
-//! Thing k is driven by client k, where there is one, and else moves by itself. Each side throws away LOSS of 100 datagrams that it would
-//! send. In the last quarter of the server's turns nothing moves, so that with turns enough all have the newest places, which each prints.
+//! Thing k is driven by client k, where there is one, by moves of a throttle, a yaw and eight buttons; else it moves by itself. Each side
+//! throws away LOSS of 100 datagrams that it would send. In the last quarter of the server's turns nothing moves, so that with turns enough
+//! all have the newest places, which each prints.
 
 #[path = "../../include/tribes.rs"]
 mod tribes;
@@ -14,7 +15,7 @@ use std::collections::BTreeMap;
 use std::error::Error;
 use std::net::{SocketAddr, UdpSocket};
 use std::time::{Duration, Instant};
-use tribes::{Client, Config, Field, Kind, MAX_DATAGRAM, MAX_EVENT, Object, Server, Step};
+use tribes::{Client, Config, Field, Kind, MAX_DATAGRAM, MAX_EVENT, Object, Server, put_bits, take_bits};
 
 type Outcome = Result<(), Box<dyn Error>>;
 
@@ -22,6 +23,11 @@ const THINGS: usize = 10;
 const EDGE: i64 = 65_535;
 const HELLO: u8 = 2;
 const WELCOME: u8 = 3;
+
+/// The parts of a move, side by side: throttle, yaw and buttons, 22 bits.
+const WIDTHS: [u32; 3] = [3, 11, 8];
+/// The button that fires.
+const FIRES: u64 = 1;
 
 /// The game's kinds: one, a thing, with its place and its number.
 const FIELDS: [Field; 3] = [
@@ -32,7 +38,7 @@ const FIELDS: [Field; 3] = [
 const KINDS: [Kind; 1] = [Kind { fields: 3, weight: 8 }];
 
 fn config(client: u8) -> Config {
-    Config { client: client.into(), life: 1_000_000, size: 600, version: 2 }
+    Config { client: client.into(), life: 1_000_000, size: 600, version: 3, move_bits: WIDTHS.iter().sum() }
 }
 
 /// A socket that throws away some of what it would send.
@@ -79,6 +85,18 @@ struct Thing {
     way: [i64; 2],
 }
 
+impl Thing {
+    /// It goes where its yaw points, of 2,048 ways round; along a square, so that it needs no sine.
+    fn drive(&mut self, throttle: i64, yaw: i64) {
+        const SIDES: [i64; 5] = [512, 0, -512, 0, 512];
+        for (axis, place) in self.place.iter_mut().enumerate() {
+            let side = (yaw as usize / 512 + 3 * axis) % 4;
+            let along = SIDES[side] + (SIDES[side + 1] - SIDES[side]) * (yaw % 512) / 512;
+            *place = (*place + throttle * 100 * along / 512).clamp(0, EDGE);
+        }
+    }
+}
+
 /// One client: its end, where it is, and for each thing its period.
 struct Seat {
     end: Server,
@@ -86,6 +104,7 @@ struct Seat {
     periods: Vec<u32>,
     events: u64,
     moves: u64,
+    shots: u64,
     lost: usize,
 }
 
@@ -94,11 +113,11 @@ impl Seat {
         let mut end = Server::new(&config(client), &KINDS, &FIELDS, &[b"thing"])?;
         let shown = |k| Object { kind: 0, block: 0, level: k as u32 % 4, control: (k == client as usize).into() };
         let periods = (0..THINGS).map(|k| end.show(&shown(k))).collect::<Result<Vec<_>, _>>()?;
-        Ok(Seat { end, at, periods, events: 0, moves: 0, lost: 0 })
+        Ok(Seat { end, at, periods, events: 0, moves: 0, shots: 0, lost: 0 })
     }
 
     /// Takes a datagram, and gives the moves that it brought. One that is refused, as an old one, changes nothing.
-    fn take(&mut self, bytes: &[u8]) -> Result<Vec<Step>, tribes::Error> {
+    fn take(&mut self, bytes: &[u8]) -> Result<Vec<u64>, tribes::Error> {
         if self.end.arrive(bytes, 32).is_err() {
             return Ok(Vec::new());
         }
@@ -160,9 +179,10 @@ impl Game {
                 continue;
             };
             let moves = seat.take(bytes)?;
-            let place = &mut self.things[client as usize].place;
-            for step in &moves {
-                *place = [(place[0] + 100 * i64::from(step.dx)).clamp(0, EDGE), (place[1] + 100 * i64::from(step.dy)).clamp(0, EDGE)];
+            for bits in &moves {
+                let [throttle, yaw, buttons] = take_bits(&WIDTHS, *bits)?;
+                self.things[client as usize].drive(throttle as i64, yaw as i64);
+                seat.shots += buttons & FIRES;
             }
             if !moves.is_empty() {
                 self.note_moved(client as usize)?;
@@ -211,8 +231,9 @@ fn serve(wire: &mut Wire, turns: u32) -> Outcome {
         for n in &seat.periods {
             settled += u32::from(seat.end.settled(*n, 0)?) + u32::from(seat.end.settled(*n, 1)?);
         }
-        let Seat { events, moves, lost, .. } = seat;
-        println!("client {client}: {events} events, {moves} moves, {lost} packets told as lost, {settled} of 20 fields settled");
+        let Seat { events, moves, shots, lost, .. } = seat;
+        let told = format!("{events} events, {moves} moves, {shots} shots, {lost} packets told as lost");
+        println!("client {client}: {told}, {settled} of 20 fields settled");
     }
     Ok(())
 }
@@ -241,8 +262,8 @@ fn join(wire: &mut Wire, port: u16, number: u8, turns: u32) -> Outcome {
         events += came;
         welcomed |= answered;
         if welcomed {
-            let step = Step { dx: if turn / 40 % 2 == 1 { 3 } else { -3 }, dy: 2, fire: 0, act: 0 };
-            sampled += u32::from(turn <= turns / 2 && end.sample(&step).is_ok());
+            let bits = put_bits(&WIDTHS, &[3, u64::from(turn) * 16 % 2048, if turn % 40 == 0 { FIRES } else { 0 }])?;
+            sampled += u32::from(turn <= turns / 2 && end.sample(bits).is_ok());
             if turn % 20 == 0 {
                 let _ = end.post(&[HELLO, number], true);
             }
@@ -265,7 +286,7 @@ fn join(wire: &mut Wire, port: u16, number: u8, turns: u32) -> Outcome {
     for (k, place) in &seen {
         println!("thing {k} {} {}", place[0], place[1]);
     }
-    println!("client {number}: {events} events, {sampled} moves");
+    println!("client {number}: {events} events, {sampled} moves, of which {} are accepted", end.counts().accepted);
     Ok(())
 }
 

@@ -11,7 +11,8 @@ enum {
     EDGE = 65535,   /* the field's last centimetre, either way */
     STEP = 25,      /* centimetres that a player goes in a turn for each unit of its move */
     RADIUS = 16000, /* how far a player of a made match sees, in centimetres (docs/maker.md) */
-    TURN = 50       /* milliseconds */
+    TURN = 50,      /* milliseconds */
+    MOVE_BITS = 10  /* a step each way and two flags */
 };
 
 #endif

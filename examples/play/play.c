@@ -123,16 +123,14 @@ static int play(session *s, const words *w, const char *server) {
 static void tell_copies(session *s) {
     static const char *names[KINDS] = {"player", "disc", "mine", "drone", "flag", "clock"};
     static const int fields[KINDS] = {5, 2, 3, 3, 3, 3};
-    tribes_count counts = {0};
     int copies = 0;
     copy c;
     if (!s->welcomed) {
         puts("join none");
         return;
     }
-    tribes_counts(&s->end, &counts);
     for (uint32_t from = 0; session_copy(s, from, &c); from = c.slot + 1) copies++;
-    printf("join %u events %u ghosts %d", s->config.client, counts.delivered, copies);
+    printf("join %u events %u ghosts %d", s->config.client, s->counts.delivered, copies);
     for (uint32_t from = 0; session_copy(s, from, &c); from = c.slot + 1) {
         printf(" | %u %s %u", c.slot, names[c.kind], c.block);
         for (int f = 0; f < fields[c.kind]; f++) printf(" %lld", (long long)c.values[f]);
@@ -162,7 +160,7 @@ int main(int count, char **word) {
     int there = play(&s, &w, server);
     if (!w.is_bot) screen_close();
     if (w.is_bot) tell_copies(&s);
-    else if (there && s.welcomed) printf("client %u: %u turns, %u moves, %u datagrams taken\n", s.config.client, s.turns, s.own.sampled, s.taken);
+    else if (there && s.welcomed) printf("client %u: %u turns, %u moves, %u datagrams taken\n", s.config.client, s.turns, s.counts.moves, s.taken);
     const char *what = s.welcomed ? "the server was lost" : "no server answers";
     if (!there) fprintf(stderr, "play: %s at %s: nothing came for %d seconds\n", what, server, LOST_AFTER / 1000);
     session_end(&s);

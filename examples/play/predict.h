@@ -12,14 +12,12 @@ typedef struct {
     int known;               /* whether there is a value */
     standing value;          /* what was told last, and on it all pending moves */
     int64_t right, down;     /* how far from there the player is shown: what is left of corrections */
-    uint32_t accepted, sampled; /* the moves from the one to the other are pending, at most TRIBES_MAX_MOVES */
-    tribes_step moves[TRIBES_MAX_MOVES]; /* the last ones, by number modulo TRIBES_MAX_MOVES */
 } prediction;
 
-/* A data packet came: the player as its copy shows him, or NULL where it gives none, and how many moves the server accepted. */
-void predict_told(prediction *p, const standing *base, uint32_t accepted);
+/* A data packet came: the player as its copy shows him, or NULL where it gives none, and the moves that are pending then. */
+void predict_told(prediction *p, const standing *base, const uint64_t *pending, uint32_t count);
 
 /* A move was sampled, and is pending from now on. */
-void predict_sampled(prediction *p, const tribes_step *move);
+void predict_sampled(prediction *p, uint64_t move);
 
 #endif

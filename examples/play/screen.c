@@ -141,8 +141,8 @@ static void draw_figures(session *s, int at) {
     int copies = 0;
     copy c;
     for (uint32_t from = 0; session_copy(s, from, &c); from = c.slot + 1) copies++;
-    mvprintw(8, at, "packet %u  copies %d", s->packet, copies);
-    mvprintw(9, at, "moves %u  accepted %u", s->own.sampled, s->own.accepted);
+    mvprintw(8, at, "packet %u  copies %d", s->counts.taken, copies);
+    mvprintw(9, at, "moves %u  accepted %u", s->counts.moves, s->counts.accepted);
     mvprintw(10, at, "round trip %lld ms", (long long)s->round_trip);
     mvprintw(11, at, "lost   down %d%% up %d%%", session_percent(&s->down), session_percent(&s->up));
     mvprintw(12, at, "bytes/s down %u up %u", s->received_then, s->sent_then);

@@ -14,10 +14,10 @@ static const tribes_field fields[] = {
 };
 static const tribes_kind kinds[KINDS] = {{5, 8}, {2, 6}, {3, 3}, {3, 4}, {3, 5}, {3, 1}};
 
-/* a number in a datagram: the least bit first */
-static uint32_t number_at(const uint8_t *bytes, unsigned first, unsigned width) {
+/* a number in bytes: the least one first */
+static uint32_t number_at(const uint8_t *bytes, unsigned count) {
     uint32_t number = 0;
-    for (unsigned i = 0; i < width; i++) number |= (uint32_t)(bytes[(first + i) / 8] >> (first + i) % 8 & 1) << i;
+    for (unsigned i = 0; i < count; i++) number |= (uint32_t)bytes[i] << 8 * i;
     return number;
 }
 
@@ -43,7 +43,7 @@ static void take_challenge(session *s, const uint8_t *bytes, size_t count) {
 /* A welcome is 3, the hello's nonce, the client, LIFE, SIZE and the version. The first one counts, and makes the client's end. */
 static void take_welcome(session *s, const uint8_t *bytes, size_t count, int64_t now) {
     if (count != WELCOME_BYTES || bytes[0] != 3 || memcmp(bytes + 1, s->hello + 1, 4)) return;
-    tribes_config config = {bytes[5], number_at(bytes, 48, 24), number_at(bytes, 72, 16), bytes[11]};
+    tribes_config config = {bytes[5], number_at(bytes + 6, 3), number_at(bytes + 9, 2), bytes[11], MOVE_BITS};
     tribes_reason why;
     if (tribes_client(&s->end, &config, kinds, KINDS, fields, sizeof fields / sizeof *fields, &why) < 0) return; /* out of its ranges */
     s->config = config;
@@ -90,12 +90,11 @@ static void note_verdicts(session *s, int64_t now) {
 /* which fields have new values: the next packet of this client is the first that tells the server so */
 static void note_changes(session *s) {
     tribes_change changes[TRIBES_MAX_CHANGES];
-    tribes_count counts;
     uint32_t count;
-    if (tribes_changes(&s->end, changes, TRIBES_MAX_CHANGES, &count) < 0 || tribes_counts(&s->end, &counts) < 0) return;
+    if (tribes_changes(&s->end, changes, TRIBES_MAX_CHANGES, &count) < 0) return;
     for (uint32_t i = 0; i < count; i++)
         for (uint32_t f = 0; f < MOST_FIELDS; f++)
-            if (changes[i].what == 1 || changes[i].fields >> f & 1) s->tells[changes[i].slot][f] = counts.sent + 1;
+            if (changes[i].what == 1 || changes[i].fields >> f & 1) s->tells[changes[i].slot][f] = s->counts.sent + 1;
 }
 
 static void hand_out_events(session *s) {
@@ -109,9 +108,11 @@ static void hand_out_events(session *s) {
 }
 
 static void take(session *s, const uint8_t *bytes, size_t count, int64_t now) {
-    uint32_t moves;
-    if (count < 1 || count > TRIBES_MAX_DATAGRAM || (bytes[0] & 3) > 1) return; /* none of a connection */
-    if (tribes_arrive(&s->end, bytes, count, 0, &moves) < 0) {                  /* late, repeated or none of ours: nothing changed */
+    uint32_t moves, before = s->counts.taken;
+    if (count < 1 || count > TRIBES_MAX_DATAGRAM) return;
+    int32_t code = tribes_arrive(&s->end, bytes, count, 0, &moves);
+    if (code == TRIBES_BITS_KIND) return; /* none of a connection: a welcome or a challenge again */
+    if (code < 0) {                       /* late, repeated or none of ours: nothing changed */
         s->refused++;
         return;
     }
@@ -119,11 +120,9 @@ static void take(session *s, const uint8_t *bytes, size_t count, int64_t now) {
     s->taken++;
     record(s, bytes, count);
     note_verdicts(s, now);
-    /* packets that were passed over are lost, for they are never taken any more; a ping has the number of the last one */
-    uint32_t number = number_at(bytes, 6, 24), ping = bytes[0] & 3, gap = number > s->packet ? number - s->packet - !ping : 0;
-    for (uint32_t i = 0; i < gap && i < 64; i++) note(&s->down, 1);
-    if (number > s->packet) s->packet = number;
-    if (ping) return;
+    if (tribes_counts(&s->end, &s->counts) < 0 || s->counts.taken == before) return; /* a ping: no packet is new */
+    /* packets that were passed over are lost, for they are never taken any more */
+    for (uint32_t i = before + 1; i < s->counts.taken && i <= before + 64; i++) note(&s->down, 1);
     note(&s->down, 0);
     note_changes(s);
     hand_out_events(s);
@@ -131,7 +130,9 @@ static void take(session *s, const uint8_t *bytes, size_t count, int64_t now) {
     standing base;
     int has = session_own(s, &own) && own.kind == PLAYER;
     if (has) base = (standing){own.values[X], own.values[Y], own.values[AMMO]};
-    predict_told(&s->own, has ? &base : NULL, number_at(bytes, 86, 24));
+    uint64_t pending[TRIBES_MAX_MOVES];
+    if (tribes_pending(&s->end, pending, TRIBES_MAX_MOVES, &moves) < 0) return;
+    predict_told(&s->own, has ? &base : NULL, pending, moves);
 }
 
 void session_listen(session *s, int64_t now) {
@@ -155,10 +156,11 @@ void session_turn(session *s, const tribes_step *move, int64_t now) {
     } else {
         /* Who stands still needs no move, and the server works off those that wait there after a bad time. An offset fades by moves. */
         int rests = !move->dx && !move->dy && !move->fire && !s->own.right && !s->own.down;
-        if (!rests && tribes_sample(&s->end, move, &number) >= 0) predict_sampled(&s->own, move);
+        uint64_t bits = tribes_move_of_step(move->dx, move->dy, move->fire, move->act);
+        if (!rests && tribes_sample(&s->end, bits, &number) >= 0) predict_sampled(&s->own, bits);
         int32_t made = tribes_pack(&s->end, &none, 0, bytes, sizeof bytes, &count);
         if (made > 0) network_send(&s->net, bytes, count, now);
-        if (made == 2) s->sent_at[number_at(bytes, 6, 24) % 64] = now;
+        if (tribes_counts(&s->end, &s->counts) == 0 && made == 2) s->sent_at[s->counts.sent % 64] = now;
     }
     network_go(&s->net, now);
     if (++s->turns % (1000 / TURN) == 0) {

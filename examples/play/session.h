@@ -25,7 +25,7 @@ typedef struct {
     int64_t sent_at[64];          /* when data packet n was sent, at n modulo 64 */
     uint32_t known;               /* the last packet of this client that the server is known to have */
     uint32_t tells[TRIBES_MAX_SLOTS][MOST_FIELDS]; /* the packet of this client that tells the server that it has the field */
-    uint32_t packet;              /* the number of the last packet of the server */
+    tribes_count counts;          /* what the end counted by now */
     history down, up;
     int64_t round_trip;           /* milliseconds, smoothed; 0: not known */
     unsigned turns, taken, refused, events;

@@ -43,9 +43,9 @@ pub fn block(bytes: &[u8]) -> Result<BlockBytes, &'static str> {
     BlockBytes::from_slice(bytes).ok_or("a block has more than 40 bytes")
 }
 
-/// Client 0; a million packets, events and moves; datagrams of at most 128 bytes; version 2.
+/// Client 0; a million packets, events and moves; datagrams of at most 128 bytes; version 2, in which a move has ten bits.
 pub fn config() -> Result<Config, ConfigFault>
     ensures { IfOk result IsConfig }
 {
-    Config::new(0, 1_000_000, 128, 2)
+    Config::new(0, 1_000_000, 128, 2, 10)
 }

@@ -178,7 +178,8 @@ impl Host {
 
     /// Plays the moves that the last datagram brought, and looks at the mine.
     pub fn play(&mut self) -> Result<(), &'static str> {
-        for m in self.conn.taken_moves() {
+        let moves = self.conn.taken_moves();
+        for m in moves.as_slice() {
             self.world.drive(m);
         }
         let (tank, mine) = (self.world.tank_period, self.world.mine_period);

@@ -6,7 +6,7 @@
 
 use std::alloc::Global;
 use std::io;
-use tribes_ends::{Ask, Class, ConfigRow, FieldRow, KindRow, Link, Packed, Refusal, StepMade};
+use tribes_ends::{Ask, Class, ConfigRow, FieldRow, KindRow, Link, Packed, Refusal};
 
 /// A tank is of the one kind of this game. Its fields are its place, x and y.
 const TANK: KindRow = KindRow {
@@ -24,8 +24,12 @@ const CONFIG: ConfigRow = ConfigRow {
     client: 0,
     life: 1_000,
     size: 128,
-    version: 2,
+    version: 3,
+    move_bits: 7,
 };
+
+/// A move has seven bits: how far the tank goes along x (three), how far back along y (three), and whether it fires.
+const FIRES: u64 = 64;
 
 #[derive(Drop)]
 struct Duel {
@@ -55,18 +59,18 @@ impl Duel {
 
     /// The server takes what came: it moves the tank by the client's moves, and tells of a shot.
     fn hear(&mut self, datagram: &[u8]) -> Result<(), Refusal> {
-        let mut steps = [StepMade::default(); 32];
+        let mut moves = [0; 32];
         self.server.arrive(datagram, 32)?;
-        let moved = self.server.moves(&mut steps)? as usize;
-        for step in &steps[..moved.min(32)] {
-            self.tank[0] = self.tank[0]
-                .saturating_add(i64::from(step.dx))
-                .clamp(0, 1_023);
-            self.tank[1] = self.tank[1]
-                .saturating_add(i64::from(step.dy))
-                .clamp(0, 1_023);
+        let brought = self.server.moves(&mut moves)? as usize;
+        for bits in &moves[..brought.min(32)] {
+            let bits = *bits;
+            let [x, y] = self.tank;
+            self.tank = [
+                x.saturating_add((bits % 8) as i64).clamp(0, 1_023),
+                y.saturating_sub((bits / 8 % 8) as i64).clamp(0, 1_023),
+            ];
             self.server.changed(0, 3)?;
-            if step.fire != 0 {
+            if bits / FIRES % 2 == 1 {
                 self.server.post(b"a shot", Class::Guaranteed)?;
             }
         }
@@ -88,13 +92,8 @@ impl Duel {
     /// does, and whether it heard of a shot.
     fn turn(&mut self, fire: bool) -> Result<(Option<[i64; 2]>, bool), Refusal> {
         let mut place = [0; 1_200];
-        let step = StepMade {
-            dx: 3,
-            dy: -1,
-            fire: u32::from(fire),
-            act: 0,
-        };
-        self.client.sample(&step)?;
+        let (along, back, shot) = (3, 1, if fire { FIRES } else { 0 });
+        self.client.sample(along + 8 * back + shot)?;
         let up = self.client.pack(&[], &mut place)?;
         if self.brings() {
             self.hear(up.bytes(&place))?;

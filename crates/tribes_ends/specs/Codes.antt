@@ -81,8 +81,9 @@ why_of refused.NoMemory = why 3 0 0
 why_of refused.WrongEnd = why 4 0 0
 why_of (refused.BadClient client) = why 5 client 0
 why_of (refused.BadLife life) = why 16 life 0
-why_of (refused.BadSize size) = why 17 size 0
 why_of (refused.BadVersion version) = why 18 version 0
+why_of (refused.BadMoveBits move_bits) = why 19 move_bits 0
+why_of (refused.BadSize size) = why 17 size 0
 why_of refused.BadFieldCounts = why 6 0 0
 why_of refused.BadBlocks = why 7 0 0
 why_of (refused.TooLong most) = why 8 most 0
@@ -90,7 +91,6 @@ why_of (refused.NoRoom needed) = why 9 needed 0
 why_of refused.NotPlanned = why 10 0 0
 why_of refused.BadValues = why 11 0 0
 why_of (refused.EventsWait count) = why 12 count 0
-why_of refused.BadStep = why 13 0 0
 why_of (refused.NoCopy slot) = why 14 slot 0
 why_of (refused.BadKinds fault) = kinds_why fault
 why_of (refused.NoKind kind) = why 30 kind 0
@@ -107,6 +107,7 @@ why_of (refused.EventsWorn life) = why 70 life 0
 why_of (refused.EventsFull first last) = why 71 first last
 why_of (refused.MovesWorn life) = why 72 life 0
 why_of (refused.MovesFull first last) = why 73 first last
+why_of (refused.MoveTooWide width) = why 74 width 0
 
 abbrev pub code_of : Refusal → ℤ
 code_of refusal = (why_of refusal).code
@@ -118,6 +119,7 @@ post_refusal (post.Worn life) = refused.EventsWorn life
 post_refusal (post.Full first last) = refused.EventsFull first last
 
 abbrev pub move_refusal : MoveFault → Refusal
+move_refusal (move.TooWide width) = refused.MoveTooWide width
 move_refusal (move.Worn life) = refused.MovesWorn life
 move_refusal (move.Full first last) = refused.MovesFull first last
 

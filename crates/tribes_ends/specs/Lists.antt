@@ -1,17 +1,17 @@
--- What a link lists for its caller, in numbers: moves, verdicts, what a packet did to slots, copies, and the values that a plan asks
--- for. Each is what the end has, by what happened at it.
+-- What a link lists for its caller, in numbers: moves that came and moves that are pending, verdicts, what a packet did to slots, copies,
+-- and the values that a plan asks for. Each is what the end has, by what happened at it.
 use Rattle.std.specs.Prelude.{◌≡◌, refl, ℕ, ℤ, ◌-◌, ◌^◌, ◌<◌, ◌≤◌, List, [], ◌∷◌, length, map, take, slice_get, Option, Some, None, IsSome}
-use Rattle.std.specs.Int.{from_bool}
 use Rattle.tn_types.specs.declared.choices.Verdict.{Verdict}
 use Rattle.tn_types.specs.declared.choices.Verdict.TheVariants as verdict
-use Rattle.tn_types.specs.declared.moves.Move.{Move}
+use Rattle.tn_types.specs.declared.moves.MoveBits.{MoveBits}
 use Rattle.tn_types.specs.declared.limits.TheConstants.{MAX_PACKET_GHOSTS, MAX_PACKET_MOVES, MAX_SLOTS}
 use Rattle.wire_format.specs.declared.ghosts.GhostItem.{GhostItem}
 use Rattle.wire_format.specs.declared.ghosts.GhostItem.TheVariants.{Kill, Create, Update}
 use Rattle.ghost_client.specs.declared.copy.GhostCopy.{GhostCopy}
 use Rattle.ghost_client.specs.State.{field_value}
 use Rattle.stream_manager.specs.Server.{server_end, choices_at}
-use Rattle.stream_manager.specs.Client.{ClientEvent, client_end}
+use Rattle.move_manager.specs.Sending.{pending_of}
+use Rattle.stream_manager.specs.Client.{ClientEvent, client_end, sample_log}
 use Rattle.stream_manager.specs.Changes.{changes_at}
 use Rattle.stream_manager.specs.Verdicts.{last_verdicts}
 use Rattle.stream_manager.specs.ConnCalls as server_calls
@@ -23,14 +23,13 @@ use Rattle.tribes_ends.specs.declared.asking.Ask.{Ask}
 use Rattle.tribes_ends.specs.declared.rows.Change.{Change}
 use Rattle.tribes_ends.specs.declared.rows.Copied.{Copied}
 use Rattle.tribes_ends.specs.declared.rows.Judged.{Judged}
-use Rattle.tribes_ends.specs.declared.rows.StepMade.{StepMade}
 use Rattle.tribes_ends.specs.declared.link.Side.{Side}
 use Rattle.tribes_ends.specs.declared.link.Side.TheVariants.{Server, Client}
 
 -- ---- in numbers
 
-abbrev pub step_of : Move → StepMade
-step_of m = record { dx = m.dx; dy = m.dy; fire = from_bool m.fire; act = from_bool m.act }
+abbrev pub number_of : MoveBits → ℕ
+number_of m = m.bits
 
 abbrev pub received_of : Verdict → ℕ
 received_of verdict.Received = 1
@@ -50,9 +49,9 @@ ask_of a = record { n = a.0; field = a.1 }
 
 -- ---- what the last datagram brought
 
-abbrev pub ListsMoves : Side → List StepMade → Type 0
-ListsMoves (Server c) steps = steps ≡ map step_of (take MAX_PACKET_MOVES c.taken)
-ListsMoves (Client c) steps = ⊥
+abbrev pub ListsMoves : Side → List ℕ → Type 0
+ListsMoves (Server c) moves = moves ≡ map number_of (take MAX_PACKET_MOVES c.taken)
+ListsMoves (Client c) moves = ⊥
 
 abbrev pub ListsVerdicts : Side → List Judged → Type 0
 ListsVerdicts (Server c) judged = server_calls.Answers c (λ log. map judged_of (last_verdicts (server_end log))) judged
@@ -63,6 +62,14 @@ ListsChanges (Server c) changes = ⊥
 ListsChanges (Client c) changes = client_calls.Answers c (λ log. map change_of (take MAX_PACKET_GHOSTS (changes_at log))) changes
 
 -- ---- what the end has
+
+-- the moves that the server has not told as accepted, the oldest first
+abbrev pub pending_at : List ClientEvent → List MoveBits
+pending_at log = (pending_of (sample_log log)).1
+
+abbrev pub ListsPending : Side → List ℕ → Type 0
+ListsPending (Server c) moves = ⊥
+ListsPending (Client c) moves = client_calls.Answers c (λ log. map number_of (pending_at log)) moves
 
 abbrev pub HasBlock : Side → ℕ → List ℕ → Type 0
 HasBlock (Server c) number bytes = block_at c number ≡ Some bytes

@@ -1,26 +1,32 @@
 -- What an end is made with, from lists of numbers: its configuration, its kinds, whose fields stand one after the other, and its
 -- blocks, whose bytes do. And what of these is refused: the first of these tests that fails, in this order, and want of memory after
 -- all of them.
-use Rattle.std.specs.Prelude.{◌≡◌, refl, ℕ, pos, ◌==◌, ◌||◌, not, nat_lt, false, List, [], ◌∷◌, length, map, take, drop, sum, sum_by, if◌then◌else◌, Option, Some, None, Result, Err, IfErr}
+use Rattle.std.specs.Prelude.{◌≡◌, refl, ℕ, pos, ◌==◌, ◌||◌, ◌&&◌, not, nat_lt, Bool, false, List, [], ◌∷◌, length, map, take, drop, sum, sum_by, if◌then◌else◌, Option, Some, None, Result, Err, IfErr}
 use Rattle.std.specs.List.{list_any}
 use Rattle.std.specs.Option.{option_or, option_map}
-use Rattle.tn_types.specs.declared.limits.TheConstants.{MAX_CLIENTS, MAX_LIFE, MIN_DATAGRAM_BYTES, MAX_DATAGRAM_BYTES, MAX_KINDS, MAX_LISTED_FIELDS, MAX_BLOCKS, MAX_BLOCK_BYTES}
+use Rattle.tn_types.specs.declared.limits.TheConstants.{MAX_CLIENTS, MAX_LIFE, MAX_DATAGRAM_BYTES, MAX_KINDS, MAX_LISTED_FIELDS, MAX_BLOCKS, MAX_BLOCK_BYTES}
 use Rattle.quantised_fields.specs.declared.field.FieldSpec.{FieldSpec}
 use Rattle.quantised_fields.specs.declared.kind.Kind.{Kind}
 use Rattle.quantised_fields.specs.declared.table.KindFault.TheVariants.{TooManyKinds}
 use Rattle.quantised_fields.specs.Kinds.{table_fault}
+use Rattle.wire_format.specs.declared.wire.Wire.{Wire}
+use Rattle.wire_format.specs.Moves.{move_width}
 use Rattle.stream_manager.specs.declared.config.Config.{Config}
-use Rattle.stream_manager.specs.Limits.{Terms}
+use Rattle.stream_manager.specs.Limits.{Terms, wire_of, least_size}
 use Rattle.tribes_ends.specs.declared.tables.ConfigRow.{ConfigRow}
 use Rattle.tribes_ends.specs.declared.tables.FieldRow.{FieldRow}
 use Rattle.tribes_ends.specs.declared.tables.KindRow.{KindRow}
 use Rattle.tribes_ends.specs.declared.refusal.Refusal.{Refusal}
-use Rattle.tribes_ends.specs.declared.refusal.Refusal.TheVariants.{NoMemory, BadClient, BadLife, BadSize, BadVersion, BadKinds, BadFieldCounts, BadBlocks}
+use Rattle.tribes_ends.specs.declared.refusal.Refusal.TheVariants.{NoMemory, BadClient, BadLife, BadVersion, BadMoveBits, BadSize, BadKinds, BadFieldCounts, BadBlocks}
 
 -- ---- what is made
 
+-- the bits of a move: 0 stands for those that the version has by itself, ten in versions 1 and 2, and none in version 3
+abbrev pub move_bits_of : ConfigRow → ℕ
+move_bits_of r = if r.move_bits == 0 then move_width (record { version = r.version; move_bits = 0 }) else r.move_bits
+
 abbrev pub config_of : ConfigRow → Config
-config_of r = record { client = r.client; life = r.life; size = r.size; version = r.version }
+config_of r = record { client = r.client; life = r.life; size = r.size; version = r.version; move_bits = move_bits_of r }
 
 abbrev pub field_of : FieldRow → FieldSpec
 field_of f = record { lo = f.lo; hi = f.hi; bits = f.bits }
@@ -45,12 +51,18 @@ terms_from r kinds fields bytes lengths =
 
 -- ---- what is refused
 
+-- a move has some bits, and as many as it says: ten in versions 1 and 2, and in version 3 at most 64
+abbrev pub has_moves : Wire → Bool
+has_moves wire = nat_lt 0 wire.move_bits && move_width wire == wire.move_bits
+
+-- the least size follows from the bits of a move
 abbrev pub config_refusal : ConfigRow → Option Refusal
 config_refusal r =
     if not (nat_lt r.client MAX_CLIENTS) then Some (BadClient r.client)
     else if r.life == 0 || nat_lt MAX_LIFE r.life then Some (BadLife r.life)
-    else if nat_lt r.size MIN_DATAGRAM_BYTES || nat_lt MAX_DATAGRAM_BYTES r.size then Some (BadSize r.size)
-    else if nat_lt r.version 1 || nat_lt 2 r.version then Some (BadVersion r.version)
+    else if nat_lt r.version 1 || nat_lt 3 r.version then Some (BadVersion r.version)
+    else if not (has_moves (wire_of (config_of r))) then Some (BadMoveBits r.move_bits)
+    else if nat_lt r.size (least_size (wire_of (config_of r))) || nat_lt MAX_DATAGRAM_BYTES r.size then Some (BadSize r.size)
     else None
 
 -- the counts are not those of the fields, or one is above what a list of fields holds
@@ -92,6 +104,22 @@ two_kinds = refl
 
 two_blocks : blocks_of (1 ∷ 2 ∷ 3 ∷ []) (1 ∷ 2 ∷ []) ≡ (1 ∷ []) ∷ (2 ∷ 3 ∷ []) ∷ []
 two_blocks = refl
+
+-- 64 bits a move want 272 bytes, and ten bits 128
+abbrev configured : ℕ → ℕ → ℕ → ConfigRow
+configured size version move_bits = record { client = 0; life = 1; size = size; version = version; move_bits = move_bits }
+
+wide_moves : config_refusal (configured 271 3 64) ≡ Some (BadSize 271)
+wide_moves = refl
+
+wide_moves_fit : config_refusal (configured 272 3 64) ≡ None
+wide_moves_fit = refl
+
+zero_is_ten : config_refusal (configured 128 2 0) ≡ None
+zero_is_ten = refl
+
+own_moves_in_version_2 : config_refusal (configured 128 2 22) ≡ Some (BadMoveBits 22)
+own_moves_in_version_2 = refl
 
 a_byte_too_many : blocks_refusal (1 ∷ 2 ∷ 3 ∷ []) (1 ∷ 1 ∷ []) ≡ Some BadBlocks
 a_byte_too_many = refl

@@ -7,7 +7,7 @@ use Rattle.tn_types.specs.declared.choices.Class.{Class}
 use Rattle.tn_types.specs.declared.choices.Class.TheVariants.{Guaranteed, Loose}
 use Rattle.tn_types.specs.declared.choices.Choice.{Choice}
 use Rattle.tn_types.specs.declared.limits.TheConstants.{MAX_BLOCKS, MAX_BLOCK_BYTES, MAX_DISTANCE_LEVEL, MAX_EVENT_BYTES, MAX_FIELDS, MAX_PACKET_MOVES, MAX_READ_BYTES, MAX_SHOWN_PERIODS, MAX_SHOWS, MAX_SLOTS}
-use Rattle.tn_types.specs.Steps.{is_step}
+use Rattle.tn_types.specs.declared.moves.MoveBits.{MoveBits}
 use Rattle.quantised_fields.specs.declared.field.FieldSpec.{FieldSpec}
 use Rattle.notify_window.specs.declared.SendState.{SendState}
 use Rattle.notify_window.specs.declared.SendState.TheVariants.{Held, Worn, Room}
@@ -28,7 +28,7 @@ use Rattle.stream_manager.specs.Stands.{ConnState, ClientState, ConnStandsFor, C
 use Rattle.conn_packing.specs.declared.asking.TheConstants.{MAX_PACKET_VALUES}
 use Rattle.tribes_ends.specs.Codes.{post_refusal, move_refusal}
 use Rattle.tribes_ends.specs.declared.refusal.Refusal.{Refusal}
-use Rattle.tribes_ends.specs.declared.refusal.Refusal.TheVariants.{WrongEnd, TooLong, NoRoom, NoKind, NoBlock, NoLevel, TooManyShown, ShowsWorn, HasControl, NotShown, NoField, NotPlanned, BadValues, EventsWait, BadStep, NoCopy, AtServer, AtClient}
+use Rattle.tribes_ends.specs.declared.refusal.Refusal.TheVariants.{WrongEnd, TooLong, NoRoom, NoKind, NoBlock, NoLevel, TooManyShown, ShowsWorn, HasControl, NotShown, NoField, NotPlanned, BadValues, EventsWait, NoCopy, AtServer, AtClient}
 use Rattle.tribes_ends.specs.declared.link.Side.{Side}
 use Rattle.tribes_ends.specs.declared.link.Side.TheVariants.{Server, Client}
 
@@ -121,13 +121,13 @@ abbrev pub PostRefused : List ℕ → Class → Side → (Option Refusal → Typ
 PostRefused bytes class (Server c) Holds = ByServer (post_at_server bytes class c) c Holds
 PostRefused bytes class (Client c) Holds = ByClient (post_at_client bytes class c) c Holds
 
-abbrev pub sample_refusal : ℤ → ℤ → ClientState → List ClientEvent → Option Refusal
-sample_refusal dx dy c log =
-    if is_step dx && is_step dy then option_map move_refusal (result_err (sampled_answer c.common.config log)) else Some BadStep
+-- of the move that this number is
+abbrev pub sample_refusal : ℕ → ClientState → List ClientEvent → Option Refusal
+sample_refusal bits c log = option_map move_refusal (result_err (sampled_answer c.common.config (record { bits = bits }) log))
 
-abbrev pub SampleRefused : ℤ → ℤ → Side → (Option Refusal → Type 0) → Type 0
-SampleRefused dx dy (Server c) Holds = Holds (Some WrongEnd)
-SampleRefused dx dy (Client c) Holds = ByClient (sample_refusal dx dy c) c Holds
+abbrev pub SampleRefused : ℕ → Side → (Option Refusal → Type 0) → Type 0
+SampleRefused bits (Server c) Holds = Holds (Some WrongEnd)
+SampleRefused bits (Client c) Holds = ByClient (sample_refusal bits c) c Holds
 
 abbrev pub moves_refusal : ℕ → ConnState → Option Refusal
 moves_refusal room c = if nat_lt room (length c.taken) then Some (NoRoom MAX_PACKET_MOVES) else None

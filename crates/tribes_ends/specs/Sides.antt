@@ -1,8 +1,7 @@
 -- What a call of a link does to the end that it has, and what it tells of it: at the server's end alone, at the client's alone, or
 -- at either. Each case is the call of stream_manager or conn_packing, in their words.
-use Rattle.std.specs.Prelude.{◌≡◌, ℕ, ℤ, Bool, List, [], ◌+◌, length, Option, Some, Ok, slice_get}
+use Rattle.std.specs.Prelude.{◌≡◌, ℕ, ℤ, Bool, List, [], ◌+◌, length, Option, Some, None, Ok, slice_get}
 use Rattle.tn_types.specs.declared.choices.Class.{Class}
-use Rattle.tn_types.specs.declared.moves.Move.{Move}
 use Rattle.notify_window.specs.declared.SendState.TheVariants.{Held, Worn, Room}
 use Rattle.notify_window.specs.Log.{sent_of}
 use Rattle.stream_manager.specs.event_manager.Receiving.{run_of}
@@ -10,7 +9,7 @@ use Rattle.quantised_fields.specs.declared.kind.Kind.{Kind}
 use Rattle.stream_manager.specs.Server as server
 use Rattle.stream_manager.specs.Server.{ServerEvent}
 use Rattle.stream_manager.specs.Client as client
-use Rattle.stream_manager.specs.End.{window_log, judged_at, came_of}
+use Rattle.stream_manager.specs.End.{window_log, judged_at, came_of, last_taken_of, event_places, loose_places}
 use Rattle.stream_manager.specs.EndCalls.{popped}
 use Rattle.stream_manager.specs.ConnCalls as server_calls
 use Rattle.stream_manager.specs.ClientCalls as client_calls
@@ -107,17 +106,14 @@ Pops (Client old) class bytes (Server new) = ⊥
 
 -- ---- moves, sampled at the client
 
-pub record SamplesAtClient (old : ClientState) (dx dy : ℤ) (fire act : Bool) (number : ℕ) (new : ClientState) : Type 0 where
-  pub m : Move
-  pub steps : (m.dx ≡ dx) × (m.dy ≡ dy)
-  pub uses : (m.fire ≡ fire) × (m.act ≡ act)
-  pub stands : client_calls.Does old (client.Sampled m) new
-  pub answer : client_calls.Answers old (client.sampled_answer old.common.config) (Ok number)
+pub record SamplesAtClient (old : ClientState) (bits number : ℕ) (new : ClientState) : Type 0 where
+  pub stands : client_calls.Does old (client.Sampled (record { bits = bits })) new
+  pub answer : client_calls.Answers old (client.sampled_answer old.common.config (record { bits = bits })) (Ok number)
 
-abbrev pub Samples : Side → ℤ → ℤ → Bool → Bool → ℕ → Side → Type 0
-Samples (Client old) dx dy fire act number (Client new) = SamplesAtClient old dx dy fire act number new
-Samples (Client old) dx dy fire act number (Server new) = ⊥
-Samples (Server old) dx dy fire act number new = ⊥
+abbrev pub Samples : Side → ℕ → ℕ → Side → Type 0
+Samples (Client old) bits number (Client new) = SamplesAtClient old bits number new
+Samples (Client old) bits number (Server new) = ⊥
+Samples (Server old) bits number new = ⊥
 
 -- ---- datagrams
 
@@ -213,19 +209,35 @@ abbrev pub HasControl : Side → Option ℕ → Type 0
 HasControl (Server c) found = ⊥
 HasControl (Client c) found = client_calls.Answers c client.control_at found
 
+-- the number of a data packet, if there is one: they are numbered from 1
+abbrev pub or_zero : Option ℕ → ℕ
+or_zero None = 0
+or_zero (Some number) = number
+
+-- the server accepts what moves it takes, and has no place of its own for them
 pub record CountsAtServer (c : ConnState) (n : Counts) : Type 0 where
   pub sent : server_calls.Answers c (λ log. sent_of (window_log (server.server_end log))) n.sent
   pub unjudged : server_calls.Answers c (λ log. judged_at (server.server_end log) + 1) n.unjudged
+  pub taken : server_calls.Answers c (λ log. or_zero (last_taken_of (server.server_end log))) n.taken
   pub delivered : server_calls.Answers c (λ log. run_of (came_of (server.server_end log))) n.delivered
   pub waiting : n.waiting ≡ length c.common.receiver.ready
   pub moves : server_calls.Answers c (λ log. length (server.accepted_at c.common.config log)) n.moves
+  pub accepted : n.accepted ≡ n.moves
+  pub event_places : server_calls.Answers c (λ log. event_places (server.server_end log)) n.event_places
+  pub loose_places : server_calls.Answers c (λ log. loose_places (server.server_end log)) n.loose_places
+  pub move_places : n.move_places ≡ 0
 
 pub record CountsAtClient (c : ClientState) (n : Counts) : Type 0 where
   pub sent : client_calls.Answers c (λ log. sent_of (window_log (client.client_end log))) n.sent
   pub unjudged : client_calls.Answers c (λ log. judged_at (client.client_end log) + 1) n.unjudged
+  pub taken : client_calls.Answers c (λ log. or_zero (last_taken_of (client.client_end log))) n.taken
   pub delivered : client_calls.Answers c (λ log. run_of (came_of (client.client_end log))) n.delivered
   pub waiting : n.waiting ≡ length c.common.receiver.ready
   pub moves : client_calls.Answers c (λ log. length (client.sampled_at log)) n.moves
+  pub accepted : client_calls.Answers c client.acked_at n.accepted
+  pub event_places : client_calls.Answers c (λ log. event_places (client.client_end log)) n.event_places
+  pub loose_places : client_calls.Answers c (λ log. loose_places (client.client_end log)) n.loose_places
+  pub move_places : client_calls.Answers c client.move_places n.move_places
 
 abbrev pub AreCounts : Side → Counts → Type 0
 AreCounts (Server c) counts = CountsAtServer c counts

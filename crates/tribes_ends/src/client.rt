@@ -1,29 +1,27 @@
 //! The client's end, with each call's conditions tested.
-ghost use Rattle.std.specs.Prelude.{◌≡◌, ℕ, ◌≤◌, ◌<◌, IfOk, IfSome, IsNone, OnOk, OnErr, Ok, Some, [], true, false, not, nat_eq, map, length, slice_get, take, IsSome};
-ghost use Rattle.std.specs.Option.{option_copied, option_map};
+ghost use Rattle.std.specs.Prelude.{◌≡◌, ℕ, ◌≤◌, ◌<◌, IfOk, IfSome, IsNone, OnOk, OnErr, Ok, Some, [], map, length, slice_get, take, IsSome};
+ghost use Rattle.std.specs.Option.{option_copied};
 ghost use Rattle.std.specs.Result.{result_err};
-ghost use Rattle.tn_types.specs.Steps.{is_step};
 ghost use Rattle.tn_types.specs.declared.choices.Class.TheVariants.{Guaranteed};
 ghost use Rattle.ghost_client.specs.State.{copy_in, field_value, first_behind};
 ghost use Rattle.stream_manager.specs.Changes.{changes_at};
-ghost use Rattle.stream_manager.specs.Client.{Posted, client_end, posted_at_client, sampled_answer};
+ghost use Rattle.stream_manager.specs.Client.{Posted, client_end, posted_at_client};
 ghost use Rattle.stream_manager.specs.ClientCalls.{Does, Answers};
 ghost use Rattle.stream_manager.specs.Verdicts.{last_verdicts};
-ghost use Rattle.tribes_ends.specs.Codes.{move_refusal};
-ghost use Rattle.tribes_ends.specs.Lists.{judged_of, change_of, ShowsCopy, IsNextAtClient};
+ghost use Rattle.tribes_ends.specs.Lists.{number_of, judged_of, change_of, pending_at, ShowsCopy, IsNextAtClient};
 ghost use Rattle.tribes_ends.specs.Refusals.{ByClient, block_held, copy_held, post_at_client, sample_refusal, room_refusal, arrival_at_client, block_refusal, copy_refusal};
 ghost use Rattle.tribes_ends.specs.Sides.{PopsAtClient, SamplesAtClient, TakesDown, SendsUp, PingsUp, WornUp, CountsAtClient};
 
-use crate::counts::Counts;
+use crate::counts::{Counts, or_zero};
 use crate::handing::{Popped, hand_event, hand_over};
 use crate::link::Packed;
 use crate::refusal::Refusal;
-use crate::rows::{Change, Copied, Judged, StepMade, list_changes, list_verdicts};
+use crate::rows::{Change, Copied, Judged, list_changes, list_moves, list_verdicts};
 use ghost_client::{Copies, GhostCopy};
 use stream_manager::{Client, ClientOut};
 use tn_types::{
     BlockBytes, Class, MAX_BLOCK_BYTES, MAX_BLOCKS, MAX_EVENT_BYTES, MAX_FIELDS, MAX_PACKET_GHOSTS,
-    MAX_READ_BYTES, MAX_SLOTS, MAX_STEP, MAX_UNJUDGED_PACKETS, MIN_STEP, Move, Payload,
+    MAX_PACKET_MOVES, MAX_READ_BYTES, MAX_SLOTS, MAX_UNJUDGED_PACKETS, MoveBits, Payload,
 };
 
 /// Posts an event, and gives its number where it is guaranteed, else 0.
@@ -50,51 +48,16 @@ pub(crate) fn post(client: &mut Client, bytes: &[u8], class: Class) -> Result<u3
     }
 }
 
-/// The step of this number, if it is in its range.
-fn step_of(number: i32) -> Option<i8>
-    ensures value { IfSome result (λ step. step ≡ number) }
-    ensures range { IfSome result (λ step. is_step step ≡ true) }
-    ensures none { IsNone result → is_step number ≡ false }
-{
-    if number < i32::from(MIN_STEP) || number > i32::from(MAX_STEP) {
-        return None;
-    }
-    Some(number as i8)
-}
-
-/// Takes up this move, and gives its number.
-fn take_up(client: &mut Client, m: Move) -> Result<u32, Refusal>
-    ensures told { IfOk result (λ n. SamplesAtClient client.old m.dx m.dy m.fire m.act n client.new) }
+/// Takes up the move that this number is, and gives the move's own number.
+pub(crate) fn sample(client: &mut Client, bits: u64) -> Result<u32, Refusal>
+    ensures told { IfOk result (λ n. SamplesAtClient client.old bits n client.new) }
     ensures unchanged { OnErr result (client.new ≡ client.old) }
-    ensures refused { Answers client.old (λ log. option_map move_refusal (result_err (sampled_answer client.old.common.config log)))
-        (result_err result) }
+    ensures refused { ByClient (sample_refusal bits client.old) client.old (λ r. result_err result ≡ r) }
 {
-    match client.sample(m) {
+    match client.sample_bits(MoveBits { bits }) {
         Ok(number) => Ok(number),
         Err(fault) => Err(Refusal::from(fault)),
     }
-}
-
-/// Takes up a move of these numbers, and gives its number.
-pub(crate) fn sample(client: &mut Client, step: &StepMade) -> Result<u32, Refusal>
-    ensures told { let s = step.now in
-        IfOk result (λ n. SamplesAtClient client.old s.dx s.dy (not (nat_eq s.fire 0)) (not (nat_eq s.act 0)) n client.new) }
-    ensures unchanged { OnErr result (client.new ≡ client.old) }
-    ensures refused { ByClient (sample_refusal step.now.dx step.now.dy client.old) client.old (λ r. result_err result ≡ r) }
-{
-    let Some(dx) = step_of(step.dx) else {
-        return Err(Refusal::BadStep);
-    };
-    let Some(dy) = step_of(step.dy) else {
-        return Err(Refusal::BadStep);
-    };
-    let m = Move {
-        dx,
-        dy,
-        fire: step.fire != 0,
-        act: step.act != 0,
-    };
-    take_up(client, m)
 }
 
 /// Makes the next datagram.
@@ -194,10 +157,29 @@ pub(crate) fn counts(client: &Client) -> Counts
     Counts {
         sent: client.sent(),
         unjudged: client.unjudged(),
+        taken: or_zero(client.last_taken()),
         delivered: client.delivered(),
         waiting: client.waiting(),
         moves: client.sampled(),
+        accepted: client.accepted(),
+        event_places: client.event_places(),
+        loose_places: client.loose_places(),
+        move_places: client.move_places(),
     }
+}
+
+/// Lists the moves that the server has not told as accepted; gives how many these are.
+pub(crate) fn pending(client: &Client, place: &mut [u64]) -> Result<u32, Refusal>
+    ensures told { IfOk result (λ count. Answers client.now (λ log. map number_of (pending_at log)) (take count place.new)) }
+    ensures refused { result_err result ≡ room_refusal MAX_PACKET_MOVES (length place.old) }
+{
+    if place.len() < MAX_PACKET_MOVES {
+        return Err(Refusal::NoRoom {
+            needed: MAX_PACKET_MOVES as u32,
+        });
+    }
+    let (_, moves) = client.pending();
+    Ok(list_moves(moves.as_slice(), place))
 }
 
 /// Lists what became of the packets that the last datagram judged; gives how many these are.

@@ -18,7 +18,7 @@ pub use counts::Counts;
 pub use handing::Popped;
 pub use link::{Link, Packed, Side};
 pub use refusal::Refusal;
-pub use rows::{Change, Copied, Judged, StepMade};
+pub use rows::{Change, Copied, Judged};
 pub use tables::{ConfigRow, FieldRow, KindRow};
 pub use tn_types::Class;
 pub use why::Why;

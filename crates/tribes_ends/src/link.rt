@@ -1,5 +1,5 @@
 //! One end of a connection, whichever it is.
-ghost use Rattle.std.specs.Prelude.{◌≡◌, ℕ, ◌≤◌, IfOk, IfSome, IsNone, OnOk, OnErr, Ok, None, true, not, nat_eq, length, take};
+ghost use Rattle.std.specs.Prelude.{◌≡◌, ℕ, ◌≤◌, IfOk, IfSome, IsNone, OnOk, OnErr, Ok, None, true, length, take};
 ghost use Rattle.std.specs.Result.{result_err};
 ghost use Rattle.tn_types.specs.declared.choices.Class.TheVariants.{Guaranteed};
 
@@ -7,14 +7,16 @@ use crate::asking::Ask;
 use crate::counts::Counts;
 use crate::handing::Popped;
 use crate::refusal::Refusal;
-use crate::rows::{Change, Copied, Judged, StepMade};
+use crate::rows::{Change, Copied, Judged};
 use crate::tables::{ConfigRow, FieldRow, KindRow, block_list, config, kind_table};
 use crate::why::Why;
 use crate::{client, server};
 use std::alloc::Global;
 use std::marker::Model;
 use stream_manager::{Client, Conn};
-use tn_types::{Class, MAX_EVENT_BYTES, MAX_PACKET_GHOSTS, MAX_UNJUDGED_PACKETS};
+use tn_types::{
+    Class, MAX_EVENT_BYTES, MAX_PACKET_GHOSTS, MAX_PACKET_MOVES, MAX_UNJUDGED_PACKETS,
+};
 
 /// What a pack made.
 #[derive(Clone, Copy, Debug, PartialEq, Eq)]
@@ -78,7 +80,7 @@ const NONE: Why = Why {
 impl Link {
     ghost use Rattle.stream_manager.specs.Server.{Scoped, Show, Hide, Near, Absorb};
     ghost use Rattle.tribes_ends.specs.Codes.{is_refusal, code_of};
-    ghost use Rattle.tribes_ends.specs.Lists.{ListsMoves, ListsVerdicts, ListsChanges, HasBlock, IsNextCopy, HasCopy};
+    ghost use Rattle.tribes_ends.specs.Lists.{ListsMoves, ListsPending, ListsVerdicts, ListsChanges, HasBlock, IsNextCopy, HasCopy};
     ghost use Rattle.tribes_ends.specs.Making.{config_of, kinds_of, terms_from, server_refusal, client_refusal, IsMadeUnless};
     ghost use Rattle.tribes_ends.specs.Refusals.{at_server, at_client, show_refusal, hide_refusal, near_refusal, changed_refusal, settled_refusal, slot_refusal, room_refusal, moves_refusal, ask_refusal, PostRefused, SampleRefused, ArrivalRefused, PackRefused, BlockRefused, CopyRefused};
     ghost use Rattle.tribes_ends.specs.Sides.{BeginsAtServer, BeginsAtClient, DoesAtServer, IsNextPeriod, IsSettled, HasSlot, HasControl, Posts, IsNextEvent, Pops, HasNoEvent, Samples, Takes, Plans, AsksNothing, Sends, Pings, SendsNothing, AreCounts};
@@ -287,21 +289,31 @@ impl Link {
         }
     }
 
-    /// Takes up a move, and gives its number.
-    pub fn sample(&mut self, step: &StepMade) -> Result<u32, Refusal>
-        ensures told { let s = step.now in
-            IfOk result (λ n. Samples self.old s.dx s.dy (not (nat_eq s.fire 0)) (not (nat_eq s.act 0)) n self.new) }
+    /// Takes up the move that this number is, and gives the move's own number.
+    pub fn sample(&mut self, bits: u64) -> Result<u32, Refusal>
+        ensures told { IfOk result (λ n. Samples self.old bits n self.new) }
         ensures unchanged { OnErr result (self.new ≡ self.old) }
-        ensures refused { SampleRefused step.now.dx step.now.dy self.old (λ r. result_err result ≡ r) }
+        ensures refused { SampleRefused bits self.old (λ r. result_err result ≡ r) }
     {
         match &mut self.side {
             Side::Server(_) => Err(Refusal::WrongEnd),
-            Side::Client(end) => client::sample(end, step),
+            Side::Client(end) => client::sample(end, bits),
+        }
+    }
+
+    /// Lists the moves that the server has not told as accepted, the oldest first; gives how many these are.
+    pub fn pending(&self, place: &mut [u64]) -> Result<u32, Refusal>
+        ensures told { IfOk result (λ count. ListsPending self.now (take count place.new)) }
+        ensures refused { result_err result ≡ at_client (λ c. room_refusal MAX_PACKET_MOVES (length place.old)) self.now }
+    {
+        match &self.side {
+            Side::Server(_) => Err(Refusal::WrongEnd),
+            Side::Client(end) => client::pending(end, place),
         }
     }
 
     /// Lists the moves that the last datagram brought; gives how many these are.
-    pub fn moves(&self, place: &mut [StepMade]) -> Result<u32, Refusal>
+    pub fn moves(&self, place: &mut [u64]) -> Result<u32, Refusal>
         ensures told { IfOk result (λ count. ListsMoves self.now (take count place.new)) }
         ensures refused { result_err result ≡ at_server (moves_refusal (length place.old)) self.now }
     {

@@ -17,10 +17,12 @@ pub enum Refusal {
     BadClient { client: u32 },
     /// The life is 0, or above 16,777,215.
     BadLife { life: u32 },
-    /// The size is below 128 or above 1,200.
-    BadSize { size: u32 },
-    /// The version is neither 1 nor 2.
+    /// The version is none of 1 to 3.
     BadVersion { version: u32 },
+    /// A move's bits are none of 1 to 64, or not the ten of versions 1 and 2.
+    BadMoveBits { move_bits: u32 },
+    /// The size is above 1,200, below 128, or below what 32 moves need.
+    BadSize { size: u32 },
     /// The kinds make no table.
     BadKinds(KindFault),
     /// The counts of fields of the kinds are not those of the fields.
@@ -53,14 +55,14 @@ pub enum Refusal {
     BadValues,
     /// So many events that came in wait to be handed out first.
     EventsWait { count: u32 },
-    /// A step of a move is none of -8 to 7.
-    BadStep,
     /// No copy is in the slot.
     NoCopy { slot: u32 },
     /// As many events were posted as a connection has in its life.
     EventsWorn { life: u32 },
     /// These events are unacknowledged, as many as may be.
     EventsFull { first: u32, last: u32 },
+    /// A bit of the move is set above those that are written, of which there are so many.
+    MoveTooWide { width: u32 },
     /// As many moves were sampled as a connection has in its life.
     MovesWorn { life: u32 },
     /// These moves are unacknowledged, as many as may be.
@@ -104,6 +106,7 @@ impl From<MoveFault> for Refusal {
 
     fn from(fault: MoveFault) -> Refusal {
         match fault {
+            MoveFault::TooWide { width } => Refusal::MoveTooWide { width },
             MoveFault::Worn { life } => Refusal::MovesWorn { life },
             MoveFault::Full { first, last } => Refusal::MovesFull { first, last },
         }

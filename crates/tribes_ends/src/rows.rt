@@ -1,20 +1,10 @@
 //! What an end tells in lists of numbers: moves, copies, what became of packets and of slots.
 ghost use Rattle.std.specs.Prelude.{◌≡◌, ◌≤◌, ◌<◌, ◌-◌, ◌^◌, Some, map, length, slice_get, take};
-ghost use Rattle.tribes_ends.specs.Lists.{step_of, judged_of, change_of, received_of};
+ghost use Rattle.tribes_ends.specs.Lists.{number_of, judged_of, change_of, received_of};
 
 use stream_manager::Verdicts;
-use tn_types::{MAX_PACKET_GHOSTS, MAX_PACKET_MOVES, MAX_UNJUDGED_PACKETS, Move, Verdict};
+use tn_types::{MAX_PACKET_GHOSTS, MAX_PACKET_MOVES, MAX_UNJUDGED_PACKETS, MoveBits, Verdict};
 use wire_format::GhostItem;
-
-/// A player's move: steps of -8 to 7, and whether he fires and uses (0 or not).
-#[repr(C)]
-#[derive(Clone, Copy, Debug, Default, PartialEq, Eq)]
-pub struct StepMade {
-    pub dx: i32,
-    pub dy: i32,
-    pub fire: u32,
-    pub act: u32,
-}
 
 /// A copy: the kind and the block of the object, and how many fields it has.
 #[repr(C)]
@@ -42,27 +32,15 @@ pub struct Change {
     pub fields: u32,
 }
 
-/// The move as numbers.
-fn step_made(m: &Move) -> StepMade
-    ensures { result ≡ step_of m.now }
-{
-    StepMade {
-        dx: i32::from(m.dx),
-        dy: i32::from(m.dy),
-        fire: u32::from(m.fire),
-        act: u32::from(m.act),
-    }
-}
-
-/// Puts these moves at the front of the place; gives how many these are.
-pub(crate) fn list_moves(moves: &[Move], place: &mut [StepMade]) -> u32
+/// Puts these moves at the front of the place, as numbers; gives how many these are.
+pub(crate) fn list_moves(moves: &[MoveBits], place: &mut [u64]) -> u32
     requires few { length moves.now ≤ MAX_PACKET_MOVES }
     requires room { length moves.now ≤ length place.old }
-    ensures { take result place.new ≡ map step_of moves.now }
+    ensures { take result place.new ≡ map number_of moves.now }
 {
     let mut count = 0u32;
     'moves: for m in moves {
-        place[count as usize] = step_made(m);
+        place[count as usize] = m.bits;
         count += 1;
     }
     count

@@ -10,16 +10,16 @@ ghost use Rattle.stream_manager.specs.ghost_scope.Shown.{IsUp, IsAlive};
 ghost use Rattle.stream_manager.specs.Server.{Scoped, Show, Hide, Near, Absorb, Posted, server_end, ghost_log, posted_at_server};
 ghost use Rattle.stream_manager.specs.ConnCalls.{Does, Answers};
 ghost use Rattle.stream_manager.specs.Verdicts.{last_verdicts};
-ghost use Rattle.tribes_ends.specs.Lists.{judged_of, step_of};
+ghost use Rattle.tribes_ends.specs.Lists.{judged_of, number_of};
 ghost use Rattle.tribes_ends.specs.Refusals.{ByServer, is_shown, block_at, show_refusal, hide_refusal, near_refusal, changed_refusal, settled_refusal, slot_refusal, post_at_server, room_refusal, seal_refusal, pack_at_server, arrival_at_server, block_refusal, moves_refusal};
 ghost use Rattle.tribes_ends.specs.Sides.{PopsAtServer, TakesUp, PlansAtServer, MakesNone, SendsDown, PingsDown, WornDown, CountsAtServer};
 
 use crate::asking::{Ask, plan};
-use crate::counts::Counts;
+use crate::counts::{Counts, or_zero};
 use crate::handing::{Popped, hand_event, hand_over};
 use crate::link::Packed;
 use crate::refusal::Refusal;
-use crate::rows::{Judged, StepMade, list_moves, list_verdicts};
+use crate::rows::{Judged, list_moves, list_verdicts};
 use conn_packing::{MAX_PACKET_VALUES, ping_into, seal_into};
 use notify_window::SendState;
 use std::marker::Brand;
@@ -318,12 +318,18 @@ pub(crate) fn block(conn: &Conn, number: u32, place: &mut [u8]) -> Result<usize,
 pub(crate) fn counts(conn: &Conn) -> Counts
     ensures { CountsAtServer conn.now result }
 {
+    let accepted = conn.accepted();
     Counts {
         sent: conn.sent(),
         unjudged: conn.unjudged(),
+        taken: or_zero(conn.last_taken()),
         delivered: conn.delivered(),
         waiting: conn.waiting(),
-        moves: conn.accepted(),
+        moves: accepted,
+        accepted,
+        event_places: conn.event_places(),
+        loose_places: conn.loose_places(),
+        move_places: 0,
     }
 }
 
@@ -342,11 +348,11 @@ pub(crate) fn verdicts(conn: &Conn, place: &mut [Judged]) -> Result<u32, Refusal
 }
 
 /// Lists the moves that the last datagram brought; gives how many these are.
-pub(crate) fn moves(conn: &Conn, place: &mut [StepMade]) -> Result<u32, Refusal>
-    ensures told { IfOk result (λ count. take count place.new ≡ map step_of (take MAX_PACKET_MOVES conn.now.taken)) }
+pub(crate) fn moves(conn: &Conn, place: &mut [u64]) -> Result<u32, Refusal>
+    ensures told { IfOk result (λ count. take count place.new ≡ map number_of (take MAX_PACKET_MOVES conn.now.taken)) }
     ensures refused { result_err result ≡ moves_refusal (length place.old) conn.now }
 {
-    let taken = conn.taken_moves();
+    let taken = conn.taken_bits();
     if place.len() < taken.len() {
         return Err(Refusal::NoRoom {
             needed: MAX_PACKET_MOVES as u32,

@@ -2,13 +2,14 @@
 ghost use Rattle.std.specs.Prelude.{◌≡◌, ◌≤◌, ◌<◌, ◌∷◌, ◌++◌, [], true, false, length, map, vec_len, IfOk};
 ghost use Rattle.std.specs.Result.{result_err};
 ghost use Rattle.stream_manager.specs.Limits.{IsConfig};
-ghost use Rattle.tribes_ends.specs.Making.{config_of, config_refusal, field_of, kinds_of, kinds_refusal, blocks_of, blocks_refusal, IsMadeUnless};
+ghost use Rattle.tribes_ends.specs.Making.{move_bits_of, config_of, config_refusal, field_of, kinds_of, kinds_refusal, blocks_of, blocks_refusal, IsMadeUnless};
 
 use crate::refusal::Refusal;
 use quantised_fields::{FieldList, FieldSpec, Kind, KindFault, KindTable};
 use std::alloc::Global;
 use stream_manager::{Config, ConfigFault};
 use tn_types::{BlockBytes, MAX_BLOCKS, MAX_KINDS, MAX_LISTED_FIELDS, ShortList};
+use wire_format::{Wire, move_width};
 
 /// The values of a field, `lo` to `hi`, and the bits in which one travels.
 #[repr(C)]
@@ -27,7 +28,8 @@ pub struct KindRow {
     pub weight: u8,
 }
 
-/// The client's number, the life of the connection's counters, the bytes of a datagram at the most, and the wire's version.
+/// The client's number, the life of the connection's counters, the bytes of a datagram at the most, the wire's version, and the bits of a
+/// move: 1 to 64 in version 3; in versions 1 and 2 they are ten, and 0 stands for these.
 #[repr(C)]
 #[derive(Clone, Copy, Debug, PartialEq, Eq)]
 pub struct ConfigRow {
@@ -35,6 +37,7 @@ pub struct ConfigRow {
     pub life: u32,
     pub size: u32,
     pub version: u32,
+    pub move_bits: u32,
 }
 
 /// The number as a byte, or one that stands for none.
@@ -45,20 +48,40 @@ fn narrow(number: u32) -> u8
     if number < 255 { number as u8 } else { 255 }
 }
 
+/// The bits of a move: 0 stands for those that the version has by itself.
+fn move_bits(row: &ConfigRow) -> u32
+    ensures { result ≡ move_bits_of row.now }
+{
+    if row.move_bits == 0 {
+        move_width(Wire {
+            version: narrow(row.version),
+            move_bits: 0,
+        })
+    } else {
+        row.move_bits
+    }
+}
+
 /// The configuration of these numbers.
 pub(crate) fn config(row: &ConfigRow) -> Result<Config, Refusal>
     ensures fits { IfOk result IsConfig }
     ensures value { IfOk result (λ c. c ≡ config_of row.now) }
     ensures refused { result_err result ≡ config_refusal row.now }
 {
-    match Config::new(narrow(row.client), row.life, row.size, narrow(row.version)) {
+    let client = narrow(row.client);
+    let version = narrow(row.version);
+    let bits = narrow(move_bits(row));
+    match Config::new(client, row.life, row.size, version, bits) {
         Ok(config) => Ok(config),
         Err(ConfigFault::Client { .. }) => Err(Refusal::BadClient { client: row.client }),
         Err(ConfigFault::Life { life }) => Err(Refusal::BadLife { life }),
-        Err(ConfigFault::Size { size }) => Err(Refusal::BadSize { size }),
         Err(ConfigFault::Version { .. }) => Err(Refusal::BadVersion {
             version: row.version,
         }),
+        Err(ConfigFault::MoveBits { .. }) => Err(Refusal::BadMoveBits {
+            move_bits: row.move_bits,
+        }),
+        Err(ConfigFault::Size { size }) => Err(Refusal::BadSize { size }),
     }
 }
 

@@ -111,8 +111,9 @@ impl Refusal {
             Refusal::WrongEnd => told(-4, 0, 0),
             Refusal::BadClient { client } => told(-5, client, 0),
             Refusal::BadLife { life } => told(-16, life, 0),
-            Refusal::BadSize { size } => told(-17, size, 0),
             Refusal::BadVersion { version } => told(-18, version, 0),
+            Refusal::BadMoveBits { move_bits } => told(-19, move_bits, 0),
+            Refusal::BadSize { size } => told(-17, size, 0),
             Refusal::BadFieldCounts => told(-6, 0, 0),
             Refusal::BadBlocks => told(-7, 0, 0),
             Refusal::TooLong { most } => told(-8, most, 0),
@@ -120,7 +121,6 @@ impl Refusal {
             Refusal::NotPlanned => told(-10, 0, 0),
             Refusal::BadValues => told(-11, 0, 0),
             Refusal::EventsWait { count } => told(-12, count, 0),
-            Refusal::BadStep => told(-13, 0, 0),
             Refusal::NoCopy { slot } => told(-14, slot, 0),
             Refusal::BadKinds(fault) => kinds_why(fault),
             Refusal::NoKind { kind } => told(-30, kind, 0),
@@ -137,6 +137,7 @@ impl Refusal {
             Refusal::EventsFull { first, last } => told(-71, first, last),
             Refusal::MovesWorn { life } => told(-72, life, 0),
             Refusal::MovesFull { first, last } => told(-73, first, last),
+            Refusal::MoveTooWide { width } => told(-74, width, 0),
         }
     }
 }

@@ -1,9 +1,9 @@
 //! Events both ways, and moves from the client to the server.
-ghost use Rattle.std.specs.Prelude.{◌≡◌, pos, not, nat_eq, length, take};
+ghost use Rattle.std.specs.Prelude.{◌≡◌, pos, length, take};
 ghost use Rattle.tn_types.specs.declared.choices.Class.TheVariants.{Guaranteed, Loose};
-ghost use Rattle.tn_types.specs.declared.limits.TheConstants.{MAX_EVENT_BYTES};
-ghost use Rattle.tribes_ends.specs.Lists.{ListsMoves};
-ghost use Rattle.tribes_ends.specs.Refusals.{at_server, room_refusal, moves_refusal, PostRefused, SampleRefused};
+ghost use Rattle.tn_types.specs.declared.limits.TheConstants.{MAX_EVENT_BYTES, MAX_PACKET_MOVES};
+ghost use Rattle.tribes_ends.specs.Lists.{ListsMoves, ListsPending};
+ghost use Rattle.tribes_ends.specs.Refusals.{at_server, at_client, room_refusal, moves_refusal, PostRefused, SampleRefused};
 ghost use Rattle.tribes_ends.specs.Sides.{Posts, IsNextEvent, Pops, HasNoEvent, Samples};
 ghost use Rattle.tribes_link.specs.Answers.{Answered, AnswersBy};
 ghost use Rattle.tribes_link.specs.Behind.{Behind, Tells};
@@ -12,7 +12,7 @@ use crate::answering::{NO_END, finish_with, refused};
 use crate::end::End;
 use std::alloc::Global;
 use tn_types::Class;
-use tribes_ends::{Popped, StepMade};
+use tribes_ends::Popped;
 
 /// The class that a caller's number asks for.
 fn class_of(guaranteed: u32) -> Class
@@ -102,25 +102,18 @@ pub extern "C" fn tribes_event(
     }
 }
 
-/// Takes up a move of the player, and gives its number.
+/// Takes up a move of the player, as a number, and gives the move's own number.
 #[unsafe(no_mangle)]
-pub extern "C" fn tribes_sample(
-    alloc: Global,
-    end: &mut End,
-    step: &StepMade,
-    number: &mut u32,
-) -> i32
-    ensures told { let s = step.now in result ≡ pos 0
-        → Behind (λ old new. Samples old s.dx s.dy (not (nat_eq s.fire 0)) (not (nat_eq s.act 0)) number.new new)
-        end.old.held.value end.new.held.value }
-    ensures answer { AnswersBy end.old.state end.old.held.value result
-        (λ side. SampleRefused step.now.dx step.now.dy side (Answered 0 result)) }
+pub extern "C" fn tribes_sample(alloc: Global, end: &mut End, bits: u64, number: &mut u32) -> i32
+    ensures told { result ≡ pos 0
+        → Behind (λ old new. Samples old bits number.new new) end.old.held.value end.new.held.value }
+    ensures answer { AnswersBy end.old.state end.old.held.value result (λ side. SampleRefused bits side (Answered 0 result)) }
     ensures unchanged { (result ≡ pos 0 → ⊥) → end.new.held.value ≡ end.old.held.value }
 {
     match end.take(alloc) {
         Some(taken) => {
             let mut link = taken;
-            let done = link.sample(step);
+            let done = link.sample(bits);
             finish_with(end, link, done, number)
         }
         None => NO_END,
@@ -132,17 +125,39 @@ pub extern "C" fn tribes_sample(
 pub extern "C" fn tribes_moves(
     alloc: Global,
     end: &mut End,
-    steps: &mut [StepMade],
+    moves: &mut [u64],
     count: &mut u32,
 ) -> i32
-    ensures told { result ≡ pos 0 → Tells (λ side. ListsMoves side (take count.new steps.new)) end.old.held.value }
+    ensures told { result ≡ pos 0 → Tells (λ side. ListsMoves side (take count.new moves.new)) end.old.held.value }
     ensures answer { AnswersBy end.old.state end.old.held.value result
-        (λ side. Answered 0 result (at_server (moves_refusal (length steps.old)) side)) }
+        (λ side. Answered 0 result (at_server (moves_refusal (length moves.old)) side)) }
     ensures unchanged { end.new.held.value ≡ end.old.held.value }
 {
     match end.take(alloc) {
         Some(link) => {
-            let done = link.moves(steps);
+            let done = link.moves(moves);
+            finish_with(end, link, done, count)
+        }
+        None => NO_END,
+    }
+}
+
+/// Lists the moves that the server has not told as accepted, and gives how many these are.
+#[unsafe(no_mangle)]
+pub extern "C" fn tribes_pending(
+    alloc: Global,
+    end: &mut End,
+    moves: &mut [u64],
+    count: &mut u32,
+) -> i32
+    ensures told { result ≡ pos 0 → Tells (λ side. ListsPending side (take count.new moves.new)) end.old.held.value }
+    ensures answer { AnswersBy end.old.state end.old.held.value result
+        (λ side. Answered 0 result (at_client (λ c. room_refusal MAX_PACKET_MOVES (length moves.old)) side)) }
+    ensures unchanged { end.new.held.value ≡ end.old.held.value }
+{
+    match end.take(alloc) {
+        Some(link) => {
+            let done = link.pending(moves);
             finish_with(end, link, done, count)
         }
         None => NO_END,

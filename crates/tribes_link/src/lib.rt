@@ -15,7 +15,7 @@ mod telling;
 
 pub use datagrams::{tribes_arrive, tribes_pack, tribes_plan};
 pub use end::{End, OPEN};
-pub use events::{tribes_event, tribes_moves, tribes_post, tribes_sample};
+pub use events::{tribes_event, tribes_moves, tribes_pending, tribes_post, tribes_sample};
 pub use making::{tribes_client, tribes_free, tribes_server, tribes_version, tribes_why};
 pub use objects::{
     Object, tribes_changed, tribes_control, tribes_hide, tribes_near, tribes_settled, tribes_show,

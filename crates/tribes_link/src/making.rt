@@ -11,12 +11,12 @@ use std::alloc::Global;
 use tribes_ends::{ConfigRow, FieldRow, KindRow, Link, Refusal, Why};
 
 /// The version of the interface: `TRIBES_VERSION` of the header that fits.
-const VERSION: u32 = 1;
+const VERSION: u32 = 2;
 
 /// The version of the interface that this library has.
 #[unsafe(no_mangle)]
 pub extern "C" fn tribes_version() -> u32
-    ensures { result ≡ 1 }
+    ensures { result ≡ 2 }
 {
     VERSION
 }

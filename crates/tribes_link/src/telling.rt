@@ -1,4 +1,4 @@
-//! What an end tells: counts, verdicts, blocks, copies and what changed of them. No call here changes the end.
+//! What an end tells: counts and free places, verdicts, blocks, copies and what changed of them. No call here changes the end.
 ghost use Rattle.std.specs.Prelude.{◌≡◌, pos, Some, None, length, take};
 ghost use Rattle.tn_types.specs.declared.limits.TheConstants.{MAX_PACKET_GHOSTS, MAX_UNJUDGED_PACKETS};
 ghost use Rattle.tribes_ends.specs.Lists.{ListsVerdicts, ListsChanges, HasBlock, IsNextCopy, HasCopy};
@@ -12,7 +12,7 @@ use crate::end::End;
 use std::alloc::Global;
 use tribes_ends::{Change, Copied, Counts, Judged};
 
-/// Tells what the end counted.
+/// Tells what the end counted, and which places it has free.
 #[unsafe(no_mangle)]
 pub extern "C" fn tribes_counts(alloc: Global, end: &mut End, counts: &mut Counts) -> i32
     ensures told { result ≡ pos 0 → Tells (λ side. AreCounts side counts.new) end.old.held.value }
