@@ -132,7 +132,7 @@ typedef struct tribes_end {
 typedef struct tribes_config {
     uint32_t client;    /* 0 to 15 */
     uint32_t life;      /* what ends each counter: 1 to 16,777,215 */
-    uint32_t size;      /* bytes of a datagram: 128 to 1,200, and no less than 16 + 4 * move_bits */
+    uint32_t size;      /* bytes of a datagram: 128 to 1,200, and no less than 43 + 4 * move_bits */
     uint32_t version;   /* of the datagrams: 1; 2, which writes updates and events shorter; or 3, in which moves have move_bits */
     uint32_t move_bits; /* bits of a move: 1 to 64; in versions 1 and 2 they are 10, and 0 stands for these */
 } tribes_config;
@@ -264,7 +264,7 @@ static inline const char *tribes_text(int32_t code) {
     case TRIBES_WRONG_END: return "the call is for the other end";
     case TRIBES_BAD_CLIENT: return "the client's number is above 15";
     case TRIBES_BAD_LIFE: return "the life is 0 or above 16,777,215";
-    case TRIBES_BAD_SIZE: return "the size is above 1,200, or below 128 or what 32 moves need";
+    case TRIBES_BAD_SIZE: return "the size is above 1,200, or below 128 or what 32 moves and an event need";
     case TRIBES_BAD_VERSION: return "the version is none of 1 to 3";
     case TRIBES_BAD_MOVE_BITS: return "a move's bits are none of 1 to 64, or not the 10 of versions 1 and 2";
     case TRIBES_BAD_FIELD_COUNTS: return "the kinds have not as many fields as there are";

@@ -103,7 +103,7 @@ static void configured(uint32_t version, uint32_t given) {
     const uint8_t none = 0;
     const uint32_t no_length = 0;
     tribes_reason why;
-    tribes_config config = {draw(16), 100000, width > 28 ? 16 + 4 * width : 128, version, given};
+    tribes_config config = {draw(16), 100000, width > 21 ? 43 + 4 * width : 128, version, given};
     config.size--;
     answers("a size too small", tribes_client(&client, &config, &kind, 1, &field, 1, &why), TRIBES_BAD_SIZE);
     config.size += 1;

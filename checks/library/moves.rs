@@ -136,7 +136,7 @@ impl Pair {
     fn new(dice: &mut Dice, version: u32, width: u32, given: u32) -> Pair {
         const FIELDS: [Field; 1] = [Field { lo: 0, hi: 1, bits: 1 }];
         const KINDS: [Kind; 1] = [Kind { fields: 1, weight: 1 }];
-        let least = if width > 28 { 16 + 4 * width } else { 128 };
+        let least = if width > 21 { 43 + 4 * width } else { 128 };
         let mut config = Config { client: dice.draw(16), life: 100_000, size: least - 1, version, move_bits: given };
         assert_eq!(code(Client::new(&config, &KINDS, &FIELDS)), BAD_SIZE);
         config.size += 1;

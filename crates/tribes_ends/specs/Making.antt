@@ -105,14 +105,14 @@ two_kinds = refl
 two_blocks : blocks_of (1 ∷ 2 ∷ 3 ∷ []) (1 ∷ 2 ∷ []) ≡ (1 ∷ []) ∷ (2 ∷ 3 ∷ []) ∷ []
 two_blocks = refl
 
--- 64 bits a move want 272 bytes, and ten bits 128
+-- 64 bits a move want 299 bytes, and ten bits 128
 abbrev configured : ℕ → ℕ → ℕ → ConfigRow
 configured size version move_bits = record { client = 0; life = 1; size = size; version = version; move_bits = move_bits }
 
 wide_moves : config_refusal (configured 271 3 64) ≡ Some (BadSize 271)
 wide_moves = refl
 
-wide_moves_fit : config_refusal (configured 272 3 64) ≡ None
+wide_moves_fit : config_refusal (configured 299 3 64) ≡ None
 wide_moves_fit = refl
 
 zero_is_ten : config_refusal (configured 128 2 0) ≡ None
