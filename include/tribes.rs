@@ -193,7 +193,7 @@ pub fn words(code: i32) -> &'static str {
         -4 => "the call is for the other end",
         -5 => "the client's number is above 15",
         -16 => "the life is 0 or above 16,777,215",
-        -17 => "the size is above 1,200, or below 128 or what 32 moves need",
+        -17 => "the size is above 1,200, or below 128 or what 32 moves and an event need",
         -18 => "the version is none of 1 to 3",
         -19 => "a move's bits are none of 1 to 64, or not the 10 of versions 1 and 2",
         -6 => "the kinds have not as many fields as there are",

@@ -109,7 +109,7 @@ two_blocks = refl
 abbrev configured : ℕ → ℕ → ℕ → ConfigRow
 configured size version move_bits = record { client = 0; life = 1; size = size; version = version; move_bits = move_bits }
 
-wide_moves : config_refusal (configured 271 3 64) ≡ Some (BadSize 271)
+wide_moves : config_refusal (configured 298 3 64) ≡ Some (BadSize 298)
 wide_moves = refl
 
 wide_moves_fit : config_refusal (configured 299 3 64) ≡ None

@@ -21,7 +21,7 @@ pub enum Refusal {
     BadVersion { version: u32 },
     /// A move's bits are none of 1 to 64, or not the ten of versions 1 and 2.
     BadMoveBits { move_bits: u32 },
-    /// The size is above 1,200, below 128, or below what 32 moves need.
+    /// The size is above 1,200, below 128, or below what 32 moves and an event need.
     BadSize { size: u32 },
     /// The kinds make no table.
     BadKinds(KindFault),
