@@ -36,6 +36,8 @@ enum Step {
     Sample,
     /// The client posts a guaranteed event.
     Post,
+    /// The client posts an unguaranteed event.
+    PostLoose,
     /// The server has sent so many packets, and this is the first without a verdict.
     ConnSent(u32, u32),
     /// The same of the client.
@@ -48,8 +50,21 @@ enum Step {
     Changes(&'static [(Op, u8, u32)]),
     /// The bytes of this block at the client.
     Block(u8, Option<&'static [u8]>),
-    /// The number of the first move that waits, and how many wait.
+    /// The number of the first move that waits, and how many wait: so many moves the server told as accepted, and so many places of 32
+    /// are taken.
     Pending(u32, usize),
+    /// The number of the packet that the server took last.
+    ConnTook(Option<u32>),
+    /// The same of the client.
+    ClientTook(Option<u32>),
+    /// So many places are free at the server for guaranteed and for unguaranteed events.
+    ConnPlaces(u32, u32),
+    /// The same of the client.
+    ClientPlaces(u32, u32),
+    /// The server has accepted so many moves.
+    Accepted(u32),
+    /// The server hands out an event.
+    Handed,
     /// The server delivered so many guaranteed events, of which one at the most waits.
     Delivered(u32),
 }
@@ -116,6 +131,14 @@ fn posts(client: &mut Client) -> bool {
     }
 }
 
+/// Whether the client posts an unguaranteed event of one byte, and drops none for it.
+fn posts_loose(client: &mut Client) -> bool {
+    match Payload::from_slice(b"y") {
+        Some(payload) => client.post_loose(payload).is_none(),
+        None => false,
+    }
+}
+
 /// Whether these are the verdicts.
 fn are(verdicts: &Verdicts, wanted: &[(u32, Verdict)]) -> bool {
     if verdicts.count() as usize != wanted.len() {
@@ -163,7 +186,8 @@ fn has_block(client: &Client, number: u8, wanted: Option<&'static [u8]>) -> bool
 /// Whether so many moves wait, from this one on.
 fn waits(client: &Client, first: u32, count: usize) -> bool {
     let (number, moves) = client.pending();
-    number == first && moves.len() == count
+    let places = client.move_places() as usize;
+    number == first && moves.len() == count && client.accepted() == first && places + count == 32
 }
 
 /// Whether so many events were delivered; one that waits is handed out.
@@ -192,6 +216,8 @@ fn does(conn: &mut Conn, client: &mut Client, step: &Step) -> bool {
         Step::Refused => matches!(at_client(client, OF_ANOTHER), Some(Err(_))),
         Step::Sample => client.sample(STANDING).is_ok(),
         Step::Post => posts(client),
+        Step::Handed => conn.pop_event().is_some(),
+        Step::PostLoose => posts_loose(client),
         _ => tells(conn, client, step),
     }
 }
@@ -209,6 +235,15 @@ fn tells(conn: &mut Conn, client: &Client, step: &Step) -> bool {
         Step::Block(number, wanted) => has_block(client, *number, *wanted),
         Step::Pending(first, count) => waits(client, *first, *count),
         Step::Delivered(count) => delivers(conn, *count),
+        Step::ConnTook(number) => conn.last_taken() == *number,
+        Step::ClientTook(number) => client.last_taken() == *number,
+        Step::ConnPlaces(events, loose) => {
+            conn.event_places() == *events && conn.loose_places() == *loose
+        }
+        Step::ClientPlaces(events, loose) => {
+            client.event_places() == *events && client.loose_places() == *loose
+        }
+        Step::Accepted(count) => conn.accepted() == *count,
         _ => false,
     }
 }
@@ -217,7 +252,7 @@ fn tells(conn: &mut Conn, client: &Client, step: &Step) -> bool {
 const OF_ANOTHER: &[u8] = &[0x44, 0, 0, 0, 0, 0, 0, 0, 0, 0, 0, 0, 0, 0, 0, 0];
 
 /// A new connection knows nothing; the first packet brings the block, and the second a clock in slot 0.
-const BEGUN: [Step; 20] = [
+const BEGUN: [Step; 26] = [
     Step::Show,
     Step::ConnSent(0, 1),
     Step::ClientSent(0, 1),
@@ -225,7 +260,11 @@ const BEGUN: [Step; 20] = [
     Step::ClientVerdicts(&[]),
     Step::Changes(&[]),
     Step::Block(0, None),
+    Step::ConnTook(None),
+    Step::ClientTook(None),
     Step::Down(&[]),
+    Step::ClientTook(Some(1)),
+    Step::ConnTook(None),
     Step::Block(0, Some(b"a")),
     Step::Block(1, None),
     Step::Block(64, None),
@@ -236,6 +275,8 @@ const BEGUN: [Step; 20] = [
     Step::ConnSent(1, 2),
     Step::ClientSent(1, 1),
     Step::Down(&[0, 0, 0]),
+    Step::ConnTook(Some(1)),
+    Step::ClientTook(Some(2)),
     Step::ClientVerdicts(&[(1, Verdict::Received)]),
     Step::Changes(&[(Op::Create, 0, 0)]),
 ];
@@ -268,12 +309,13 @@ const LOST: [Step; 19] = [
 ];
 
 /// A refused datagram leaves what the last one that was taken told. Then the clock is killed.
-const KILLED: [Step; 11] = [
+const KILLED: [Step; 12] = [
     Step::Show,
     Step::Down(&[]),
     Step::Up,
     Step::Down(&[0, 0, 0]),
     Step::Refused,
+    Step::ClientTook(Some(2)),
     Step::ClientVerdicts(&[(1, Verdict::Received)]),
     Step::Changes(&[(Op::Create, 0, 0)]),
     Step::Up,
@@ -282,18 +324,30 @@ const KILLED: [Step; 11] = [
     Step::Changes(&[(Op::Kill, 0, 0)]),
 ];
 
-/// Moves wait until the server tells that it has them; an event comes.
-const MOVED: [Step; 11] = [
+/// Moves wait until the server tells that it has them; an event comes, and has its place until then.
+const MOVED: [Step; 23] = [
     Step::Pending(0, 0),
     Step::Sample,
     Step::Sample,
     Step::Pending(0, 2),
+    Step::ClientPlaces(256, 64),
+    Step::ConnPlaces(256, 64),
     Step::Post,
+    Step::PostLoose,
+    Step::PostLoose,
+    Step::ClientPlaces(255, 62),
+    Step::Accepted(0),
     Step::Up,
+    Step::ClientPlaces(255, 64),
+    Step::Accepted(2),
+    Step::Handed,
+    Step::Handed,
     Step::Delivered(1),
     Step::Pending(0, 2),
     Step::Down(&[]),
     Step::Pending(2, 0),
+    Step::ClientPlaces(256, 64),
+    Step::ConnPlaces(256, 64),
     Step::Changes(&[]),
 ];
 
@@ -316,7 +370,7 @@ fn first_wrong(conn: &mut Conn, client: &mut Client, steps: &[Step]) -> Option<u
 
 /// The same for the steps of a new connection, in a version of the wire.
 fn first_wrong_of_new(alloc: Global, version: u8, steps: &[Step]) -> Result<Option<usize>, Fail> {
-    let config = Config::new(0, 100, 128, version)?;
+    let config = Config::new(0, 100, 128, version, 10)?;
     let kinds = match_kinds();
     let mut conn = new_conn(alloc, config, &kinds)?;
     let mut client = Client::new(alloc, config, &kinds)?;
@@ -326,7 +380,7 @@ fn first_wrong_of_new(alloc: Global, version: u8, steps: &[Step]) -> Result<Opti
 #[test]
 fn asked(rt: HostRuntime) -> Result<(), Fail> {
     for (name, steps) in ROWS {
-        for version in [1, 2] {
+        for version in [1, 2, 3] {
             assert_eq!(rt;
                 first_wrong_of_new(rt.alloc(), version, steps)?,
                 None,

@@ -10,7 +10,7 @@ use std::alloc::Global;
 use std::marker::Brand;
 use std::sync::ledger::{Blank, Ledger};
 use std::test::Fail;
-use stream_manager::{ArriveFault, Client, ClientFault, ClientOut, Config, Conn};
+use stream_manager::{ArriveFault, Client, ClientFault, ClientOut, Config, ConfigFault, Conn};
 use tn_types::{BlockBytes, MAX_READ_BYTES, MAX_SHOWS, Steps};
 use wire_format::{BitsCause, BitsFault};
 use world_rules::match_kinds;
@@ -20,6 +20,7 @@ pub(crate) const CONFIG: Config = Config {
     life: 100,
     size: 128,
     version: 1,
+    move_bits: 10,
 };
 
 /// The server's end of a new connection of client 0, in a match with one block, the byte `a`.
@@ -311,6 +312,33 @@ const ROWS: [(&str, &[Step]); 3] = [
 fn rows(rt: HostRuntime) -> Result<(), Fail> {
     for (name, steps) in ROWS {
         assert_eq!(rt; first_wrong_of_new(rt.alloc(), steps)?, None, "{name}");
+    }
+    Ok(())
+}
+
+/// What a configuration of client 0 and life 100 is refused for, by size, version and bits of a move.
+const CONFIGS: [(u32, u8, u8, Option<ConfigFault>); 14] = [
+    (128, 1, 10, None),
+    (128, 2, 10, None),
+    (128, 3, 1, None),
+    (128, 3, 28, None),
+    (131, 3, 29, Some(ConfigFault::Size { size: 131 })),
+    (132, 3, 29, None),
+    (271, 3, 64, Some(ConfigFault::Size { size: 271 })),
+    (272, 3, 64, None),
+    (1_201, 3, 64, Some(ConfigFault::Size { size: 1_201 })),
+    (128, 2, 9, Some(ConfigFault::MoveBits { move_bits: 9 })),
+    (128, 1, 11, Some(ConfigFault::MoveBits { move_bits: 11 })),
+    (127, 3, 0, Some(ConfigFault::MoveBits { move_bits: 0 })),
+    (128, 3, 65, Some(ConfigFault::MoveBits { move_bits: 65 })),
+    (127, 4, 0, Some(ConfigFault::Version { version: 4 })),
+];
+
+#[test]
+fn configurations(rt: HostRuntime) -> Result<(), Fail> {
+    for (size, version, move_bits, fault) in CONFIGS {
+        let made = Config::new(0, 100, size, version, move_bits);
+        assert_eq!(rt; made.err(), fault, "size {size}, version {version}, {move_bits} bits");
     }
     Ok(())
 }

@@ -13,6 +13,7 @@ const CONFIG: Config = Config {
     life: 1_000,
     size: 128,
     version: 1,
+    move_bits: 10,
 };
 
 /// A new pair that keeps its steps, in a match with the six kinds and no block.

@@ -11,28 +11,33 @@ ghost use Rattle.pair_core.specs.Calls.{Stands};
 ghost use Rattle.conn_packing.specs.Reads.{MayBeDrained};
 
 mod low;
+mod own;
 mod worked;
 
 use self::low::{EVENT, LOW_SUPERSEDED, OLD_BY_ITS_HEAD};
+use self::own::{FLAGS, OWN_MOVES, WIDEST};
 use self::worked::{HIDDEN, RAISED, SHARED, SUPERSEDED, TAKEN};
+use bit_stream::bits_of_move;
+use move_manager::MoveFault;
 use notify_window::SendState;
 use pair_core::{Answer, Pair, PairStep};
 use quantised_fields::{FieldSpec, KindTable};
 use std::alloc::Global;
 use std::test::Fail;
-use stream_manager::{ClientFault, Config, Conn};
+use stream_manager::{ClientFault, Config, Conn, least_size};
 use tn_types::{
-    BlockBytes, Class, Drain, End, MAX_DATAGRAMS, MAX_FIELDS, MAX_SHOWS, Move, PacketKind, Payload,
-    Read, Values,
+    BlockBytes, Class, Drain, End, MAX_DATAGRAMS, MAX_FIELDS, MAX_SHOWS, Move, MoveBits, PacketKind,
+    Payload, Read, Values,
 };
+use wire_format::Wire;
 use world_rules::match_kinds;
 
-/// The configuration of both ends, by the version of their datagrams.
-fn config(version: u8) -> Result<Config, Fail>
+/// The configuration of both ends, with the least size for how their datagrams are written.
+fn config(wire: Wire) -> Result<Config, Fail>
     ensures { IfOk result IsConfig }
 {
     Ok(
-        Config::new(0, 100, 128, version)
+        Config::new(0, 100, least_size(wire), wire.version, wire.move_bits)
             .ok()
             .ok_or("no configuration")?,
     )
@@ -136,6 +141,10 @@ enum Step {
     West,
     /// The client takes up the move (1, 0).
     East,
+    /// The client takes up a move of these bits, or refuses it.
+    Sample(u64, Option<MoveFault>),
+    /// The moves that the server took last have these bits.
+    Took(&'static [u64]),
     /// Whether this field of the period is settled.
     Settled(u32, u8, bool),
     /// This period holds this slot.
@@ -373,7 +382,34 @@ fn moves(pair: &mut Pair, m: Move) -> bool
     requires { Stands pair.old }
     ensures { Stands pair.new }
 {
+    let m = bits_of_move(&m);
     matches!(pair.step(&PairStep::Sample { m }), Answer::Sampled { .. })
+}
+
+/// What the client says of a move of these bits: `None` where it is taken up.
+fn samples(pair: &mut Pair, bits: u64) -> Option<MoveFault>
+    requires { Stands pair.old }
+    ensures { Stands pair.new }
+{
+    let m = MoveBits { bits };
+    match pair.step(&PairStep::Sample { m }) {
+        Answer::MoveRefused(fault) => Some(fault),
+        _ => None,
+    }
+}
+
+/// Whether these are the moves that the last datagram newly brought to the server.
+fn took(conn: &Conn, wanted: &[u64]) -> bool {
+    let moves = conn.taken_bits();
+    if moves.len() != wanted.len() {
+        return false;
+    }
+    for (m, bits) in moves.iter().zip(wanted.iter()) {
+        if m.bits != *bits {
+            return false;
+        }
+    }
+    true
 }
 
 /// Whether the field is settled; `None` where there is none.
@@ -413,6 +449,8 @@ fn does(alloc: Global, pair: &mut Pair, shown: &[u8], step: &Step) -> bool
         Step::Up(k, moves) => comes_up(pair, *k) == Some(*moves),
         Step::West => moves(pair, WEST),
         Step::East => moves(pair, EAST),
+        Step::Sample(bits, answer) => samples(pair, *bits) == *answer,
+        Step::Took(wanted) => took(pair.conn(), wanted),
         Step::Settled(n, field, settled) => is_settled(pair.conn(), *n, *field) == Some(*settled),
         Step::Slot(n, slot) => holds(pair.conn(), *n, *slot),
         Step::Control(slot) => pair.client().control() == *slot,
@@ -438,13 +476,13 @@ fn first_wrong(alloc: Global, pair: &mut Pair, shown: &[u8], steps: &[Step]) -> 
 /// The same for the steps of a new pair, in a match with one block, the byte `a`.
 fn first_wrong_of_new(
     alloc: Global,
-    version: u8,
+    wire: Wire,
     shown: &[u8],
     steps: &[Step],
 ) -> Result<Option<usize>, Fail> {
     let kinds = match_kinds();
     let blocks = [BlockBytes::from_slice(b"a").ok_or("too long")?];
-    let mut pair = Pair::new(alloc, config(version)?, &kinds, &blocks)?;
+    let mut pair = Pair::new(alloc, config(wire)?, &kinds, &blocks)?;
     Ok(first_wrong(alloc, &mut pair, shown, steps))
 }
 
@@ -452,28 +490,47 @@ const PLAYER_AND_MINES: [u8; 21] = [
     0, 2, 2, 2, 2, 2, 2, 2, 2, 2, 2, 2, 2, 2, 2, 2, 2, 2, 2, 2, 2,
 ];
 
-/// Each row by its name, with the version of its datagrams and the kinds that its objects are shown with.
-const ROWS: [(&str, u8, &[u8], &[Step]); 8] = [
-    ("lost_update_superseded", 1, &[5], &SUPERSEDED),
-    ("lost_update_raised_again", 1, &[5], &RAISED),
-    ("slot_taken_until_kill_received", 1, &[0, 2, 2], &TAKEN),
-    ("hidden_before_create_received", 1, &[0, 2], &HIDDEN),
-    ("priority_and_share", 1, &PLAYER_AND_MINES, &SHARED),
-    ("event_version_2", 2, &[], &EVENT),
-    ("lost_update_superseded_version_2", 2, &[5], &LOW_SUPERSEDED),
-    (
-        "old_before_the_rest_version_2",
-        2,
-        &[0, 2, 2],
-        &OLD_BY_ITS_HEAD,
-    ),
+/// Version 3 with moves of so many bits.
+const fn own(move_bits: u8) -> Wire {
+    Wire {
+        version: 3,
+        move_bits,
+    }
+}
+
+const FIRST: Wire = Wire {
+    version: 1,
+    move_bits: 10,
+};
+
+const SECOND: Wire = Wire {
+    version: 2,
+    move_bits: 10,
+};
+
+/// Each row by its name, with how its datagrams are written and the kinds that its objects are shown with.
+const ROWS: [(&str, Wire, &[u8], &[Step]); 14] = [
+    ("lost_update_superseded", FIRST, &[5], &SUPERSEDED),
+    ("lost_update_raised_again", FIRST, &[5], &RAISED),
+    ("slot_taken_until_kill_received", FIRST, &[0, 2, 2], &TAKEN),
+    ("hidden_before_create_received", FIRST, &[0, 2], &HIDDEN),
+    ("priority_and_share", FIRST, &PLAYER_AND_MINES, &SHARED),
+    ("event_version_2", SECOND, &[], &EVENT),
+    ("lost_update_superseded_version_2", SECOND, &[5], &LOW_SUPERSEDED),
+    ("old_before_the_rest_version_2", SECOND, &[0, 2, 2], &OLD_BY_ITS_HEAD),
+    ("event_version_3", own(10), &[], &EVENT),
+    ("lost_update_superseded_version_3", own(10), &[5], &LOW_SUPERSEDED),
+    ("old_before_the_rest_version_3", own(10), &[0, 2, 2], &OLD_BY_ITS_HEAD),
+    ("moves_of_40_bits", own(40), &[], &OWN_MOVES),
+    ("moves_of_a_bit", own(1), &[], &FLAGS),
+    ("widest_moves", own(64), &[], &WIDEST),
 ];
 
 #[test]
 fn rows(rt: HostRuntime) -> Result<(), Fail> {
-    for (name, version, shown, steps) in ROWS {
+    for (name, wire, shown, steps) in ROWS {
         assert_eq!(rt;
-            first_wrong_of_new(rt.alloc(), version, shown, steps)?,
+            first_wrong_of_new(rt.alloc(), wire, shown, steps)?,
             None,
             "{name}"
         );
