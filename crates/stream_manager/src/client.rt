@@ -234,16 +234,16 @@ impl Client {
         ensures few { length result.now ≤ self.old.common.config.size }
         ensures* after { sem 𝓛 (Rests the_row self.entry (ClientSealed self.old)) }
     {
-        let size = self.common.config().size;
-        let wire = self.common.config().wire();
+        let config = *self.common.config();
+        let wire = config.wire();
         let head = self.common.data_head();
         let (first, moves) = self.moves.pending();
         let used = move_width(wire) * moves.len() as u32;
-        self.out.begin(size);
+        self.out.begin(config.size);
         put_client_front(&mut self.out, &head, first);
         put_moves(&mut self.out, wire, moves);
         self.common
-            .pack(8 * size - CLIENT_FIXED_BITS - used, &mut self.out);
+            .pack(8 * config.size - CLIENT_FIXED_BITS - used, &mut self.out);
         self.out.end();
         self.out.bytes()
     }
