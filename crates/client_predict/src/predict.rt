@@ -1,12 +1,12 @@
 //! The prediction, one step for each sampled move.
 ghost use Rattle.std.specs.Prelude.{◌≡◌, ◌≤◌, ◌≤ℤ◌, pos, [], IfSome, option_map};
 ghost use Rattle.std.specs.Int.RustNames.{unsigned_abs};
-ghost use Rattle.client_predict.specs.Standing.{IsStanding, moved_by, played};
+ghost use Rattle.client_predict.specs.Standing.{IsStanding, stepped_by, moved_by, played};
 ghost use Rattle.client_predict.specs.Offsets.{decayed, seen_from, passes, kept, corrected, IsOffset};
 
 use bit_stream::move_of_bits;
 use std::marker::Model;
-use tn_types::{MAX_COORDINATE, MoveBits};
+use tn_types::{MAX_COORDINATE, Move, MoveBits};
 use wire_format::MoveList;
 use world_rules::step_player;
 
@@ -89,13 +89,22 @@ impl Predict {
 }
 
 // One step on.
-fn step(at: (i64, i64, i64), m: MoveBits) -> (i64, i64, i64)
+fn step(at: (i64, i64, i64), m: Move) -> (i64, i64, i64)
+    requires { IsStanding at }
+    ensures value { result ≡ stepped_by at m }
+    ensures stands { IsStanding result }
+{
+    let (x, y, ammo) = at;
+    step_player(x, y, ammo, m)
+}
+
+// One step on by a move's number.
+fn moved(at: (i64, i64, i64), m: MoveBits) -> (i64, i64, i64)
     requires { IsStanding at }
     ensures value { result ≡ moved_by at m }
     ensures stands { IsStanding result }
 {
-    let (x, y, ammo) = at;
-    step_player(x, y, ammo, move_of_bits(m))
+    step(at, move_of_bits(m))
 }
 
 // One step on, where there is a value.
@@ -105,7 +114,7 @@ fn stepped(value: Option<(i64, i64, i64)>, m: MoveBits) -> Option<(i64, i64, i64
     ensures stands { IfSome result IsStanding }
 {
     match value {
-        Some(at) => Some(step(at, m)),
+        Some(at) => Some(moved(at, m)),
         None => None,
     }
 }
@@ -118,7 +127,7 @@ fn played(base: (i64, i64, i64), moves: &[MoveBits]) -> (i64, i64, i64)
 {
     let mut at = base;
     'moves: for m in moves {
-        at = step(at, *m);
+        at = moved(at, *m);
     }
     at
 }

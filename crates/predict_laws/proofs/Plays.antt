@@ -15,7 +15,7 @@ use Rattle.world_rules.specs.Moves.{or_still, still}
 use Rattle.own_lists.specs.Past.{Past, move_of, moves_of, after}
 use Rattle.own_lists.proofs.WorldFacts.{world_after}
 use Rattle.predict_lines.specs.match_laws.Applied.{one_move, applied}
-use Rattle.client_predict.specs.Standing.{stepped_by, played}
+use Rattle.client_predict.specs.Standing.{stepped_by, moved_by, played}
 use Rattle.client_predict.proofs.PredictLogs.{value_more}
 use Rattle.predict_laws.specs.Players.{measures_in, stands_in}
 use Rattle.predict_laws.specs.Promise.{server_has, StoodIn}
@@ -59,7 +59,7 @@ module _ (head : Head) (fits : HeadFits head) (c : ℕ) (below : c < head.client
       let p = after head past in
       tick_steps p.world (moves_of head p) c stands
       ∙ ap (λ (x : Move). option_map (λ at. stepped_by at x) (measures_in p.world c)) (taken_at head p c below ∙ ap (λ (x : Option MoveBits). or_still (Some x)) e)
-      ∙ ap (option_map (λ at. stepped_by at m)) h
+      ∙ ap (option_map (λ at. moved_by at m)) h
       ∙ value_more was moves m
 
   pub plays : (later earlier : List BodyLine) → StoodIn head c later earlier
