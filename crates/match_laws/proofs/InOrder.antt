@@ -1,19 +1,18 @@
 -- The lines of a script make steps whose payloads are in range, and each step may be made; so, with an honest client, what is
 -- delivered is a front of what was posted.
-use Rattle.std.proofs.Common.{◌≡◌, ℕ, ◌<◌, ◌≤◌, Bool, true, false, List, [], ◌∷◌, ◌++◌, take, reverse, refl, sym, subst, arith, length-take}
+use Rattle.std.proofs.Common.{ℕ, ◌<◌, List, [], ◌∷◌, ◌++◌, take, reverse, refl, sym, subst, arith, length-take}
 use Rattle.std.specs.List.{AllByRecursion}
 use Rattle.std.proofs.lemmas.List.{length-reverse}
 use Rattle.std.proofs.lemmas.List.Elements.{All-from_recursion, recursion_from_All, All-take}
 use Rattle.std.proofs.lemmas.Grind.{reverse_onto}
-use Rattle.std.specs.Prelude.{map, nat_lt}
-use Rattle.wire_format.specs.Moves.{move_width}
+use Rattle.std.specs.Prelude.{map}
 use Rattle.match_script.specs.declared.types.BodyLine.{BodyLine}
 use Rattle.match_script.specs.declared.types.BodyLine.TheVariants as script
 use Rattle.match_script.specs.declared.types.Head.{Head}
 use Rattle.match_script.specs.declared.types.Script.{Script}
 use Rattle.match_script.specs.Ranges.{LineFits, BlockFits, HeadFits, HasRanges}
 use Rattle.client_scope.specs.declared.period.Near.{Near as NearPeriod}
-use Rattle.stream_manager.specs.Limits.{Terms, IsBlockBytes, AreTerms, least_size}
+use Rattle.stream_manager.specs.Limits.{Terms, IsBlockBytes, AreTerms}
 use Rattle.client_seat.specs.pair_core.History.{PairStep}
 use Rattle.client_seat.specs.pair_core.Conditions.{IsHonest}
 use Rattle.client_seat.specs.pair_core.Conditions.{StepFits}
@@ -28,6 +27,7 @@ use Rattle.client_seat.specs.own_lists.Course.{onto, near_step, show_step, scan_
 use Rattle.client_seat.specs.own_lists.Kept.{Kept, after_line, follows, kept, journal}
 use Rattle.client_seat.specs.own_lists.Past.{client_terms, after}
 use Rattle.client_seat.specs.own_lists.Agreement.{AreLines, OwnListsHold}
+use Rattle.client_seat.proofs.Below.own_lists.Configs.{config_fits}
 use Rattle.client_seat.proofs.Below.own_lists.Counting.{counted_few}
 use Rattle.client_seat.proofs.Below.own_lists.KeptValues.{wrote_course}
 use Rattle.client_seat.proofs.Below.own_lists.Meeting.{scan_journal, are_met}
@@ -126,27 +126,9 @@ blocks-fit : (blocks : List (List ℕ)) → AllByRecursion BlockFits blocks → 
 blocks-fit [] h = tt
 blocks-fit (block ∷ blocks) h = (record { few = (h.0).0; bytes = (h.0).1 }, blocks-fit blocks h.1)
 
--- a move of the world has ten bits in each version, and 128 bytes are enough for them
-ten_bits : (version : ℕ) → (move_width (record { version = version; move_bits = 10 }) ≡ 10) × (least_size (record { version = version; move_bits = 10 }) ≡ 128)
-ten_bits version = go (nat_lt version 3) refl
-  where
-    go : (b : Bool) → nat_lt version 3 ≡ b → (move_width (record { version = version; move_bits = 10 }) ≡ 10) × (least_size (record { version = version; move_bits = 10 }) ≡ 128)
-    go true e = rw e (refl, refl)
-    go false e = rw e (refl, refl)
-
 pub terms_fit : (head : Head) (c : ℕ) → HeadFits head → c < head.clients → AreTerms (client_terms head c)
 terms_fit head c h l = record {
-  config = record {
-    client = omega (arith, h.clients);
-    some_life = h.life_least;
-    life = h.life;
-    least = subst (λ (n : ℕ). n ≤ head.size) (sym (ten_bits head.version).1) h.size_least;
-    size = h.size;
-    some_version = h.version_least;
-    version = omega (arith, h.version);
-    some_bits = omega arith;
-    move_bits = (ten_bits head.version).0;
-  };
+  config = config_fits head c h (omega (arith, h.clients, l));
   kinds = refl;
   few = h.blocks_few;
   blocks = blocks-fit head.blocks (recursion_from_All BlockFits head.blocks h.blocks);

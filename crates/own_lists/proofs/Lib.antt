@@ -1,4 +1,5 @@
 pub mod Below
+pub mod Configs
 pub mod LegalSteps
 pub mod KeptValues
 pub mod Meeting
