@@ -338,7 +338,11 @@ const CONFIGS: [(u32, u8, u8, Option<ConfigFault>); 14] = [
 fn configurations(rt: HostRuntime) -> Result<(), Fail> {
     for (size, version, move_bits, fault) in CONFIGS {
         let made = Config::new(0, 100, size, version, move_bits);
-        assert_eq!(rt; made.err(), fault, "size {size}, version {version}, {move_bits} bits");
+        assert_eq!(rt;
+            made.err(),
+            fault,
+            "size {size}, version {version}, {move_bits} bits"
+        );
     }
     Ok(())
 }

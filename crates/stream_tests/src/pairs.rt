@@ -26,8 +26,8 @@ use std::alloc::Global;
 use std::test::Fail;
 use stream_manager::{ClientFault, Config, Conn, least_size};
 use tn_types::{
-    BlockBytes, Class, Drain, End, MAX_DATAGRAMS, MAX_FIELDS, MAX_SHOWS, Move, MoveBits, PacketKind,
-    Payload, Read, Values,
+    BlockBytes, Class, Drain, End, MAX_DATAGRAMS, MAX_FIELDS, MAX_SHOWS, Move, MoveBits,
+    PacketKind, Payload, Read, Values,
 };
 use wire_format::Wire;
 use world_rules::match_kinds;
@@ -516,11 +516,31 @@ const ROWS: [(&str, Wire, &[u8], &[Step]); 14] = [
     ("hidden_before_create_received", FIRST, &[0, 2], &HIDDEN),
     ("priority_and_share", FIRST, &PLAYER_AND_MINES, &SHARED),
     ("event_version_2", SECOND, &[], &EVENT),
-    ("lost_update_superseded_version_2", SECOND, &[5], &LOW_SUPERSEDED),
-    ("old_before_the_rest_version_2", SECOND, &[0, 2, 2], &OLD_BY_ITS_HEAD),
+    (
+        "lost_update_superseded_version_2",
+        SECOND,
+        &[5],
+        &LOW_SUPERSEDED,
+    ),
+    (
+        "old_before_the_rest_version_2",
+        SECOND,
+        &[0, 2, 2],
+        &OLD_BY_ITS_HEAD,
+    ),
     ("event_version_3", own(10), &[], &EVENT),
-    ("lost_update_superseded_version_3", own(10), &[5], &LOW_SUPERSEDED),
-    ("old_before_the_rest_version_3", own(10), &[0, 2, 2], &OLD_BY_ITS_HEAD),
+    (
+        "lost_update_superseded_version_3",
+        own(10),
+        &[5],
+        &LOW_SUPERSEDED,
+    ),
+    (
+        "old_before_the_rest_version_3",
+        own(10),
+        &[0, 2, 2],
+        &OLD_BY_ITS_HEAD,
+    ),
     ("moves_of_40_bits", own(40), &[], &OWN_MOVES),
     ("moves_of_a_bit", own(1), &[], &FLAGS),
     ("widest_moves", own(64), &[], &WIDEST),
