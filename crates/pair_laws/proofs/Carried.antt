@@ -307,7 +307,7 @@ module _ (t : Terms) (limits : AreTerms t) where
   pub body-up : (s : List ServerEvent) (u : List ClientEvent) → client_state t.config u ≡ Room → Carried t s u → IsWholeClient (wire_of t.config) (up.Body (client_body t.config u))
   body-up s u e h = record {
     head = data_head-fits t.config.life t.config.client (client_end u) short limits.config.client e h.client;
-    first = omega (arith, h.moves.acked, h.moves.accepted, short);
+    first = omega (arith, h.moves.acked, h.moves.accepted, limits.config.life);
     moves = record { few = omega (arith, waiting-moves s u h, h.moves.few); each = all-drop (IsMove (wire_of t.config)) (acked_of (sample_log u)) (sampled_at u) h.narrow };
     events = events-fit t.config t.config.life _ (client_end u) short h.client;
   }

@@ -65,7 +65,7 @@ spelled-up w (up.Body p) = rw (low-spelled w.version p.events) refl
 
 fits-up : (w : Wire) (p : ClientPacket) → IsWholeClient w p → IsClient w (low_up w.version p)
 fits-up w (up.Ping head) fits = fits
-fits-up w (up.Body p) fits = record { head = fits.head; first = fits.first; moves = fits.moves; events = low-fit w.version p.events fits.events }
+fits-up w (up.Body p) fits = record { head = fits.head; first = omega (arith, fits.first); moves = fits.moves; events = low-fit w.version p.events fits.events }
 
 pub read-up : (w : Wire) (p : ClientPacket) → IsWholeClient w p → read_client w (datagram (spell_client w p)) ≡ Ok (low_up w.version p)
 read-up w p fits =
