@@ -27,7 +27,8 @@ use std::alloc::Global;
 use std::marker::Model;
 use stream_manager::Config;
 use tn_types::{
-    BlockBytes, MAX_BLOCKS, MAX_CLIENTS, MAX_COUNTED_LINES, MAX_OBJECTS, MoveBits, NoMemory, RawBytes, WORLD_MOVE_BITS,
+    BlockBytes, MAX_BLOCKS, MAX_CLIENTS, MAX_COUNTED_LINES, MAX_OBJECTS, MoveBits, NoMemory,
+    RawBytes, WORLD_MOVE_BITS,
 };
 use world_rules::match_kinds;
 use world_sim::World;

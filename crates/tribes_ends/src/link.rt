@@ -14,9 +14,7 @@ use crate::{client, server};
 use std::alloc::Global;
 use std::marker::Model;
 use stream_manager::{Client, Conn};
-use tn_types::{
-    Class, MAX_EVENT_BYTES, MAX_PACKET_GHOSTS, MAX_PACKET_MOVES, MAX_UNJUDGED_PACKETS,
-};
+use tn_types::{Class, MAX_EVENT_BYTES, MAX_PACKET_GHOSTS, MAX_PACKET_MOVES, MAX_UNJUDGED_PACKETS};
 
 /// What a pack made.
 #[derive(Clone, Copy, Debug, PartialEq, Eq)]
