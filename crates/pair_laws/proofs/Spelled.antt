@@ -1,6 +1,6 @@
 -- A datagram that spells a packet meets what the packet meets. Where the packet is newer than all that came, the datagram reads as the
 -- packet; where it is old, that alone decides.
-use Rattle.std.proofs.Common.{◌≡◌, ◌∙◌, ℕ, ◌<◌, Bool, true, false, List, if◌then◌else◌, Result, Ok, Err, refl, sym, ap, arith}
+use Rattle.std.proofs.Common.{◌≡◌, ◌∙◌, ℕ, ◌<◌, Bool, true, false, List, if◌then◌else◌, Result, Ok, Err, refl, sym, ap}
 use Rattle.std.specs.Prelude.{IfSome}
 use Rattle.std.specs.List.{AllByRecursion}
 use Rattle.tn_types.specs.Checks.{Checked, then_check}
