@@ -490,65 +490,52 @@ const PLAYER_AND_MINES: [u8; 21] = [
     0, 2, 2, 2, 2, 2, 2, 2, 2, 2, 2, 2, 2, 2, 2, 2, 2, 2, 2, 2, 2,
 ];
 
-/// Version 3 with moves of so many bits.
-const fn own(move_bits: u8) -> Wire {
-    Wire {
-        version: 3,
-        move_bits,
-    }
-}
-
-const FIRST: Wire = Wire {
-    version: 1,
-    move_bits: 10,
-};
-
-const SECOND: Wire = Wire {
-    version: 2,
-    move_bits: 10,
-};
-
-/// Each row by its name, with how its datagrams are written and the kinds that its objects are shown with.
-const ROWS: [(&str, Wire, &[u8], &[Step]); 14] = [
-    ("lost_update_superseded", FIRST, &[5], &SUPERSEDED),
-    ("lost_update_raised_again", FIRST, &[5], &RAISED),
-    ("slot_taken_until_kill_received", FIRST, &[0, 2, 2], &TAKEN),
-    ("hidden_before_create_received", FIRST, &[0, 2], &HIDDEN),
-    ("priority_and_share", FIRST, &PLAYER_AND_MINES, &SHARED),
-    ("event_version_2", SECOND, &[], &EVENT),
+/// Each row by its name, with the version of its datagrams, the bits of a move and the kinds that its objects are shown with.
+const ROWS: [(&str, u8, u8, &[u8], &[Step]); 14] = [
+    ("lost_update_superseded", 1, 10, &[5], &SUPERSEDED),
+    ("lost_update_raised_again", 1, 10, &[5], &RAISED),
+    ("slot_taken_until_kill_received", 1, 10, &[0, 2, 2], &TAKEN),
+    ("hidden_before_create_received", 1, 10, &[0, 2], &HIDDEN),
+    ("priority_and_share", 1, 10, &PLAYER_AND_MINES, &SHARED),
+    ("event_version_2", 2, 10, &[], &EVENT),
     (
         "lost_update_superseded_version_2",
-        SECOND,
+        2,
+        10,
         &[5],
         &LOW_SUPERSEDED,
     ),
     (
         "old_before_the_rest_version_2",
-        SECOND,
+        2,
+        10,
         &[0, 2, 2],
         &OLD_BY_ITS_HEAD,
     ),
-    ("event_version_3", own(10), &[], &EVENT),
+    ("event_version_3", 3, 10, &[], &EVENT),
     (
         "lost_update_superseded_version_3",
-        own(10),
+        3,
+        10,
         &[5],
         &LOW_SUPERSEDED,
     ),
     (
         "old_before_the_rest_version_3",
-        own(10),
+        3,
+        10,
         &[0, 2, 2],
         &OLD_BY_ITS_HEAD,
     ),
-    ("moves_of_40_bits", own(40), &[], &OWN_MOVES),
-    ("moves_of_a_bit", own(1), &[], &FLAGS),
-    ("widest_moves", own(64), &[], &WIDEST),
+    ("moves_of_40_bits", 3, 40, &[], &OWN_MOVES),
+    ("moves_of_a_bit", 3, 1, &[], &FLAGS),
+    ("widest_moves", 3, 64, &[], &WIDEST),
 ];
 
 #[test]
 fn rows(rt: HostRuntime) -> Result<(), Fail> {
-    for (name, wire, shown, steps) in ROWS {
+    for (name, version, move_bits, shown, steps) in ROWS {
+        let wire = Wire { version, move_bits };
         assert_eq!(rt;
             first_wrong_of_new(rt.alloc(), wire, shown, steps)?,
             None,
