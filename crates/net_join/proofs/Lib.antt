@@ -1,3 +1,4 @@
+mod Configs
 pub mod Heard
 pub mod Ends
 pub mod Rounds

@@ -51,6 +51,7 @@ impl<'a> Model for Node<'a> {
 }
 
 // A spectator by the header of the match.
+#[tactic(auto, using(own_lists::proofs::Configs::config_fits))]
 fn new_spectator(alloc: Global, head: &Head, number: u8) -> Result<Spectator, NoMemory>
     requires fits { HeadFits head.now }
     requires number { number < 16 }

@@ -62,6 +62,7 @@ fn feed_rest<K: Sink>(
 }
 
 /// Writes what a server writes that is fed the whole own list of a client of the match.
+#[tactic(auto, using(own_lists::proofs::Configs::config_fits))]
 fn feed_all<K: Sink>(
     alloc: Global,
     script: &Script,
