@@ -1,12 +1,11 @@
 //! Of `wire_format`: whole datagrams with known bytes, written and read, and those that are refused, each with its reason.
 use bit_stream::{BitWriter, bits_of_move};
 use std::test::Fail;
-use tn_types::{Move, MoveBits, PacketKind, Payload};
+use tn_types::{Move, PacketKind, Payload};
 use wire_format::{
     BitsCause, BitsFault, BlockList, ClientBody, ClientPacket, EventItem, EventList, GhostItem,
     GhostList, Header, MoveList, ServerBody, ServerPacket, Wire, client_bits, decode_client,
-    decode_client_into, decode_server, encode_client, encode_server, put_client_front,
-    put_event_count, put_moves, server_bits,
+    decode_client_into, decode_server, encode_client, encode_server, server_bits,
 };
 use world_rules::match_kinds;
 
@@ -137,25 +136,8 @@ fn acknowledgement_is_read(rt: HostRuntime) -> Result<(), Fail> {
     Ok(())
 }
 
-/// Moves of version 3 have the bits that the terms count, the lowest first.
-#[test]
-fn wide_moves_are_written(rt: HostRuntime) {
-    let mut moves = MoveList::new();
-    moves.push(MoveBits {
-        bits: 0x12_3456_789a,
-    });
-    moves.push(MoveBits {
-        bits: 0xfe_dcba_9876,
-    });
-    let mut out = BitWriter::new(128);
-    put_client_front(&mut out, &FIRST, 7);
-    put_moves(&mut out, FORTY, &moves);
-    put_event_count(&mut out, 0);
-    assert_eq!(rt; out.finish().as_slice(), WIDE_MOVES.as_slice());
-}
-
-/// They come back, and a datagram that is cut inside a move is short at the part that is cut: the lowest 32 bits are one, the
-/// further bits another.
+/// Moves of version 3 have the bits that the terms count, the lowest first; a datagram that is cut inside a move is short at the part
+/// that is cut: the lowest 32 bits are one, the further bits another.
 #[test]
 fn wide_moves_are_read(rt: HostRuntime) -> Result<(), Fail> {
     let mut body = ClientBody::new();
