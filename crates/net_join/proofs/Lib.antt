@@ -1,4 +1,3 @@
-mod Configs
 pub mod Heard
 pub mod Ends
 pub mod Rounds

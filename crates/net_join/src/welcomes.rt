@@ -20,7 +20,6 @@ pub(crate) fn is_of_server(peer: Peer) -> bool
 }
 
 /// What these bytes let a client be made with, where its hellos have this nonce.
-#[tactic(auto, using(crate::proofs::Configs::in_limits, crate::proofs::Configs::in_range))]
 pub(crate) fn welcomed(nonce: u32, peer: Peer, bytes: &[u8]) -> Option<Config>
     ensures value { result ≡ welcomed nonce (record { peer = peer; bytes = bytes.now }) }
     ensures fits { IfSome result IsConfig }
