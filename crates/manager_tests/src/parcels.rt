@@ -46,7 +46,7 @@ fn comes_back(alloc: Global, bytes: &[u8], pieces: usize, place: &mut [u8]) -> R
         Ok(Some(whole)) => Ok(whole.kind == ParcelKind::Message
             && whole.count == bytes.len()
             && whole.count <= place.len()
-            && place[..whole.count] == *bytes),
+            && &place[..whole.count] == bytes),
         _ => Ok(false),
     }
 }
@@ -180,7 +180,7 @@ fn pieces_of_no_honest_end_are_named(rt: HostRuntime) -> Result<(), Fail> {
 fn is_one_piece() -> bool {
     match loose_piece(ParcelKind::Message, b"hey") {
         Ok(piece) => {
-            piece.as_slice() == [1, 104, 101, 121]
+            piece.as_slice() == [1, 104, 101, 121].as_slice()
                 && matches!(
                     loose_parcel(&piece),
                     Ok((ParcelKind::Message, [104, 101, 121]))

@@ -31,7 +31,8 @@ pub fn parcels_follow_from_pieces()
 /// What an honest end sends is no fault: a piece that comes next in the pieces of parcels, each of which has room in the inbox.
 pub fn honest_pieces_are_taken()
     ensures { (b : InboxState) (came : List InboxEvent) (parcels : List Parcel) (piece : List ℕ) → InboxStandsFor b came →
-        waiting b ≡ None → HaveRoom b.room parcels → IsPrefixOf (took_of came ++ piece ∷ []) (all_pieces parcels) → piece_fault piece b ≡ None }
+        waiting b ≡ None → HaveRoom b.room parcels → IsPrefixOf (took_of came ++ piece ∷ []) (all_pieces parcels)
+        → piece_fault piece b ≡ None }
 {}
 
 /// A message costs one byte for each piece, and two for its length; of each 23 bytes it has one piece, and at most two more.
