@@ -27,11 +27,20 @@ pub(crate) const NONE: Failing<'static> = Failing {
 };
 
 /// What a call left.
-#[derive(Drop)]
 pub(crate) struct Left {
     pub(crate) status: Status,
     pub(crate) text: Vec<u8>,
     pub(crate) sent: Vec<Sending>,
+}
+
+impl Drop for Left {
+    fn drop(self) {
+        let Left {
+            status: _,
+            text: _text,
+            sent: _sent,
+        } = self;
+    }
 }
 
 /// A datagram of a peer.
