@@ -150,7 +150,8 @@ public:
     /* Posts an event; gives its number where it is guaranteed. */
     result<std::uint32_t> post(bytes event, bool guaranteed = true) {
         std::uint32_t number = 0;
-        return told(tribes_post(&handle_, event.data(), event.size(), guaranteed, &number), number);
+        std::int32_t code = tribes_post(&handle_, event.data(), event.size(), guaranteed, &number);
+        return told(code, number);
     }
     result<std::uint32_t> post(std::string_view text, bool guaranteed = true) { return post(bytes_of(text), guaranteed); }
 
@@ -206,7 +207,8 @@ protected:
     }
     result<std::uint32_t> took(bytes datagram, std::uint32_t room) {
         std::uint32_t moves = 0;
-        return told(tribes_arrive(&handle_, datagram.data(), datagram.size(), room, &moves), moves);
+        std::int32_t code = tribes_arrive(&handle_, datagram.data(), datagram.size(), room, &moves);
+        return told(code, moves);
     }
     result<bytes> packed(span<const std::int64_t> values, place out) {
         std::size_t count = 0;
@@ -241,7 +243,8 @@ public:
     /* Shows an object; gives the number of its period. */
     result<std::uint32_t> show(const tribes::object &object) {
         std::uint32_t n = 0;
-        return told(tribes_show(&handle_, &object, &n), n);
+        std::int32_t code = tribes_show(&handle_, &object, &n);
+        return told(code, n);
     }
     result<void> hide(std::uint32_t n) { return told(tribes_hide(&handle_, n)); }
     result<void> near(std::uint32_t n, std::uint32_t level) { return told(tribes_near(&handle_, n, level)); }
@@ -296,7 +299,8 @@ public:
     /* Takes up a move; gives its number. */
     result<std::uint32_t> sample(std::uint64_t move) {
         std::uint32_t number = 0;
-        return told(tribes_sample(&handle_, move, &number), number);
+        std::int32_t code = tribes_sample(&handle_, move, &number);
+        return told(code, number);
     }
     /* The moves that the server isn't known to have, the oldest first. */
     tribes::moves pending() {

@@ -84,7 +84,7 @@ def words(target=None):
     toolchain = kit()
     stands, own = lines()["tribes_link"], set(lines())
     told = ["--crate-name", "tribes_link", "src/lib.rt", "-L", f"dependency={toolchain}/rlibs"]
-    for name in stands:
+    for name in ["std", *stands]:
         told += ["--extern", f"{name}={library(name) if name in own else toolchain / 'rlibs' / (name + '.rlib')}"]
     for name in below():
         told += ["-L", f"dependency={library(name).parent}"]
