@@ -8,8 +8,8 @@ from script import MADE_BY
 from words import label, taken_apart
 
 ROW, HEAD = 20, 34
-GUTTER, MARGIN, LETTER = 170, 240, 6.5
-GUTTER_LETTERS = 23
+GUTTER, MARGIN, LEAST_MARGIN, LETTER = 170, 240, 40, 6.5
+GUTTER_LETTERS = 17
 CROWDED = 4
 AT_SERVER = ("post", "pack", "up", "raw", "scan", "tick", "world")
 
@@ -62,12 +62,12 @@ class Chart:
         left = self.clients // 2
         lanes = [*range(left), None, *range(left, self.clients)]
         self.lanes = {client: MARGIN + place * between for place, client in enumerate(lanes)}
-        self.width = self.wide_enough(2 * MARGIN + (len(lanes) - 1) * between)
-
-    def wide_enough(self, least: float) -> float:
-        """So wide that no label is cut at the right."""
-        labels = ((self.side(row), sum(len(span.text) + 3 for span in label(row))) for row in self.rows)
-        return max([least, *(x + LETTER * letters for (x, anchor), letters in labels if anchor == "start")])
+        # No label is cut at the right, and at the left no room is wasted.
+        labels = [(*self.side(row), LETTER * sum(len(span.text) + 3 for span in label(row))) for row in self.rows]
+        left = min([min(self.lanes.values()) - LEAST_MARGIN, *(x - long for x, anchor, long in labels if anchor == "end")])
+        right = max([max(self.lanes.values()) + LEAST_MARGIN, *(x + long for x, anchor, long in labels if anchor == "start")])
+        self.lanes = {client: x - left for client, x in self.lanes.items()}
+        self.width = right - left
 
     def y(self, line: int) -> float:
         """The middle of a line's row; lines that are not drawn lie at the edges."""
@@ -157,7 +157,8 @@ class Chart:
         if row.line.word not in looks:
             return ""
         x = self.lanes[None if row.line.word in ("post", "pack") else row.line.client]
-        return element("circle", class_=f"dot {looks[row.line.word]}", cx=x, cy=f"{self.y(row.line.number):g}", r=3.5)
+        look = "made" if row.datagram and row.datagram.way == "up" else looks[row.line.word]
+        return element("circle", class_=f"dot {look}", cx=x, cy=f"{self.y(row.line.number):g}", r=3.5)
 
     # ---- the whole
 
