@@ -1,6 +1,6 @@
-"""The library's archive, made of what the gate proved: for this machine, for aarch64 Linux, and for Windows.
+"""The library's archives, made of what the gate proved: for this machine, for aarch64 Linux, and for Windows.
 
-`rt ci` leaves each proved crate in crates/NAME/out/rlib. Over these the archive is one check of one crate, two minutes of a processor.
+`rt ci` leaves each proved crate in crates/NAME/out/rlib. Over these an archive is one check of one crate, two minutes of a processor.
 `rt lib` comes to the same archive, and proves each crate below again first.
 """
 
@@ -74,9 +74,14 @@ def not_proved():
 
 
 def is_fresh(archive=ARCHIVE):
-    """Whether the archive is there, and newer than its own files and than each library below."""
+    """Whether the archive is there with its verdict, newer than the crate's own files and than each proved library below."""
     newest = [file.stat().st_mtime for file in files_of("tribes_link")] + [library(name).stat().st_mtime for name in below() if library(name).is_dir()]
-    return archive.exists() and archive.stat().st_mtime >= max(newest)
+    return archive.exists() and verdict_of(archive).exists() and archive.stat().st_mtime >= max(newest)
+
+
+def verdict_of(archive):
+    """The file beside an archive that has the verdict's line."""
+    return archive.with_suffix(".verdict")
 
 
 def words(target=None):
@@ -88,24 +93,33 @@ def words(target=None):
         told += ["--extern", f"{name}={library(name) if name in own else toolchain / 'rlibs' / (name + '.rlib')}"]
     for name in below():
         told += ["-L", f"dependency={library(name).parent}"]
-    told += ["--antt-project", f"{toolchain}/rattle/logic/antt-project.json", "--logic-built", f"{toolchain}/logic_built"]
-    told += ["--jobs", "2", "--links", "tribes_link=", "--crate-type", "staticlib"]
+    told += ["--antt-project", f"{toolchain}/rattle/logic/antt-project.json", "--links", "tribes_link=", "--crate-type", "staticlib"]
     return told + (["--target", target] if target else [])
 
 
-def build(to, target=None, toolchain=None):
-    """Writes the archive, and answers the verdict's line. The check is done here, over the proved crates below."""
+def rattle(command, *told):
+    """A command of the prover in the crate's folder; what it says where it ends well."""
+    done = subprocess.run([str(kit() / "bin" / "rattle"), command, *map(str, told)], cwd=CRATE, capture_output=True, text=True, errors="replace")
+    if done.returncode:
+        raise NotProved(f"rattle {command} ended with {done.returncode}:\n{(done.stdout + done.stderr)[-2000:]}")
+    return done.stdout + done.stderr
+
+
+def check(folder, target=None):
+    """Checks the crate over the proved ones below, for a target. Answers the verdict's line; the folder has what was proved."""
     old = not_proved()
     if old:
         raise NotProved(f"no proved library, or an old one, of {', '.join(old[:6])}{' ..' if len(old) > 6 else ''}: run rt ci first")
-    to.parent.mkdir(parents=True, exist_ok=True)
-    command = [kit() / "bin" / "rattle", "build", *words(target), "--toolchain", toolchain or kit() / "toolchain", "-o", to]
-    done = subprocess.run([str(word) for word in command], cwd=CRATE, capture_output=True, text=True, errors="replace")
-    said = done.stdout + done.stderr
+    said = rattle("check", *words(target), "--logic-built", kit() / "logic_built", "--jobs", 2, "-o", folder / "checked")
     verdict = re.findall(r"(?m)^logic=proved .*$", said)
-    if done.returncode or not verdict:
-        raise NotProved(f"rattle build ended with {done.returncode}:\n{said[-2000:]}")
+    if not verdict:
+        raise NotProved(f"rattle check gave no verdict:\n{said[-2000:]}")
     return verdict[-1]
+
+
+def compiled(to, folder, target=None, toolchain=None):
+    """Writes the archive of what `check` proved into that folder."""
+    rattle("build", *words(target), "--crate-checked", folder / "checked", "--toolchain", toolchain or kit() / "toolchain", "-o", to)
 
 
 # ---- for targets for which the toolchain makes no archive
@@ -135,13 +149,11 @@ def called(*command):
     return done.stdout
 
 
-def module_text(to):
-    """Writes the module that the proved crate is lowered to for x86-64 Linux, as text, and the archive beside it."""
-    with tempfile.TemporaryDirectory() as room:
-        folder = pathlib.Path(room)
-        kept = folder / "module.bc"
-        build(folder / "archive.a", toolchain=keeping_toolchain(folder, kept))
-        called(kit() / "toolchain" / "bin" / "clang", "-w", "-S", "-emit-llvm", "-Xclang", "-disable-llvm-passes", "-x", "ir", kept, "-o", to)
+def module_text(to, folder):
+    """Writes, as text, the module of LLVM's that the proved crate is lowered to for x86-64 Linux."""
+    kept = folder / "module.bc"
+    compiled(folder / "kept.a", folder, toolchain=keeping_toolchain(folder, kept))
+    called(kit() / "toolchain" / "bin" / "clang", "-w", "-S", "-emit-llvm", "-Xclang", "-disable-llvm-passes", "-x", "ir", kept, "-o", to)
     if re.search(r"llvm\.x86|(?m:^module asm)", to.read_text()):
         raise NotProved("the module has what only x86-64 has")
 
@@ -180,37 +192,52 @@ def objects_of(archive, folder):
     return sorted(file for file in folder.iterdir() if file.is_file())
 
 
-def for_linux(to, target, folder):
-    """One archive for x86-64 or aarch64 Linux, with the lines over malloc in it. Answers the verdict's line."""
-    archive = folder / "proved.a"
-    verdict = build(archive, None if target != AARCH64 else target)
-    parts = objects_of(archive, folder / "objects")
+def for_linux(to, folder, target):
+    """One archive for x86-64 or aarch64 Linux, with the lines over malloc in it."""
+    compiled(folder / "proved.a", folder, target)
+    parts = objects_of(folder / "proved.a", folder / "objects")
     if target == AARCH64:
         heap_object(folder / "heap.o", target)
         parts.append(folder / "heap.o")
     else:
         parts += objects_of(kit() / "c" / "liblibc_c.a", folder / "heap")
     joined(to, parts)
-    return verdict
-
-
-def archive():
-    """Makes the archive of this tree, for this machine. Answers the verdict's line."""
-    ARCHIVE.parent.mkdir(parents=True, exist_ok=True)
-    with tempfile.TemporaryDirectory() as room:
-        return for_linux(ARCHIVE, "x86_64-unknown-linux-gnu", pathlib.Path(room))
 
 
 def for_windows(to, folder):
     """One archive for x86-64 Windows, by mingw's linkers: the proved module, compiled for another target."""
     clang = kit() / "toolchain" / "bin" / "clang"
     text = folder / "module.ll"
-    module_text(text)
+    module_text(text, folder)
     text.write_text(retargeted(text.read_text(), WINDOWS, WINDOWS_LAYOUT))
     flags = ["--no-default-config", "-ffunction-sections", "-fdata-sections", "-O3", "-c", "-x", "ir"]
     called(clang, f"--target={WINDOWS}", *flags, text, "-o", folder / "tribes.obj")
     heap_object(folder / "heap.obj", WINDOWS)
     joined(to, [folder / "tribes.obj", folder / "heap.obj"])
+
+
+# Each target that a package is made for: where its archive lies.
+ARCHIVES = {"x86_64-linux": ARCHIVE, "aarch64-linux": ARCHIVE.parent / "aarch64" / ARCHIVE.name, "x86_64-windows": ARCHIVE.parent / "windows" / ARCHIVE.name}
+
+
+def make(names):
+    """Makes the archives of these targets that are not there, or old. What is for x86-64 comes of one check."""
+    left = [name for name in names if not is_fresh(ARCHIVES[name])]
+    for group in (["x86_64-linux", "x86_64-windows"], ["aarch64-linux"]):
+        wanted = [name for name in group if name in left]
+        if not wanted:
+            continue
+        target = AARCH64 if group == ["aarch64-linux"] else None
+        with tempfile.TemporaryDirectory() as room:
+            verdict = check(pathlib.Path(room), target)
+            for name in wanted:
+                to = ARCHIVES[name]
+                to.parent.mkdir(parents=True, exist_ok=True)
+                if name == "x86_64-windows":
+                    for_windows(to, pathlib.Path(room))
+                else:
+                    for_linux(to, pathlib.Path(room), target)
+                verdict_of(to).write_text(verdict + "\n")
 
 
 if __name__ == "__main__":
