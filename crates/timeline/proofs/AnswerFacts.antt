@@ -1,17 +1,17 @@
 -- What is answered, and what is refused.
-use Rattle.std.proofs.Common.{◌≡◌, ℕ, ◌+◌, get_or, ◌*◌, ◌<◌, ◌≤◌, Bool, true, false, ◌||◌, nat_le, nat_lt, ◌==◌, List, length, take, Option, Some, None, Result, Ok, Err, refl, ap, sym, ◌∙◌, arith, subst}
+use Rattle.std.proofs.Common.{◌≡◌, ℕ, ◌+◌, get_or, ◌*◌, ◌<◌, ◌≤◌, List, length, take, Option, Some, None, Ok, Err, refl, ap, sym, ◌∙◌}
 use Rattle.std.specs.Prelude.{ℤ, slice_get, unwrap_or}
 use Rattle.std.specs.Option.{option_and_then}
-use Rattle.std.proofs.lemmas.Bool.{le-leb, lt-leb, lt-ltb, le-ltb, eq-eqb, ne_eqb}
+use Rattle.std.proofs.lemmas.Bool.{le-leb, lt-leb}
 use Rattle.std.proofs.lemmas.Option.{slice_get-get_or, slice_get_past}
 use Rattle.tn_types.specs.Checks.{Checked, then_check}
 use Rattle.timeline.specs.declared.refusal.Refusal.{Refusal}
-use Rattle.timeline.specs.declared.refusal.Refusal.TheVariants.{NoSlot, NoField, NoKind, NoPacket, GoesBack}
+use Rattle.timeline.specs.declared.refusal.Refusal.TheVariants.{NoSlot, NoField, NoKind}
 use Rattle.timeline.specs.declared.between.Interpolation.{Interpolation}
 use Rattle.timeline.specs.declared.between.Interpolation.TheVariants.{Stepped}
 use Rattle.timeline.specs.Keeping.{Kept, kept_of, value_in}
-use Rattle.timeline.specs.Telling.{Told, told_of, kind_of, end_of, frames_of}
-use Rattle.timeline.specs.Standing.{SlotKept, Drawing, SlotStandsFor, StandsFor, way_of, kind_shown, kind_told, value_told, slot_check, field_check, packet_check, kind_check, then_ok}
+use Rattle.timeline.specs.Telling.{Told, told_of, kind_of, frames_of}
+use Rattle.timeline.specs.Standing.{SlotKept, Drawing, StandsFor, way_of, kind_shown, kind_told, value_told, slot_check, field_check, packet_check, kind_check}
 
 -- ---- refusals
 
@@ -41,15 +41,18 @@ pub packet_answer : (t : Drawing) (slot packet : ℕ) → slot < length t.slots 
 packet_answer t slot packet h = ap (λ c. then_check c (packet_check t packet)) (slot_good t slot h)
 
 -- one check after two others
-pub three_pass : (a b c : Checked Refusal) → then_check a b ≡ Ok tt → then_check a (then_check b c) ≡ c
-three_pass (Ok u) (Ok v) c e = refl
-three_pass (Ok u) (Err r) c e = absurd (cc)
-three_pass (Err r) b c e = absurd (cc)
+pub three_pass : (a b c : Checked Refusal) (u : Unit {0}) → then_check a b ≡ Ok u → then_check a (then_check b c) ≡ c
+three_pass (Ok v) (Ok w) c u e = refl
+three_pass (Ok v) (Err r) c u e = absurd (cc)
+three_pass (Err r) b c u e = absurd (cc)
 
 pub two_refuse : (a b c : Checked Refusal) (r : Refusal) → then_check a b ≡ Err r → then_check a (then_check b c) ≡ Err r
 two_refuse (Ok u) (Ok v) c r e = absurd (cc)
 two_refuse (Ok u) (Err q) c r e = e
 two_refuse (Err q) b c r e = e
+
+pub both_good : (t : Drawing) (slot field : ℕ) → slot < length t.slots → field < t.fields → then_check (slot_check t slot) (field_check t field) ≡ Ok tt
+both_good t slot field s f = ap (λ c. then_check c (field_check t field)) (slot_good t slot s) ∙ field_good t field f
 
 -- how a field goes
 pub way_here : (ways : List Interpolation) (fields kind field : ℕ) (way : Interpolation) → kind * fields + field < length ways → way ≡ get_or ways (kind * fields + field) way

@@ -1,5 +1,5 @@
 -- On a circle by its parts: which way it goes, and that a value off the circle stays.
-use Rattle.std.proofs.Common.{◌≡◌, ℕ, ◌+◌, ◌-◌, ◌*◌, ◌%◌, ◌<◌, ◌≤◌, Bool, true, false, ◌&&◌, ◌⊎◌, inl, inr, nat_le, refl, ap, sym, ◌∙◌, arith, subst}
+use Rattle.std.proofs.Common.{◌≡◌, ℕ, ◌+◌, ◌-◌, ◌*◌, ◌%◌, ◌<◌, ◌≤◌, Bool, true, false, ◌&&◌, ◌⊎◌, inl, inr, nat_le, refl, sym, ◌∙◌, arith, subst}
 use Rattle.std.specs.Prelude.{ℤ, pos, ◌+ℤ◌}
 use Rattle.std.specs.Int.{int_gap}
 use Rattle.std.proofs.lemmas.Bool.{le-leb}
@@ -7,7 +7,7 @@ use Rattle.std.proofs.lemmas.Bool.Decides.{nat_tests}
 use Rattle.timeline.specs.Lines.{share, size_of, way_up, on_circle, is_inside, turned}
 use Rattle.timeline.specs.Between.{part_way}
 use Rattle.timeline.specs.declared.between.Interpolation.{Interpolation}
-use Rattle.timeline.specs.declared.between.Interpolation.TheVariants.{Stepped, Linear, Turning}
+use Rattle.timeline.specs.declared.between.Interpolation.TheVariants.{Turning}
 
 not_le : (a b : ℕ) → b < a → nat_le a b ≡ false
 not_le a b h = grind (arith, nat_tests)

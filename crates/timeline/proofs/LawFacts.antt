@@ -1,5 +1,5 @@
 -- Values between two, at a packet's own moment, after the newest, and with the newest alone.
-use Rattle.std.proofs.Common.{◌≡◌, ℕ, zero, suc, ◌+◌, ◌-◌, ◌*◌, ◌/◌, ◌%◌, ◌<◌, ◌≤◌, ◌⊎◌, inl, inr, Bool, true, false, cond, ◌&&◌, nat_le, List, [], ◌∷◌, length, take, get_or, Option, Some, None, refl, ap, sym, ◌∙◌, arith, subst}
+use Rattle.std.proofs.Common.{◌≡◌, ℕ, zero, suc, ◌+◌, ◌-◌, ◌*◌, ◌/◌, ◌%◌, ◌<◌, ◌≤◌, inl, inr, Bool, true, false, cond, ◌&&◌, nat_le, List, [], ◌∷◌, length, take, get_or, Option, Some, None, refl, ap, sym, ◌∙◌, arith, subst}
 use Rattle.std.specs.Prelude.{ℤ, pos, negsuc, ◌+ℤ◌, ◌-ℤ◌, ◌≤ℤ◌, MatchBool, IfSome, slice_get}
 use Rattle.std.specs.Int.{int_gap}
 use Rattle.std.specs.Int.RustNames.{int_le}
@@ -11,7 +11,7 @@ use Rattle.std.proofs.lemmas.Option.{get_or_from_slice_get, slice_get_within, sa
 use Rattle.timeline.specs.declared.between.Keyframe.{Keyframe}
 use Rattle.timeline.specs.declared.between.Interpolation.{Interpolation}
 use Rattle.timeline.specs.declared.between.Interpolation.TheVariants.{Stepped, Linear, Turning}
-use Rattle.timeline.specs.Lines.{moment_of, share, on_line, size_of, way_up, above, below, on_circle, is_inside, turned}
+use Rattle.timeline.specs.Lines.{moment_of, share, size_of, way_up, above, below, on_circle, is_inside}
 use Rattle.timeline.specs.Between.{part_of, whole_of, part_way, between}
 use Rattle.timeline.specs.Keeping.{is_ahead, ahead_of, reached_of, one_before, next_of, value_from, value_in}
 use Rattle.timeline.specs.Laws.{IsBetween, IsOnShortWay, LiesOnWay}
@@ -140,7 +140,7 @@ between_law how at frames before after r n =
     let e : value_in how at frames ≡ Some (between how before after at) = ap (λ o. value_from how at o (next_of at frames)) r ∙ ap (value_from how at (Some before)) n in
     let less = next_is_ahead at frames (ahead_of at frames) after refl n in
     let part : part_of before at ≤ whole_of before after = omega arith in
-    subst (λ o. IfSome o (LiesOnWay how before.value after.value)) (sym e) (lies how before.value after.value (part_of before at) (whole_of before after) part)
+    subst (λ (o : Option ℤ). IfSome o (LiesOnWay how before.value after.value)) (sym e) (lies how before.value after.value (part_of before at) (whole_of before after) part)
 
 own_by : (how : Interpolation) (at : ℕ) (frame : Keyframe) (next : Option Keyframe) → at ≡ moment_of frame.packet → value_from how at (Some frame) next ≡ Some frame.value
 own_by how at frame None e = refl
@@ -161,14 +161,16 @@ newest_law how at (x ∷ xs) newest is reached =
     let e : ahead_of at (x ∷ xs) ≡ 0 = ap (λ b. cond b (1 + prefix_len (is_ahead at) xs) 0) t in
     sym (by_count how at (x ∷ xs) 0 (sym e)) ∙ ap (λ (k : Keyframe). Some k.value) same
 
+-- one keyframe more at the head
+window_case : (b : Bool) (n m len : ℕ) → (n < len → n ≡ m) → cond b (1 + n) 0 < suc len → cond b (1 + n) 0 ≡ cond b (1 + m) 0
+window_case true n m len same h = ap (λ k. 1 + k) (same (omega arith))
+window_case false n m len same h = refl
+
 window_len : (at d : ℕ) (xs : List Keyframe) → ahead_of at (take d xs) < length (take d xs) → ahead_of at (take d xs) ≡ ahead_of at xs
 window_len at zero xs h = absurd (omega arith)
 window_len at (suc d) [] h = absurd (omega arith)
-window_len at (suc d) (x ∷ xs) h = by (is_ahead at x) h
-  where
-    by : (b : Bool) → cond b (1 + ahead_of at (take d xs)) 0 < length (x ∷ take d xs) → cond b (1 + ahead_of at (take d xs)) 0 ≡ cond b (1 + ahead_of at xs) 0
-    by true less = ap (λ n. 1 + n) (window_len at d xs (omega arith))
-    by false less = refl
+window_len at (suc d) (x ∷ xs) h =
+    window_case (is_ahead at x) (ahead_of at (take d xs)) (ahead_of at xs) (length (take d xs)) (window_len at d xs) (omega arith)
 
 window_get : (d : ℕ) (xs : List Keyframe) (n : ℕ) → n < length (take d xs) → slice_get (take d xs) n ≡ slice_get xs n
 window_get zero xs n h = absurd (omega arith)

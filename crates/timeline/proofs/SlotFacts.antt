@@ -1,12 +1,12 @@
 -- What each thing that is told does to a slot, and to the list that the slot stands for.
-use Rattle.std.proofs.Common.{◌≡◌, ℕ, zero, suc, ◌-◌, ◌<◌, ◌≤◌, ◌==◌, ◌⊎◌, inl, inr, true, false, cond, List, [], ◌∷◌, length, take, Option, Some, None, refl, ap, sym, ◌∙◌, arith, subst}
+use Rattle.std.proofs.Common.{◌≡◌, ℕ, zero, suc, ◌-◌, ◌<◌, ◌≤◌, ◌==◌, ◌⊎◌, inl, inr, true, false, cond, List, [], ◌∷◌, length, take, get_or, Some, None, refl, ap, sym, ◌∙◌, arith, subst}
 use Rattle.std.specs.Prelude.{ℤ, map, replicate, slice_get, slice_set, option_map}
 use Rattle.std.proofs.lemmas.List.{length-map, length-set, length-replicate, take-take}
 use Rattle.std.proofs.lemmas.Bool.{cases_eq, eq-eqb, ne_eqb}
-use Rattle.std.proofs.lemmas.Option.{slice_get-map, same_Some, none-some}
+use Rattle.std.proofs.lemmas.Option.{slice_get-map, slice_get-get_or, same_Some, none-some}
 use Rattle.timeline.specs.declared.between.Keyframe.{Keyframe}
 use Rattle.timeline.specs.Keeping.{Kept, kept_of}
-use Rattle.timeline.specs.Telling.{frame_of, What, Began, Came, Ended, Told, is_of, told_of, kind_of, end_of, frames_of}
+use Rattle.timeline.specs.Telling.{frame_of, Began, Came, Ended, Told, told_of, frames_of}
 use Rattle.timeline.specs.Standing.{SlotKept, emptied, with_frame, no_frames, fresh, Drawing, IsWhole, SlotStandsFor, StandsFor}
 
 -- ---- places of a list
@@ -14,19 +14,22 @@ use Rattle.timeline.specs.Standing.{SlotKept, emptied, with_frame, no_frames, fr
 pub at_set : {X : Type 0} (xs : List X) (i : ℕ) (x y : X) → slice_get xs i ≡ Some x → slice_get (slice_set xs i y) i ≡ Some y
 at_set [] i x y e = absurd (none-some x e)
 at_set (z ∷ xs) zero x y e = refl
-at_set (z ∷ xs) (suc i) x y e = at_slice_set xs i x y e
+at_set (z ∷ xs) (suc i) x y e = at_set xs i x y e
 
 pub off_set : {X : Type 0} (xs : List X) (i j : ℕ) (y : X) → (j ≡ i → ⊥) → slice_get (slice_set xs i y) j ≡ slice_get xs j
 off_set [] i j y ne = refl
 off_set (z ∷ xs) zero zero y ne = absurd (ne refl)
 off_set (z ∷ xs) zero (suc j) y ne = refl
 off_set (z ∷ xs) (suc i) zero y ne = refl
-off_set (z ∷ xs) (suc i) (suc j) y ne = off_slice_set xs i j y (λ e. ne (ap suc e))
+off_set (z ∷ xs) (suc i) (suc j) y ne = off_set xs i j y (λ e. ne (ap suc e))
 
 pub at_replicate : {X : Type 0} (n i : ℕ) (x : X) → i < n → slice_get (replicate n x) i ≡ Some x
 at_replicate zero i x less = absurd (omega arith)
 at_replicate (suc n) zero x less = refl
 at_replicate (suc n) (suc i) x less = at_replicate n i x (omega arith)
+
+pub at_index : {X : Type 0} (xs : List X) (i : ℕ) (x : X) → i < length xs → x ≡ get_or xs i x → slice_get xs i ≡ Some x
+at_index xs i x less is = slice_get-get_or xs i x less ∙ ap Some (sym is)
 
 pub of_replicate : {X : Type 0} (n i : ℕ) (x y : X) → slice_get (replicate n x) i ≡ Some y → y ≡ x
 of_replicate zero i x y e = absurd (none-some y e)
@@ -48,7 +51,9 @@ take_nil (suc n) = refl
 -- one more, and of so many
 kept_more : (n : ℕ) (x : Keyframe) (xs : List Keyframe) → 0 < n → x ∷ take (n - 1) (take n xs) ≡ take n (x ∷ xs)
 kept_more zero x xs some = absurd (omega arith)
-kept_more (suc n) x xs some = let e : suc n - 1 ≡ n = omega arith in rw e (ap (λ l. x ∷ l) (take-take n (suc n) xs (omega arith)))
+kept_more (suc n) x xs some =
+    let e : suc n - 1 ≡ n = omega arith in
+    ap (λ k. x ∷ take k (take (suc n) xs)) e ∙ ap (λ l. x ∷ l) (take-take n (suc n) xs (omega arith))
 
 -- ---- a slot
 
@@ -83,7 +88,7 @@ pub comes : (depth fields : ℕ) (s : SlotKept) (log : List Told) (slot packet f
 comes depth fields s log slot packet field value k some here h = record {
   kind_is = h.kind_is;
   end_is = h.end_is;
-  count_is = length-slice_set s.fields field (with_frame (frame_of packet value) k) ∙ h.count_is;
+  count_is = length-set s.fields field (with_frame (frame_of packet value) k) ∙ h.count_is;
   frames_are = λ f less. came_at depth s.fields field f packet value k (frames_of f log) (cases_eq field f) some here (h.frames_are f less);
 }
 

@@ -1,5 +1,5 @@
 -- The value at a moment between two that came, by how the field goes from one to the next.
-use Rattle.std.specs.Prelude.{ℕ, ℤ, pos, ◌-◌, ◌≡◌, refl}
+use Rattle.std.specs.Prelude.{ℕ, ℤ, ◌-◌}
 use Rattle.timeline.specs.declared.between.Interpolation.{Interpolation}
 use Rattle.timeline.specs.declared.between.Interpolation.TheVariants.{Stepped, Linear, Turning}
 use Rattle.timeline.specs.declared.between.Keyframe.{Keyframe}

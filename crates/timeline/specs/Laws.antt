@@ -1,5 +1,5 @@
 -- What holds of the value at every moment.
-use Rattle.std.specs.Prelude.{ℕ, ℤ, ◌≡◌, ◌<◌, ◌≤◌, ◌-◌, ◌*◌, ◌⊎◌, ◌&&◌, ◌≤ℤ◌, MatchBool, List, take, Option, Some, IfSome, slice_get}
+use Rattle.std.specs.Prelude.{ℕ, ℤ, ◌≡◌, ◌<◌, ◌≤◌, ◌-◌, ◌*◌, ◌⊎◌, ◌&&◌, ◌≤ℤ◌, MatchBool, List, take, Some, IfSome, slice_get}
 use Rattle.timeline.specs.declared.between.Keyframe.{Keyframe}
 use Rattle.timeline.specs.declared.between.Interpolation.{Interpolation}
 use Rattle.timeline.specs.declared.between.Interpolation.TheVariants.{Stepped, Linear, Turning}

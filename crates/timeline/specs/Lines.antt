@@ -1,7 +1,7 @@
 -- The way from one value to another, of which a part is gone: `part` of `whole`. What is gone of a distance is cut to a whole number.
 -- On a line a value goes up or down. On a circle, which has all values from `least` to `most`, it goes the short way round, upwards where
 -- both ways are as long.
-use Rattle.std.specs.Prelude.{ℕ, ℤ, Bool, ◌&&◌, pos, negsuc, ◌+◌, ◌-◌, ◌*◌, ◌/◌, ◌%◌, ◌≤◌, nat_le, ◌+ℤ◌, ◌-ℤ◌, ◌≤ℤ◌, if◌then◌else◌, ◌≡◌, refl}
+use Rattle.std.specs.Prelude.{ℕ, ℤ, Bool, ◌&&◌, pos, negsuc, ◌+◌, ◌-◌, ◌*◌, ◌/◌, ◌%◌, nat_le, ◌+ℤ◌, ◌-ℤ◌, ◌≤ℤ◌, if◌then◌else◌, ◌≡◌, refl}
 use Rattle.std.specs.Int.{int_gap}
 use Rattle.std.specs.Int.RustNames.{int_le}
 use Rattle.timeline.specs.declared.between.TheConstants.{MOMENTS}

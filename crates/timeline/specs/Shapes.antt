@@ -1,5 +1,5 @@
 -- How large a timeline may be.
-use Rattle.std.specs.Prelude.{ℕ, ◌<◌, ◌≤◌}
+use Rattle.std.specs.Prelude.{◌<◌, ◌≤◌}
 use Rattle.tn_types.specs.declared.limits.TheConstants.{MAX_SLOTS, MAX_FIELDS}
 use Rattle.timeline.specs.declared.told.Shape.{Shape}
 use Rattle.timeline.specs.declared.told.TheConstants.{MAX_DEPTH}

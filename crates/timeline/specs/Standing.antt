@@ -1,16 +1,16 @@
 -- What is kept of what was told, and the value at a moment by the list of all that was told.
-use Rattle.std.specs.Prelude.{ℕ, ℤ, ◌+◌, ◌-◌, ◌*◌, ◌<◌, ◌≤◌, ◌==◌, ◌||◌, nat_le, nat_lt, ◌≡◌, refl, pos, List, [], ◌∷◌, length, take, replicate, slice_get, Bool, false, if◌then◌else◌, Option, Some, None, Result, Ok, Err, unwrap_or}
+use Rattle.std.specs.Prelude.{ℕ, ℤ, ◌+◌, ◌-◌, ◌*◌, ◌<◌, ◌≤◌, ◌==◌, ◌||◌, nat_le, nat_lt, ◌≡◌, List, [], ◌∷◌, length, take, replicate, slice_get, Bool, false, if◌then◌else◌, Option, Some, None, Result, Ok, Err, unwrap_or}
 use Rattle.std.specs.Option.{option_and_then}
 use Rattle.tn_types.specs.declared.limits.TheConstants.{MAX_LIFE, MAX_FIELDS}
-use Rattle.tn_types.specs.Checks.{Checked, then_check}
+use Rattle.tn_types.specs.Checks.{Checked}
 use Rattle.timeline.specs.declared.between.Keyframe.{Keyframe}
 use Rattle.timeline.specs.declared.between.Interpolation.{Interpolation}
-use Rattle.timeline.specs.declared.between.Interpolation.TheVariants.{Stepped, Linear, Turning}
+use Rattle.timeline.specs.declared.between.Interpolation.TheVariants.{Stepped}
 use Rattle.timeline.specs.declared.refusal.Refusal.{Refusal}
 use Rattle.timeline.specs.declared.refusal.Refusal.TheVariants.{NoSlot, NoField, NoKind, NoPacket, GoesBack}
 use Rattle.timeline.specs.Lines.{moment_of}
 use Rattle.timeline.specs.Keeping.{Kept, kept_of, value_in}
-use Rattle.timeline.specs.Telling.{What, Began, Came, Ended, Told, latest_of, told_of, kind_of, end_of, frames_of}
+use Rattle.timeline.specs.Telling.{Told, latest_of, told_of, kind_of, end_of, frames_of}
 
 -- ---- what is kept
 

@@ -59,8 +59,9 @@ impl Slot {
     pub fn come(&mut self, field: usize, frame: Keyframe)
         requires field { field < length self.old.fields }
         requires life { frame.packet ≤ MAX_LIFE }
-        ensures { (k : Kept) → slice_get self.old.fields field ≡ Some k
+        ensures kept { (k : Kept) → slice_get self.old.fields field ≡ Some k
             → self.new ≡ record self.old { fields = slice_set self.old.fields field (with_frame frame k) } }
+        ensures count { length self.new.fields ≡ length self.old.fields }
     {
         self.fields[field].add(frame);
     }

@@ -73,18 +73,19 @@ impl Timeline {
 
     /// Nothing was told yet. `ways` says how the fields go, `shape.fields` of them for each kind: field f of kind k at
     /// `k * shape.fields + f`, and any for a field that the kind hasn't.
-    #[tactic(none)]
     pub fn new(alloc: Global, shape: Shape, ways: &[Interpolation]) -> Result<Timeline, NoMemory>
         requires { IsSound shape }
         ensures log { IfOk result (λ t. StandsFor t []) }
         ensures shape { IfOk result (λ t. (t.ways ≡ ways.now) × (t.fields ≡ shape.fields) × (t.depth ≡ shape.depth) × (length t.slots ≡ shape.slots)) }
     {
+        let table = copied(alloc, ways)?;
+        let slots = slots_of(alloc, shape)?;
         Ok(Timeline {
-            ways: copied(alloc, ways)?,
+            ways: table,
             fields: shape.fields,
             depth: shape.depth,
             latest: 0,
-            slots: slots_of(alloc, shape)?,
+            slots,
         })
     }
 
@@ -97,7 +98,6 @@ impl Timeline {
 
     /// By this packet a copy of this kind is in the slot, and none that was there before is drawn any more. Then tell the values that
     /// came with it. Refused as the first that holds of `NoSlot`, `NoPacket`, `GoesBack` and `NoKind`; nothing changes then.
-    #[tactic(none)]
     pub fn began(&mut self, slot: u32, packet: u32, kind: u32) -> Result<(), Refusal>
         ensures answer { result ≡ then_check (slot_check self.old slot) (then_check (packet_check self.old packet) (kind_check self.old kind)) }
         ensures log { OnOk result (Does StandsFor self.old (record { slot = slot; packet = packet; what = Began kind }) self.new) }
@@ -116,7 +116,6 @@ impl Timeline {
 
     /// This packet brought a value of a field of the slot's copy. Refused as the first that holds of `NoSlot`, `NoPacket`, `GoesBack` and
     /// `NoField`; nothing changes then.
-    #[tactic(none)]
     pub fn came(&mut self, slot: u32, packet: u32, field: u32, value: i32) -> Result<(), Refusal>
         ensures answer { result ≡ then_check (slot_check self.old slot) (then_check (packet_check self.old packet) (field_check self.old field)) }
         ensures log { OnOk result (Does StandsFor self.old (record { slot = slot; packet = packet; what = Came field value }) self.new) }
@@ -135,7 +134,6 @@ impl Timeline {
 
     /// By this packet the slot's copy is gone. It is drawn until its moment. Refused as the first that holds of `NoSlot`, `NoPacket` and
     /// `GoesBack`; nothing changes then.
-    #[tactic(none)]
     pub fn ended(&mut self, slot: u32, packet: u32) -> Result<(), Refusal>
         ensures answer { result ≡ then_check (slot_check self.old slot) (packet_check self.old packet) }
         ensures log { OnOk result (Does StandsFor self.old (record { slot = slot; packet = packet; what = Ended }) self.new) }
@@ -170,7 +168,6 @@ impl Timeline {
 
     /// The kind of the copy that is drawn in the slot at a moment: `None` if none began there, or the moment is not before its end.
     /// Refused as `NoSlot` alone.
-    #[tactic(none)]
     pub fn kind_at(&self, slot: u32, at: u64) -> Result<Option<u32>, Refusal>
         ensures { Answers StandsFor self.now (λ log. then_ok (slot_check self.now slot) (kind_told at (told_of slot log))) result }
     {
@@ -183,7 +180,6 @@ impl Timeline {
 
     /// The value of a field of the slot's copy at a moment: `None` where `kind_at` has none, or no value of the field came. Refused as
     /// `NoSlot`, else as `NoField`.
-    #[tactic(none)]
     pub fn value_at(&self, slot: u32, field: u32, at: u64) -> Result<Option<i64>, Refusal>
         ensures { Answers StandsFor self.now
             (λ log. then_ok (then_check (slot_check self.now slot) (field_check self.now field)) (value_told self.now field at (told_of slot log))) result }
