@@ -1,6 +1,6 @@
 //! How far the clock goes.
 ghost use Rattle.std.specs.Prelude.{◌≡◌, ◌≤◌, ◌<◌, ◌+◌, ◌-◌, ◌*◌, ◌/◌, ◌^◌};
-ghost use Rattle.draw_clock.specs.Following.{distance, followed, moved};
+ghost use Rattle.draw_clock.specs.Following.{distance, followed};
 
 /// The clock's own units to a packet.
 pub const FINE: u64 = 65_536;

@@ -1,6 +1,6 @@
 -- How far from a field's value it is still shown. A log has what happened, the newest first: the value was corrected, from one to another, or a
 -- step passed. Shown is value + offset, so a correction adds what the value jumps down; each step leaves three quarters.
-use Rattle.std.specs.Prelude.{◌≡◌, refl, ℕ, ℤ, pos, negsuc, ◌+ℤ◌, ◌-ℤ◌, List, [], ◌∷◌}
+use Rattle.std.specs.Prelude.{◌≡◌, refl, ℕ, ℤ, pos, ◌+ℤ◌, ◌-ℤ◌, List, [], ◌∷◌}
 use Rattle.tn_types.specs.Histories as histories
 use Rattle.fading_offset.specs.Parts.{decayed, kept}
 
