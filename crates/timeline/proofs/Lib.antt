@@ -1,0 +1,5 @@
+pub mod Circles
+pub mod FrameFacts
+pub mod SlotFacts
+pub mod AnswerFacts
+pub mod LawFacts
