@@ -1,6 +1,7 @@
 -- The tie between a server that serves one client alone and the items that it was fed, the newest first.
 use Rattle.std.specs.Prelude.{◌≡◌, ℕ, ◌<◌, ◌≤◌, Bool, true, false, Option, Some, List, ◌∷◌, length, filter}
-use Rattle.tn_types.specs.declared.limits.TheConstants.{MAX_BLOCKS, MAX_COUNTED_LINES, WORLD_MOVE_BITS}
+use Rattle.tn_types.specs.declared.limits.TheConstants.{MAX_BLOCKS, WORLD_MOVE_BITS}
+use Rattle.match_script.specs.declared.limits.TheConstants.{MAX_COUNTED_LINES}
 use Rattle.match_script.specs.declared.types.BodyLine.TheVariants as script
 use Rattle.match_report.specs.declared.told.Told.{Told}
 use Rattle.world_rules.specs.Kinds.{match_kinds}

@@ -1,7 +1,7 @@
 -- x, y and ammo of a standing player, and what moves make of them: one step of the world's rules a move, the oldest first. Nothing
 -- else changes them at the client, which does not know of wounds.
 use Rattle.std.specs.Prelude.{◌≡◌, ℤ, pos, negsuc, ◌≤ℤ◌, fold, true, false, List, [], ◌∷◌, refl}
-use Rattle.tn_types.specs.declared.limits.TheConstants.{MAX_COORDINATE}
+use Rattle.world_rules.specs.declared.limits.TheConstants.{MAX_COORDINATE}
 use Rattle.tn_types.specs.declared.moves.Move.{Move}
 use Rattle.tn_types.specs.declared.moves.MoveBits.{MoveBits}
 use Rattle.bit_stream.specs.WorldMoves.{bits_of, move_of}

@@ -6,9 +6,9 @@ ghost use Rattle.client_predict.specs.Offsets.{decayed, seen_from, passes, kept,
 
 use bit_stream::move_of_bits;
 use std::marker::Model;
-use tn_types::{MAX_COORDINATE, Move, MoveBits};
+use tn_types::{Move, MoveBits};
 use wire_format::MoveList;
-use world_rules::step_player;
+use world_rules::{MAX_COORDINATE, step_player};
 
 /// The greatest part of an offset, in centimetres: a correction that would pass it either way is shown at once.
 pub const MAX_OFFSET: u64 = 1000;

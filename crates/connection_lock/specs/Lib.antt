@@ -1,3 +1,4 @@
 pub mod Taking
 pub mod Rule
 pub mod Turns
+pub mod Limits

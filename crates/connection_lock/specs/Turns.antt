@@ -15,7 +15,8 @@ use Rattle.kept_pair.specs.pair_core.History.{PairStep, ClientPost, Sample, Clie
 use Rattle.kept_pair.specs.pair_core.Answers.{answer}
 use Rattle.kept_pair.specs.declared.fault.KeepFault.{KeepFault}
 use Rattle.kept_pair.specs.declared.fault.KeepFault.TheVariants as keeps
-use Rattle.tn_types.specs.declared.limits.TheConstants.{MAX_KEPT_STEPS, MAX_TAKEN_MESSAGES}
+use Rattle.connection_lock.specs.declared.limits.TheConstants.{MAX_TAKEN_MESSAGES}
+use Rattle.kept_pair.specs.declared.limits.TheConstants.{MAX_KEPT_STEPS}
 use Rattle.kept_pair.specs.Kept.{KeptState, terms_in, accepted_by, answer_after}
 use Rattle.dirty_lanes.specs.declared.view.PackView.{PackView}
 use Rattle.lane_periods.specs.Periods.{PeriodList}

@@ -2,6 +2,7 @@
 //! rings from and to the simulation.
 #![tactic(auto)]
 
+mod limits;
 mod line;
 mod locked;
 mod net_line;
@@ -11,6 +12,7 @@ mod taking;
 
 pub use kept_pair;
 pub use lane_periods::Objects;
+pub use limits::MAX_TAKEN_MESSAGES;
 pub use locked::{DoneLines, Ended, Locked};
 pub use net_line::NetLine;
 pub use shared::SharedPair;

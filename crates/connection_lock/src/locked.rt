@@ -10,13 +10,14 @@ use dirty_lanes::{LaneName, Lanes, PackSeat};
 use kept_pair::pair_core::Answer;
 use kept_pair::{KeepFault, KeptPair};
 use lane_periods::{Objects, Periods};
+use match_script::MAX_BODY_LINES;
 use race_messages::Message;
 use rtrb::{Consumer, Producer};
 use std::alloc::Global;
 use std::marker::Model;
 use std::snapshot::Snapshot;
 use std::sync::ledger::Ledger;
-use tn_types::{Drain, MAX_BODY_LINES, MoveBits, NoMemory, Steps};
+use tn_types::{Drain, MoveBits, NoMemory, Steps};
 
 /// The lines of the client that were done at a connection, as an activity lists them, the oldest first. A line in it takes no bytes, and
 /// `Locked::net_turn` alone adds one.
@@ -27,7 +28,7 @@ pub struct DoneLines {
 
 impl Model for DoneLines {
     ghost use Rattle.std.specs.Prelude.{List, map, vec_capacity, ◌≤◌};
-    ghost use Rattle.tn_types.specs.declared.limits.TheConstants.{MAX_BODY_LINES};
+    ghost use Rattle.match_script.specs.declared.limits.TheConstants.{MAX_BODY_LINES};
     ghost use Rattle.connection_lock.specs.declared.net_line.NetLine.{NetLine};
 
     ghost Value = { List NetLine };

@@ -8,13 +8,14 @@ use crate::net_line::NetLine;
 use dirty_lanes::{LaneName, Lanes, PackSeat};
 use kept_pair::pair_core::Answer;
 use kept_pair::{KeepFault, KeptPair};
+use match_script::MAX_BODY_LINES;
 use race_messages::Message;
 use rtrb::{Consumer, Producer};
 use std::alloc::Global;
 use std::marker::Model;
 use std::sync::ledger::Ledger;
 use std::sync::{Mutex, Wait};
-use tn_types::{MAX_BODY_LINES, MoveBits, NoMemory, Steps};
+use tn_types::{MoveBits, NoMemory, Steps};
 
 /// A lock round one connection. One thread packs it, and another feeds it. Contracts see whose it is: the client of the seat that lies
 /// under the lock.

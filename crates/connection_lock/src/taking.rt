@@ -9,6 +9,7 @@ ghost use Rattle.connection_lock.specs.Rule.{progress_of, AreLocked};
 ghost use Rattle.lane_periods.specs.Periods.{has_object};
 ghost use Rattle.connection_lock.specs.Turns.{FaultAt, TakesLocked};
 
+use crate::limits::MAX_TAKEN_MESSAGES;
 use dirty_lanes::{LaneName, Lanes, PackSeat};
 use kept_pair::pair_core::PairStep;
 use kept_pair::{KeepFault, KeptPair};
@@ -16,7 +17,7 @@ use lane_periods::Periods;
 use race_messages::Message;
 use rtrb::Consumer;
 use std::alloc::Global;
-use tn_types::{Class, MAX_TAKEN_MESSAGES, Payload};
+use tn_types::{Class, Payload};
 
 /// What a show says of its period.
 #[derive(Clone, Copy)]

@@ -1,7 +1,7 @@
 -- How a call on demos ends, and what it leaves of its source and its sink. Each command reads all that the source holds, within the
 -- command's limit of bytes, and writes the text that it makes of it; or it has none, and says why. Every other end has its cause.
 use Rattle.std.specs.Prelude.{ℕ, ◌≡◌, ◌+◌, ◌≤◌, ◌⊎◌, List, length, Option, Some, None, Result, Ok, Err, Bool, true, false, nat_le}
-use Rattle.tn_types.specs.declared.limits.TheConstants.{MAX_SCRIPT_BYTES}
+use Rattle.script_input.specs.declared.limits.TheConstants.{MAX_SCRIPT_BYTES}
 use Rattle.tn_outside.specs.Totals.{Adds, AddsFront}
 use Rattle.match_script.specs.Script.{script_of, Fault}
 use Rattle.match_script.specs.declared.types.Script.{Script as OneScript}

@@ -4,7 +4,8 @@ use Rattle.std.specs.Prelude.{bit_or, replicate, slice_index}
 use Rattle.std.proofs.lemmas.List.{get_or_default, take_all, drop_all, append-nil}
 use Rattle.std.proofs.lemmas.Nat.{or_lt}
 use Rattle.std.proofs.lemmas.Bool.{cases_eq, cases_lt}
-use Rattle.tn_types.specs.declared.limits.TheConstants.{MAX_FIELDS, MAX_CLIENTS}
+use Rattle.tn_types.specs.declared.limits.TheConstants.{MAX_CLIENTS}
+use Rattle.dirty_lanes.specs.declared.limits.TheConstants.{MAX_LANE_FIELDS}
 use Rattle.dirty_lanes.specs.declared.words.TheConstants.{WORDS, VERSION}
 use Rattle.dirty_lanes.specs.Words.{Words, field_word, mask_word, packed, version_at, value_at, mask_at, with_word, new_words, after_write, after_raise, after_drain, SizesStay, FieldsStay, MasksStay, OtherFieldsStay, OtherMasksStay, IsLaidOut}
 use Rattle.dirty_lanes.specs.Log.{LaneEvent, Wrote, Raised, Drained, raised_for, StandsFor}
@@ -30,7 +31,7 @@ pub new_mask : (objects clients c o : ℕ) → mask_at (new_words objects client
 unfolding new_words mask_at
 new_mask objects clients c o = all_zero (WORDS * objects + 1) (mask_word c o)
 
-field_within : (w : Words) (o f : ℕ) → IsLaidOut w → o < w.objects → f < MAX_FIELDS → field_word o f < length w.words
+field_within : (w : Words) (o f : ℕ) → IsLaidOut w → o < w.objects → f < MAX_LANE_FIELDS → field_word o f < length w.words
 field_within w o f laid there inside = rw laid.long (field_there w.objects o f there inside)
 
 mask_within : (w : Words) (c o : ℕ) → IsLaidOut w → c < w.clients → o < w.objects → mask_word c o < length w.words
@@ -46,7 +47,7 @@ pub mask_read : (v w : Words) (c o i word : ℕ) → v ≡ w → IsLaidOut v →
 unfolding mask_at
 mask_read v w c o i word same laid named there at read = read_at v w i (mask_word c o) word same at (mask_within w c o (subst IsLaidOut same laid) named there) read
 
-pub field_read : (v w : Words) (o f i word : ℕ) → v ≡ w → IsLaidOut v → o < w.objects → f < MAX_FIELDS → i ≡ field_word o f → word ≡ get_or v.words i word → word ≡ slice_index w.words (field_word o f)
+pub field_read : (v w : Words) (o f i word : ℕ) → v ≡ w → IsLaidOut v → o < w.objects → f < MAX_LANE_FIELDS → i ≡ field_word o f → word ≡ get_or v.words i word → word ≡ slice_index w.words (field_word o f)
 field_read v w o f i word same laid there inside at read = read_at v w i (field_word o f) word same at (field_within w o f (subst IsLaidOut same laid) there inside) read
 
 pub version_is : (w : Words) (o f word version : ℕ) → word ≡ slice_index w.words (field_word o f) → version ≡ word / VERSION → version ≡ version_at w o f
@@ -72,7 +73,7 @@ pub record Writes (old new : Words) (o f v : ℕ) : Type 0 where
   pub masks : MasksStay old new
   pub log : (log : List LaneEvent) → StandsFor old log → StandsFor new (Wrote o f v ∷ log)
 
-writes-after : (w : Words) (o f v : ℕ) → IsLaidOut w → o < w.objects → f < MAX_FIELDS → v < VERSION → Writes w (after_write w o f v) o f v
+writes-after : (w : Words) (o f v : ℕ) → IsLaidOut w → o < w.objects → f < MAX_LANE_FIELDS → v < VERSION → Writes w (after_write w o f v) o f v
 unfolding after_write version_at value_at
 writes-after w o f v laid there inside small =
     let new = after_write w o f v in
@@ -91,7 +92,7 @@ writes-after w o f v laid there inside small =
       log = λ log stands. stands-write w (after_write w o f v) log o f v (sizes_stay w (field_word o f) word) version value (other_fields_stay w o f word inside) (masks_stay w o f word inside) there inside laid.few_clients stands;
     }
 
-pub writes : (v w : Words) (o f value i word version n : ℕ) → v ≡ w → IsLaidOut v → o < w.objects → f < MAX_FIELDS → value < VERSION → i ≡ field_word o f → word ≡ get_or v.words i word → version ≡ word / VERSION → n ≡ packed (version + 1) value
+pub writes : (v w : Words) (o f value i word version n : ℕ) → v ≡ w → IsLaidOut v → o < w.objects → f < MAX_LANE_FIELDS → value < VERSION → i ≡ field_word o f → word ≡ get_or v.words i word → version ≡ word / VERSION → n ≡ packed (version + 1) value
     → Writes w (with_word v i n) o f value
 unfolding after_write
 writes v w o f value i word version n same laid there inside small at read is put =
@@ -110,7 +111,7 @@ pub record Raises (old new : Words) (c o bits : ℕ) : Type 0 where
   pub fields : FieldsStay old new
   pub log : (log : List LaneEvent) → StandsFor old log → StandsFor new (Raised c o bits ∷ log)
 
-raises-after : (w : Words) (c o bits : ℕ) → IsLaidOut w → c < w.clients → o < w.objects → bits < 2 ^ MAX_FIELDS → Raises w (after_raise w c o bits) c o bits
+raises-after : (w : Words) (c o bits : ℕ) → IsLaidOut w → c < w.clients → o < w.objects → bits < 2 ^ MAX_LANE_FIELDS → Raises w (after_raise w c o bits) c o bits
 unfolding after_raise
 raises-after w c o bits laid named there small =
     let word = bit_or (mask_at w c o) bits in
@@ -126,7 +127,7 @@ raises-after w c o bits laid named there small =
       log = λ log stands. stands-raise w (after_raise w c o bits) log c o bits (sizes_stay w (mask_word c o) word) mask (other_masks_stay w c o word few) (fields_stay w c o word few) named there laid.few_clients stands;
     }
 
-pub raises : (v w : Words) (c o bits i word n : ℕ) → v ≡ w → IsLaidOut v → c < w.clients → o < w.objects → bits < 2 ^ MAX_FIELDS → i ≡ mask_word c o → word ≡ get_or v.words i word → n ≡ bit_or word bits
+pub raises : (v w : Words) (c o bits i word n : ℕ) → v ≡ w → IsLaidOut v → c < w.clients → o < w.objects → bits < 2 ^ MAX_LANE_FIELDS → i ≡ mask_word c o → word ≡ get_or v.words i word → n ≡ bit_or word bits
     → Raises w (with_word v i n) c o bits
 unfolding after_raise
 raises v w c o bits i word n same laid named there small at read put =
@@ -149,14 +150,14 @@ pub record RaisesAll (old new : Words) (o bits : ℕ) : Type 0 where
   pub fields : FieldsStay old new
   pub log : (log : List LaneEvent) → StandsFor old log → StandsFor new (raised_for MAX_CLIENTS o bits ++ log)
 
-module _ (w : Words) (o bits : ℕ) (list : List ℕ) (laid : IsLaidOut w) (there : o < w.objects) (small : bits < 2 ^ MAX_FIELDS) (are : AreRaised w.words list (mask_word 0 o) bits) where
+module _ (w : Words) (o bits : ℕ) (list : List ℕ) (laid : IsLaidOut w) (there : o < w.objects) (small : bits < 2 ^ MAX_LANE_FIELDS) (are : AreRaised w.words list (mask_word 0 o) bits) where
   abbrev with_list : Words
   with_list = record w { words = list }
 
   elsewhere : (i : ℕ) → (i < mask_word 0 o) ⊎ (mask_word 0 o + MAX_CLIENTS ≤ i) → slice_index list i ≡ slice_index w.words i
   elsewhere i apart = ⊎_elim (λ (lt : i < mask_word 0 o). are.before i lt) (λ (le : mask_word 0 o + MAX_CLIENTS ≤ i). are.behind i le) apart
 
-  field_elsewhere : (p g : ℕ) → g < MAX_FIELDS → (field_word p g < mask_word 0 o) ⊎ (mask_word 0 o + MAX_CLIENTS ≤ field_word p g)
+  field_elsewhere : (p g : ℕ) → g < MAX_LANE_FIELDS → (field_word p g < mask_word 0 o) ⊎ (mask_word 0 o + MAX_CLIENTS ≤ field_word p g)
   field_elsewhere p g within = ⊎_elim (λ (lt : o < p). inr (omega (arith, lt, within))) (λ (le : p ≤ o). inl (omega (arith, le, within))) (cases_lt o p)
 
   mask_elsewhere : (c p : ℕ) → c < MAX_CLIENTS → p ≢ o → (mask_word c p < mask_word 0 o) ⊎ (mask_word 0 o + MAX_CLIENTS ≤ mask_word c p)
@@ -181,11 +182,11 @@ module _ (w : Words) (o bits : ℕ) (list : List ℕ) (laid : IsLaidOut w) (ther
   sizes_same : SizesStay w with_list
   sizes_same = record { objects = refl; clients = refl }
 
-  narrow_all : (c p : ℕ) → c < MAX_CLIENTS → mask_at with_list c p < 2 ^ MAX_FIELDS
+  narrow_all : (c p : ℕ) → c < MAX_CLIENTS → mask_at with_list c p < 2 ^ MAX_LANE_FIELDS
   narrow_all c p within = ⊎_elim
-      (λ (e : p ≡ o). subst (λ (k : ℕ). mask_at with_list c k < 2 ^ MAX_FIELDS) (sym e)
-      (subst (λ (n : ℕ). n < 2 ^ MAX_FIELDS) (sym (mask_raised c within)) (or_lt 16 (mask_at w c o) bits (laid.narrow c o within) small)))
-      (λ (ne : p ≢ o). subst (λ (n : ℕ). n < 2 ^ MAX_FIELDS) (sym (masks_same c p within ne)) (laid.narrow c p within))
+      (λ (e : p ≡ o). subst (λ (k : ℕ). mask_at with_list c k < 2 ^ MAX_LANE_FIELDS) (sym e)
+      (subst (λ (n : ℕ). n < 2 ^ MAX_LANE_FIELDS) (sym (mask_raised c within)) (or_lt 16 (mask_at w c o) bits (laid.narrow c o within) small)))
+      (λ (ne : p ≢ o). subst (λ (n : ℕ). n < 2 ^ MAX_LANE_FIELDS) (sym (masks_same c p within ne)) (laid.narrow c p within))
       (cases_eq p o)
 
   raises_all-after : RaisesAll w with_list o bits
@@ -212,7 +213,7 @@ written_back now before len l w =
     let all : length now ≤ len = omega (arith, l, w) in
     rw (none, append-nil) (take_all len now all)
 
-pub raises_all : (v w : Words) (o bits i n len : ℕ) (lent now : List ℕ) → v ≡ w → IsLaidOut v → o < w.objects → bits < 2 ^ MAX_FIELDS → i ≡ mask_word 0 o → n ≡ bits → lent ≡ v.words → len ≡ length v.words → AreRaised lent now i n
+pub raises_all : (v w : Words) (o bits i n len : ℕ) (lent now : List ℕ) → v ≡ w → IsLaidOut v → o < w.objects → bits < 2 ^ MAX_LANE_FIELDS → i ≡ mask_word 0 o → n ≡ bits → lent ≡ v.words → len ≡ length v.words → AreRaised lent now i n
     → RaisesAll w (record v { words = take len (now ++ drop (length now) v.words) }) o bits
 raises_all v w o bits i n len lent now same laid there small at put is long are =
     let raised : AreRaised v.words now (mask_word 0 o) bits =

@@ -4,7 +4,8 @@ use Rattle.std.specs.Prelude.{bit_or}
 use Rattle.std.proofs.lemmas.Bool.{cases_eq}
 use Rattle.std.proofs.lemmas.Bool.Decides.{nat_tests}
 use Rattle.std.proofs.lemmas.List.Sums.{take_while-cons}
-use Rattle.tn_types.specs.declared.limits.TheConstants.{MAX_FIELDS, MAX_CLIENTS}
+use Rattle.tn_types.specs.declared.limits.TheConstants.{MAX_CLIENTS}
+use Rattle.dirty_lanes.specs.declared.limits.TheConstants.{MAX_LANE_FIELDS}
 use Rattle.dirty_lanes.specs.Words.{Words, version_at, value_at, mask_at, SizesStay, FieldsStay, MasksStay, OtherFieldsStay, OtherMasksStay}
 use Rattle.dirty_lanes.specs.Log.{LaneEvent, Wrote, Raised, Drained, Read, version_of, last_value, is_drain, mask_of, raised_for, StandsFor}
 
@@ -75,7 +76,7 @@ stands-new w versions values masks = record {
 }
 
 pub stands-write : (old new : Words) (log : List LaneEvent) (o f v : ℕ) → SizesStay old new → version_at new o f ≡ version_at old o f + 1 → value_at new o f ≡ v → OtherFieldsStay old new o f → MasksStay old new
-    → o < old.objects → f < MAX_FIELDS → old.clients ≤ MAX_CLIENTS → StandsFor old log → StandsFor new (Wrote o f v ∷ log)
+    → o < old.objects → f < MAX_LANE_FIELDS → old.clients ≤ MAX_CLIENTS → StandsFor old log → StandsFor new (Wrote o f v ∷ log)
 stands-write old new log o f v sizes version value fields masks there inside few stands = record {
   versions = λ p g known within. everywhere (λ p g. version_at new p g ≡ version_of (Wrote o f v ∷ log) p g) o f
       (version ∙ ap (λ (n : ℕ). n + 1) (stands.versions o f there inside) ∙ sym (version_of-wrote log o f v))

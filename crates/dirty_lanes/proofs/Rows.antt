@@ -18,7 +18,8 @@ use Rattle.dirty_lanes.specs.declared.view.View.TheVariants.{Spent, Sim, Packer}
 use Rattle.dirty_lanes.specs.Views.{newest, newest_value}
 use Rattle.dirty_lanes.specs.Words.{field_word, mask_word, packed, version_at, value_at, mask_at, IsLaidOut}
 use Rattle.dirty_lanes.specs.Rule.{Follows, Joined, RuleHolds, one_less, new_packer, with_packer}
-use Rattle.tn_types.specs.declared.limits.TheConstants.{MAX_FIELDS, MAX_CLIENTS, MAX_OBJECTS}
+use Rattle.tn_types.specs.declared.limits.TheConstants.{MAX_CLIENTS, MAX_OBJECTS}
+use Rattle.dirty_lanes.specs.declared.limits.TheConstants.{MAX_LANE_FIELDS}
 use Rattle.dirty_lanes.specs.declared.words.TheConstants.{VERSION}
 use Rattle.dirty_lanes.specs.Named.{IsRow, IsNumbered, AreHeard, IsFinal}
 use Rattle.dirty_lanes.proofs.Moves.{mine, gives, ends}
@@ -130,6 +131,6 @@ final_laid objects clients id v ws xs f one_object few one less =
       long = long;
       narrow = λ c o lt.
           dite (dec_lt o objects)
-          (λ (here : o < objects). subst (λ (z : List ℕ). slice_index z (mask_word c o) < 2 ^ MAX_FIELDS) words (k.masks c o lt here))
+          (λ (here : o < objects). subst (λ (z : List ℕ). slice_index z (mask_word c o) < 2 ^ MAX_LANE_FIELDS) words (k.masks c o lt here))
           (λ (far : ¬ (o < objects)). rw (past ws (mask_word c o) (omega (arith, long))) (omega arith));
     }

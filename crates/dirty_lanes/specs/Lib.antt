@@ -3,3 +3,4 @@ pub mod Log
 pub mod Views
 pub mod Rule
 pub mod Named
+pub mod Limits

@@ -3,7 +3,7 @@
 -- the last drain.
 use Rattle.std.specs.Prelude.{ℕ, zero, suc, ◌≡◌, ◌<◌, Bool, false, not, ◌&&◌, ◌==◌, if◌then◌else◌, List, [], ◌∷◌, length, slice_index, bit_or, Option, Some, None, refl}
 use Rattle.std.specs.List.{filter_map, take_while}
-use Rattle.tn_types.specs.declared.limits.TheConstants.{MAX_FIELDS}
+use Rattle.dirty_lanes.specs.declared.limits.TheConstants.{MAX_LANE_FIELDS}
 use Rattle.dirty_lanes.specs.Words.{Words, version_at, value_at, mask_at}
 
 pub data LaneEvent : Type 0 where
@@ -61,9 +61,9 @@ raised_for zero object bits = []
 raised_for (suc client) object bits = Raised client object bits ∷ raised_for client object bits
 
 pub record StandsFor (w : Words) (log : List LaneEvent) : Type 0 where
-  pub versions : (object field : ℕ) → object < w.objects → field < MAX_FIELDS
+  pub versions : (object field : ℕ) → object < w.objects → field < MAX_LANE_FIELDS
       → version_at w object field ≡ version_of log object field
-  pub values : (object field : ℕ) → object < w.objects → field < MAX_FIELDS
+  pub values : (object field : ℕ) → object < w.objects → field < MAX_LANE_FIELDS
       → value_at w object field ≡ last_value log object field
   pub masks : (client object : ℕ) → client < w.clients → object < w.objects → mask_at w client object ≡ mask_of log client object
 

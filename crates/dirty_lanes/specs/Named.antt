@@ -4,7 +4,8 @@ use Rattle.std.specs.Prelude.{ℕ, ◌+◌, ◌-◌, ◌*◌, ◌≡◌, ◌<◌
 use Rattle.atomic_table.specs.Seated.{TableId}
 use Rattle.atomic_table.specs.Table.{Me}
 use Rattle.atomic_table.specs.declared.shared.Seat.{Seat}
-use Rattle.tn_types.specs.declared.limits.TheConstants.{MAX_FIELDS, MAX_CLIENTS, MAX_OBJECTS}
+use Rattle.tn_types.specs.declared.limits.TheConstants.{MAX_CLIENTS, MAX_OBJECTS}
+use Rattle.dirty_lanes.specs.declared.limits.TheConstants.{MAX_LANE_FIELDS}
 use Rattle.dirty_lanes.specs.declared.words.TheConstants.{WORDS}
 use Rattle.dirty_lanes.specs.declared.view.SimStep.{SimStep}
 use Rattle.dirty_lanes.specs.declared.view.PackView.{PackView}
@@ -44,9 +45,9 @@ pub record IsLanes (table : TableId) (named_objects : ℕ) (mine : TableId) (key
 pub record IsSim (table : TableId) (named_objects : ℕ) (mine : TableId) (me : Known) (versions : List ℕ) : Type 0 where
   pub named : mine ≡ table
   pub sits : me ≡ (Sim (sim_of me.0), [])
-  pub long : length versions ≡ MAX_FIELDS * named_objects
-  pub counts : (object field : ℕ) → field < MAX_FIELDS → MAX_FIELDS * object + field < length versions
-      → slice_index versions (MAX_FIELDS * object + field) ≡ newest (sim_of me.0).steps object field
+  pub long : length versions ≡ MAX_LANE_FIELDS * named_objects
+  pub counts : (object field : ℕ) → field < MAX_LANE_FIELDS → MAX_LANE_FIELDS * object + field < length versions
+      → slice_index versions (MAX_LANE_FIELDS * object + field) ≡ newest (sim_of me.0).steps object field
 
 -- the seat of the packer of a client
 pub record IsPacker (table : TableId) (mine : TableId) (me : Known) (client : ℕ) : Type 0 where
@@ -90,7 +91,7 @@ pub record IsFresh (f : FreshParts) : Type 0 where
   pub sits : f.sim.me ≡ (Sim no_steps, [])
   pub row : IsRow f.table f.clients f.packs
   pub count : length f.packs ≡ f.clients
-  pub versions_are : f.versions ≡ replicate (MAX_FIELDS * f.objects) 0
+  pub versions_are : f.versions ≡ replicate (MAX_LANE_FIELDS * f.objects) 0
 
 -- the seats that are left, where `next` seats of `clients` were given
 pub record AreLeft (table : TableId) (clients next : ℕ) (packs : List (Seat (Unit {0}) View)) : Type 0 where
@@ -108,7 +109,7 @@ pub record IsHeard (sim : List SimStep) (f : Words) (p : PackView) : Type 0 wher
   pub stand : ReadsStand sim p.steps
   pub takes : (object : ℕ) → object < f.objects
       → DrainsTake (mask_at f p.client object) (drains_of p.steps object) (raises_of sim p.client object)
-  pub covers : (object field : ℕ) → field < MAX_FIELDS → object < f.objects
+  pub covers : (object field : ℕ) → field < MAX_LANE_FIELDS → object < f.objects
       → covered sim p.steps p.client (mask_at f p.client object) object field ≡ true
 
 abbrev pub AreHeard : List SimStep → Words → List PackView → Type 0
@@ -119,6 +120,6 @@ AreHeard sim f (p ∷ ps) = IsHeard sim f p × AreHeard sim f ps
 -- simulation's list, each drain took what was raised since the one before, and each field of each packer was read newest,
 -- or its bit is set, or it is owed, or it is pending
 pub record IsFinal (sim : List SimStep) (packs : List PackView) (f : Words) : Type 0 where
-  pub versions : (object field : ℕ) → field < MAX_FIELDS → object < f.objects → version_at f object field ≡ newest sim object field
-  pub values : (object field : ℕ) → field < MAX_FIELDS → object < f.objects → value_at f object field ≡ newest_value sim object field
+  pub versions : (object field : ℕ) → field < MAX_LANE_FIELDS → object < f.objects → version_at f object field ≡ newest sim object field
+  pub values : (object field : ℕ) → field < MAX_LANE_FIELDS → object < f.objects → value_at f object field ≡ newest_value sim object field
   pub heard : AreHeard sim f packs

@@ -6,7 +6,8 @@ use mathlib.Core.Option.{some}
 use lib.ListN.{get_elem?}
 use Rattle.atomic_table.specs.Table.{State}
 use Rattle.tn_types.specs.BitWords.{has_bit}
-use Rattle.tn_types.specs.declared.limits.TheConstants.{MAX_FIELDS, MAX_CLIENTS}
+use Rattle.tn_types.specs.declared.limits.TheConstants.{MAX_CLIENTS}
+use Rattle.dirty_lanes.specs.declared.limits.TheConstants.{MAX_LANE_FIELDS}
 use Rattle.dirty_lanes.specs.declared.words.TheConstants.{WORDS, VERSION}
 use Rattle.dirty_lanes.specs.declared.view.SimStep.{SimStep}
 use Rattle.dirty_lanes.specs.declared.view.PackStep.{PackStep}
@@ -43,7 +44,7 @@ pub record Follows (objects : ℕ) (sim : List SimStep) (words : List ℕ) (clie
   pub below : (object field : ℕ) → last_read pack object field ≤ newest sim object field
   pub takes : (object : ℕ) → object < objects
       → DrainsTake (slice_index words (mask_word client object)) (drains_of pack object) (raises_of sim client object)
-  pub covers : (object field : ℕ) → field < MAX_FIELDS → object < objects
+  pub covers : (object field : ℕ) → field < MAX_LANE_FIELDS → object < objects
       → covered sim pack client (slice_index words (mask_word client object)) object field ≡ true
 
 -- the packers that were joined into the simulation's seat
@@ -70,9 +71,9 @@ pub record RuleHolds (objects : ℕ) (s : State (Unit {0}) View) : Type 0 where
   pub joined : Joined seat logs owner now.left now.joined
   pub unborn : (client : ℕ) → client < now.left → logs client ≡ []
   pub small : (object field : ℕ) → newest_value now.steps object field < VERSION
-  pub fields : (object field : ℕ) → field < MAX_FIELDS → object < objects
+  pub fields : (object field : ℕ) → field < MAX_LANE_FIELDS → object < objects
       → slice_index s.words (field_word object field) ≡ packed (newest now.steps object field) (newest_value now.steps object field)
-  pub masks : (client object : ℕ) → client < MAX_CLIENTS → object < objects → slice_index s.words (mask_word client object) < 2 ^ MAX_FIELDS
+  pub masks : (client object : ℕ) → client < MAX_CLIENTS → object < objects → slice_index s.words (mask_word client object) < 2 ^ MAX_LANE_FIELDS
   pub follows : (client : ℕ) → client < MAX_CLIENTS → Follows objects now.steps s.words client (logs client)
 
 -- the object of a word, and its place among the object's words
@@ -91,7 +92,7 @@ with_write word n (Sim v) = Sim (sim_with v (a_write (object_of word) (place_of 
 abbrev pub with_raise : ℕ → ℕ → View → View
 with_raise word n Spent = Spent
 with_raise word n (Packer p) = Packer p
-with_raise word n (Sim v) = Sim (sim_with v (a_raise (place_of word - MAX_FIELDS) (object_of word) n))
+with_raise word n (Sim v) = Sim (sim_with v (a_raise (place_of word - MAX_LANE_FIELDS) (object_of word) n))
 
 abbrev pub with_drain : ℕ → ℕ → View → View
 with_drain word n Spent = Spent

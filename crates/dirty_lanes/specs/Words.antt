@@ -2,14 +2,15 @@
 -- fields, which holds how often the field was written above the value written last, and one for each of 16 clients,
 -- whose bits tell which fields this client is to hear of.
 use Rattle.std.specs.Prelude.{ℕ, ◌≡◌, ◌≢◌, ◌⊎◌, ◌<◌, ◌≤◌, ◌+◌, ◌*◌, ◌/◌, ◌%◌, ◌^◌, List, length, replicate, slice_index, slice_set, bit_or, refl}
-use Rattle.tn_types.specs.declared.limits.TheConstants.{MAX_FIELDS, MAX_CLIENTS, MAX_OBJECTS}
+use Rattle.tn_types.specs.declared.limits.TheConstants.{MAX_CLIENTS, MAX_OBJECTS}
+use Rattle.dirty_lanes.specs.declared.limits.TheConstants.{MAX_LANE_FIELDS}
 use Rattle.dirty_lanes.specs.declared.words.TheConstants.{WORDS, VERSION}
 
 abbrev pub field_word : ℕ → ℕ → ℕ
 field_word object field = WORDS * object + field + 1
 
 abbrev pub mask_word : ℕ → ℕ → ℕ
-mask_word client object = WORDS * object + (MAX_FIELDS + client) + 1
+mask_word client object = WORDS * object + (MAX_LANE_FIELDS + client) + 1
 
 abbrev pub packed : ℕ → ℕ → ℕ
 packed version value = version * VERSION + value
@@ -53,16 +54,16 @@ pub record SizesStay (old new : Words) : Type 0 where
   pub clients : new.clients ≡ old.clients
 
 pub record FieldsStay (old new : Words) : Type 0 where
-  pub versions : (object field : ℕ) → field < MAX_FIELDS → version_at new object field ≡ version_at old object field
-  pub values : (object field : ℕ) → field < MAX_FIELDS → value_at new object field ≡ value_at old object field
+  pub versions : (object field : ℕ) → field < MAX_LANE_FIELDS → version_at new object field ≡ version_at old object field
+  pub values : (object field : ℕ) → field < MAX_LANE_FIELDS → value_at new object field ≡ value_at old object field
 
 pub record MasksStay (old new : Words) : Type 0 where
   pub masks : (client object : ℕ) → client < MAX_CLIENTS → mask_at new client object ≡ mask_at old client object
 
 -- all fields but this one, and all masks but this one
 pub record OtherFieldsStay (old new : Words) (object field : ℕ) : Type 0 where
-  pub versions : (o f : ℕ) → f < MAX_FIELDS → (o ≢ object) ⊎ (f ≢ field) → version_at new o f ≡ version_at old o f
-  pub values : (o f : ℕ) → f < MAX_FIELDS → (o ≢ object) ⊎ (f ≢ field) → value_at new o f ≡ value_at old o f
+  pub versions : (o f : ℕ) → f < MAX_LANE_FIELDS → (o ≢ object) ⊎ (f ≢ field) → version_at new o f ≡ version_at old o f
+  pub values : (o f : ℕ) → f < MAX_LANE_FIELDS → (o ≢ object) ⊎ (f ≢ field) → value_at new o f ≡ value_at old o f
 
 pub record OtherMasksStay (old new : Words) (client object : ℕ) : Type 0 where
   pub masks : (c o : ℕ) → c < MAX_CLIENTS → (c ≢ client) ⊎ (o ≢ object) → mask_at new c o ≡ mask_at old c o
@@ -74,7 +75,7 @@ pub record IsLaidOut (w : Words) : Type 0 where
   pub some_clients : 1 ≤ w.clients
   pub few_clients : w.clients ≤ MAX_CLIENTS
   pub long : length w.words ≡ WORDS * w.objects + 1
-  pub narrow : (client object : ℕ) → client < MAX_CLIENTS → mask_at w client object < 2 ^ MAX_FIELDS
+  pub narrow : (client object : ℕ) → client < MAX_CLIENTS → mask_at w client object < 2 ^ MAX_LANE_FIELDS
 
 -- two objects and two clients: field 15 of object 0 was written twice, and client 0 is to hear of it
 field_of_second_object : field_word 1 0 ≡ 33

@@ -7,13 +7,14 @@ ghost use Rattle.dirty_lanes.specs.Named.{IsNumbered, IsFinal};
 
 use crate::fresh::zero_words;
 use crate::lanes::{LaneName, Lanes};
+use crate::limits::MAX_LANE_FIELDS;
 use crate::rule::Ends;
 use crate::seats::{PackSeat, SimSeat};
 use crate::words::{WORDS, field_word, mask_word, value_in, version_in};
 use atomic_table::Closed;
 use std::alloc::Global;
 use std::marker::Model;
-use tn_types::{MAX_CLIENTS, MAX_FIELDS, MAX_OBJECTS};
+use tn_types::{MAX_CLIENTS, MAX_OBJECTS};
 
 /// The words at the end, with the numbers of the lanes that were closed.
 #[derive(Drop)]
@@ -55,7 +56,7 @@ impl FinalWords {
     /// The version and the value of a field.
     pub fn field(&self, object: u32, field: u8) -> (u32, u32)
         requires object { object < self.now.objects }
-        requires field { field < MAX_FIELDS }
+        requires field { field < MAX_LANE_FIELDS }
         ensures version { result.0 ≡ version_at self.now object field }
         ensures value { result.1 ≡ value_at self.now object field }
     {
@@ -68,7 +69,7 @@ impl FinalWords {
         requires client { client < self.now.clients }
         requires object { object < self.now.objects }
         ensures answer { result ≡ mask_at self.now client object }
-        ensures narrow { result < 2 ^ MAX_FIELDS }
+        ensures narrow { result < 2 ^ MAX_LANE_FIELDS }
     {
         self.words[mask_word(client, object)] as u32
     }

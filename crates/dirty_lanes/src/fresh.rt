@@ -4,13 +4,14 @@ ghost use Rattle.std.specs.Prelude.{◌≡◌, ◌+◌, ◌<◌, ◌≤◌, [], 
 ghost use Rattle.dirty_lanes.specs.Named.{no_steps};
 
 use crate::lanes::{LaneName, LaneSeat, LaneTable, Lanes};
+use crate::limits::MAX_LANE_FIELDS;
 use crate::rule::{LaneRule, LaneSize, NewPacker};
 use crate::seats::{PackSeat, SimSeat};
 use crate::words::WORDS;
 use atomic_table::Table;
 use std::alloc::{AllocError, Global};
 use std::marker::{Model, PhantomData};
-use tn_types::{MAX_CLIENTS, MAX_FIELDS, MAX_OBJECTS, NoMemory};
+use tn_types::{MAX_CLIENTS, MAX_OBJECTS, NoMemory};
 
 /// The words and all seats, with no name yet.
 #[derive(Drop)]
@@ -77,7 +78,7 @@ impl FreshLanes {
         requires few_clients { clients ≤ MAX_CLIENTS }
         ensures { IfOk result (λ fresh. (fresh.objects ≡ objects) × (fresh.clients ≡ clients)) }
     {
-        let versions = no_versions(alloc, MAX_FIELDS * objects as usize)?;
+        let versions = no_versions(alloc, MAX_LANE_FIELDS * objects as usize)?;
         let zeros = zero_words(alloc, WORDS * objects as usize + 1)?;
         let size = LaneSize { objects, clients };
         let (table, mut sim): (LaneTable, LaneSeat) = Table::of_words(

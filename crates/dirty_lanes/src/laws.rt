@@ -2,7 +2,7 @@
 
 ghost use Rattle.std.specs.Prelude.{ℕ, ◌≡◌, ◌<◌, ◌↔◌, true, false, List, ◌∷◌, Any, IsBitSet};
 ghost use Rattle.tn_types.specs.BitWords.{has_bit};
-ghost use Rattle.tn_types.specs.declared.limits.TheConstants.{MAX_FIELDS};
+ghost use Rattle.dirty_lanes.specs.declared.limits.TheConstants.{MAX_LANE_FIELDS};
 ghost use Rattle.dirty_lanes.specs.declared.view.SimStep.{SimStep};
 ghost use Rattle.dirty_lanes.specs.declared.view.PackStep.{PackStep};
 ghost use Rattle.dirty_lanes.specs.declared.view.PackView.{PackView};
@@ -37,7 +37,7 @@ pub fn read_pays()
 /// Where the lanes have ended, a field that is neither owed nor pending was read newest, or the client's bit is set.
 pub fn newest_was_read()
     ensures { (sim : List SimStep) (words : Words) (pack : PackView) (object field : ℕ) → IsHeard sim words pack
-        → field < MAX_FIELDS → object < words.objects
+        → field < MAX_LANE_FIELDS → object < words.objects
         → owes pack.steps object field ≡ false → pending sim pack.client object field ≡ false
         → has_bit (mask_at words pack.client object) field ≡ false → last_read pack.steps object field ≡ newest sim object field }
 {}

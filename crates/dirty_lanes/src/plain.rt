@@ -4,10 +4,11 @@ ghost use Rattle.std.specs.Prelude.{ℕ, ◌≡◌, ◌≢◌, ◌+◌, ◌^◌,
 ghost use Rattle.dirty_lanes.specs.Words.{version_at, value_at, mask_at, new_words, after_write, after_raise, after_drain, SizesStay, FieldsStay, MasksStay, OtherFieldsStay, OtherMasksStay};
 ghost use Rattle.dirty_lanes.specs.Log.{LaneEvent, Wrote, Raised, Drained, Read, version_of, last_value, mask_of, raised_for, StandsFor};
 
+use crate::limits::MAX_LANE_FIELDS;
 use crate::words::{WORDS, field_word, mask_word, packed, value_in, version_in};
 use std::alloc::Global;
 use std::marker::Model;
-use tn_types::{MAX_CLIENTS, MAX_FIELDS, MAX_OBJECTS, NoMemory};
+use tn_types::{MAX_CLIENTS, MAX_OBJECTS, NoMemory};
 
 /// The lanes of one thread, over a fixed number of objects and clients. The rules stand in docs/world.md,
 /// "Lanes".
@@ -88,7 +89,7 @@ impl PlainLanes {
     /// Writes a field: it has one more version, and this value. It tells no client; `raise` does.
     pub fn write(&mut self, object: u32, field: u8, value: u32)
         requires object { object < self.old.objects }
-        requires field { field < MAX_FIELDS }
+        requires field { field < MAX_LANE_FIELDS }
         requires not_worn { version_at self.old object field < u32.MAX }
         ensures words { self.new ≡ after_write self.old object field value }
         ensures version { version_at self.new object field ≡ version_at self.old object field + 1 }
@@ -106,7 +107,7 @@ impl PlainLanes {
     pub fn raise(&mut self, client: u8, object: u32, bits: u32)
         requires client { client < self.old.clients }
         requires object { object < self.old.objects }
-        requires bits { bits < 2 ^ MAX_FIELDS }
+        requires bits { bits < 2 ^ MAX_LANE_FIELDS }
         ensures words { self.new ≡ after_raise self.old client object bits }
         ensures mask { mask_at self.new client object ≡ bit_or (mask_at self.old client object) bits }
         ensures masks { OtherMasksStay self.old self.new client object }
@@ -121,7 +122,7 @@ impl PlainLanes {
     pub fn raise_for_all(&mut self, object: u32, bits: u32)
         requires clients { self.old.clients ≡ MAX_CLIENTS }
         requires object { object < self.old.objects }
-        requires bits { bits < 2 ^ MAX_FIELDS }
+        requires bits { bits < 2 ^ MAX_LANE_FIELDS }
         ensures raised { (c : ℕ) → c < MAX_CLIENTS → mask_at self.new c object ≡ bit_or (mask_at self.old c object) bits }
         ensures masks { (c o : ℕ) → c < MAX_CLIENTS → o ≢ object → mask_at self.new c o ≡ mask_at self.old c o }
         ensures fields { FieldsStay self.old self.new }
@@ -136,7 +137,7 @@ impl PlainLanes {
         requires client { client < self.old.clients }
         requires object { object < self.old.objects }
         ensures answer { result ≡ mask_at self.old client object }
-        ensures narrow { result < 2 ^ MAX_FIELDS }
+        ensures narrow { result < 2 ^ MAX_LANE_FIELDS }
         ensures words { self.new ≡ after_drain self.old client object }
         ensures mask { mask_at self.new client object ≡ 0 }
         ensures masks { OtherMasksStay self.old self.new client object }
@@ -155,7 +156,7 @@ impl PlainLanes {
     pub fn read(&mut self, client: u8, object: u32, field: u8) -> (u32, u32)
         requires client { client < self.old.clients }
         requires object { object < self.old.objects }
-        requires field { field < MAX_FIELDS }
+        requires field { field < MAX_LANE_FIELDS }
         ensures version { result.0 ≡ version_at self.old object field }
         ensures value { result.1 ≡ value_at self.old object field }
         ensures words { self.new ≡ self.old }
@@ -172,7 +173,7 @@ impl PlainLanes {
         requires client { client < self.now.clients }
         requires object { object < self.now.objects }
         ensures answer { result ≡ mask_at self.now client object }
-        ensures narrow { result < 2 ^ MAX_FIELDS }
+        ensures narrow { result < 2 ^ MAX_LANE_FIELDS }
         ensures log_answer { (log : List LaneEvent) → StandsFor self.now log → result ≡ mask_of log client object }
     {
         self.words[mask_word(client, object)] as u32

@@ -4,7 +4,7 @@
 //! joined. The rule holds between any two of them.
 
 ghost use Rattle.std.specs.Prelude.{◌≡◌, ◌<◌, ◌^◌};
-ghost use Rattle.tn_types.specs.declared.limits.TheConstants.{MAX_FIELDS};
+ghost use Rattle.dirty_lanes.specs.declared.limits.TheConstants.{MAX_LANE_FIELDS};
 ghost use Rattle.dirty_lanes.specs.Rule.{RuleHolds, with_write, with_raise, with_drain, with_read, NotBelow, IsOpened, one_less, new_packer, with_packer};
 
 use crate::view::View;
@@ -45,7 +45,7 @@ impl Play<(), View> for Raises {
 pub(crate) struct Swaps;
 
 impl Play<(), View> for Swaps {
-    ghost then = { λ s me n w. (w.0 ≡ with_drain s.word n me.0) × (w.1 ≡ me.1) × (n < 2 ^ MAX_FIELDS) };
+    ghost then = { λ s me n w. (w.0 ≡ with_drain s.word n me.0) × (w.1 ≡ me.1) × (n < 2 ^ MAX_LANE_FIELDS) };
 }
 
 pub(crate) struct Loads;

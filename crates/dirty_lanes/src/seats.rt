@@ -6,10 +6,11 @@ ghost use Rattle.dirty_lanes.specs.Views.{newest, pending, last_read, VersionsRi
 
 use crate::lanes::{LaneName, LaneSeat, Lanes};
 use crate::laws::raise_tells;
+use crate::limits::MAX_LANE_FIELDS;
 use crate::rule::{Loads, Raises, Stores, Swaps};
 use crate::words::{field_word, mask_word, packed, value_in, version_in};
 use std::marker::{Model, PhantomData};
-use tn_types::{MAX_CLIENTS, MAX_FIELDS};
+use tn_types::MAX_CLIENTS;
 
 /// The simulation's seat. Contracts see what it did, the newest first.
 #[derive(Drop)]
@@ -35,22 +36,22 @@ impl<N: LaneName> SimSeat<N> {
     /// How often a field was written.
     pub fn version(&self, object: u32, field: u8) -> u32
         requires object { object < N.objects }
-        requires field { field < MAX_FIELDS }
+        requires field { field < MAX_LANE_FIELDS }
         ensures { result ≡ newest self.now.steps object field }
     {
-        self.versions[MAX_FIELDS * object as usize + field as usize]
+        self.versions[MAX_LANE_FIELDS * object as usize + field as usize]
     }
 
     /// Writes a field: it has one more version, and this value. It tells no client; `raise` does.
     pub fn write(&mut self, lanes: &Lanes<N>, object: u32, field: u8, value: u32)
         requires object { object < lanes.now.objects }
-        requires field { field < MAX_FIELDS }
+        requires field { field < MAX_LANE_FIELDS }
         requires not_worn { newest self.old.steps object field < u32.MAX }
         ensures { self.new ≡ sim_with self.old (a_write object field value) }
     {
         // for its clauses
         let _objects = lanes.objects;
-        let at = MAX_FIELDS * object as usize + field as usize;
+        let at = MAX_LANE_FIELDS * object as usize + field as usize;
         let version = self.versions[at] + 1;
         let word = packed(version, value);
         lanes
@@ -64,7 +65,7 @@ impl<N: LaneName> SimSeat<N> {
     pub fn raise(&mut self, lanes: &Lanes<N>, client: u8, object: u32, bits: u32)
         requires client { client < lanes.now.clients }
         requires object { object < lanes.now.objects }
-        requires bits { bits < 2 ^ MAX_FIELDS }
+        requires bits { bits < 2 ^ MAX_LANE_FIELDS }
         ensures { self.new ≡ sim_with self.old (a_raise client object bits) }
     {
         // for its clauses
@@ -87,10 +88,10 @@ impl<N: LaneName> SimSeat<N> {
         bits: u32,
     )
         requires object { object < lanes.now.objects }
-        requires field { field < MAX_FIELDS }
+        requires field { field < MAX_LANE_FIELDS }
         requires not_worn { newest self.old.steps object field < u32.MAX }
         requires client { client < lanes.now.clients }
-        requires bits { bits < 2 ^ MAX_FIELDS }
+        requires bits { bits < 2 ^ MAX_LANE_FIELDS }
         requires own { has_bit bits field ≡ true }
         ensures steps { self.new ≡ sim_with (sim_with self.old (a_write object field value)) (a_raise client object bits) }
         ensures told { pending self.new.steps client object field ≡ false }
@@ -135,7 +136,7 @@ impl<N: LaneName> PackSeat<N> {
     pub fn drain(&mut self, lanes: &Lanes<N>, object: u32) -> u32
         requires object { object < lanes.now.objects }
         ensures step { self.new ≡ pack_with self.old (a_drain object result) }
-        ensures narrow { result < 2 ^ MAX_FIELDS }
+        ensures narrow { result < 2 ^ MAX_LANE_FIELDS }
     {
         lanes
             .table
@@ -146,7 +147,7 @@ impl<N: LaneName> PackSeat<N> {
     /// The version and the value of a field. No version is below one that was read before.
     pub fn read(&mut self, lanes: &Lanes<N>, object: u32, field: u8) -> (u32, u32)
         requires object { object < lanes.now.objects }
-        requires field { field < MAX_FIELDS }
+        requires field { field < MAX_LANE_FIELDS }
         ensures step { self.new ≡ pack_with self.old (a_read object field result.0 result.1) }
         ensures newer { last_read self.old.steps object field ≤ result.0 }
         ensures opening { result.0 ≡ 0 → result.1 ≡ 0 }

@@ -6,17 +6,18 @@
 ghost use Rattle.std.specs.Prelude.{◌≡◌, ◌*◌, ◌+◌, ◌/◌, ◌%◌, ◌<◌};
 ghost use Rattle.dirty_lanes.specs.Words.{field_word, mask_word, packed};
 
-use tn_types::{MAX_CLIENTS, MAX_FIELDS};
+use crate::limits::MAX_LANE_FIELDS;
+use tn_types::MAX_CLIENTS;
 
 /// The words of an object: one for each field and one for each client.
-pub(crate) const WORDS: usize = MAX_FIELDS + MAX_CLIENTS as usize;
+pub(crate) const WORDS: usize = MAX_LANE_FIELDS + MAX_CLIENTS as usize;
 
 /// What one version adds to a field's word: the value stands in the 32 bits below it.
 pub(crate) const VERSION: u64 = 4_294_967_296;
 
 // The place of a field's word.
 pub(crate) fn field_word(object: u32, field: u8) -> usize
-    requires { field < MAX_FIELDS }
+    requires { field < MAX_LANE_FIELDS }
     ensures { result ≡ field_word object field }
 {
     WORDS * object as usize + field as usize + 1
@@ -27,7 +28,7 @@ pub(crate) fn mask_word(client: u8, object: u32) -> usize
     requires { client < MAX_CLIENTS }
     ensures { result ≡ mask_word client object }
 {
-    WORDS * object as usize + (MAX_FIELDS + client as usize) + 1
+    WORDS * object as usize + (MAX_LANE_FIELDS + client as usize) + 1
 }
 
 // A field's word with this version and value.

@@ -158,7 +158,8 @@ impl Guests {
 
     // An address that repeated its number has a place, where one is to be had.
     fn admit(&mut self, address: Address) -> Option<usize>
-        ensures place { IfSome result (λ i. Seats self.old.places address self.old.heard i self.new.places (place_at self.old.places address)) }
+        ensures place { IfSome result (λ i. Seats self.old.places address self.old.heard i self.new.places
+            (place_at self.old.places address)) }
         ensures full { IsNone result → (place_at self.old.places address ≡ None) × AllHaveClients self.old.places
             × (self.new.places ≡ self.old.places) }
         ensures counts { self.new.heard ≡ self.old.heard }

@@ -2,7 +2,8 @@
 -- steps before it, what it answers of them, and what all of them together mean.
 use Rattle.std.specs.Prelude.{◌≡◌, ℕ, ℤ, ◌*◌, ◌<◌, ◌≤◌, Bool, true, Option, Result, Ok, Err, List, [], reverse, length, take, slice_index}
 use Rattle.std.specs.List.{AllByRecursion}
-use Rattle.tn_types.specs.declared.limits.TheConstants.{MAX_PACKET_MOVES, MAX_KEPT_STEPS}
+use Rattle.tn_types.specs.declared.limits.TheConstants.{MAX_PACKET_MOVES}
+use Rattle.kept_pair.specs.declared.limits.TheConstants.{MAX_KEPT_STEPS}
 use Rattle.tn_types.specs.declared.choices.Drain.{Drain}
 use Rattle.tn_types.specs.declared.moves.MoveBits.{MoveBits}
 use Rattle.pair_core.specs.stream_manager.Limits.{Terms}

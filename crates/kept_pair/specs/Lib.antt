@@ -3,3 +3,4 @@ pub use Rattle.pair_core.specs.conn_packing as conn_packing
 pub mod StepLists
 pub mod Kept
 pub mod Bringing
+pub mod Limits

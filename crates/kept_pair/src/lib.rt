@@ -7,11 +7,13 @@ mod entry;
 mod events;
 mod fault;
 mod given;
+mod limits;
 mod may;
 mod pair;
 mod step_list;
 
 pub use fault::KeepFault;
+pub use limits::MAX_KEPT_STEPS;
 pub use pair::KeptPair;
 pub use pair_core;
 pub use step_list::StepList;

@@ -4,14 +4,14 @@ ghost use Rattle.tn_types.specs.declared.choices.Read.{Read};
 
 use crate::fault::KeepFault;
 use crate::given::{add_moves, brought, learn_payload};
+use crate::limits::MAX_KEPT_STEPS;
 use crate::step_list::StepList;
 use pair_core::conn_packing::{MAX_PACKET_VALUES, Noting};
 use pair_core::{Answer, Pair, PairStep};
 use std::alloc::Global;
 use std::marker::Model;
 use tn_types::{
-    Class, Drain, MAX_KEPT_STEPS, MAX_PACKET_MOVES, MAX_SHOWN_PERIODS, MoveBits, NoMemory, Payload,
-    Read, Values,
+    Class, Drain, MAX_PACKET_MOVES, MAX_SHOWN_PERIODS, MoveBits, NoMemory, Payload, Read, Values,
 };
 
 /// A pair that keeps the steps that are made on it.

@@ -3,11 +3,12 @@ ghost use Rattle.std.specs.Prelude.{◌≡◌, true, ◌<◌, ◌≤◌, ◌+◌
 ghost use Rattle.kept_pair.specs.StepLists.{kept_of, is_pack, drains_at, reads_at, drains_start, reads_start, part};
 
 use crate::entry::Entry;
+use crate::limits::MAX_KEPT_STEPS;
 use pair_core::PairStep;
 use pair_core::conn_packing::MAX_PACKET_VALUES;
 use std::alloc::Global;
 use std::marker::Model;
-use tn_types::{Drain, MAX_KEPT_STEPS, NoMemory, Read};
+use tn_types::{Drain, NoMemory, Read};
 
 /// Steps in the order in which they were made, each pack with what it drained and read.
 ///
@@ -23,7 +24,7 @@ pub struct StepList {
 impl Model for StepList {
     ghost use Rattle.std.specs.Prelude.{◌+◌, ◌-◌, ◌≤◌, nat_le, nat_lt, ◌&&◌, length, vec_len, vec_capacity};
     ghost use Rattle.pair_core.specs.conn_packing.declared.asking.TheConstants.{MAX_PACKET_VALUES};
-    ghost use Rattle.tn_types.specs.declared.limits.TheConstants.{MAX_KEPT_STEPS};
+    ghost use Rattle.kept_pair.specs.declared.limits.TheConstants.{MAX_KEPT_STEPS};
     ghost use Rattle.kept_pair.specs.StepLists.{Steps, cut, Rise};
 
     ghost Value = { Steps };

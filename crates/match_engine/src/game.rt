@@ -21,14 +21,13 @@ use ghost_scope::PlaceNotes;
 use match_laws::client_seat::Seat;
 use match_laws::pair_core::Pair;
 use match_report::Told;
-use match_script::{BodyLine, Head};
+use match_script::{BodyLine, Head, MAX_COUNTED_LINES};
 use quantised_fields::KindTable;
 use std::alloc::Global;
 use std::marker::Model;
 use stream_manager::Config;
 use tn_types::{
-    BlockBytes, MAX_BLOCKS, MAX_CLIENTS, MAX_COUNTED_LINES, MAX_OBJECTS, MoveBits, NoMemory,
-    RawBytes, WORLD_MOVE_BITS,
+    BlockBytes, MAX_BLOCKS, MAX_CLIENTS, MAX_OBJECTS, MoveBits, NoMemory, RawBytes, WORLD_MOVE_BITS,
 };
 use world_rules::match_kinds;
 use world_sim::World;

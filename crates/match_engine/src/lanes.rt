@@ -7,9 +7,9 @@ ghost use Rattle.match_laws.specs.own_lists.Kept.{has_bits};
 ghost use Rattle.match_engine.specs.Serving.{OthersStay, AreApart, marked, is_of, raised_by};
 
 use client_scope::ShownPeriod;
-use dirty_lanes::PlainLanes;
+use dirty_lanes::{MAX_LANE_FIELDS, PlainLanes};
 use std::alloc::AllocError;
-use tn_types::{Drain, MAX_FIELDS};
+use tn_types::Drain;
 use world_scope::Seen;
 use world_sim::Write;
 
@@ -75,7 +75,7 @@ pub(crate) fn clear_all(lanes: &mut PlainLanes, client: u8, shows: &[Seen])
 fn raise_one(lanes: &mut PlainLanes, write: &Write)
     requires clients { lanes.old.clients ≡ MAX_CLIENTS }
     requires object { write.now.object < lanes.old.objects }
-    requires field { write.now.field < MAX_FIELDS }
+    requires field { write.now.field < MAX_LANE_FIELDS }
     ensures masks { (d o : ℕ) → d < MAX_CLIENTS → mask_at lanes.new d o
         ≡ (if write.now.object == o then bit_or (mask_at lanes.old d o) (2 ^ write.now.field) else mask_at lanes.old d o) }
     ensures sizes { SizesStay lanes.old lanes.new }
@@ -87,7 +87,7 @@ fn raise_one(lanes: &mut PlainLanes, write: &Write)
 pub(crate) fn raise_all(lanes: &mut PlainLanes, writes: &[Write])
     requires clients { lanes.old.clients ≡ MAX_CLIENTS }
     requires objects { All (λ w. w.object < lanes.old.objects) writes.now }
-    requires fields { All (λ w. w.field < MAX_FIELDS) writes.now }
+    requires fields { All (λ w. w.field < MAX_LANE_FIELDS) writes.now }
     ensures masks { (d o : ℕ) → d < MAX_CLIENTS → mask_at lanes.new d o ≡ raised_by writes.now o (mask_at lanes.old d o) }
     ensures sizes { SizesStay lanes.old lanes.new }
 {

@@ -9,10 +9,10 @@ use crate::game::{Game, Keeps};
 use client_scope::Scope;
 use match_laws::pair_core::Pair;
 use match_report::Told;
-use match_script::{BodyLine, Script};
+use match_script::{BodyLine, MAX_COUNTED_LINES, Script};
 use std::alloc::Global;
 use std::marker::Model;
-use tn_types::{MAX_COUNTED_LINES, NoMemory};
+use tn_types::NoMemory;
 use world_sim::World;
 
 /// A match of up to 16 clients, each with a connection of its own, by a script. After an error it has ended: no other line

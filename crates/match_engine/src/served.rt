@@ -6,10 +6,10 @@ ghost use Rattle.match_script.specs.Ranges.{HeadFits, LineFits};
 use crate::game::{Game, Keeps};
 use crate::played::let_go;
 use match_report::Told;
-use match_script::{BodyLine, Script};
+use match_script::{BodyLine, MAX_COUNTED_LINES, Script};
 use std::alloc::Global;
 use std::marker::Model;
-use tn_types::{MAX_COUNTED_LINES, NoMemory};
+use tn_types::NoMemory;
 
 /// A match that is served to up to 16 clients which are somewhere else. What it told of a pack is its datagram, until the next line is
 /// done: nothing of it is kept, so a served match takes no more memory as it goes on. After an error it has ended: no other line

@@ -1,7 +1,9 @@
 -- What the lines of a header say: the format, the numbers of a match, its blocks, and what stands in its world at the start.
 use Rattle.std.specs.Prelude.{ℕ, pos, ◌≡◌, ◌^◌, List, [], ◌∷◌, length, ◌&&◌, Bool, true, false, nat_lt, if◌then◌else◌, codes, Option, Some, None, Result, Ok, Err, refl}
 use Rattle.std.specs.List.{list_all}
-use Rattle.tn_types.specs.declared.limits.TheConstants.{MAX_CLIENTS, MAX_LIFE, MIN_DATAGRAM_BYTES, MAX_DATAGRAM_BYTES, MAX_RADIUS, MAX_BLOCKS, MAX_BLOCK_BYTES, MAX_OBJECTS, MAX_COORDINATE}
+use Rattle.tn_types.specs.declared.limits.TheConstants.{MAX_CLIENTS, MAX_LIFE, MIN_DATAGRAM_BYTES, MAX_DATAGRAM_BYTES, MAX_BLOCKS, MAX_BLOCK_BYTES, MAX_OBJECTS}
+use Rattle.match_script.specs.declared.limits.TheConstants.{MAX_RADIUS}
+use Rattle.world_rules.specs.declared.limits.TheConstants.{MAX_COORDINATE}
 use Rattle.world_rules.specs.declared.kinds.TheConstants.{PLAYER, MINE, DRONE, FLAG, CLOCK}
 use Rattle.world_rules.specs.declared.setup.Spawn.{Spawn}
 use Rattle.match_script.specs.declared.types.ScriptFault.{ScriptFault}

@@ -10,3 +10,4 @@ pub mod Following
 pub mod Ranges
 pub mod Print
 pub mod Said
+pub mod Limits

@@ -3,7 +3,8 @@
 use Rattle.std.specs.Prelude.{ℕ, ◌≡◌, ◌^◌, ◌<◌, ◌≤◌, List, length}
 use Rattle.std.specs.List.{All}
 use Rattle.tn_types.specs.Bytes.{AreBytes}
-use Rattle.tn_types.specs.declared.limits.TheConstants.{MAX_CLIENTS, MAX_LIFE, MIN_DATAGRAM_BYTES, MAX_DATAGRAM_BYTES, MAX_RADIUS, MAX_BODY_LINES, MAX_EVENT_BYTES, MAX_BLOCKS, MAX_BLOCK_BYTES}
+use Rattle.tn_types.specs.declared.limits.TheConstants.{MAX_CLIENTS, MAX_LIFE, MIN_DATAGRAM_BYTES, MAX_DATAGRAM_BYTES, MAX_EVENT_BYTES, MAX_BLOCKS, MAX_BLOCK_BYTES}
+use Rattle.match_script.specs.declared.limits.TheConstants.{MAX_RADIUS, MAX_BODY_LINES}
 use Rattle.world_rules.specs.Spawning.{SetupFits}
 use Rattle.match_script.specs.declared.limits.TheConstants.{MIN_VERSION, MAX_VERSION}
 use Rattle.match_script.specs.declared.types.BodyLine.{BodyLine}

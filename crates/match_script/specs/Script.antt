@@ -2,7 +2,7 @@
 -- script, it has a least line that can't stand where it stands, and that line's first fault.
 use Rattle.std.specs.Prelude.{ℕ, pos, ◌≡◌, zero, suc, ◌+◌, List, [], ◌∷◌, ◌++◌, length, Bool, true, false, not, nat_le, if◌then◌else◌, codes, Option, Some, None, Result, Ok, Err, refl}
 use Rattle.std.specs.Option.{option_map_or}
-use Rattle.tn_types.specs.declared.limits.TheConstants.{MAX_BODY_LINES, MAX_THREAD_TICKS}
+use Rattle.match_script.specs.declared.limits.TheConstants.{MAX_BODY_LINES, MAX_THREAD_TICKS}
 use Rattle.world_rules.specs.declared.setup.Spawn.{Spawn}
 use Rattle.match_script.specs.declared.types.ScriptFault.{ScriptFault}
 use Rattle.match_script.specs.declared.types.ScriptFault.TheVariants.{NotText, BadHeader, TooManyLines}

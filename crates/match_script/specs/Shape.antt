@@ -2,7 +2,7 @@
 -- line's end is not looked for before.
 use Rattle.std.specs.Prelude.{ℕ, ◌≡◌, ◌==◌, ◌&&◌, nat_lt, nat_le, suc, take, drop, List, [], ◌∷◌, Bool, true, false, if◌then◌else◌, Result, Err}
 use Rattle.std.specs.List.{position_or_len}
-use Rattle.tn_types.specs.declared.limits.TheConstants.{MAX_BODY_LINES}
+use Rattle.match_script.specs.declared.limits.TheConstants.{MAX_BODY_LINES}
 use Rattle.match_script.specs.Text.{is_text, words_of}
 use Rattle.match_script.specs.Lines.{body_line}
 use Rattle.match_script.specs.declared.types.BodyLine.{BodyLine}

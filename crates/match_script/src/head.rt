@@ -9,15 +9,14 @@ ghost use Rattle.match_script.specs.Script.{Gives, header_words, block_in, block
 ghost use Rattle.match_script.specs.Ranges.{BlockFits, HeadFits};
 
 use crate::cut::{cut_line, is_text};
-use crate::limits::{MAX_VERSION, MIN_VERSION};
+use crate::limits::{MAX_RADIUS, MAX_VERSION, MIN_VERSION};
 use crate::objects::objects_of;
 use crate::types::{Blocks, Head, ParseFault, ScriptFault};
 use crate::word;
 use crate::words::{Words, parted};
 use std::alloc::Global;
 use tn_types::{
-    BlockBytes, MAX_BLOCKS, MAX_CLIENTS, MAX_DATAGRAM_BYTES, MAX_LIFE, MAX_RADIUS,
-    MIN_DATAGRAM_BYTES,
+    BlockBytes, MAX_BLOCKS, MAX_CLIENTS, MAX_DATAGRAM_BYTES, MAX_LIFE, MIN_DATAGRAM_BYTES,
 };
 use world_rules::{Setup, Spawns};
 

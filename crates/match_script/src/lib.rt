@@ -18,7 +18,9 @@ mod words;
 pub use cut::{cut_line, is_text};
 pub use head::{header, header_line, match_line, misplaced};
 pub use held::{LineDatagram, LinePayload};
-pub use limits::{MAX_VERSION, MIN_VERSION};
+pub use limits::{
+    MAX_BODY_LINES, MAX_COUNTED_LINES, MAX_RADIUS, MAX_THREAD_TICKS, MAX_VERSION, MIN_VERSION,
+};
 pub use line::LineFault;
 pub use printer::{grows_by_a_line, print, print_head, put_line};
 pub use reader::{BARE_HEADER_LINES, header_length, next_line, parse, parse_threads};

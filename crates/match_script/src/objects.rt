@@ -15,9 +15,9 @@ use crate::types::{ParseFault, ScriptFault};
 use crate::word;
 use crate::words::{Words, parted};
 use std::alloc::Global;
-use tn_types::{MAX_BLOCKS, MAX_CLIENTS, MAX_COORDINATE, MAX_OBJECTS};
+use tn_types::{MAX_BLOCKS, MAX_CLIENTS, MAX_OBJECTS};
 use world_rules::kinds::{CLOCK, DRONE, FLAG, MINE, PLAYER};
-use world_rules::{Spawn, Spawns};
+use world_rules::{MAX_COORDINATE, Spawn, Spawns};
 
 // Lines of a header without blocks and objects.
 const BARE_LINES: u32 = 3;

@@ -9,11 +9,12 @@ ghost use Rattle.match_script.specs.Shape.{first_line, words_at};
 
 use crate::cut::{cut_line, is_text};
 use crate::head::header;
+use crate::limits::{MAX_BODY_LINES, MAX_THREAD_TICKS};
 use crate::line::{LineFault, words_line};
 use crate::types::{Body, BodyLine, Head, ParseFault, Script, ScriptFault};
 use crate::words::{Words, first_words, parted};
 use std::alloc::Global;
-use tn_types::{MAX_BLOCKS, MAX_BODY_LINES, MAX_OBJECTS, MAX_THREAD_TICKS};
+use tn_types::{MAX_BLOCKS, MAX_OBJECTS};
 
 /// Lines of a header without blocks and objects.
 pub const BARE_HEADER_LINES: u32 = 3;

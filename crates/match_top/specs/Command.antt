@@ -2,7 +2,8 @@
 -- its range and written in decimal digits, as in a script.
 use Rattle.std.specs.Prelude.{ℕ, ◌≡◌, ◌+◌, ◌-◌, ◌^◌, ◌<◌, ◌≤◌, max, take, List, [], ◌∷◌, ◌++◌, length, Bool, if◌then◌else◌, codes, Result, Ok, Err, refl}
 use Rattle.std.specs.Fmt.{decimal}
-use Rattle.tn_types.specs.declared.limits.TheConstants.{MAX_CLIENTS, MAX_BODY_LINES}
+use Rattle.tn_types.specs.declared.limits.TheConstants.{MAX_CLIENTS}
+use Rattle.match_script.specs.declared.limits.TheConstants.{MAX_BODY_LINES}
 use Rattle.match_script.specs.Words.{number, number_from}
 use Rattle.command_words.specs.Said.{is_name, is_from, agreeing, agrees, number_at}
 use Rattle.match_top.specs.declared.command.Command.{Command}

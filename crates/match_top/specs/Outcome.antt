@@ -3,7 +3,7 @@
 -- text that it makes of its script. Every other end has its cause, and a fault is answered exactly where there was one.
 use Rattle.std.specs.Prelude.{ℕ, ◌≡◌, ◌+◌, ◌<◌, ◌≤◌, ◌⊎◌, List, reverse, Option, Result, Ok, Err}
 use Rattle.std.specs.List.{flat_map}
-use Rattle.tn_types.specs.declared.limits.TheConstants.{MAX_SCRIPT_BYTES}
+use Rattle.script_input.specs.declared.limits.TheConstants.{MAX_SCRIPT_BYTES}
 use Rattle.tn_outside.specs.Totals.{Adds, AddsFront}
 use Rattle.match_script.specs.Script.{script_of}
 use Rattle.match_script.specs.Ranges.{HasRanges}

@@ -3,7 +3,8 @@ ghost use Rattle.std.specs.Prelude.{◌≡◌, ◌∷◌, map, string_bytes, cod
 ghost use Rattle.match_top.specs.Command.{command_of};
 
 use command_words::number_at;
-use tn_types::{MAX_BODY_LINES, MAX_CLIENTS};
+use match_script::MAX_BODY_LINES;
+use tn_types::MAX_CLIENTS;
 
 // The greatest numbers of a client, and of clients.
 const LAST_CLIENT: u32 = MAX_CLIENTS as u32 - 1;

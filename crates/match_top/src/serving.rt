@@ -15,11 +15,10 @@ use match_count::match_laws::laws_of_matches;
 use match_count::{count, put_counts};
 use match_script::Script;
 use report_laws::laws_of_reports;
-use script_input::{Status, end_call, read_script};
+use script_input::{MAX_SCRIPT_BYTES, Status, end_call, read_script};
 use script_maker::make;
 use std::alloc::Global;
 use tn_outside::{RunFault, Sink, Source, write_all};
-use tn_types::MAX_SCRIPT_BYTES;
 use two_worlds::run_alone;
 
 /// The script of a command, or why it has none.

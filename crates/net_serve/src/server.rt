@@ -6,12 +6,12 @@ use crate::fault::fault_of;
 use crate::watch::Watch;
 use match_engine::Served;
 use match_report::Told;
-use match_script::{BodyLine, Script, put_line};
+use match_script::{BodyLine, MAX_COUNTED_LINES, Script, put_line};
 use net_rules::{Hello, NetFault, Peers, WELCOME_BYTES, hello_of, is_arrival, welcome};
 use std::alloc::Global;
 use std::marker::Model;
 use tn_outside::{Link, Peer, RunFault, Sink, write_all};
-use tn_types::{MAX_CLIENTS, MAX_COUNTED_LINES, NoMemory, are_bytes};
+use tn_types::{MAX_CLIENTS, NoMemory, are_bytes};
 
 /// A match that is served, and who has a client.
 pub struct Server<'a> {

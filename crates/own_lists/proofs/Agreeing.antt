@@ -2,7 +2,8 @@
 use Rattle.std.proofs.Common.{◌≡◌, ℕ, suc, ◌≤◌, Bool, true, false, cond, nat_eq, List, [], ◌∷◌, length, refl, sym, subst, arith}
 use Rattle.std.proofs.lemmas.Bool.{eqb-true}
 use Rattle.std.proofs.lemmas.List.Elements.{All-from_recursion}
-use Rattle.tn_types.specs.declared.limits.TheConstants.{MAX_SHOWS, MAX_COUNTED_LINES}
+use Rattle.tn_types.specs.declared.limits.TheConstants.{MAX_SHOWS}
+use Rattle.match_script.specs.declared.limits.TheConstants.{MAX_COUNTED_LINES}
 use Rattle.ghost_model.specs.Words.{upto}
 use Rattle.pair_steps.specs.stream_manager.Limits.{Terms}
 use Rattle.match_script.specs.declared.types.BodyLine.{BodyLine}

@@ -2,7 +2,7 @@
 -- newest values, and control where it is the client's own player.
 use Rattle.std.specs.Prelude.{◌≡◌, ℕ, ◌<◌, ◌≤◌, List, map, length, slice_get, Some}
 use Rattle.std.specs.List.{All}
-use Rattle.tn_types.specs.declared.limits.TheConstants.{MAX_COUNTED_LINES}
+use Rattle.match_script.specs.declared.limits.TheConstants.{MAX_COUNTED_LINES}
 use Rattle.match_script.specs.declared.types.BodyLine.{BodyLine}
 use Rattle.match_script.specs.declared.types.Head.{Head}
 use Rattle.match_script.specs.Ranges.{HeadFits, LineFits}

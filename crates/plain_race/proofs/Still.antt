@@ -6,7 +6,7 @@ use Rattle.std.specs.List.{range_with_len, AllByRecursion}
 use Rattle.std.proofs.lemmas.Bool.{eqb-true, eq-eqb}
 use Rattle.std.proofs.lemmas.List.{reverse-append, take-replicate, map-append}
 use Rattle.std.proofs.lemmas.List.Elements.{All-from_recursion}
-use Rattle.tn_types.specs.declared.limits.TheConstants.{MAX_BODY_LINES}
+use Rattle.match_script.specs.declared.limits.TheConstants.{MAX_BODY_LINES}
 use Rattle.tn_types.specs.declared.choices.Class.{Class}
 use Rattle.tn_types.specs.declared.moves.MoveBits.{MoveBits}
 use Rattle.match_script.specs.declared.types.BodyLine.{BodyLine}

@@ -3,7 +3,7 @@
 use Rattle.std.specs.Prelude.{◌≡◌, ℕ, ◌≤◌, Bool, true, false, List, [], ◌∷◌, ◌++◌, length, map, reverse, take, slice_get, Some}
 use Rattle.std.specs.List.{AllByRecursion}
 use Rattle.std.specs.Option.{option_and_then}
-use Rattle.tn_types.specs.declared.limits.TheConstants.{MAX_KEPT_STEPS}
+use Rattle.kept_pair.specs.declared.limits.TheConstants.{MAX_KEPT_STEPS}
 use Rattle.match_script.specs.declared.types.BodyLine.{BodyLine}
 use Rattle.pair_core.specs.stream_manager.Limits.{Terms}
 use Rattle.pair_core.specs.History.{PairStep, Show, Hide, Near, Post, Pack}

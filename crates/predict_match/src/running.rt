@@ -1,6 +1,6 @@
 //! The run of a script, line by line, beside a prediction of one client's player.
 ghost use Rattle.std.specs.Prelude.{◌≡◌, ◌<◌, List, ◌∷◌, OnOk, OnErr, IfOk, Err, length};
-ghost use Rattle.tn_types.specs.declared.limits.TheConstants.{MAX_COUNTED_LINES};
+ghost use Rattle.match_script.specs.declared.limits.TheConstants.{MAX_COUNTED_LINES};
 ghost use Rattle.tn_outside.specs.Causes.{HandsOn};
 ghost use Rattle.tn_outside.specs.Totals.{Adds, AddsFront};
 ghost use Rattle.match_script.specs.declared.types.BodyLine.{BodyLine as OneLine};

@@ -2,3 +2,4 @@ pub mod Nearest
 pub mod Gaps
 pub mod Specs
 pub mod Limits
+pub mod Agreeing

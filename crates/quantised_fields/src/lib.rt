@@ -9,6 +9,7 @@ mod kind;
 /// Levels of values, and the range and the greatest level of a field.
 pub mod levels;
 mod said;
+mod same;
 mod table;
 
 pub use field::{FieldList, FieldSpec};

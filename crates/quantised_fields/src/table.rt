@@ -1,10 +1,11 @@
 //! The kinds of a match.
 
-ghost use Rattle.std.specs.Prelude.{◌≡◌, IfOk, IfSome, None, slice_get};
+ghost use Rattle.std.specs.Prelude.{◌≡◌, Decides, IfOk, IfSome, None, slice_get};
 ghost use Rattle.std.specs.Option.{option_copied};
 ghost use Rattle.std.specs.Result.{result_err};
 
 use crate::kind::{Kind, fault_of};
+use crate::same::are_same_kinds;
 use arrayvec::ArrayVec;
 use std::marker::Model;
 use tn_types::MAX_KINDS;
@@ -88,5 +89,11 @@ impl KindTable {
         ensures limits { IfSome result (λ kind. IsWithinLimits kind.now) }
     {
         self.kinds.as_slice().get(k as usize)
+    }
+    /// Whether the other table has the same kinds in the same order: weight, who sees them always, and each field's range and bits.
+    pub fn is_same(&self, other: &KindTable) -> bool
+        ensures value { Decides result (self.now ≡ other.now) }
+    {
+        are_same_kinds(self, other)
     }
 }

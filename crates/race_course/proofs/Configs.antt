@@ -1,32 +1,10 @@
--- A connection of a match has moves of ten bits in each version, and 128 bytes are enough for them.
-use Rattle.std.proofs.Common.{◌≡◌, ℕ, ◌<◌, ◌≤◌, Bool, true, false, refl, sym, subst, arith}
-use Rattle.std.specs.Prelude.{nat_lt}
-use Rattle.wire_format.specs.declared.wire.Wire.{Wire}
-use Rattle.wire_format.specs.Moves.{move_width}
-use Rattle.stream_manager.specs.Limits.{IsConfig, least_size}
+-- A connection of a match has a configuration that fits, for each client of the script.
+use Rattle.std.proofs.Common.{ℕ, ◌<◌, arith}
+use Rattle.stream_manager.specs.Limits.{IsConfig}
 use Rattle.match_script.specs.declared.types.Head.{Head}
 use Rattle.match_script.specs.Ranges.{HeadFits}
 use Rattle.own_lists.specs.Past.{client_terms}
-
-abbrev of_ten_bits : ℕ → Wire
-of_ten_bits version = record { version = version; move_bits = 10 }
-
-ten_bits : (version : ℕ) → (move_width (of_ten_bits version) ≡ 10) × (least_size (of_ten_bits version) ≡ 128)
-ten_bits version = go (nat_lt version 3) refl
-  where
-    go : (b : Bool) → nat_lt version 3 ≡ b → (move_width (of_ten_bits version) ≡ 10) × (least_size (of_ten_bits version) ≡ 128)
-    go true e = rw e (refl, refl)
-    go false e = rw e (refl, refl)
+use Rattle.own_lists.proofs.Configs.{config_fits as fits_below}
 
 pub config_fits : (head : Head) (c : ℕ) → HeadFits head → c < head.clients → IsConfig (client_terms head c).config
-config_fits head c h l = record {
-  client = omega (arith, h.clients);
-  some_life = h.life_least;
-  life = h.life;
-  least = subst (λ (n : ℕ). n ≤ head.size) (sym (ten_bits head.version).1) h.size_least;
-  size = h.size;
-  some_version = h.version_least;
-  version = omega (arith, h.version);
-  some_bits = omega arith;
-  move_bits = (ten_bits head.version).0;
-}
+config_fits head c h l = fits_below head c h (omega (arith, l, h.clients))

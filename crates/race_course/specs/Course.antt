@@ -1,6 +1,7 @@
 -- What is made of a script and the moves of its ticks: the values by version, and for each client its scope and its messages.
 use Rattle.std.specs.Prelude.{◌≡◌, ℕ, ◌*◌, ◌<◌, ◌≤◌, List, [], ◌∷◌, length, map, reverse, slice_get, slice_index_or, take, Some}
-use Rattle.tn_types.specs.declared.limits.TheConstants.{MAX_OBJECTS, MAX_BODY_LINES}
+use Rattle.tn_types.specs.declared.limits.TheConstants.{MAX_OBJECTS}
+use Rattle.match_script.specs.declared.limits.TheConstants.{MAX_BODY_LINES}
 use Rattle.match_script.specs.declared.types.BodyLine.{BodyLine}
 use Rattle.match_script.specs.declared.types.Script.{Script}
 use Rattle.match_script.specs.Ranges.{LineFits}

@@ -3,7 +3,7 @@ use Rattle.std.proofs.Common.{◌≡◌, ℕ, zero, suc, ◌-◌, ◌<◌, ◌�
 use Rattle.std.specs.Prelude.{ℤ, slice_get}
 use Rattle.std.specs.Option.{unwrap_or}
 use Rattle.std.specs.List.{AllByRecursion}
-use Rattle.tn_types.specs.declared.limits.TheConstants.{MAX_FIELDS}
+use Rattle.dirty_lanes.specs.declared.limits.TheConstants.{MAX_LANE_FIELDS}
 use Rattle.tn_types.specs.declared.choices.Read.{Read}
 use Rattle.race_history.specs.Deciding.{Decides}
 use Rattle.race_history.specs.History.{Values, fields_told}
@@ -27,7 +27,7 @@ told_object [] o f l = absurd (omega (arith, l))
 told_object (y ∷ ys) zero f l = omega arith
 told_object (y ∷ ys) (suc o) f l = let h = told_object ys o f l in omega (arith, h)
 
-module _ (values : Values) (objects : List ℕ) (few : (object : ℕ) → length (fields_told values object) ≤ MAX_FIELDS) where
+module _ (values : Values) (objects : List ℕ) (few : (object : ℕ) → length (fields_told values object) ≤ MAX_LANE_FIELDS) where
   place : (r : Read) → ReadStands values objects r → HasPlace objects (length values) r
   place r h =
       let f = in_fields (fields_told values (object_of objects r.n)) r.field (r.version - 1) r.value h.value in
@@ -43,10 +43,10 @@ module _ (values : Values) (objects : List ℕ) (few : (object : ℕ) → length
   narrow [] h = tt
   narrow (r ∷ reads) h = ((place r h.0).field, narrow reads h.1)
 
-pub told_places : (b : Bool) (values : Values) (objects : List ℕ) (reads : List Read) → ((object : ℕ) → length (fields_told values object) ≤ MAX_FIELDS)
+pub told_places : (b : Bool) (values : Values) (objects : List ℕ) (reads : List Read) → ((object : ℕ) → length (fields_told values object) ≤ MAX_LANE_FIELDS)
     → Decides b (AllByRecursion (ReadStands values objects) reads) → b ≡ true → AllByRecursion (HasPlace objects (length values)) reads
 told_places b values objects reads few d e = places values objects few reads (holds b (AllByRecursion (ReadStands values objects) reads) d e)
 
-pub told_narrow : (b : Bool) (values : Values) (objects : List ℕ) (reads : List Read) → ((object : ℕ) → length (fields_told values object) ≤ MAX_FIELDS)
+pub told_narrow : (b : Bool) (values : Values) (objects : List ℕ) (reads : List Read) → ((object : ℕ) → length (fields_told values object) ≤ MAX_LANE_FIELDS)
     → Decides b (AllByRecursion (ReadStands values objects) reads) → b ≡ true → AllByRecursion IsNarrow reads
 told_narrow b values objects reads few d e = narrow values objects few reads (holds b (AllByRecursion (ReadStands values objects) reads) d e)

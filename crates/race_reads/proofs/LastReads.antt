@@ -5,7 +5,7 @@ use Rattle.std.specs.List.{AllByRecursion}
 use Rattle.std.proofs.lemmas.Bool.{cases_eq, ne_eqb}
 use Rattle.std.proofs.lemmas.List.{get_or-set_same, get_or-set_other, length-set, length-replicate}
 use Rattle.tn_types.specs.declared.choices.Read.{Read}
-use Rattle.tn_types.specs.declared.limits.TheConstants.{MAX_FIELDS}
+use Rattle.dirty_lanes.specs.declared.limits.TheConstants.{MAX_LANE_FIELDS}
 use Rattle.race_reads.specs.Reads.{last_read, or_earlier, is_read_of}
 use Rattle.race_reads.specs.Tables.{place_in, IsNarrow, noted_periods, AreLast}
 
@@ -26,11 +26,11 @@ earlier_noted None t true v = refl
 earlier_noted None t false v = refl
 earlier_noted (Some w) t b v = refl
 
-same_parts : (n field m f : ℕ) → field < MAX_FIELDS → f < MAX_FIELDS → place_in n field ≡ place_in m f → (n ≡ m) × (field ≡ f)
+same_parts : (n field m f : ℕ) → field < MAX_LANE_FIELDS → f < MAX_LANE_FIELDS → place_in n field ≡ place_in m f → (n ≡ m) × (field ≡ f)
 same_parts n field m f l k e = (omega (arith, l, k, e), omega (arith, l, k, e))
 
 -- the table after a read is noted
-after : (last : List (Option ℕ)) (r : Read) (n field : ℕ) → place_in n field < length last → r.field < MAX_FIELDS → field < MAX_FIELDS
+after : (last : List (Option ℕ)) (r : Read) (n field : ℕ) → place_in n field < length last → r.field < MAX_LANE_FIELDS → field < MAX_LANE_FIELDS
     → slice_index_or (slice_set last (place_in r.n r.field) (Some r.version)) (place_in n field) None ≡ (if is_read_of n field r then Some r.version else slice_index_or last (place_in n field) None)
 after last r n field l k f = by (cases_eq r.n n) (cases_eq r.field field)
   where
@@ -51,7 +51,7 @@ after last r n field l k f = by (cases_eq r.n n) (cases_eq r.field field)
         rw (en, ef) (away (λ h. g (sym (same_parts n field r.n r.field f k h).1)))
     by (inr e) g = let en = ne_eqb r.n n e in rw en (away (λ h. e (sym (same_parts n field r.n r.field f k h).0)))
 
-noted_at : (periods : ℕ) (last : List (Option ℕ)) (reads : List Read) → length last ≡ MAX_FIELDS * periods → AllByRecursion IsNarrow reads → (n field : ℕ) → n < periods → field < MAX_FIELDS
+noted_at : (periods : ℕ) (last : List (Option ℕ)) (reads : List Read) → length last ≡ MAX_LANE_FIELDS * periods → AllByRecursion IsNarrow reads → (n field : ℕ) → n < periods → field < MAX_LANE_FIELDS
     → slice_index_or (noted_periods last reads) (place_in n field) None ≡ or_noted (last_read reads n field) (slice_index_or last (place_in n field) None)
 noted_at periods last [] long narrow n field m f = refl
 noted_at periods last (r ∷ reads) long narrow n field m f =
@@ -73,11 +73,11 @@ unnoted : (x : Option ℕ) → or_noted x None ≡ x
 unnoted None = refl
 unnoted (Some v) = refl
 
-pub are_last : (periods : ℕ) (reads : List Read) → AllByRecursion IsNarrow reads → AreLast periods reads (noted_periods (replicate (MAX_FIELDS * periods) None) reads)
+pub are_last : (periods : ℕ) (reads : List Read) → AllByRecursion IsNarrow reads → AreLast periods reads (noted_periods (replicate (MAX_LANE_FIELDS * periods) None) reads)
 are_last periods reads narrow = record {
-  long = noted_long (replicate (MAX_FIELDS * periods) None) reads ∙ length-replicate (MAX_FIELDS * periods) None;
+  long = noted_long (replicate (MAX_LANE_FIELDS * periods) None) reads ∙ length-replicate (MAX_LANE_FIELDS * periods) None;
   each = λ n field m f.
-      noted_at periods (replicate (MAX_FIELDS * periods) None) reads (length-replicate (MAX_FIELDS * periods) None) narrow n field m f
-      ∙ ap (λ (t : Option ℕ). or_noted (last_read reads n field) t) (get_none (MAX_FIELDS * periods) (place_in n field))
+      noted_at periods (replicate (MAX_LANE_FIELDS * periods) None) reads (length-replicate (MAX_LANE_FIELDS * periods) None) narrow n field m f
+      ∙ ap (λ (t : Option ℕ). or_noted (last_read reads n field) t) (get_none (MAX_LANE_FIELDS * periods) (place_in n field))
       ∙ unnoted (last_read reads n field);
 }

@@ -6,7 +6,7 @@ use Rattle.std.specs.List.{AllByRecursion}
 use Rattle.std.proofs.lemmas.Bool.{cases_eq}
 use Rattle.std.proofs.lemmas.List.{get_or-set_same, get_or-set_other, length-set, length-replicate}
 use Rattle.tn_types.specs.declared.choices.Read.{Read}
-use Rattle.tn_types.specs.declared.limits.TheConstants.{MAX_FIELDS}
+use Rattle.dirty_lanes.specs.declared.limits.TheConstants.{MAX_LANE_FIELDS}
 use Rattle.race_reads.specs.Reads.{IsSameField, IsNoOlder, NeverFalls}
 use Rattle.race_reads.specs.Tables.{place_of, HasPlace, noted, RisesFrom}
 
@@ -29,7 +29,7 @@ abbrev IsAbove : List ℕ → List ℕ → Read → Type 0
 IsAbove objects last s = slice_index last (place_of objects s) ≤ s.version
 
 -- the place tells the object and the field
-same_place : (objects : List ℕ) (r s : Read) → r.field < MAX_FIELDS → s.field < MAX_FIELDS → place_of objects r ≡ place_of objects s → IsSameField objects r s
+same_place : (objects : List ℕ) (r s : Read) → r.field < MAX_LANE_FIELDS → s.field < MAX_LANE_FIELDS → place_of objects r ≡ place_of objects s → IsSameField objects r s
 same_place objects r s l m e = (omega (arith, l, m, e), omega (arith, l, m, e))
 
 at_set : (last : List ℕ) (i v : ℕ) → i < length last → slice_index (slice_set last i v) i ≡ v
@@ -76,7 +76,7 @@ module _ (objects : List ℕ) (count : ℕ) (last : List ℕ) (r : Read) (own : 
           omega (arith, w, u, t)
       this (inr n) = let v : slice_index after (place_of objects s) ≤ s.version = b.0 in rw (sym (at_other last (place_of objects r) (place_of objects s) r.version n)) v
 
-pub rises : (objects : List ℕ) (count : ℕ) (last : List ℕ) (reads : List Read) → length last ≡ MAX_FIELDS * count → AllByRecursion (HasPlace objects count) reads
+pub rises : (objects : List ℕ) (count : ℕ) (last : List ℕ) (reads : List Read) → length last ≡ MAX_LANE_FIELDS * count → AllByRecursion (HasPlace objects count) reads
     → (NeverFalls objects reads × AllByRecursion (IsAbove objects last) reads) ↔ RisesFrom objects last reads
 rises objects count last [] long fit = (λ a. tt, λ b. (tt, tt))
 rises objects count last (r ∷ reads) long fit =
@@ -99,7 +99,7 @@ nothing_below objects n [] = tt
 nothing_below objects n (r ∷ reads) = (rw (get_zeros n (place_of objects r)) (omega arith), nothing_below objects n reads)
 
 pub never_falls : (objects : List ℕ) (count : ℕ) (reads : List Read) → AllByRecursion (HasPlace objects count) reads
-    → NeverFalls objects reads ↔ RisesFrom objects (replicate (MAX_FIELDS * count) 0) reads
+    → NeverFalls objects reads ↔ RisesFrom objects (replicate (MAX_LANE_FIELDS * count) 0) reads
 never_falls objects count reads fit =
-    let h = rises objects count (replicate (MAX_FIELDS * count) 0) reads (length-replicate (MAX_FIELDS * count) 0) fit in
-    (λ w. h.0 (w, nothing_below objects (MAX_FIELDS * count) reads), λ b. (h.1 b).0)
+    let h = rises objects count (replicate (MAX_LANE_FIELDS * count) 0) reads (length-replicate (MAX_LANE_FIELDS * count) 0) fit in
+    (λ w. h.0 (w, nothing_below objects (MAX_LANE_FIELDS * count) reads), λ b. (h.1 b).0)

@@ -2,7 +2,7 @@
 use Rattle.std.proofs.Common.{◌≡◌, ◌∙◌, ℕ, ◌<◌, ◌≤◌, Bool, true, not, List, length, sym, ap, subst, arith, Option, None}
 use Rattle.std.specs.Prelude.{◌↔◌, slice_index_or}
 use Rattle.tn_types.specs.BitWords.{has_bit}
-use Rattle.tn_types.specs.declared.limits.TheConstants.{MAX_FIELDS}
+use Rattle.dirty_lanes.specs.declared.limits.TheConstants.{MAX_LANE_FIELDS}
 use Rattle.dirty_lanes.specs.Words.{Words, mask_at}
 use Rattle.stream_manager.specs.Limits.{Terms}
 use Rattle.pair_core.specs.History.{PairStep}
@@ -30,7 +30,7 @@ abbrev CurrentBy : Values → ℕ → Parts → Type 0
 CurrentBy values field x = IsCurrent values x.0 x.1 x.2 x.3 field
 
 module _ (values : Values) (words : Words) (client : ℕ) (t : Terms) (steps : List PairStep) (objects : List ℕ) (n object word due periods : ℕ) (last : List (Option ℕ))
-    (shown : n < length objects) (is : object ≡ object_of objects n) (there : length values ≤ words.objects) (few : (o : ℕ) → length (fields_told values o) ≤ MAX_FIELDS)
+    (shown : n < length objects) (is : object ≡ object_of objects n) (there : length values ≤ words.objects) (few : (o : ℕ) → length (fields_told values o) ≤ MAX_LANE_FIELDS)
     (word_is : object < words.objects → word ≡ mask_at words client object) (due_is : (field : ℕ) → has_bit due field ≡ is_field_due t (newest_first steps) n field)
     (last_are : AreLast periods (reads_of steps) last) (lt : n < periods) where
   abbrev noted_parts : ℕ → Parts

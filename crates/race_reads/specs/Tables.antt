@@ -3,14 +3,14 @@
 -- are words of private calls; the rules are in Reads and Legal.
 use Rattle.std.specs.Prelude.{◌≡◌, ℕ, ◌<◌, ◌≤◌, ◌+◌, ◌*◌, List, [], ◌∷◌, length, Option, Some, None, slice_index, slice_index_or, slice_set}
 use Rattle.tn_types.specs.BitWords.{has_bit}
-use Rattle.tn_types.specs.declared.limits.TheConstants.{MAX_FIELDS}
+use Rattle.dirty_lanes.specs.declared.limits.TheConstants.{MAX_LANE_FIELDS}
 use Rattle.tn_types.specs.declared.choices.Read.{Read}
 use Rattle.race_history.specs.History.{Values, fields_told}
 use Rattle.race_reads.specs.Reads.{object_of, last_read, IsCurrent}
 
 -- the place of a field in a row
 abbrev pub place_in : ℕ → ℕ → ℕ
-place_in row field = MAX_FIELDS * row + field
+place_in row field = MAX_LANE_FIELDS * row + field
 
 -- ---- by object
 
@@ -18,7 +18,7 @@ place_in row field = MAX_FIELDS * row + field
 pub record HasPlace (objects : List ℕ) (count : ℕ) (r : Read) : Type 0 where
   pub shown : r.n < length objects
   pub object : object_of objects r.n < count
-  pub field : r.field < MAX_FIELDS
+  pub field : r.field < MAX_LANE_FIELDS
 
 abbrev pub place_of : List ℕ → Read → ℕ
 place_of objects r = place_in (object_of objects r.n) r.field
@@ -38,7 +38,7 @@ RisesFrom objects last (r ∷ reads) =
 
 -- the field has a place
 abbrev pub IsNarrow : Read → Type 0
-IsNarrow r = r.field < MAX_FIELDS
+IsNarrow r = r.field < MAX_LANE_FIELDS
 
 abbrev pub noted_periods : List (Option ℕ) → List Read → List (Option ℕ)
 noted_periods last [] = last
@@ -46,8 +46,8 @@ noted_periods last (r ∷ reads) = noted_periods (slice_set last (place_in r.n r
 
 -- for so many periods, what was read last
 pub record AreLast (periods : ℕ) (reads : List Read) (last : List (Option ℕ)) : Type 0 where
-  pub long : length last ≡ MAX_FIELDS * periods
-  pub each : (n field : ℕ) → n < periods → field < MAX_FIELDS
+  pub long : length last ≡ MAX_LANE_FIELDS * periods
+  pub each : (n field : ℕ) → n < periods → field < MAX_LANE_FIELDS
       → slice_index_or last (place_in n field) None ≡ last_read reads n field
 
 -- each field of an object is current, for a period with this row, word and mask of due fields

@@ -15,15 +15,15 @@ ghost use Rattle.race_reads.specs.Tables.{IsNarrow, AreLast, AreCurrentBy};
 use crate::last::last_reads;
 use crate::pair::{due_bits, is_up, shows};
 use crate::told::object_of;
-use dirty_lanes::FinalWords;
+use dirty_lanes::{FinalWords, MAX_LANE_FIELDS};
 use kept_pair::KeptPair;
 use lane_periods::Objects;
 use race_history::History;
 use std::alloc::Global;
-use tn_types::{MAX_FIELDS, NoMemory};
+use tn_types::NoMemory;
 
 fn has_bit(word: u32, field: u8) -> bool
-    requires { field < MAX_FIELDS }
+    requires { field < MAX_LANE_FIELDS }
     ensures { result ≡ has_bit word field }
 {
     (word >> field) & 1 == 1
@@ -54,7 +54,7 @@ fn field_is_current(
     object: u32,
     field: u8,
 ) -> bool
-    requires { field < MAX_FIELDS }
+    requires { field < MAX_LANE_FIELDS }
     ensures { Decides result (IsCurrent values.now word (has_bit due field) last object field) }
 {
     if has_bit(word, field) {
@@ -75,10 +75,10 @@ pub(crate) fn fields_are_current(
     object: u32,
     n: u32,
 ) -> bool
-    requires inside { MAX_FIELDS * n + MAX_FIELDS ≤ length last.now }
+    requires inside { MAX_LANE_FIELDS * n + MAX_LANE_FIELDS ≤ length last.now }
     ensures { Decides result (AreCurrentBy values.now word due last.now object n) }
 {
-    let row = MAX_FIELDS * n as usize;
+    let row = MAX_LANE_FIELDS * n as usize;
     for f in 0..values.fields(object) {
         let read = last[row + f as usize];
         if !field_is_current(values, word, due, read, object, f as u8) {
@@ -111,7 +111,7 @@ fn period_is_current(
 ) -> bool
     requires client { client < words.now.clients }
     requires objects { length values.now ≤ words.now.objects }
-    requires fields { (object : ℕ) → length (fields_told values.now object) ≤ MAX_FIELDS }
+    requires fields { (object : ℕ) → length (fields_told values.now object) ≤ MAX_LANE_FIELDS }
     requires up { has n (up_in (newest_first pair.now.steps)) ≡ true }
     requires last { AreLast (shows_in (newest_first pair.now.steps)) (reads_of pair.now.steps) last.now }
     ensures { Decides result (IsPeriodCurrent values.now words.now client (terms_in pair.now) pair.now.steps objects.now n) }
@@ -136,7 +136,7 @@ fn is_current_if_up(
 ) -> bool
     requires client { client < words.now.clients }
     requires objects { length values.now ≤ words.now.objects }
-    requires fields { (object : ℕ) → length (fields_told values.now object) ≤ MAX_FIELDS }
+    requires fields { (object : ℕ) → length (fields_told values.now object) ≤ MAX_LANE_FIELDS }
     requires last { AreLast (shows_in (newest_first pair.now.steps)) (reads_of pair.now.steps) last.now }
     ensures { Decides result (IsCurrentIfUp values.now words.now client (terms_in pair.now) pair.now.steps objects.now n) }
 {
@@ -157,7 +157,7 @@ fn periods_are_current(
 ) -> bool
     requires client { client < words.now.clients }
     requires objects { length values.now ≤ words.now.objects }
-    requires fields { (object : ℕ) → length (fields_told values.now object) ≤ MAX_FIELDS }
+    requires fields { (object : ℕ) → length (fields_told values.now object) ≤ MAX_LANE_FIELDS }
     requires last { AreLast (shows_in (newest_first pair.now.steps)) (reads_of pair.now.steps) last.now }
     ensures { Decides result ((n : ℕ)
         → IsCurrentIfUp values.now words.now client (terms_in pair.now) pair.now.steps objects.now n) }
@@ -182,7 +182,7 @@ pub(crate) fn all_current(
 ) -> Result<bool, NoMemory>
     requires client { client < words.now.clients }
     requires objects { length values.now ≤ words.now.objects }
-    requires fields { (object : ℕ) → length (fields_told values.now object) ≤ MAX_FIELDS }
+    requires fields { (object : ℕ) → length (fields_told values.now object) ≤ MAX_LANE_FIELDS }
     requires narrow { AllByRecursion IsNarrow (reads_of pair.now.steps) }
     ensures { IfOk result (λ b. Decides b ((n : ℕ)
         → IsCurrentIfUp values.now words.now client (terms_in pair.now) pair.now.steps objects.now n)) }

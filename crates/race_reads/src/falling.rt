@@ -7,17 +7,18 @@ ghost use Rattle.race_reads.specs.Legal.{reads_of};
 ghost use Rattle.race_reads.specs.Tables.{HasPlace, RisesFrom, noted, place_of};
 
 use crate::told::object_of;
+use dirty_lanes::MAX_LANE_FIELDS;
 use kept_pair::StepList;
 use lane_periods::Objects;
 use std::alloc::{AllocError, Global};
-use tn_types::{MAX_FIELDS, MAX_OBJECTS, NoMemory, Read};
+use tn_types::{MAX_OBJECTS, NoMemory, Read};
 
 /// A table of so many objects of which nothing was read.
 pub(crate) fn nothing_read(alloc: Global, objects: u32) -> Result<Vec<u32>, AllocError>
     requires { objects ≤ MAX_OBJECTS }
-    ensures { IfOk result (λ v. v.items ≡ replicate (MAX_FIELDS * objects) 0) }
+    ensures { IfOk result (λ v. v.items ≡ replicate (MAX_LANE_FIELDS * objects) 0) }
 {
-    let n = MAX_FIELDS * objects as usize;
+    let n = MAX_LANE_FIELDS * objects as usize;
     let mut all = Vec::with_capacity(alloc, n)?;
     for _i in 0..n {
         all.push(0)?;
@@ -30,18 +31,18 @@ fn place_of(objects: &Objects, count: u32, r: &Read) -> usize
     requires few { count ≤ MAX_OBJECTS }
     requires has { HasPlace objects.now count r.now }
     ensures value { result ≡ place_of objects.now r.now }
-    ensures inside { result < MAX_FIELDS * count }
+    ensures inside { result < MAX_LANE_FIELDS * count }
 {
     let Some(object) = object_of(objects, r.n) else {
         unreachable!()
     };
-    MAX_FIELDS * object as usize + r.field as usize
+    MAX_LANE_FIELDS * object as usize + r.field as usize
 }
 
 /// Whether none of these reads is of an older version than one before it, and notes them.
 pub(crate) fn all_rise(last: &mut [u32], objects: &Objects, count: u32, reads: &[Read]) -> bool
     requires few { count ≤ MAX_OBJECTS }
-    requires long { length last.old ≡ MAX_FIELDS * count }
+    requires long { length last.old ≡ MAX_LANE_FIELDS * count }
     requires places { AllByRecursion (HasPlace objects.now count) reads.now }
     ensures rise { Decides result (RisesFrom objects.now last.old reads.now) }
     ensures noted { result ≡ true → last.new ≡ noted objects.now last.old reads.now }

@@ -4,15 +4,16 @@ ghost use Rattle.std.specs.List.{AllByRecursion};
 ghost use Rattle.race_reads.specs.Legal.{reads_of};
 ghost use Rattle.race_reads.specs.Tables.{IsNarrow, AreLast, noted_periods};
 
+use dirty_lanes::MAX_LANE_FIELDS;
 use kept_pair::StepList;
 use std::alloc::{AllocError, Global};
-use tn_types::{MAX_FIELDS, NoMemory, Read};
+use tn_types::{NoMemory, Read};
 
 /// A table of so many periods in which nothing was read.
 pub(crate) fn nothing_yet(alloc: Global, periods: u32) -> Result<Vec<Option<u32>>, AllocError>
-    ensures { IfOk result (λ v. v.items ≡ replicate (MAX_FIELDS * periods) None) }
+    ensures { IfOk result (λ v. v.items ≡ replicate (MAX_LANE_FIELDS * periods) None) }
 {
-    let n = MAX_FIELDS * periods as usize;
+    let n = MAX_LANE_FIELDS * periods as usize;
     let mut all = Vec::with_capacity(alloc, n)?;
     for _i in 0..n {
         all.push(None)?;
@@ -25,7 +26,7 @@ pub(crate) fn note_reads(last: &mut [Option<u32>], reads: &[Read])
     ensures { last.new ≡ noted_periods last.old reads.now }
 {
     for r in reads {
-        let at = MAX_FIELDS * r.n as usize + r.field as usize;
+        let at = MAX_LANE_FIELDS * r.n as usize + r.field as usize;
         if at < last.len() {
             last[at] = Some(r.version);
         }

@@ -3,9 +3,9 @@ ghost use Rattle.std.specs.Prelude.{◌≡◌, ℕ, ◌<◌, ◌≤◌, MatchOpt
 ghost use Rattle.race_history.specs.History.{fields_told};
 ghost use Rattle.race_reads.specs.Reads.{object_of};
 
+use dirty_lanes::MAX_LANE_FIELDS;
 use lane_periods::Objects;
 use race_history::History;
-use tn_types::MAX_FIELDS;
 
 /// The object of a period; `None` exactly where it has none.
 pub(crate) fn object_of(objects: &Objects, n: u32) -> Option<u32>
@@ -16,7 +16,7 @@ pub(crate) fn object_of(objects: &Objects, n: u32) -> Option<u32>
 
 /// No object has more fields than a table has places in a row.
 pub(crate) fn learn_fields(values: &History)
-    ensures { (object : ℕ) → length (fields_told values.now object) ≤ MAX_FIELDS }
+    ensures { (object : ℕ) → length (fields_told values.now object) ≤ MAX_LANE_FIELDS }
 {
     for object in 0..values.objects() {
         // for its clauses

@@ -7,12 +7,12 @@ use crate::asked::{is_net_of, is_pack_of, net_line};
 use connection_lock::{DoneLines, SharedPair};
 use dirty_lanes::{LaneName, Lanes};
 use kept_pair::KeepFault;
-use match_script::{BodyLine, Script};
+use match_script::{BodyLine, MAX_BODY_LINES, Script};
 use race_sim::{Actor, Gate, Place};
 use std::alloc::Global;
 use std::sync::Wait;
 use std::sync::ledger::Ledger;
-use tn_types::{MAX_BODY_LINES, Steps};
+use tn_types::Steps;
 
 /// One client of a match, as its activities have it.
 #[derive(Drop)]

@@ -8,7 +8,7 @@ ghost use Rattle.race_sim.specs.own_lists.Past.{client_terms};
 ghost use Rattle.race_sim.specs.Ports.{IsNewPort};
 ghost use Rattle.race_run.specs.Asking.{AreNumbered};
 
-use connection_lock::SharedPair;
+use connection_lock::{MAX_TAKEN_MESSAGES, SharedPair};
 use dirty_lanes::{LaneName, PackSeat, PackSeats};
 use kept_pair::KeptPair;
 use match_script::Head;
@@ -17,7 +17,7 @@ use race_messages::Message;
 use race_sim::Port;
 use rtrb::{Consumer, Producer, RingBuffer};
 use std::alloc::Global;
-use tn_types::{MAX_TAKEN_MESSAGES, MoveBits, NoMemory};
+use tn_types::{MoveBits, NoMemory};
 
 // How many messages the ring to a connection has places for, and how many accepted moves the ring from it.
 const INBOX_PLACES: usize = MAX_TAKEN_MESSAGES as usize;

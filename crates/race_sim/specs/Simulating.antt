@@ -1,7 +1,8 @@
 -- What a simulation holds, and what it has behind the lines that it did: its world and its values are those that its moves make, and
 -- each port was given exactly the messages of the lines, over these worlds. Lines are listed newest first.
 use Rattle.std.specs.Prelude.{◌≡◌, ℕ, ◌*◌, ◌<◌, ◌≤◌, ◌++◌, Bool, true, false, List, ◌∷◌, length, slice_index_or}
-use Rattle.tn_types.specs.declared.limits.TheConstants.{MAX_OBJECTS, MAX_BODY_LINES}
+use Rattle.tn_types.specs.declared.limits.TheConstants.{MAX_OBJECTS}
+use Rattle.match_script.specs.declared.limits.TheConstants.{MAX_BODY_LINES}
 use Rattle.dirty_lanes.specs.declared.view.SimView.{SimView}
 use Rattle.match_script.specs.declared.types.BodyLine.{BodyLine}
 use Rattle.match_script.specs.declared.types.BodyLine.TheVariants as script

@@ -5,7 +5,8 @@ use Rattle.std.specs.Prelude.{◌≡◌, refl, ℕ, ◌+◌, ◌<◌, ◌≤◌,
 use Rattle.std.specs.List.{filter_map}
 use Rattle.std.specs.Option.{option_and_then}
 use Rattle.tn_types.specs.Prefix.{IsPrefixOf}
-use Rattle.tn_types.specs.declared.limits.TheConstants.{MAX_WAITING_MOVES, MAX_KEPT_STEPS}
+use Rattle.tn_types.specs.declared.limits.TheConstants.{MAX_WAITING_MOVES}
+use Rattle.kept_pair.specs.declared.limits.TheConstants.{MAX_KEPT_STEPS}
 use Rattle.tn_types.specs.declared.choices.Class.{Class}
 use Rattle.tn_types.specs.declared.moves.MoveBits.{MoveBits}
 use Rattle.bit_stream.specs.WorldMoves.{bits_of}

@@ -8,12 +8,11 @@ use crate::messages::{first_messages, message_count, messages_are, objects_are};
 use crate::moves::moves_are_first;
 use crate::packs::{packs_are, packs_asked};
 use crate::rooms::are_rooms;
-use kept_pair::{KeptPair, StepList};
+use kept_pair::{KeptPair, MAX_KEPT_STEPS, StepList};
 use lane_periods::Objects;
 use match_script::{BodyLine, Script};
 use race_history::TickMoves;
 use race_messages::Message;
-use tn_types::MAX_KEPT_STEPS;
 
 // Whether as many steps are kept as can be, and one is wanting.
 fn is_full(lines: &[BodyLine], client: u8, given: &[Message], steps: &StepList) -> bool

@@ -5,7 +5,6 @@
 mod acts;
 mod asked;
 mod fit;
-mod kinds;
 mod messages;
 mod moves;
 mod packs;

@@ -10,11 +10,11 @@ ghost use Rattle.race_steps.specs.Walking.{Fits};
 
 use crate::fit::Fit;
 use crate::steps::step_at;
-use kept_pair::StepList;
+use kept_pair::{MAX_KEPT_STEPS, StepList};
 use lane_periods::Objects;
 use pair_core::PairStep;
 use race_messages::Message;
-use tn_types::{Class, MAX_KEPT_STEPS, Payload};
+use tn_types::{Class, Payload};
 
 // Whether it is the step of a message.
 fn is_message(step: &PairStep) -> bool

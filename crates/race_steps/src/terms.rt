@@ -5,7 +5,6 @@ ghost use Rattle.kept_pair.specs.Kept.{terms_in};
 ghost use Rattle.own_lists.specs.Past.{client_terms};
 ghost use Rattle.race_history.specs.Deciding.{Decides};
 
-use crate::kinds::are_same_kinds;
 use kept_pair::KeptPair;
 use match_script::Head;
 use stream_manager::{Config, Conn};
@@ -54,6 +53,6 @@ pub fn terms_are(pair: &KeptPair, head: &Head, client: u8) -> bool
 {
     let conn = pair.pair().conn();
     is_config(conn.config(), client, head.life, head.size, head.version)
-        && are_same_kinds(conn.kinds(), &match_kinds())
+        && conn.kinds().is_same(&match_kinds())
         && are_blocks(conn, head.blocks.as_slice())
 }

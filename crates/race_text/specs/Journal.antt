@@ -12,7 +12,7 @@ use Rattle.bit_stream.specs.WorldMoves.{move_of}
 use Rattle.world_rules.specs.Kinds.{kind_word}
 use Rattle.match_script.specs.Print.{class_word, flag_word, hex_word}
 use Rattle.kept_pair.specs.pair_core.History.{PairStep, Show, Hide, Near, Post, ClientPost, Sample, Pack, ClientPack, Down, Up, Raw}
-use Rattle.tn_types.specs.declared.limits.TheConstants.{MAX_KEPT_STEPS}
+use Rattle.kept_pair.specs.declared.limits.TheConstants.{MAX_KEPT_STEPS}
 use Rattle.race_text.specs.Text.{of_each}
 
 -- ---- packs

@@ -9,10 +9,10 @@ ghost use Rattle.race_text.specs.Journal.{is_show, shown_before, step_line, full
 use crate::draft::Draft;
 use crate::steps::put_step;
 use kept_pair::pair_core::PairStep;
-use kept_pair::{KeptPair, StepList};
+use kept_pair::{KeptPair, MAX_KEPT_STEPS, StepList};
 use lane_periods::Objects;
 use std::alloc::Global;
-use tn_types::{MAX_KEPT_STEPS, NoMemory};
+use tn_types::NoMemory;
 
 fn is_show(step: &PairStep) -> bool
     ensures { result ≡ is_show (step_of step.now) }

@@ -6,7 +6,7 @@ use Rattle.std.proofs.lemmas.List.{length-reverse, length-map}
 use Rattle.std.proofs.lemmas.List.Elements.{recursion_from_All, All-take, All-drop}
 use Rattle.std.proofs.lemmas.Grind.{reverse_onto}
 use Rattle.conn_packing.proofs.Lists.{all-append}
-use Rattle.tn_types.specs.declared.limits.TheConstants.{MAX_BODY_LINES}
+use Rattle.match_script.specs.declared.limits.TheConstants.{MAX_BODY_LINES}
 use Rattle.match_script.specs.declared.types.BodyLine.{BodyLine}
 use Rattle.match_script.specs.Ranges.{LineFits, HeadFits}
 use Rattle.match_script.specs.declared.types.Head.{Head}

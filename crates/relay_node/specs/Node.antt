@@ -1,7 +1,7 @@
 -- The tie between a relay and the lines that were done, those of the match and those of the relay in one list, the newest first: the match
 -- stands for its own, the board has the copies of the relay's client, and each spectator met what these lines make it meet.
 use Rattle.std.specs.Prelude.{◌≡◌, ℕ, ◌<◌, ◌+◌, ◌==◌, List, [], ◌∷◌, length, slice_index_or, if◌then◌else◌, Option, None, Some}
-use Rattle.tn_types.specs.declared.limits.TheConstants.{MAX_COUNTED_LINES}
+use Rattle.match_script.specs.declared.limits.TheConstants.{MAX_COUNTED_LINES}
 use Rattle.ghost_client.specs.Copies.{copy_of}
 use Rattle.ghost_client.specs.State.{copy_in}
 use Rattle.match_script.specs.declared.types.BodyLine.{BodyLine}

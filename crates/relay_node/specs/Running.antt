@@ -2,7 +2,7 @@
 use Rattle.std.specs.Prelude.{◌≡◌, ℕ, ◌<◌, ◌+◌, ◌≤◌, List, [], ◌∷◌, length, Option}
 use Rattle.std.specs.List.{All}
 use Rattle.match_script.specs.Ranges.{LineFits}
-use Rattle.tn_types.specs.declared.limits.TheConstants.{MAX_COUNTED_LINES}
+use Rattle.match_script.specs.declared.limits.TheConstants.{MAX_COUNTED_LINES}
 use Rattle.relay_script.specs.declared.entries.Entry.{Entry}
 use Rattle.relay_script.specs.declared.entries.Entry.TheVariants.{OfRelay}
 use Rattle.relay_script.specs.declared.types.PlacedLine.{PlacedLine}

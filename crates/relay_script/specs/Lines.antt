@@ -3,7 +3,7 @@
 -- from left to right.
 use Rattle.std.specs.Prelude.{ℕ, ◌≡◌, ◌^◌, take, List, [], ◌∷◌, Bool, false, not, nat_le, if◌then◌else◌, codes, Result, Ok, Err, refl}
 use Rattle.std.specs.Str.{bytes_eq}
-use Rattle.tn_types.specs.declared.limits.TheConstants.{MAX_BODY_LINES}
+use Rattle.match_script.specs.declared.limits.TheConstants.{MAX_BODY_LINES}
 use Rattle.match_script.specs.declared.types.ScriptFault.{ScriptFault}
 use Rattle.match_script.specs.declared.types.ScriptFault.TheVariants.{NotText, TooManyLines, UnknownWord, OutOfRange}
 use Rattle.match_script.specs.Text.{words_of, is_text}

@@ -1,7 +1,7 @@
 -- The ranges and counts of a relay script. What `parse_relay` gives has them, and each call that takes a relay script may rely on them.
 use Rattle.std.specs.Prelude.{ℕ, ◌+◌, ◌^◌, ◌<◌, ◌≤◌, List, [], ◌∷◌, length}
 use Rattle.std.specs.List.{All}
-use Rattle.tn_types.specs.declared.limits.TheConstants.{MAX_BODY_LINES}
+use Rattle.match_script.specs.declared.limits.TheConstants.{MAX_BODY_LINES}
 use Rattle.match_script.specs.Ranges.{LineFits, HasRanges}
 use Rattle.relay_script.specs.declared.asked.Asked.{Asked}
 use Rattle.relay_script.specs.declared.entries.Entry.{Entry}

@@ -10,9 +10,11 @@ ghost use Rattle.relay_script.specs.Ranges.{EntryFits, PlacedFits, InOrderFrom};
 
 use crate::lines::{is_relay, relay_line_at};
 use crate::types::{PlacedLine, RelayLine, RelayLines};
-use match_script::{BARE_HEADER_LINES, Body, BodyLine, LineFault, ParseFault, cut_line, next_line};
+use match_script::{
+    BARE_HEADER_LINES, Body, BodyLine, LineFault, MAX_BODY_LINES, ParseFault, cut_line, next_line,
+};
 use std::alloc::Global;
-use tn_types::{MAX_BLOCKS, MAX_BODY_LINES, MAX_OBJECTS};
+use tn_types::{MAX_BLOCKS, MAX_OBJECTS};
 
 /// A line after `go`: one of the match, or one of the relay.
 #[derive(Drop)]

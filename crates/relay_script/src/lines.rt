@@ -6,8 +6,9 @@ ghost use Rattle.relay_script.specs.Lines.{is_relay, scan_line, pack_line, clien
 ghost use Rattle.relay_script.specs.Ranges.{RelayLineFits};
 
 use crate::types::RelayLine;
-use match_script::{ScriptFault, Words, below, is_name, is_text, number_32, parted};
-use tn_types::MAX_BODY_LINES;
+use match_script::{
+    MAX_BODY_LINES, ScriptFault, Words, below, is_name, is_text, number_32, parted,
+};
 
 /// Whether the first line of a text is one of the relay's.
 #[tactic(auto, using(crate::proofs::Cutting::with_r, crate::proofs::Cutting::without_r, crate::proofs::Cutting::too_short))]

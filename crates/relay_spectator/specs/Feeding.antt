@@ -1,6 +1,6 @@
 -- What the parts of a spectator's calls need and do; only they are said with these words.
 use Rattle.std.specs.Prelude.{◌≡◌, ℕ, ◌+◌, ◌<◌, List, [], ◌∷◌}
-use Rattle.tn_types.specs.declared.limits.TheConstants.{MAX_COUNTED_LINES}
+use Rattle.match_script.specs.declared.limits.TheConstants.{MAX_COUNTED_LINES}
 use Rattle.wire_format.specs.declared.server.ServerPacket.{ServerPacket}
 use Rattle.own_lists.specs.pair_core.stream_manager.Limits.{Terms}
 use Rattle.own_lists.specs.Own.{OwnWrite, OwnItem, Scan, Tick}

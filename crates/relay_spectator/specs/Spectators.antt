@@ -4,7 +4,7 @@ use Rattle.std.specs.Prelude.{◌≡◌, ℕ, ◌<◌, not, Bool, true, false, L
 use Rattle.std.specs.Result.{is_ok}
 use Rattle.tn_types.specs.declared.choices.Class.{Class}
 use Rattle.tn_types.specs.declared.choices.Class.TheVariants.{Guaranteed, Loose}
-use Rattle.tn_types.specs.declared.limits.TheConstants.{MAX_COUNTED_LINES}
+use Rattle.match_script.specs.declared.limits.TheConstants.{MAX_COUNTED_LINES}
 use Rattle.quantised_fields.specs.Kinds.{table_fault}
 use Rattle.wire_format.specs.declared.server.ServerPacket.{ServerPacket}
 use Rattle.ghost_client.specs.State.{State, copy_in}

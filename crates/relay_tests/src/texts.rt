@@ -1,9 +1,8 @@
 //! Texts and their relay scripts or first faults, by the tables of docs/relay.md.
-use match_script::{ParseFault, ScriptFault};
+use match_script::{MAX_BODY_LINES, ParseFault, ScriptFault};
 use relay_script::{RelayLine, parse_relay};
 use std::alloc::Global;
 use std::test::Fail;
-use tn_types::MAX_BODY_LINES;
 
 // A header of two clients, after a first line.
 const HEADER: &str = "tribes 1\nmatch 1 2 100 128 1000\nblock 61\nplayer 0 0 0 5 5\ngo\n";

@@ -7,10 +7,9 @@ ghost use Rattle.script_input.specs.Reading.{seen, GaveAtMost, ReadAs, NotRead};
 
 use match_script::ParseFault;
 use relay_script::{RelayScript, parse_relay};
-use script_input::{Status, read_all};
+use script_input::{MAX_SCRIPT_BYTES, Status, read_all};
 use std::alloc::Global;
 use tn_outside::Source;
-use tn_types::MAX_SCRIPT_BYTES;
 
 /// The relay script of a source, or why there is none.
 pub(crate) fn read_relay_script<S: Source>(

@@ -1,5 +1,5 @@
 -- Where no text was read to its end, no script of any kind was.
-use Rattle.tn_types.specs.declared.limits.TheConstants.{MAX_SCRIPT_BYTES}
+use Rattle.script_input.specs.declared.limits.TheConstants.{MAX_SCRIPT_BYTES}
 use Rattle.script_input.specs.declared.status.Status.{Status}
 use Rattle.script_input.specs.declared.status.Status.TheVariants.{Done, Usage, Script, TooLong, ReadFault, WriteFault, NoMemory, LinkFault, ClockFault, Demo}
 use Rattle.script_input.specs.Reading.{Seen, Reading, NotGave, NotRead}

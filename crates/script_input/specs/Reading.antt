@@ -1,7 +1,7 @@
 -- What a call took from its source: all bytes, where they are not too many; a text of at most 1,048,576 bytes that is a script; or why
 -- there is none.
 use Rattle.std.specs.Prelude.{ℕ, ◌≡◌, ◌+◌, ◌≤◌, List, length, Option, Result, Ok, Err, Bool, true, false, nat_le}
-use Rattle.tn_types.specs.declared.limits.TheConstants.{MAX_SCRIPT_BYTES}
+use Rattle.script_input.specs.declared.limits.TheConstants.{MAX_SCRIPT_BYTES}
 use Rattle.tn_outside.specs.Causes.{Rose}
 use Rattle.tn_outside.specs.Totals.{Drained, GaveFront}
 use Rattle.match_script.specs.Script.{Fault}

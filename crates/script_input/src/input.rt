@@ -5,11 +5,11 @@ ghost use Rattle.match_script.specs.Ranges.{HasRanges};
 ghost use Rattle.match_script.specs.Script.{script_of, threads_script_of};
 ghost use Rattle.script_input.specs.Reading.{seen, Gave, GaveAtMost, ReadAs, NotGave, NotRead};
 
+use crate::limits::MAX_SCRIPT_BYTES;
 use crate::status::Status;
 use match_script::{ParseFault, Script, parse, parse_threads};
 use std::alloc::Global;
 use tn_outside::Source;
-use tn_types::MAX_SCRIPT_BYTES;
 
 /// Bytes that are read in one go.
 const BUFFER_BYTES: usize = 65_536;

@@ -4,7 +4,7 @@ use Rattle.std.specs.List.{All}
 use Rattle.std.proofs.lemmas.List.{length-take}
 use Rattle.std.proofs.lemmas.List.Elements.{All-nil, All-cons, All-append, All-take}
 use Rattle.rand_pcg.specs.Lcg.{Lcg}
-use Rattle.tn_types.specs.declared.limits.TheConstants.{MAX_BODY_LINES}
+use Rattle.match_script.specs.declared.limits.TheConstants.{MAX_BODY_LINES}
 use Rattle.match_script.specs.declared.types.BodyLine.{BodyLine}
 use Rattle.match_script.specs.declared.types.BodyLine.TheVariants.{Tick, Scan, Pack, ClientPack, Down, Up}
 use Rattle.match_script.specs.Ranges.{LineFits}

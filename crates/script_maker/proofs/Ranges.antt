@@ -3,7 +3,8 @@ use Rattle.std.proofs.Common.{ℕ, ◌<◌, ◌≤◌, ◌^◌, replicate, refl,
 use Rattle.std.specs.List.{All}
 use Rattle.std.proofs.lemmas.List.Elements.{All-from_recursion, All-weaker}
 use Rattle.rand_pcg.specs.Lcg.{Lcg}
-use Rattle.tn_types.specs.declared.limits.TheConstants.{MAX_CLIENTS, MAX_BODY_LINES}
+use Rattle.tn_types.specs.declared.limits.TheConstants.{MAX_CLIENTS}
+use Rattle.match_script.specs.declared.limits.TheConstants.{MAX_BODY_LINES}
 use Rattle.world_rules.specs.Spawning.{SpawnFits}
 use Rattle.match_script.specs.Ranges.{BlockFits, HeadFits, HasRanges}
 use Rattle.script_maker.specs.Draws.{generator}

@@ -7,10 +7,10 @@ use crate::draws::generator;
 use crate::header::{head_with, objects};
 use crate::lines::put_round;
 use crate::numbers::MOST_LINES_OF_A_ROUND;
-use match_script::{Body, BodyLine, Script};
+use match_script::{Body, BodyLine, MAX_BODY_LINES, Script};
 use rand_pcg::Lcg64Xsh32;
 use std::alloc::Global;
-use tn_types::{MAX_BODY_LINES, MAX_CLIENTS, NoMemory};
+use tn_types::{MAX_CLIENTS, NoMemory};
 
 // No line, with room for so many, where a script may have them, and for what the last round has beyond them.
 fn room_for(alloc: Global, steps: u32) -> Result<Vec<BodyLine>, NoMemory>

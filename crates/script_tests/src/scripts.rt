@@ -1,8 +1,7 @@
 //! Of `match_script`: texts and their scripts or first faults, by the tables of docs/script.md.
-use match_script::{ParseFault, ScriptFault, parse, parse_threads, print};
+use match_script::{MAX_THREAD_TICKS, ParseFault, ScriptFault, parse, parse_threads, print};
 use std::alloc::Global;
 use std::test::Fail;
-use tn_types::MAX_THREAD_TICKS;
 
 const MATCH: &str = "tribes 1\nmatch 1 1 100 128 1000\n";
 

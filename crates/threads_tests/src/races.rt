@@ -3,6 +3,7 @@ ghost use Rattle.std.specs.Prelude.{IfOk};
 ghost use Rattle.match_script.specs.Ranges.{HasRanges};
 
 use crate::gates::LineGate;
+use kept_pair::MAX_KEPT_STEPS;
 use match_script::{Script, parse};
 use plain_race::plain_race;
 use race_history::{Race, TickMoves};
@@ -14,7 +15,6 @@ use std::test::Fail;
 use std::thread::Threads;
 use threads_top::{FreeGate, Gate, Judgement, judge, run_threads, tell};
 use tn_outside::MemSink;
-use tn_types::MAX_KEPT_STEPS;
 
 /// More bytes than a text here has.
 const ALL: usize = 65_536;

@@ -58,7 +58,8 @@ pub fn top_threads<R: Threads + Wait + Sync, S: Source, K: Sink>(
     // What each answer says of the source and of the sink, and what holds after every answer: whatever was written is the text of a
     // legal race of the script that was read, or a front of one: of the race that the threads made where that is legal, and else of a plain
     // race, which the judgement says.
-    ensures outcome { ScriptOutcome threads_script_of HasRanges (IsLegalText judgement.new) (one_word (codes "threads") (map string_bytes words.now.items))
+    ensures outcome { ScriptOutcome threads_script_of HasRanges (IsLegalText judgement.new)
+        (one_word (codes "threads") (map string_bytes words.now.items))
         (seen (S.held source.old) (S.held source.new) (S.faults source.old) (S.faults source.new))
         (seen (K.written sink.old) (K.written sink.new) (K.faults sink.old) (K.faults sink.new)) result }
     // Whether the words are the command, or where they stop being it.

@@ -1,5 +1,6 @@
-//! Every limit of the product, each once (docs/wire.md, "Limits"). Counts are of what they name; sizes of datagrams,
-//! blocks, events and scripts are bytes; widths of fields are bits; places and distances are centimetres.
+//! The limits of the connection, each once, and those that several crates above it share; a crate that alone has a limit keeps
+//! its own (docs/wire.md, "Limits", lists all). Counts are of what they name; sizes of datagrams, blocks and events are bytes;
+//! widths of fields are bits.
 
 /// Clients of a match, numbered from 0.
 pub const MAX_CLIENTS: u8 = 16;
@@ -100,32 +101,8 @@ pub const MAX_DISTANCE_LEVEL: u8 = 3;
 /// Objects of a match, dead ones too.
 pub const MAX_OBJECTS: usize = 1_024;
 
-/// The greatest coordinate, in centimetres.
-pub const MAX_COORDINATE: u32 = 65_535;
-
-/// The greatest RADIUS of a match, in centimetres.
-pub const MAX_RADIUS: u32 = 65_535;
-
-/// Bytes of a script.
-pub const MAX_SCRIPT_BYTES: usize = 1_048_576;
-
-/// Body lines of a script.
-pub const MAX_BODY_LINES: u32 = 100_000;
-
 /// Packets since a period's last turn that its priority counts (docs/connection.md, "Candidates").
 pub const MAX_SKIPS: u32 = 65_535;
-
-/// Steps that are kept of one pair.
-pub const MAX_KEPT_STEPS: u32 = 65_536;
-
-/// Messages of the simulation that one pack takes.
-pub const MAX_TAKEN_MESSAGES: u32 = 4_096;
-
-/// Lines `tick` of a match in threads.
-pub const MAX_THREAD_TICKS: u32 = 4_096;
-
-/// Lines that a match counts: ticks, scans and packs.
-pub const MAX_COUNTED_LINES: u32 = 4_000_000;
 
 /// The least step of a move.
 pub const MIN_STEP: i8 = -8;

@@ -2,7 +2,7 @@
 -- "Datagrams", tells: who changes one of them changes the bytes of datagrams, and has to say so here as well.
 use Rattle.std.specs.Prelude.{◌≡◌, [], ◌∷◌, Some, pos, false, replicate, refl}
 use Rattle.quantised_fields.specs.declared.kind.Kind.{Kind}
-use Rattle.wire_format.specs.declared.widths.TheConstants.{BLOCK_COUNT_WIDTH, BLOCK_LENGTH_WIDTH, BLOCK_NUMBER_WIDTH, BYTE_WIDTH, CLIENT_FIXED_BITS, CLIENT_WIDTH, CREATE, DATA, EVENT_COUNT_WIDTH, EVENT_LENGTH_WIDTH, FLAG_WIDTH, GHOST_COUNT_WIDTH, HEADER_BITS, HEAD_WIDTH, KILL, KIND_NUMBER_WIDTH, KIND_WIDTH, LOW_NUMBERS, LOW_NUMBER_WIDTH, LOW_VERSION, MASK_WIDTH, MAX_BLOCK_BITS, MAX_EVENT_BITS, MAX_GHOST_BITS, MAX_NUMBER, MOVE_BITS, MOVE_COUNT_WIDTH, NUMBER_WIDTH, OP_WIDTH, OWN_VERSION, PING, SERVER_FIXED_BITS, SLOT_WIDTH, STEP_WIDTH, UPDATE}
+use Rattle.wire_format.specs.declared.widths.TheConstants.{BLOCK_COUNT_WIDTH, BLOCK_LENGTH_WIDTH, BLOCK_NUMBER_WIDTH, BYTE_WIDTH, CLIENT_FIXED_BITS, CLIENT_WIDTH, CREATE, CREATE_BITS, DATA, EVENT_COUNT_WIDTH, EVENT_LENGTH_WIDTH, FLAG_WIDTH, GHOST_COUNT_WIDTH, HEADER_BITS, HEAD_WIDTH, KILL, KILL_BITS, KIND_NUMBER_WIDTH, KIND_WIDTH, LOW_NUMBERS, LOW_NUMBER_WIDTH, LOW_VERSION, MASK_WIDTH, MAX_BLOCK_BITS, MAX_EVENT_BITS, MAX_GHOST_BITS, MAX_NUMBER, MOVE_BITS, MOVE_COUNT_WIDTH, NUMBER_WIDTH, OP_WIDTH, OWN_VERSION, PING, SERVER_FIXED_BITS, SLOT_WIDTH, STEP_WIDTH, UPDATE, UPDATE_BITS}
 use Rattle.wire_format.specs.declared.events.EventItem.{EventItem}
 use Rattle.wire_format.specs.declared.ghosts.GhostItem.{GhostItem}
 use Rattle.wire_format.specs.declared.ghosts.GhostItem.TheVariants.{Create, Update}
@@ -121,6 +121,15 @@ max_block_bits = refl
 
 max_event_bits : MAX_EVENT_BITS ≡ 222
 max_event_bits = refl
+
+kill_bits : KILL_BITS ≡ 10
+kill_bits = refl
+
+create_bits : CREATE_BITS ≡ 20
+create_bits = refl
+
+update_bits : UPDATE_BITS ≡ 14
+update_bits = refl
 
 max_ghost_bits : MAX_GHOST_BITS ≡ 222
 max_ghost_bits = refl

@@ -1,6 +1,6 @@
 //! Of `wire_format`: whole datagrams with known bytes, written and read, and those that are refused, each with its reason.
 use bit_stream::{BitWriter, bits_of_move};
-use std::test::Fail;
+use std::alloc::{AllocError, Global};
 use tn_types::{Move, PacketKind, Payload};
 use wire_format::{
     BitsCause, BitsFault, BlockList, ClientBody, ClientPacket, EventItem, EventList, GhostItem,
@@ -54,13 +54,24 @@ const FIRST: Header = Header {
     mask: 0,
 };
 
+/// The header of a packet with one event, and the event's number and bytes.
+pub(crate) fn only_event(packet: &ServerPacket) -> Option<(Header, Option<u32>, &[u8])> {
+    match packet {
+        ServerPacket::Body(body) => match body.events.as_slice() {
+            [event] => Some((body.head, event.number, event.payload.as_slice())),
+            _ => None,
+        },
+        ServerPacket::Ping(_) => None,
+    }
+}
+
 #[test]
-fn first_event(rt: HostRuntime) -> Result<(), Fail> {
+fn first_event(rt: HostRuntime) {
     let kinds = match_kinds();
     let mut events = EventList::new();
     events.push(EventItem {
         number: Some(0),
-        payload: Payload::from_slice(b"hi").ok_or("too long")?,
+        payload: Payload::from_slice(b"hi").expect(&rt, "too long"),
     });
     let packet = ServerPacket::Body(ServerBody {
         head: FIRST,
@@ -70,26 +81,21 @@ fn first_event(rt: HostRuntime) -> Result<(), Fail> {
         events,
         ghosts: GhostList::new(),
     });
-    assert_eq!(rt; server_bits(&packet, &kinds), 174);
+    assert!(rt; server_bits(&packet, &kinds) == 174);
     let mut out = BitWriter::new(128);
     encode_server(&packet, &kinds, &mut out);
-    assert_eq!(rt; out.finish().as_slice(), FIRST_EVENT.as_slice());
-    match decode_server(&FIRST_EVENT, &kinds).ok().ok_or("refused")? {
-        ServerPacket::Body(body) => {
-            assert_eq!(rt; body.head, FIRST);
-            assert_eq!(rt; body.events.len(), 1);
-            let event = body.events.get(0).ok_or("no event")?;
-            assert_eq!(rt; event.number, Some(0));
-            assert_eq!(rt; event.payload.as_slice(), b"hi".as_slice());
-        }
-        ServerPacket::Ping(_) => return Err(Fail::from("a ping")),
-    }
-    Ok(())
+    assert!(rt; out.finish().as_slice() == FIRST_EVENT.as_slice());
+}
+
+#[test]
+fn first_event_is_read(rt: HostRuntime) {
+    let packet = decode_server(&FIRST_EVENT, &match_kinds()).expect(&rt, "refused");
+    assert!(rt; only_event(&packet) == Some((FIRST, Some(0), b"hi".as_slice())));
 }
 
 /// A packet of a client with two moves and an event, as known bytes.
 #[test]
-fn moves_are_written(rt: HostRuntime) -> Result<(), Fail> {
+fn moves_are_written(rt: HostRuntime) {
     let mut moves = MoveList::new();
     moves.push(bits_of_move(&Move {
         dx: 1,
@@ -106,7 +112,7 @@ fn moves_are_written(rt: HostRuntime) -> Result<(), Fail> {
     let mut events = EventList::new();
     events.push(EventItem {
         number: None,
-        payload: Payload::from_slice(b"a").ok_or("too long")?,
+        payload: Payload::from_slice(b"a").expect(&rt, "too long"),
     });
     let packet = ClientPacket::Body(ClientBody {
         head: FIRST,
@@ -114,70 +120,65 @@ fn moves_are_written(rt: HostRuntime) -> Result<(), Fail> {
         moves,
         events,
     });
-    assert_eq!(rt; client_bits(&packet), 155);
+    assert!(rt; client_bits(&packet) == 155);
     let mut out = BitWriter::new(128);
     encode_client(&packet, &mut out);
-    assert_eq!(rt; out.finish().as_slice(), MOVES.as_slice());
-    Ok(())
+    assert!(rt; out.finish().as_slice() == MOVES.as_slice());
+}
+
+/// The header of a client's packet.
+fn head_of(packet: &ClientPacket) -> Option<Header> {
+    match packet {
+        ClientPacket::Body(body) => Some(body.head),
+        ClientPacket::Ping(_) => None,
+    }
 }
 
 #[test]
-fn acknowledgement_is_read(rt: HostRuntime) -> Result<(), Fail> {
-    let ClientPacket::Body(body) = decode_client(&ACKNOWLEDGES).ok().ok_or("refused")? else {
-        return Err(Fail::from("a ping"));
-    };
+fn acknowledgement_is_read(rt: HostRuntime) {
+    let packet = decode_client(&ACKNOWLEDGES).expect(&rt, "refused");
     let head = Header {
         client: 0,
         seq: 3,
         horizon: 4,
         mask: 0b1101,
     };
-    assert_eq!(rt; body.head, head);
-    Ok(())
+    assert!(rt; head_of(&packet) == Some(head));
+}
+
+/// The bits of its moves.
+fn move_bits(body: &ClientBody, place: usize) -> Option<u64> {
+    match body.moves.get(place) {
+        Some(m) => Some(m.bits),
+        None => None,
+    }
 }
 
 /// Moves of version 3 have the bits that the terms count, the lowest first; a datagram that is cut inside a move is short at the part
 /// that is cut: the lowest 32 bits are one, the further bits another.
 #[test]
-fn wide_moves_are_read(rt: HostRuntime) -> Result<(), Fail> {
+fn wide_moves_are_read(rt: HostRuntime) {
     let mut body = ClientBody::new();
-    assert_eq!(rt;
-        decode_client_into(&WIDE_MOVES, FORTY, &mut body),
-        Ok(PacketKind::Body)
-    );
-    assert_eq!(rt; (body.first, body.moves.len()), (7, 2));
-    let second = body.moves.get(1).ok_or("one move")?;
-    assert_eq!(rt; second.bits, 0xfe_dcba_9876);
+    assert!(rt; decode_client_into(&WIDE_MOVES, FORTY, &mut body) == Ok(PacketKind::Body));
+    assert!(rt; body.first == 7 && body.moves.len() == 2);
+    assert!(rt; move_bits(&body, 1) == Some(0xfe_dcba_9876));
     let cuts = [(18, 116), (19, 148), (23, 156), (24, 188), (25, 196)];
     for (len, place) in cuts {
         let (cut, _) = WIDE_MOVES.as_slice().split_at(len);
-        let answer = decode_client_into(cut, FORTY, &mut body).err();
         let cause = BitsCause::Short;
-        assert_eq!(rt; answer, Some(BitsFault { place, cause }));
+        assert!(rt; decode_client_into(cut, FORTY, &mut body) == Err(BitsFault { place, cause }));
     }
-    Ok(())
 }
 
 /// A body that had a packet with moves and an event is filled anew.
 #[test]
 fn body_is_filled_again(rt: HostRuntime) {
     let mut body = ClientBody::new();
-    assert_eq!(rt;
-        decode_client_into(&MOVES, Wire::old(1), &mut body),
-        Ok(PacketKind::Body)
-    );
-    assert_eq!(rt;
-        (body.first, body.moves.len(), body.events.len()),
-        (7, 2, 1)
-    );
-    assert_eq!(rt;
-        decode_client_into(&ACKNOWLEDGES, Wire::old(1), &mut body),
-        Ok(PacketKind::Body)
-    );
-    assert_eq!(rt;
-        (body.head.seq, body.moves.len(), body.events.len()),
-        (3, 0, 0)
-    );
+    let wire = Wire::old(1);
+    assert!(rt; decode_client_into(&MOVES, wire, &mut body) == Ok(PacketKind::Body));
+    assert!(rt; body.first == 7 && body.moves.len() == 2 && body.events.len() == 1);
+    assert!(rt; decode_client_into(&ACKNOWLEDGES, wire, &mut body) == Ok(PacketKind::Body));
+    assert!(rt; body.head.seq == 3 && body.moves.len() == 0 && body.events.len() == 0);
 }
 
 /// The op, the slot, the kind, the block or mask, and the levels of a ghost.
@@ -199,8 +200,19 @@ fn told(item: &GhostItem) -> (u8, u8, u8, u32, &[u32]) {
     }
 }
 
+/// The only ghost of a packet.
+pub(crate) fn only_ghost(packet: &ServerPacket) -> Option<(u8, u8, u8, u32, &[u32])> {
+    match packet {
+        ServerPacket::Body(body) => match body.ghosts.as_slice() {
+            [item] => Some(told(item)),
+            _ => None,
+        },
+        ServerPacket::Ping(_) => None,
+    }
+}
+
 #[test]
-fn ghosts_are_read(rt: HostRuntime) -> Result<(), Fail> {
+fn ghosts_are_read(rt: HostRuntime) {
     let kinds = match_kinds();
     let cases: [(&[u8], u32, (u8, u8, u8, u32, &[u32])); 2] = [
         (&CREATE, 200, (1, 0, 0, 0, &[1000, 1000, 127, 31, 0])),
@@ -208,20 +220,14 @@ fn ghosts_are_read(rt: HostRuntime) -> Result<(), Fail> {
     ];
     for (bytes, bits, item) in cases {
         assert!(rt; bytes.len() <= 32);
-        let packet = decode_server(bytes, &kinds).ok().ok_or("refused")?;
-        assert_eq!(rt; server_bits(&packet, &kinds), bits);
-        let ServerPacket::Body(body) = packet else {
-            return Err(Fail::from("a ping"));
-        };
-        assert_eq!(rt; told(body.ghosts.get(0).ok_or("no ghost")?), item);
+        let packet = decode_server(bytes, &kinds).expect(&rt, "refused");
+        assert!(rt; server_bits(&packet, &kinds) == bits && only_ghost(&packet) == Some(item));
     }
-    Ok(())
 }
 
+/// The client's: no byte, a cut number, kind 2, packet 0, a set bit after the last part, 33 moves.
 #[test]
-fn malformed_datagrams(rt: HostRuntime) -> Result<(), Fail> {
-    let kinds = match_kinds();
-    // The client's: no byte, a cut number, kind 2, packet 0, a set bit after the last part, 33 moves.
+fn malformed_datagrams_of_a_client(rt: HostRuntime) {
     let clients: [(&[u8], u32, BitsCause); 6] = [
         (&[], 0, BitsCause::Short),
         (&[0x40], 6, BitsCause::Short),
@@ -240,11 +246,25 @@ fn malformed_datagrams(rt: HostRuntime) -> Result<(), Fail> {
     ];
     for (bytes, place, cause) in clients {
         assert!(rt; bytes.len() <= 32);
-        let answer = decode_client(bytes).err();
-        assert_eq!(rt; answer, Some(BitsFault { place, cause }));
+        assert!(rt; decode_client(bytes).err() == Some(BitsFault { place, cause }));
     }
-    // What stands after the accepted moves of a server's packet: a block of 41 bytes, an event of 25, 129 ghosts, op 3,
-    // kind 6, an update of no field, a cut level.
+}
+
+/// A datagram of the server that carries no control slot, no block, no event and no ghost, up to its accepted moves.
+pub(crate) const SERVER_FRONT: [u8; 13] = [0x40, 0, 0, 0, 0, 0, 0, 0, 0, 0, 0, 0, 0];
+
+/// These bytes after a front.
+pub(crate) fn joined(alloc: Global, front: &[u8], rest: &[u8]) -> Result<Vec<u8>, AllocError> {
+    let mut bytes = front.to_vec(alloc)?;
+    bytes.extend_from_slice(rest)?;
+    Ok(bytes)
+}
+
+/// What stands after the accepted moves of a server's packet: a block of 41 bytes, an event of 25, 129 ghosts, op 3,
+/// kind 6, an update of no field, a cut level.
+#[test]
+fn malformed_datagrams(rt: HostRuntime) {
+    let kinds = match_kinds();
     let servers: [(&[u8], u32, BitsCause); 7] = [
         (&[0x80, 0, 0x52], 121, BitsCause::LengthBits),
         (&[0, 8, 0x32], 121, BitsCause::LengthBits),
@@ -255,11 +275,8 @@ fn malformed_datagrams(rt: HostRuntime) -> Result<(), Fail> {
         (&[0, 0, 1, 0, 0x56, 2, 0, 0], 145, BitsCause::Short),
     ];
     for (behind, place, cause) in servers {
-        let mut bytes = [0x40, 0, 0, 0, 0, 0, 0, 0, 0, 0, 0, 0, 0].to_vec(rt.alloc())?;
-        bytes.extend_from_slice(behind)?;
+        let bytes = joined(rt.alloc(), &SERVER_FRONT, behind).expect(&rt, "memory");
         assert!(rt; bytes.len() <= 32);
-        let answer = decode_server(&bytes, &kinds).err();
-        assert_eq!(rt; answer, Some(BitsFault { place, cause }));
+        assert!(rt; decode_server(&bytes, &kinds).err() == Some(BitsFault { place, cause }));
     }
-    Ok(())
 }

@@ -3,7 +3,7 @@ use Rattle.std.proofs.Common.{◌≡◌, ℕ, ◌+◌, Bool, true, false, ◌&&�
 use Rattle.std.specs.Prelude.{is_some}
 use Rattle.std.proofs.lemmas.Bool.Decides.{nat_tests}
 use Rattle.tn_types.specs.BitWords.{has_bit}
-use Rattle.tn_types.specs.declared.limits.TheConstants.{MAX_FIELDS}
+use Rattle.dirty_lanes.specs.declared.limits.TheConstants.{MAX_LANE_FIELDS}
 use Rattle.dirty_lanes.specs.declared.view.SimStep.{SimStep}
 use Rattle.dirty_lanes.specs.Views.{newest, newest_value}
 use Rattle.world_sim.specs.Worlds.{Worlds, value_at, version_at}
@@ -133,10 +133,10 @@ both_out false false true = refl
 both_out false false false = refl
 
 pub one_object_more : (w : Worlds) (k : ℕ) (a b c : List SimStep) → Brings w (objects_below k) a b
-    → Brings w (fields_below k MAX_FIELDS) b c → Brings w (objects_below (k + 1)) a c
-one_object_more w k a b c x y = brings_more w (objects_below k) (fields_below k MAX_FIELDS) (objects_below (k + 1)) a b c x y
-    (λ o f. apart_out (nat_lt f MAX_FIELDS) (nat_lt o k) (o == k) (below_other o k))
-    (λ o f. ap (λ (t : Bool). t && nat_lt f MAX_FIELDS) (one_more o k) ∙ both_out (nat_lt f MAX_FIELDS) (nat_lt o k) (o == k))
+    → Brings w (fields_below k MAX_LANE_FIELDS) b c → Brings w (objects_below (k + 1)) a c
+one_object_more w k a b c x y = brings_more w (objects_below k) (fields_below k MAX_LANE_FIELDS) (objects_below (k + 1)) a b c x y
+    (λ o f. apart_out (nat_lt f MAX_LANE_FIELDS) (nat_lt o k) (o == k) (below_other o k))
+    (λ o f. ap (λ (t : Bool). t && nat_lt f MAX_LANE_FIELDS) (one_more o k) ∙ both_out (nat_lt f MAX_LANE_FIELDS) (nat_lt o k) (o == k))
 
 told_both : (lt eq e old here : Bool) → (lt ≡ true → eq ≡ false) → (eq ≡ true → here ≡ old)
     → (((lt && e) && old) || (eq && (e && here))) ≡ (((lt || eq) && e) && old)
@@ -154,14 +154,14 @@ turned k o = grind (arith, nat_tests)
 -- what was told of the objects below this one, and what is told of it
 pub told_of : (w : Worlds) (k : ℕ) (a b : List SimStep) (told : ℕ → ℕ → Bool) (bits : ℕ) → Brings w (objects_below k) a b
     → ((o f : ℕ) → told o f ≡ (objects_below k o f && is_behind w a o f))
-    → ((f : ℕ) → has_bit bits f ≡ (nat_lt f MAX_FIELDS && is_behind w b k f))
+    → ((f : ℕ) → has_bit bits f ≡ (nat_lt f MAX_LANE_FIELDS && is_behind w b k f))
     → (o f : ℕ) → (told o f || ((k == o) && has_bit bits f)) ≡ (objects_below (k + 1) o f && is_behind w a o f)
 told_of w k a b told bits x below here o f =
     let same : (o == k) ≡ true → is_behind w b k f ≡ is_behind w a o f = λ e.
-    behind_by w a b k f (unchosen w (objects_below k) a b k f x (ap (λ (t : Bool). t && nat_lt f MAX_FIELDS) (self_below k)))
+    behind_by w a b k f (unchosen w (objects_below k) a b k f x (ap (λ (t : Bool). t && nat_lt f MAX_LANE_FIELDS) (self_below k)))
     ∙ ap (λ (n : ℕ). is_behind w a n f) (sym (same_place o k e)) in
     ap (λ (t : Bool). t || ((k == o) && has_bit bits f)) (below o f)
     ∙ ap (λ (t : Bool). (objects_below k o f && is_behind w a o f) || ((k == o) && t)) (here f)
-    ∙ ap (λ (t : Bool). (objects_below k o f && is_behind w a o f) || (t && (nat_lt f MAX_FIELDS && is_behind w b k f))) (turned k o)
-    ∙ told_both (nat_lt o k) (o == k) (nat_lt f MAX_FIELDS) (is_behind w a o f) (is_behind w b k f) (below_other o k) same
-    ∙ ap (λ (t : Bool). (t && nat_lt f MAX_FIELDS) && is_behind w a o f) (sym (one_more o k))
+    ∙ ap (λ (t : Bool). (objects_below k o f && is_behind w a o f) || (t && (nat_lt f MAX_LANE_FIELDS && is_behind w b k f))) (turned k o)
+    ∙ told_both (nat_lt o k) (o == k) (nat_lt f MAX_LANE_FIELDS) (is_behind w a o f) (is_behind w b k f) (below_other o k) same
+    ∙ ap (λ (t : Bool). (t && nat_lt f MAX_LANE_FIELDS) && is_behind w a o f) (sym (one_more o k))

@@ -6,7 +6,7 @@ use Rattle.std.specs.List.{All, list_any}
 use Rattle.std.proofs.lemmas.Bool.Decides.{nat_tests}
 use Rattle.std.proofs.lemmas.List.Elements.{All-nil, All-append, All-cons}
 use Rattle.std.proofs.lemmas.List.Folds.{list_any-append}
-use Rattle.tn_types.specs.declared.limits.TheConstants.{MAX_FIELDS}
+use Rattle.dirty_lanes.specs.declared.limits.TheConstants.{MAX_LANE_FIELDS}
 use Rattle.tn_types.specs.declared.moves.MoveBits.{MoveBits}
 use Rattle.dirty_lanes.specs.declared.view.SimStep.{SimStep}
 use Rattle.dirty_lanes.specs.Views.{newest}
@@ -182,7 +182,7 @@ part_few o (Drone d) = omega arith
 part_few o (Flag f) = omega arith
 part_few o (Clock k) = omega arith
 
-there_in : (os : List Object) (k f : ℕ) → is_some (value_in os k f) ≡ true → (k < length os) × (f < MAX_FIELDS)
+there_in : (os : List Object) (k f : ℕ) → is_some (value_in os k f) ≡ true → (k < length os) × (f < MAX_LANE_FIELDS)
 there_in [] k f e = absurd (never (sym e))
 there_in (o ∷ os) zero f e = let h = some_below (values_of o) f e in let m = part_few o o.state in (omega arith, omega (arith, h, m))
 there_in (o ∷ os) (suc k) f e = let h = there_in os k f e in let l = h.0 in (omega (arith, l), h.1)
@@ -201,7 +201,7 @@ both_below k n f m a b =
 pub behind_there : (w : Worlds) (steps : List SimStep) (o f : ℕ) → is_behind w steps o f ≡ true → objects_below (length w.objects) o f ≡ true
 behind_there w steps o f e =
     let h = there_in w.objects o f (left_true (is_some (value_at w o f)) (is_unwritten (newest steps o f) (version_at w o f)) e) in
-    both_below o (length w.objects) f MAX_FIELDS h.0 h.1
+    both_below o (length w.objects) f MAX_LANE_FIELDS h.0 h.1
 
 none_left : (c b : Bool) → (b ≡ true → c ≡ true) → (not c && b) ≡ false
 none_left true b h = refl
@@ -221,18 +221,18 @@ first_near w steps seed setup e o f =
 -- ---- what a tick wrote
 
 IsPlace : ℕ → Write → Type 0
-IsPlace most w = (w.object < most) × (w.field < MAX_FIELDS)
+IsPlace most w = (w.object < most) × (w.field < MAX_LANE_FIELDS)
 
-by_difference : (most object field v : ℕ) (y : ℤ) (d : Bool) → object < most → field < MAX_FIELDS
+by_difference : (most object field v : ℕ) (y : ℤ) (d : Bool) → object < most → field < MAX_LANE_FIELDS
     → All (IsPlace most) (if d then (record { object = object; field = field; version = v + 1; value = y }) ∷ [] else [])
 unfolding IsPlace
 by_difference most object field v y true a b = All-cons (IsPlace most) (record { object = object; field = field; version = v + 1; value = y }) [] (a, b) (All-nil (IsPlace most))
 by_difference most object field v y false a b = All-nil (IsPlace most)
 
-one_place : (most object field : ℕ) (x y : ℤ) (v : ℕ) → object < most → field < MAX_FIELDS → All (IsPlace most) (field_writes object field x y v)
+one_place : (most object field : ℕ) (x y : ℤ) (v : ℕ) → object < most → field < MAX_LANE_FIELDS → All (IsPlace most) (field_writes object field x y v)
 one_place most object field x y v a b = by_difference most object field v y (differs x y) a b
 
-row_places : (most object field : ℕ) (xs ys : List ℤ) (vs : List ℕ) → object < most → field + length ys ≤ MAX_FIELDS → All (IsPlace most) (row_writes object field xs ys vs)
+row_places : (most object field : ℕ) (xs ys : List ℤ) (vs : List ℕ) → object < most → field + length ys ≤ MAX_LANE_FIELDS → All (IsPlace most) (row_writes object field xs ys vs)
 unfolding row_writes
 row_places most object field [] ys vs a b = All-nil (IsPlace most)
 row_places most object field (x ∷ xs) [] vs a b = All-nil (IsPlace most)
@@ -273,7 +273,7 @@ module _ (w : Worlds) (had : ℕ) (steps : List SimStep) (is : IsTicked w had st
   unfolding IsPlace
   objects_after k d l = (places k d l).0
 
-  pub fields_after : All (λ x. x.field < MAX_FIELDS) w.writes
+  pub fields_after : All (λ x. x.field < MAX_LANE_FIELDS) w.writes
   unfolding IsPlace
   fields_after k d l = (places k d l).1
 

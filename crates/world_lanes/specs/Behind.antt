@@ -3,7 +3,7 @@
 use Rattle.std.specs.Prelude.{◌≡◌, ℕ, ℤ, ◌≤ℤ◌, ◌+◌, ◌&&◌, ◌==◌, Bool, true, false, nat_le, nat_lt, is_some, if◌then◌else◌, List, Option, Some, None, IfSome, option_and_then, slice_get}
 use Rattle.quantised_fields.specs.declared.field.FieldSpec.{FieldSpec}
 use Rattle.quantised_fields.specs.declared.kind.Kind.{Kind}
-use Rattle.tn_types.specs.declared.limits.TheConstants.{MAX_FIELDS}
+use Rattle.dirty_lanes.specs.declared.limits.TheConstants.{MAX_LANE_FIELDS}
 use Rattle.dirty_lanes.specs.declared.view.SimStep.{SimStep}
 use Rattle.dirty_lanes.specs.Views.{newest, newest_value}
 use Rattle.lane_periods.specs.Views.{value_in}
@@ -39,7 +39,7 @@ abbrev pub fields_below : ℕ → ℕ → ℕ → ℕ → Bool
 fields_below object most o f = (o == object) && nat_lt f most
 
 abbrev pub objects_below : ℕ → ℕ → ℕ → Bool
-objects_below most o f = nat_lt o most && nat_lt f MAX_FIELDS
+objects_below most o f = nat_lt o most && nat_lt f MAX_LANE_FIELDS
 
 -- the lanes are behind in no field of the world
 abbrev pub IsBrought : Worlds → List SimStep → Type 0

@@ -4,8 +4,7 @@ ghost use Rattle.std.specs.List.{All};
 ghost use Rattle.tn_types.specs.BitWords.{has_bit};
 ghost use Rattle.world_lanes.specs.Told.{is_of, is_told, Tells};
 
-use dirty_lanes::{LaneName, Lanes, SimSeat};
-use tn_types::MAX_FIELDS;
+use dirty_lanes::{LaneName, Lanes, MAX_LANE_FIELDS, SimSeat};
 
 /// Fields of an object that were stored: bit f for field f.
 #[derive(Clone, Copy, Debug, PartialEq, Eq)]
@@ -19,7 +18,7 @@ pub struct Changed {
 // Tells every client of one object.
 fn raise_one<N: LaneName>(lanes: &Lanes<N>, sim: &mut SimSeat<N>, changed: &Changed)
     requires object { changed.now.object < lanes.now.objects }
-    requires bits { changed.now.bits < 2 ^ MAX_FIELDS }
+    requires bits { changed.now.bits < 2 ^ MAX_LANE_FIELDS }
     ensures { Tells (λ o f. is_of o f changed.now) lanes.now.clients sim.old.steps sim.new.steps }
 {
     for client in 0..lanes.clients() as u8 {
@@ -30,7 +29,7 @@ fn raise_one<N: LaneName>(lanes: &Lanes<N>, sim: &mut SimSeat<N>, changed: &Chan
 /// Tells every client of these.
 pub fn raise_all<N: LaneName>(lanes: &Lanes<N>, sim: &mut SimSeat<N>, changed: &[Changed])
     requires objects { All (λ c. c.object < lanes.now.objects) changed.now }
-    requires bits { All (λ c. c.bits < 2 ^ MAX_FIELDS) changed.now }
+    requires bits { All (λ c. c.bits < 2 ^ MAX_LANE_FIELDS) changed.now }
     ensures { Tells (is_told changed.now) lanes.now.clients sim.old.steps sim.new.steps }
 {
     for c in changed {

@@ -14,17 +14,17 @@ ghost use Rattle.world_lanes.specs.Told.{is_told};
 use crate::listing::{list_field, with_bit};
 use crate::raising::Changed;
 use crate::words::field_word;
-use dirty_lanes::{LaneName, Lanes, SimSeat};
+use dirty_lanes::{LaneName, Lanes, MAX_LANE_FIELDS, SimSeat};
 use quantised_fields::KindTable;
 use std::alloc::Global;
-use tn_types::{MAX_FIELDS, NoMemory};
+use tn_types::NoMemory;
 use world_sim::{World, Write};
 
 // Whether a version of a field was not written: the lanes count the first value as their version 1.
 fn is_unwritten<N: LaneName>(world: &World, sim: &SimSeat<N>, object: u32, field: u8) -> bool
     requires there { object < length world.now.objects }
     requires named { object < N.objects }
-    requires field { field < MAX_FIELDS }
+    requires field { field < MAX_LANE_FIELDS }
     ensures told { result ≡ is_unwritten (newest sim.now.steps object field) (version_at world.now object field) }
     ensures few { result ≡ true → newest sim.now.steps object field ≤ world.now.ticks }
 {
@@ -47,7 +47,7 @@ fn store_field<N: LaneName>(
     requires ticks { world.now.ticks < 2 ^ 32 - 1 }
     requires there { object < length world.now.objects }
     requires object { object < lanes.now.objects }
-    requires field { field < MAX_FIELDS }
+    requires field { field < MAX_LANE_FIELDS }
     ensures told { result ≡ is_behind world.now sim.old.steps object field }
     ensures brings { Brings world.now (λ o f. (o == object) && (f == field)) sim.old.steps sim.new.steps }
 {
@@ -75,12 +75,12 @@ fn store_object<N: LaneName>(
     requires ticks { world.now.ticks < 2 ^ 32 - 1 }
     requires there { object < length world.now.objects }
     requires object { object < lanes.now.objects }
-    ensures few { result < 2 ^ MAX_FIELDS }
-    ensures told { (f : ℕ) → has_bit result f ≡ (nat_lt f MAX_FIELDS && is_behind world.now sim.old.steps object f) }
-    ensures brings { Brings world.now (fields_below object MAX_FIELDS) sim.old.steps sim.new.steps }
+    ensures few { result < 2 ^ MAX_LANE_FIELDS }
+    ensures told { (f : ℕ) → has_bit result f ≡ (nat_lt f MAX_LANE_FIELDS && is_behind world.now sim.old.steps object f) }
+    ensures brings { Brings world.now (fields_below object MAX_LANE_FIELDS) sim.old.steps sim.new.steps }
 {
     let mut bits = 0;
-    for field in 0..MAX_FIELDS as u8 {
+    for field in 0..MAX_LANE_FIELDS as u8 {
         let stored = store_field(kinds, world, lanes, sim, object, field);
         bits = with_bit(bits, field, stored);
     }
@@ -102,12 +102,12 @@ fn store_from<N: LaneName>(
     requires from { from ≤ length world.now.objects }
     requires room { length changed.old.items + length world.now.objects ≤ vec_capacity changed.old + from }
     requires there { All (λ c. c.object < lanes.now.objects) changed.old.items }
-    requires bits { All (λ c. c.bits < 2 ^ MAX_FIELDS) changed.old.items }
+    requires bits { All (λ c. c.bits < 2 ^ MAX_LANE_FIELDS) changed.old.items }
     ensures brings { Brings world.now (objects_between from (length world.now.objects)) sim.old.steps sim.new.steps }
     ensures told { (o f : ℕ) → is_told changed.new.items o f ≡ (is_told changed.old.items o f
         || (objects_between from (length world.now.objects) o f && is_behind world.now sim.old.steps o f)) }
     ensures there { All (λ c. c.object < lanes.now.objects) changed.new.items }
-    ensures bits { All (λ c. c.bits < 2 ^ MAX_FIELDS) changed.new.items }
+    ensures bits { All (λ c. c.bits < 2 ^ MAX_LANE_FIELDS) changed.new.items }
 {
     for object in from..world.objects() {
         let bits = store_object(kinds, world, lanes, sim, object);
@@ -130,15 +130,15 @@ fn store_write<N: LaneName>(
     requires ticks { world.now.ticks < 2 ^ 32 - 1 }
     requires object { write.now.object < length world.now.objects }
     requires named { write.now.object < lanes.now.objects }
-    requires field { write.now.field < MAX_FIELDS }
+    requires field { write.now.field < MAX_LANE_FIELDS }
     requires room { length changed.old.items < vec_capacity changed.old }
     requires there { All (λ c. c.object < lanes.now.objects) changed.old.items }
-    requires bits { All (λ c. c.bits < 2 ^ MAX_FIELDS) changed.old.items }
+    requires bits { All (λ c. c.bits < 2 ^ MAX_LANE_FIELDS) changed.old.items }
     ensures brings { Brings world.now (λ o f. is_write_of o f write.now) sim.old.steps sim.new.steps }
     ensures told { (o f : ℕ) → is_told changed.new.items o f
         ≡ (is_told changed.old.items o f || (is_write_of o f write.now && is_behind world.now sim.old.steps o f)) }
     ensures there { All (λ c. c.object < lanes.now.objects) changed.new.items }
-    ensures bits { All (λ c. c.bits < 2 ^ MAX_FIELDS) changed.new.items }
+    ensures bits { All (λ c. c.bits < 2 ^ MAX_LANE_FIELDS) changed.new.items }
     ensures few { length changed.new.items ≤ length changed.old.items + 1 }
     ensures kept { vec_capacity changed.old ≤ vec_capacity changed.new }
 {
@@ -161,14 +161,14 @@ fn store_written<N: LaneName>(
     requires objects { length world.now.objects ≤ lanes.now.objects }
     requires near { IsNear world.now sim.old.steps }
     requires there { All (λ w. w.object < length world.now.objects) world.now.writes }
-    requires fields { All (λ w. w.field < MAX_FIELDS) world.now.writes }
+    requires fields { All (λ w. w.field < MAX_LANE_FIELDS) world.now.writes }
     requires none { changed.old.items ≡ [] }
     requires room { length world.now.writes ≤ vec_capacity changed.old }
     ensures brings { Brings world.now (is_written world.now.writes) sim.old.steps sim.new.steps }
     ensures told { (o f : ℕ) → is_told changed.new.items o f
         ≡ (is_written world.now.writes o f && is_behind world.now sim.old.steps o f) }
     ensures there { All (λ c. c.object < lanes.now.objects) changed.new.items }
-    ensures bits { All (λ c. c.bits < 2 ^ MAX_FIELDS) changed.new.items }
+    ensures bits { All (λ c. c.bits < 2 ^ MAX_LANE_FIELDS) changed.new.items }
     ensures few { length changed.new.items ≤ length world.now.writes }
     ensures kept { vec_capacity changed.old ≤ vec_capacity changed.new }
 {
@@ -193,7 +193,7 @@ pub fn store_world<N: LaneName>(
     ensures told { OnOk result ((o f : ℕ) → is_told changed.new.items o f
         ≡ (objects_below (length world.now.objects) o f && is_behind world.now sim.old.steps o f)) }
     ensures there { OnOk result (All (λ c. c.object < lanes.now.objects) changed.new.items) }
-    ensures bits { OnOk result (All (λ c. c.bits < 2 ^ MAX_FIELDS) changed.new.items) }
+    ensures bits { OnOk result (All (λ c. c.bits < 2 ^ MAX_LANE_FIELDS) changed.new.items) }
     ensures whole { OnOk result ((seed : ℕ) (setup : Setup) → world.now ≡ first_world seed setup → IsBrought world.now sim.new.steps) }
     ensures unchanged { OnErr result (sim.new ≡ sim.old) }
 {
@@ -224,7 +224,7 @@ pub fn store_writes<N: LaneName>(
     ensures told { OnOk result ((o f : ℕ) → is_told changed.new.items o f
         ≡ (objects_below (length world.now.objects) o f && is_behind world.now sim.old.steps o f)) }
     ensures there { OnOk result (All (λ c. c.object < lanes.now.objects) changed.new.items) }
-    ensures bits { OnOk result (All (λ c. c.bits < 2 ^ MAX_FIELDS) changed.new.items) }
+    ensures bits { OnOk result (All (λ c. c.bits < 2 ^ MAX_LANE_FIELDS) changed.new.items) }
     ensures whole { OnOk result (IsBrought world.now sim.new.steps) }
     ensures unchanged { OnErr result (sim.new ≡ sim.old) }
 {

@@ -1,6 +1,7 @@
 -- The six kinds of a match, by number: player, disc, mine, drone, flag and clock.
 use Rattle.std.specs.Prelude.{ℕ, pos, List, [], ◌∷◌, true, false, ◌==◌, if◌then◌else◌, codes}
-use Rattle.tn_types.specs.declared.limits.TheConstants.{MAX_CLIENTS, MAX_COORDINATE}
+use Rattle.tn_types.specs.declared.limits.TheConstants.{MAX_CLIENTS}
+use Rattle.world_rules.specs.declared.limits.TheConstants.{MAX_COORDINATE}
 use Rattle.quantised_fields.specs.declared.field.FieldSpec.{FieldSpec}
 use Rattle.quantised_fields.specs.declared.kind.Kind.{Kind}
 use Rattle.world_rules.specs.declared.kinds.TheConstants.{PLAYER, DISC, MINE, DRONE, FLAG, CLOCK}

@@ -13,3 +13,4 @@ pub mod Kinds
 pub mod Spawning
 pub mod Ranges
 pub mod Identity
+pub mod Limits

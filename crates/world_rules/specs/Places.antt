@@ -1,6 +1,6 @@
 -- Places in the field, in centimetres, and steps. Distance is the greater of both ways.
 use Rattle.std.specs.Prelude.{ℕ, ℤ, pos, negsuc, ◌+◌, ◌-◌, ◌+ℤ◌, ◌*ℤ◌, min, max, Bool, false, nat_le}
-use Rattle.tn_types.specs.declared.limits.TheConstants.{MAX_COORDINATE}
+use Rattle.world_rules.specs.declared.limits.TheConstants.{MAX_COORDINATE}
 use Rattle.world_rules.specs.declared.measures.TheConstants.{PLAYER_STEP}
 use Rattle.tn_types.specs.declared.moves.Move.{Move}
 use Rattle.world_rules.specs.declared.object.Place.{Place}

@@ -1,7 +1,8 @@
 -- What a match starts with: each object stands alive at its home, numbered in the order of the setup.
 use Rattle.std.specs.Prelude.{ℕ, suc, pos, ◌≡◌, ◌<◌, ◌≤◌, ◌≤ℤ◌, List, [], ◌∷◌, length, map, true, false, ◌==◌, if◌then◌else◌, Option, Some, None}
 use Rattle.std.specs.List.{All}
-use Rattle.tn_types.specs.declared.limits.TheConstants.{MAX_CLIENTS, MAX_BLOCKS, MAX_COORDINATE, MAX_OBJECTS}
+use Rattle.tn_types.specs.declared.limits.TheConstants.{MAX_CLIENTS, MAX_BLOCKS, MAX_OBJECTS}
+use Rattle.world_rules.specs.declared.limits.TheConstants.{MAX_COORDINATE}
 use Rattle.world_rules.specs.declared.kinds.TheConstants.{PLAYER, MINE, DRONE, FLAG, CLOCK}
 use Rattle.world_rules.specs.declared.object.Object.{Object}
 use Rattle.world_rules.specs.declared.object.TheConstants.{MAX_HP, MAX_AMMO}

@@ -3,9 +3,10 @@ ghost use Rattle.std.specs.Prelude.{◌≡◌, ◌≤◌, None, pos, length};
 ghost use Rattle.quantised_fields.specs.Kinds.{table_fault};
 ghost use Rattle.world_rules.specs.Kinds.{coordinate, player_kind, disc_kind, mine_kind, drone_kind, flag_kind, clock_kind, kind_word, match_kinds as the_kinds};
 
+use crate::limits::MAX_COORDINATE;
 use crate::object::{MAX_AMMO, MAX_HP, MAX_SCORE, MAX_TICK};
 use quantised_fields::{FieldList, FieldSpec, Kind, KindTable};
-use tn_types::{MAX_CLIENTS, MAX_COORDINATE, MAX_LISTED_FIELDS};
+use tn_types::{MAX_CLIENTS, MAX_LISTED_FIELDS};
 
 /// The number of the kind of players.
 pub const PLAYER: u8 = 0;

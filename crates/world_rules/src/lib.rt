@@ -5,6 +5,7 @@
 pub mod fire;
 pub mod flags;
 pub mod kinds;
+mod limits;
 pub mod measures;
 pub mod movers;
 pub mod object;
@@ -13,6 +14,7 @@ pub mod setup;
 mod sight;
 
 pub use kinds::{kind_word, match_kinds};
+pub use limits::MAX_COORDINATE;
 pub use object::{Clock, Disc, Drone, Flag, Mine, Object, Place, Player, State};
 pub use places::step_player;
 pub use setup::{Setup, Spawn, Spawns};

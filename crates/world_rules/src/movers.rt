@@ -7,6 +7,7 @@ ghost use Rattle.world_rules.specs.Players.{player_next};
 ghost use Rattle.world_rules.specs.Drones.{drawn, drone_next};
 ghost use Rattle.world_rules.specs.declared.object.State.TheVariants.{Drone as drone_of};
 
+use crate::limits::MAX_COORDINATE;
 use crate::measures::{
     ARMING_AGE, CHANCE_BY_NUMBER, CHANCE_BY_TICK, CHANCE_SPREAD, DRONE_DRIFT, DRONE_WAYS,
 };
@@ -14,7 +15,7 @@ use crate::object::{
     Disc, Drone, MAX_AGE, MAX_AMMO, MAX_HP, MAX_SCORE, Mine, Object, Place, Player, State,
 };
 use crate::places::{along, is_in_field, spent, stepped};
-use tn_types::{MAX_COORDINATE, Move};
+use tn_types::Move;
 
 /// A player after the tick: `harm` is what it loses, `scored` how many of its discs hit.
 #[tactic(auto, unfolding(crate::specs::Players::player_next))]

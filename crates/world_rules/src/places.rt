@@ -3,9 +3,10 @@ ghost use Rattle.std.specs.Prelude.{◌≡◌, ◌≤ℤ◌, ◌+ℤ◌, ◌*ℤ
 ghost use Rattle.world_rules.specs.Places.{apart, is_within, clamp, is_in_field, stepped};
 ghost use Rattle.world_rules.specs.Players.{spent, natural, signed_step};
 
+use crate::limits::MAX_COORDINATE;
 use crate::measures::PLAYER_STEP;
 use crate::object::{MAX_AMMO, Place};
-use tn_types::{MAX_COORDINATE, Move};
+use tn_types::Move;
 
 // How far two numbers are apart.
 fn apart(a: u32, b: u32) -> u32

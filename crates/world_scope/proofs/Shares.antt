@@ -2,7 +2,7 @@
 use Rattle.std.proofs.Common.{◌≡◌, ℕ, ◌+◌, ◌-◌, ◌*◌, ◌/◌, ◌<◌, ◌≤◌, inl, inr, Bool, true, false, List, [], ◌∷◌, Some, refl, sym, ap, ◌∙◌, arith}
 use Rattle.std.specs.Prelude.{find}
 use Rattle.std.specs.List.{AllByRecursion}
-use Rattle.tn_types.specs.declared.limits.TheConstants.{MAX_COORDINATE}
+use Rattle.world_rules.specs.declared.limits.TheConstants.{MAX_COORDINATE}
 use Rattle.world_rules.specs.declared.object.Object.{Object}
 use Rattle.world_rules.specs.declared.object.Place.{Place}
 use Rattle.world_rules.specs.Ranges.{ObjectFits, PlaceFits}

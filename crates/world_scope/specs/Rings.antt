@@ -3,7 +3,7 @@
 use Rattle.std.specs.Prelude.{◌≡◌, ℕ, ◌+◌, ◌-◌, ◌*◌, ◌/◌, ◌<◌, min, true, List, map, Some, nat_lt, slice_get, slice_index_or, if◌then◌else◌}
 use Rattle.std.specs.Int.{bit_at}
 use Rattle.std.specs.List.{enumerate_from}
-use Rattle.tn_types.specs.declared.limits.TheConstants.{MAX_COORDINATE}
+use Rattle.world_rules.specs.declared.limits.TheConstants.{MAX_COORDINATE}
 use Rattle.world_rules.specs.declared.object.Place.{Place}
 use Rattle.world_rules.specs.declared.object.Object.{Object}
 use Rattle.world_places.specs.declared.places.PlaceWord.{PlaceWord}

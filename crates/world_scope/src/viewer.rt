@@ -4,7 +4,7 @@ ghost use Rattle.std.specs.Option.{option_copied};
 ghost use Rattle.std.specs.List.{AllByRecursion};
 ghost use Rattle.world_rules.specs.Flags.{is_player};
 ghost use Rattle.world_rules.specs.Ranges.{ObjectFits, PlaceFits};
-ghost use Rattle.tn_types.specs.declared.limits.TheConstants.{MAX_COORDINATE};
+ghost use Rattle.world_rules.specs.declared.limits.TheConstants.{MAX_COORDINATE};
 ghost use Rattle.world_rules.specs.declared.object.Object.{Object};
 ghost use Rattle.world_cells.specs.Grid.{is_always};
 ghost use Rattle.world_places.specs.Places.{is_special};

@@ -1,6 +1,6 @@
 //! The levels of 64 objects at once, and lists of all 64: loops of fixed length, which become vector code.
 ghost use Rattle.std.specs.Prelude.{◌≡◌, ◌↔◌, ℕ, ◌≤◌, ◌<◌, ◌+◌, ◌-◌, ◌*◌, ◌/◌, ◌^◌, ◌++◌, IfOk, IfErr, OnErr, length, max, min, vec_capacity, slice_index_or, true, take, ◌⊎◌};
-ghost use Rattle.tn_types.specs.declared.limits.TheConstants.{MAX_COORDINATE};
+ghost use Rattle.world_rules.specs.declared.limits.TheConstants.{MAX_COORDINATE};
 ghost use Rattle.world_places.specs.Places.{AreOf64, place_at};
 ghost use Rattle.world_scope.specs.Sight.{distance};
 ghost use Rattle.world_scope.specs.Views.{IsReady};
@@ -8,8 +8,9 @@ ghost use Rattle.world_scope.specs.Rings.{AreLevels, AreRings, center, rings_out
 
 use crate::viewer::{Seen, Viewer};
 use std::sync::ledger::Ledger;
-use tn_types::{MAX_COORDINATE, Steps};
+use tn_types::Steps;
 use world_places::PlaceWord;
+use world_rules::MAX_COORDINATE;
 use world_sim::World;
 
 /// Where a viewer looks from, and how far each quarter of its reach goes, in 16 bits; what goes further than the field ends with it.

@@ -28,16 +28,23 @@ fn step_at_the_edge(rt: HostRuntime) {
         fire: true,
         act: false,
     };
-    assert_eq!(rt; step_player(10, 65_530, 1, m), (0, 65_535, 0));
-    assert_eq!(rt; step_player(1000, 1000, 0, m), (975, 1175, 0));
+    let steps = [step_player(10, 65_530, 1, m), step_player(1000, 1000, 0, m)];
+    assert!(rt; steps == [(0, 65_535, 0), (975, 1175, 0)]);
+}
+
+// Whether a kind of the match is always seen.
+fn is_always_seen(number: u8) -> Option<bool> {
+    let kinds = match_kinds();
+    match kinds.kind(number) {
+        Some(kind) => Some(kind.always),
+        None => None,
+    }
 }
 
 #[test]
 fn always_seen(rt: HostRuntime) {
-    let kinds = match_kinds();
-    for (number, always) in [(3, Some(false)), (4, Some(true)), (6, None)] {
-        assert_eq!(rt; kinds.kind(number).map(|k| k.always), always);
-    }
+    let seen = [is_always_seen(3), is_always_seen(4), is_always_seen(6)];
+    assert!(rt; seen == [Some(false), Some(true), None]);
 }
 
 #[test]
@@ -48,8 +55,7 @@ fn within(rt: HostRuntime) {
         (1000, 799, false),
         (800, 1200, true),
     ] {
-        let near_it = is_within(200, &HOME, &Place { x, y });
-        assert_eq!(rt; near_it, near, "{x} {y}");
+        assert!(rt; is_within(200, &HOME, &Place { x, y }) == near);
     }
 }
 
@@ -75,7 +81,7 @@ fn discs(rt: HostRuntime) {
         (800, -800, 0, 0, true),
         (799, -800, 0, 799, false),
     ] {
-        assert_eq!(rt; flown(x, vx, age), (to_x, alive), "{x} {age}");
+        assert!(rt; flown(x, vx, age) == (to_x, alive));
     }
 }
 
@@ -93,8 +99,7 @@ fn chances(rt: HostRuntime) {
         (7, 3, 1, 43_194, 1017, 973),
         (4_294_967_295, 1023, 100_000, 3703, 1017, 986),
     ] {
-        assert_eq!(rt; drawn(seed, number, tick), r);
-        assert_eq!(rt; drifted(r), Place { x, y }, "by {r}");
+        assert!(rt; drawn(seed, number, tick) == r && drifted(r) == Place { x, y });
     }
 }
 
@@ -131,8 +136,11 @@ fn shots(rt: HostRuntime) {
         fire: true,
         act: false,
     };
-    assert_eq!(rt; shot(1, 1, still), Some((800, 0)));
-    assert_eq!(rt; shot(1, 1, ahead), Some((700, -800)));
-    assert_eq!(rt; shot(1, 0, still), None);
-    assert_eq!(rt; shot(0, 1, still), None);
+    let shots = [
+        shot(1, 1, still),
+        shot(1, 1, ahead),
+        shot(1, 0, still),
+        shot(0, 1, still),
+    ];
+    assert!(rt; shots == [Some((800, 0)), Some((700, -800)), None, None]);
 }

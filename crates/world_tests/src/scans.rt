@@ -3,7 +3,6 @@ ghost use Rattle.std.specs.Prelude.{◌≡◌};
 
 use client_scope::{Near, Scope, ShownPeriod};
 use std::alloc::Global;
-use std::test::Fail;
 use tn_types::NoMemory;
 use world_scope::Seen;
 
@@ -24,10 +23,9 @@ fn three_scans(alloc: Global) -> Result<Scope, NoMemory> {
 }
 
 #[test]
-fn an_object_lost_and_seen_again(rt: HostRuntime) -> Result<(), Fail> {
-    let scope = three_scans(rt.alloc()).ok().ok_or("no memory")?;
-    assert_eq!(rt; scope.count(), 3);
-    assert_eq!(rt; scope.shows(), [at(3, 1)].as_slice());
+fn an_object_lost_and_seen_again(rt: HostRuntime) {
+    let scope = three_scans(rt.alloc()).expect(&rt, "memory");
+    assert!(rt; scope.count() == 3 && scope.shows() == [at(3, 1)].as_slice());
     let shown = [
         ShownPeriod {
             n: 1,
@@ -40,8 +38,7 @@ fn an_object_lost_and_seen_again(rt: HostRuntime) -> Result<(), Fail> {
             level: 1,
         },
     ];
-    assert_eq!(rt; scope.shown(), shown.as_slice());
-    Ok(())
+    assert!(rt; scope.shown() == shown.as_slice());
 }
 
 // The same without the last scan.
@@ -53,10 +50,8 @@ fn two_scans(alloc: Global) -> Result<Scope, NoMemory> {
 }
 
 #[test]
-fn an_object_lost_beside_one_that_comes_nearer(rt: HostRuntime) -> Result<(), Fail> {
-    let scope = two_scans(rt.alloc()).ok().ok_or("no memory")?;
-    assert_eq!(rt; scope.hides(), [0].as_slice());
-    assert_eq!(rt; scope.nears(), [Near { n: 1, level: 0 }].as_slice());
-    assert_eq!(rt; scope.shows().len(), 0);
-    Ok(())
+fn an_object_lost_beside_one_that_comes_nearer(rt: HostRuntime) {
+    let scope = two_scans(rt.alloc()).expect(&rt, "memory");
+    assert!(rt; scope.hides() == [0].as_slice() && scope.shows().is_empty());
+    assert!(rt; scope.nears() == [Near { n: 1, level: 0 }].as_slice());
 }

@@ -4,7 +4,6 @@ ghost use Rattle.world_rules.specs.Identity.{OwnersRise};
 ghost use Rattle.world_rules.specs.Spawning.{SetupFits, SpawnFits};
 
 use std::alloc::Global;
-use std::test::Fail;
 use tn_types::NoMemory;
 use world_rules::{Setup, Spawn, Spawns};
 use world_scope::{Seen, visible};
@@ -114,7 +113,7 @@ fn drone_at(alloc: Global, radius: u16, x: u16, y: u16) -> Result<Option<u8>, No
 }
 
 #[test]
-fn distances(rt: HostRuntime) -> Result<(), Fail> {
+fn distances(rt: HostRuntime) {
     for (radius, x, y, level) in [
         (1000, 1250, 1000, Some(0)),
         (1000, 1251, 1000, Some(1)),
@@ -129,10 +128,8 @@ fn distances(rt: HostRuntime) -> Result<(), Fail> {
         (0, 1001, 1000, None),
         (65_535, 65_535, 65_535, Some(3)),
     ] {
-        let told = drone_at(rt.alloc(), radius, x, y).ok().ok_or("no memory")?;
-        assert_eq!(rt; told, level, "{radius} {x} {y}");
+        assert!(rt; drone_at(rt.alloc(), radius, x, y) == Ok(level));
     }
-    Ok(())
 }
 
 // What a client sees of two enemies 1,000 apart, both seeing 1,000 far, with a mine of each team between them.
@@ -145,23 +142,13 @@ fn between(alloc: Global, ticks: u32, client: u8) -> Result<Vec<Seen>, NoMemory>
 }
 
 #[test]
-fn armed_mines(rt: HostRuntime) -> Result<(), Fail> {
-    let unarmed = between(rt.alloc(), 9, 0).ok().ok_or("no memory")?;
-    assert_eq!(rt;
-        unarmed.as_slice(),
-        [seen(0, 0), seen(1, 3), seen(2, 1), seen(3, 1)].as_slice()
-    );
-    let own = between(rt.alloc(), 10, 0).ok().ok_or("no memory")?;
-    assert_eq!(rt;
-        own.as_slice(),
-        [seen(0, 0), seen(1, 3), seen(2, 1)].as_slice()
-    );
-    let other = between(rt.alloc(), 10, 1).ok().ok_or("no memory")?;
-    assert_eq!(rt;
-        other.as_slice(),
-        [seen(0, 3), seen(1, 0), seen(3, 1)].as_slice()
-    );
-    Ok(())
+fn armed_mines(rt: HostRuntime) {
+    let unarmed = between(rt.alloc(), 9, 0).expect(&rt, "memory");
+    assert!(rt; unarmed.as_slice() == [seen(0, 0), seen(1, 3), seen(2, 1), seen(3, 1)].as_slice());
+    let own = between(rt.alloc(), 10, 0).expect(&rt, "memory");
+    assert!(rt; own.as_slice() == [seen(0, 0), seen(1, 3), seen(2, 1)].as_slice());
+    let other = between(rt.alloc(), 10, 1).expect(&rt, "memory");
+    assert!(rt; other.as_slice() == [seen(0, 3), seen(1, 0), seen(3, 1)].as_slice());
 }
 
 // What both clients see, one after the other in one list, where only client 0 has a player.
@@ -176,13 +163,9 @@ fn alone(alloc: Global, last: u8) -> Result<Vec<Seen>, NoMemory> {
 }
 
 #[test]
-fn client_without_player(rt: HostRuntime) -> Result<(), Fail> {
-    let told = alone(rt.alloc(), 1).ok().ok_or("no memory")?;
-    assert_eq!(rt; told.as_slice(), [seen(2, 0), seen(3, 0)].as_slice());
-    let told = alone(rt.alloc(), 0).ok().ok_or("no memory")?;
-    assert_eq!(rt;
-        told.as_slice(),
-        [seen(0, 0), seen(1, 0), seen(2, 0), seen(3, 0)].as_slice()
-    );
-    Ok(())
+fn client_without_player(rt: HostRuntime) {
+    let told = alone(rt.alloc(), 1).expect(&rt, "memory");
+    assert!(rt; told.as_slice() == [seen(2, 0), seen(3, 0)].as_slice());
+    let told = alone(rt.alloc(), 0).expect(&rt, "memory");
+    assert!(rt; told.as_slice() == [seen(0, 0), seen(1, 0), seen(2, 0), seen(3, 0)].as_slice());
 }

@@ -5,7 +5,6 @@ ghost use Rattle.world_rules.specs.Spawning.{SpawnFits};
 
 use bit_stream::bits_of_move;
 use std::alloc::Global;
-use std::test::Fail;
 use tn_types::{Move, MoveBits, NoMemory};
 use world_rules::{Setup, Spawn, Spawns};
 use world_sim::World;
@@ -121,15 +120,13 @@ fn fires(alloc: Global) -> Result<World, NoMemory> {
 }
 
 #[test]
-fn disc_flies(rt: HostRuntime) -> Result<(), Fail> {
-    let world = fires(rt.alloc()).ok().ok_or("no memory")?;
-    assert_eq!(rt; world.objects(), 4);
-    assert_eq!(rt; world.values(0), [1000, 1000, 100, 19, 0].as_slice());
-    assert_eq!(rt; world.values(1), [2, 0, 0].as_slice());
-    assert_eq!(rt; world.values(3), [1800, 1000].as_slice());
-    assert_eq!(rt; (world.kind(3), world.block(3)), (1, 0));
-    assert_eq!(rt; world.writes().len(), 3);
-    Ok(())
+fn disc_flies(rt: HostRuntime) {
+    let world = fires(rt.alloc()).expect(&rt, "memory");
+    assert!(rt; world.objects() == 4);
+    assert!(rt; world.values(0) == [1000, 1000, 100, 19, 0].as_slice());
+    assert!(rt; world.values(1) == [2, 0, 0].as_slice());
+    assert!(rt; world.values(3) == [1800, 1000].as_slice());
+    assert!(rt; world.kind(3) == 1 && world.block(3) == 0 && world.writes().len() == 3);
 }
 
 // The player fires in each tick, and a drone starts at its place.
@@ -140,7 +137,7 @@ fn shoots(alloc: Global, ticks: u32) -> Result<World, NoMemory> {
 }
 
 #[test]
-fn drone_is_shot(rt: HostRuntime) -> Result<(), Fail> {
+fn drone_is_shot(rt: HostRuntime) {
     for (ticks, x, y, hp, alive, score) in [
         (1, 1050, 989, 100, true, 0),
         (2, 1082, 1031, 75, true, 1),
@@ -148,13 +145,15 @@ fn drone_is_shot(rt: HostRuntime) -> Result<(), Fail> {
         (5, 1068, 1071, 0, false, 4),
         (7, 1068, 1071, 0, false, 4),
     ] {
-        let world = shoots(rt.alloc(), ticks).ok().ok_or("no memory")?;
-        let place = (value(&world, 1, 0), value(&world, 1, 1));
-        assert_eq!(rt; place, (x, y), "after {ticks}");
-        let told = (value(&world, 1, 2), lives(&world, 1), value(&world, 0, 4));
-        assert_eq!(rt; told, (hp, alive, score), "after {ticks}");
+        let world = shoots(rt.alloc(), ticks).expect(&rt, "memory");
+        let told = [
+            value(&world, 1, 0),
+            value(&world, 1, 1),
+            value(&world, 1, 2),
+            value(&world, 0, 4),
+        ];
+        assert!(rt; told == [x, y, hp, score] && lives(&world, 1) == alive);
     }
-    Ok(())
 }
 
 // A mine lies 300 from the player, and a friend stands at x.
@@ -169,20 +168,21 @@ fn mined(alloc: Global, x: u16, ticks: u32) -> Result<World, NoMemory> {
 }
 
 #[test]
-fn mine_with_two_victims(rt: HostRuntime) -> Result<(), Fail> {
+fn mine_with_two_victims(rt: HostRuntime) {
     for (x, ticks, hp, friend_hp, armed, alive) in [
         (1600, 9, 100, 100, 0, true),
         (1600, 10, 100, 100, 1, true),
         (1600, 11, 50, 50, 1, false),
         (1601, 12, 50, 100, 1, false),
     ] {
-        let world = mined(rt.alloc(), x, ticks).ok().ok_or("no memory")?;
-        let told = (value(&world, 0, 2), value(&world, 1, 2));
-        assert_eq!(rt; told, (hp, friend_hp), "at {x} after {ticks}");
-        let mine = (value(&world, 2, 2), lives(&world, 2));
-        assert_eq!(rt; mine, (armed, alive), "at {x} after {ticks}");
+        let world = mined(rt.alloc(), x, ticks).expect(&rt, "memory");
+        let told = [
+            value(&world, 0, 2),
+            value(&world, 1, 2),
+            value(&world, 2, 2),
+        ];
+        assert!(rt; told == [hp, friend_hp, armed] && lives(&world, 2) == alive);
     }
-    Ok(())
 }
 
 // The player and a friend make these moves, both 300 from a flag.
@@ -193,17 +193,16 @@ fn taken(alloc: Global, moves: &[Option<MoveBits>]) -> Result<World, NoMemory> {
 }
 
 #[test]
-fn two_takers(rt: HostRuntime) -> Result<(), Fail> {
+fn two_takers(rt: HostRuntime) {
     for (first, second, holder) in [
         (Some(using(0)), Some(using(0)), 1),
         (Some(firing()), Some(using(0)), 2),
         (None, Some(using(0)), 2),
         (None, None, 0),
     ] {
-        let world = taken(rt.alloc(), &[first, second]).ok().ok_or("no memory")?;
-        assert_eq!(rt; value(&world, 2, 2), holder);
+        let world = taken(rt.alloc(), &[first, second]).expect(&rt, "memory");
+        assert!(rt; value(&world, 2, 2) == holder);
     }
-    Ok(())
 }
 
 // The player goes along x and uses, some ticks out and some back. A flag of the other team lies 700 away.
@@ -216,7 +215,7 @@ fn fetch(alloc: Global, out: u32, back: u32) -> Result<World, NoMemory> {
 }
 
 #[test]
-fn flag_comes_home(rt: HostRuntime) -> Result<(), Fail> {
+fn flag_comes_home(rt: HostRuntime) {
     for (out, back, x, holder, red) in [
         (4, 0, 1700, 0, 0),
         (5, 0, 1700, 1, 0),
@@ -224,15 +223,14 @@ fn flag_comes_home(rt: HostRuntime) -> Result<(), Fail> {
         (5, 2, 1300, 1, 0),
         (5, 3, 1700, 0, 1),
     ] {
-        let world = fetch(rt.alloc(), out, back).ok().ok_or("no memory")?;
-        let told = (
+        let world = fetch(rt.alloc(), out, back).expect(&rt, "memory");
+        let told = [
             value(&world, 1, 0),
             value(&world, 1, 2),
             value(&world, 2, 1),
-        );
-        assert_eq!(rt; told, (x, holder, red), "{out} {back}");
+        ];
+        assert!(rt; told == [x, holder, red]);
     }
-    Ok(())
 }
 
 // Two enemies at one place fire in each tick: in six ticks each fires five times, falls and is home again.
@@ -243,16 +241,14 @@ fn brawl(alloc: Global, ticks: u32) -> Result<World, NoMemory> {
 }
 
 #[test]
-fn last_object(rt: HostRuntime) -> Result<(), Fail> {
+fn last_object(rt: HostRuntime) {
     for (ticks, objects, hp, enemy_hp) in [
         (612, 1023, 100, 100),
         (613, 1024, 100, 100),
         (614, 1024, 100, 75),
     ] {
-        let world = brawl(rt.alloc(), ticks).ok().ok_or("no memory")?;
-        assert_eq!(rt; world.objects(), objects);
-        let told = (value(&world, 0, 2), value(&world, 1, 2));
-        assert_eq!(rt; told, (hp, enemy_hp), "after {ticks}");
+        let world = brawl(rt.alloc(), ticks).expect(&rt, "memory");
+        let told = [value(&world, 0, 2), value(&world, 1, 2)];
+        assert!(rt; world.objects() == objects && told == [hp, enemy_hp]);
     }
-    Ok(())
 }

@@ -3,7 +3,7 @@ use Rattle.std.specs.Prelude.{◌↔◌}
 use Rattle.std.specs.List.{AllByRecursion}
 use Rattle.std.specs.Vec.{with_items}
 use Rattle.std.proofs.lemmas.List.{with_items_is, length-replicate}
-use Rattle.tn_types.specs.declared.limits.TheConstants.{MAX_FIELDS}
+use Rattle.dirty_lanes.specs.declared.limits.TheConstants.{MAX_LANE_FIELDS}
 use Rattle.tn_types.specs.declared.choices.Read.{Read}
 use Rattle.race_reads.specs.Reads.{NeverFalls}
 use Rattle.race_reads.specs.Legal.{reads_of}
@@ -17,7 +17,7 @@ pub loop-i-init : goal.loop-i-init
 loop-i-init c =
     let objects = c.args.objects.now in
     let reads = reads_of c.args.steps.now.list in record {
-      long = ap length c.in-Ok.ensures ∙ length-replicate (MAX_FIELDS * c.args.count) 0;
+      long = ap length c.in-Ok.ensures ∙ length-replicate (MAX_LANE_FIELDS * c.args.count) 0;
       means = subst (λ (last : List ℕ). NeverFalls objects reads ↔ RisesFrom objects last reads) (sym c.in-Ok.ensures) (never_falls objects c.args.count reads c.requires.places);
     }
 

@@ -1,7 +1,7 @@
 use Rattle.std.proofs.Common.{◌≡◌, ◌<◌, ◌-◌, ◌^◌, List, [], ◌∷◌, ◌++◌, sym, subst, arith}
 use Rattle.std.specs.List.{All}
 use Rattle.std.proofs.lemmas.List.Elements.{All-nil, All-append, All-cons}
-use Rattle.tn_types.specs.declared.limits.TheConstants.{MAX_FIELDS}
+use Rattle.dirty_lanes.specs.declared.limits.TheConstants.{MAX_LANE_FIELDS}
 use Rattle.world_lanes.specs.declared.raising.Changed.{Changed}
 use Rattle.world_lanes.proofs.Listed.{listed_as}
 use Rattle.world_lanes.proofs.listing.list_field.Goals as goal
@@ -19,4 +19,4 @@ returns-clause-there c = λ most l all.
 
 pub returns-clause-bits : goal.returns-clause-bits
 returns-clause-bits c =
-    one_more (λ x. x.bits < 2 ^ MAX_FIELDS) c.args.changed.now.items c.push_reserved.new.self.items (record { object = c.args.object; bits = c.with_field-2.result }) c.push_reserved.ensures.items c.with_field-2.ensures.few c.requires.bits
+    one_more (λ x. x.bits < 2 ^ MAX_LANE_FIELDS) c.args.changed.now.items c.push_reserved.new.self.items (record { object = c.args.object; bits = c.with_field-2.result }) c.push_reserved.ensures.items c.with_field-2.ensures.few c.requires.bits

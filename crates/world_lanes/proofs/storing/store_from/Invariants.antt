@@ -1,7 +1,7 @@
 use Rattle.std.proofs.Common.{◌≡◌, ◌<◌, ◌≤◌, ◌+◌, ◌&&◌, ◌||◌, ◌^◌, ℕ, length}
 use Rattle.std.specs.Prelude.{vec_capacity}
 use Rattle.std.specs.List.{All}
-use Rattle.tn_types.specs.declared.limits.TheConstants.{MAX_FIELDS}
+use Rattle.dirty_lanes.specs.declared.limits.TheConstants.{MAX_LANE_FIELDS}
 use Rattle.world_lanes.specs.Behind.{is_behind, Brings}
 use Rattle.world_lanes.specs.Storing.{objects_between}
 use Rattle.world_lanes.specs.Told.{is_told}
@@ -13,6 +13,6 @@ invariant-loop-object g l = record {
   told : (o f : ℕ) → is_told l.changed.items o f
       ≡ (is_told l.initial.changed.items o f || (objects_between l.from l.object o f && is_behind l.world l.initial.sim.steps o f));
   there : All (λ c. c.object < l.lanes.objects) l.changed.items;
-  bits : All (λ c. c.bits < 2 ^ MAX_FIELDS) l.changed.items;
+  bits : All (λ c. c.bits < 2 ^ MAX_LANE_FIELDS) l.changed.items;
   brings : Brings l.world (objects_between l.from l.object) l.initial.sim.steps l.sim.steps;
 }

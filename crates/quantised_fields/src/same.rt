@@ -1,8 +1,10 @@
 //! Whether two tables of kinds are the same.
-ghost use Rattle.std.specs.Prelude.{◌≡◌, ◌≤◌, length, slice_get};
-ghost use Rattle.race_history.specs.Deciding.{Decides};
 
-use quantised_fields::{FieldSpec, Kind, KindTable};
+ghost use Rattle.std.specs.Prelude.{◌≡◌, ◌≤◌, Decides, length, slice_get};
+
+use crate::field::FieldSpec;
+use crate::kind::Kind;
+use crate::table::KindTable;
 use tn_types::MAX_KINDS;
 
 fn is_same_field(a: &FieldSpec, b: &FieldSpec) -> bool
@@ -54,7 +56,7 @@ fn learn_few(table: &KindTable)
     let _kind = table.kind(0);
 }
 
-/// Whether both tables have the same kinds.
+/// Whether both tables have the same kinds in the same order.
 pub(crate) fn are_same_kinds(a: &KindTable, b: &KindTable) -> bool
     ensures { Decides result (a.now ≡ b.now) }
 {

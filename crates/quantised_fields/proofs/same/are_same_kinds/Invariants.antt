@@ -1,6 +1,6 @@
 use Rattle.std.proofs.Common.{◌≡◌, ℕ, ◌<◌}
 use Rattle.std.specs.Prelude.{slice_get}
-use Rattle.race_steps.proofs.kinds.are_same_kinds.Given as goal
+use Rattle.quantised_fields.proofs.same.are_same_kinds.Given as goal
 
 abbrev pub invariant-loop-k : goal.invariant-loop-k
 invariant-loop-k l = (j : ℕ) → j < l.k → slice_get l.a j ≡ slice_get l.b j
