@@ -109,14 +109,14 @@ export class Server extends End {
     changed(n: number, bits: number): void;
     settled(n: number, field: number): boolean;
     slot(n: number): number | null;
-    pack(value: (n: number, field: number) => number): Uint8Array | null;
+    pack(value: (n: number, field: number) => number, place?: Uint8Array): Uint8Array | null;
     arrive(datagram: Bytes, room?: number): Refusal | null;
     moves(): Move[];
 }
 
 export class Client extends End {
     private constructor();
-    pack(): Uint8Array | null;
+    pack(place?: Uint8Array): Uint8Array | null;
     arrive(datagram: Bytes): Refusal | null;
     sample(move: Move): number;
     pending(): Move[];

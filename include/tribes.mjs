@@ -183,6 +183,13 @@ function bytesOf(argument, it, mayBeText) {
     throw new BadArgument(argument, mayBeText ? "a text or bytes" : "bytes", it);
 }
 
+/** How many bytes of a datagram have room in the place, if there is one. */
+function roomOf(place) {
+    if (place === undefined) return MAX_DATAGRAM;
+    if (!(place instanceof Uint8Array)) throw new BadArgument("the place", "a Uint8Array", place);
+    return Math.min(place.length, MAX_DATAGRAM);
+}
+
 // ---- moves: parts side by side, the first in the lowest bits, as tribes_put_bits and tribes_take_bits have them
 
 const mask = (width) => (width === 32 ? -1 : (1 << width) - 1);
@@ -303,9 +310,12 @@ class Tribes {
         return bytes.length;
     }
 
-    /** Copies out as many bytes as a call counted. */
-    bytesOut() {
-        return this.bytes.slice(this.to.bytes, this.to.bytes + this.word("count"));
+    /** Copies out as many bytes as a call counted: into the place, if there is one, of which the bytes are then a part. */
+    bytesOut(place) {
+        const from = this.to.bytes, count = this.word("count");
+        if (place === undefined) return this.bytes.slice(from, from + count);
+        for (let k = 0; k < count; k++) place[k] = this.bytes[from + k];
+        return place.subarray(0, count);
     }
 
     why() {
@@ -424,10 +434,10 @@ class End {
         return code;
     }
 
-    _pack(count) {
-        const { to } = this._tribes;
-        const code = this._done(this._calls().tribes_pack(this._at, 0, to.values, 0, count, 0, to.bytes, 0, MAX_DATAGRAM, 0, to.count, 0));
-        return code === 0 ? null : this._tribes.bytesOut();
+    _pack(count, place) {
+        const { to } = this._tribes, room = roomOf(place);
+        const code = this._done(this._calls().tribes_pack(this._at, 0, to.values, 0, count, 0, to.bytes, 0, room, 0, to.count, 0));
+        return code === 0 ? null : this._tribes.bytesOut(place);
     }
 
     _arrive(datagram, room) {
@@ -537,9 +547,13 @@ export class Server extends End {
         return this._done(this._calls().tribes_slot(this._at, 0, u32("the period", n), to.number, 0)) === 1 ? this._tribes.word("number") : null;
     }
 
-    /** The next datagram, with the values that it asks for: of a field of a period, as it is now. Null where the connection is worn. */
-    pack(value) {
+    /**
+     * The next datagram, with the values that it asks for: of a field of a period, as it is now. Null where the connection is worn. It is written
+     * into the place, if one is given, and else into bytes of its own.
+     */
+    pack(value, place) {
         const tribes = this._tribes, { to } = tribes, calls = this._calls();
+        roomOf(place);
         if (typeof value !== "function") throw new BadArgument("the value", "a function of a period and a field", value);
         if (tribes.isAsking) throw new Error("a datagram is packed while another's values are asked for");
         this._done(calls.tribes_plan(this._at, 0, to.asks, 0, MAX_ASKS, 0, to.count, 0));
@@ -556,7 +570,7 @@ export class Server extends End {
         } finally {
             tribes.isAsking = false;
         }
-        return this._pack(count);
+        return this._pack(count, place);
     }
 
     /** Takes a datagram, where so many further moves have room. Gives null where it was taken, and else why it was refused. */
@@ -577,9 +591,9 @@ export class Client extends End {
         this._halves = [0, 0];
     }
 
-    /** The next datagram; null where the connection is worn. */
-    pack() {
-        return this._pack(0);
+    /** The next datagram, in the place, if one is given; null where the connection is worn. */
+    pack(place) {
+        return this._pack(0, place);
     }
 
     /** Takes a datagram. Gives null where it was taken, and else why it was refused. */

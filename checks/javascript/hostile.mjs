@@ -54,7 +54,7 @@ const told = (end) => JSON.stringify([end.counts(), end.verdicts(), end.moves?.(
 
 function one(tribes, { server, client, values }) {
     const end = below(2) ? server : client, isServer = end === server, before = told(end);
-    const calls = isServer ? ["show", "hide", "near", "changed", "settled", "slot", "pack", "arrive", "post", "block"] : ["arrive", "sample", "copy", "post", "block"];
+    const calls = isServer ? ["show", "hide", "near", "changed", "settled", "slot", "pack", "arrive", "post", "block"] : ["arrive", "sample", "copy", "post", "block", "pack"];
     const call = calls[below(calls.length)], given = Array.from({ length: below(4) }, odd);
     const isBackward = call === "pack" && typeof given[0] === "function";
     const done = attempt(`${call}(${given.map((it) => { try { return typeof it === "object" ? JSON.stringify(it) : String(it); } catch { return "?"; } })})`, () => end[call](...given));

@@ -226,7 +226,7 @@ async function begin() {
     for (let left = of("ahead", 0); left > 0; left -= 40) pass(40);
     // Who wants less motion lets it go on himself.
     setPaused(asked.get("pause") === "1" || (!asked.has("pause") && matchMedia("(prefers-reduced-motion: reduce)").matches));
-    globalThis.live = { game, tribes, set: setTo, timing, made }; // (for the console)
+    globalThis.live = { game, tribes, wire, set: setTo, timing, made }; // (for the console)
     const tell = () => [tellLedger, tellPromises, tellNumbers].forEach((it) => it());
     tell();
     tellCost(tribes);

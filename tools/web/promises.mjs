@@ -2,8 +2,8 @@
 import { far } from "./world.mjs";
 
 export const PROMISES = [
-    ["shown", "Shown values", "looked at", "that the object never had, or that are older than what was shown before"],
-    ["settled", "Settled fields", "looked at", "that were not the newest value"],
+    ["shown", "Shown values", "looked at", "never had, or older than one shown before"],
+    ["settled", "Settled fields", "looked at", "not the newest value"],
     ["events", "Guaranteed events", "came", "out of order, twice or skipped"],
     ["moves", "Moves", "came", "out of order, twice or skipped"],
     ["sent", "Fields sent", "", "of an object out of sight"],

@@ -32,11 +32,11 @@ export class Wire {
         if (isLoss && at >= 0) this.chosen.network.lose(this.chosen);
     }
 
-    /** Where a packet is on a client's curve, from the server on. */
+    /** Where a packet is on a client's curve, from the server on. The first points are left to the buttons. */
     point(c, way, along) {
-        const { width, height } = this, isLow = height < 300, ease = along * along * (3 - 2 * along);
-        const from = height * (isLow ? 0.45 : 0.4), to = height * [isLow ? 0.22 : 0.25, isLow ? 0.72 : 0.77][c];
-        return [24 + (width - 48) * along, from + (to - from) * ease + (c === 0 ? -38 : 38) * (1 - ease) + LANES[way]];
+        const { width } = this, top = 34, height = this.height - top, isLow = height < 300, ease = along * along * (3 - 2 * along);
+        const from = height * 0.45, to = height * [isLow ? 0.2 : 0.25, isLow ? 0.8 : 0.77][c], apart = isLow ? 30 : 38;
+        return [24 + (width - 48) * along, top + from + (to - from) * ease + (c === 0 ? -apart : apart) * (1 - ease) + LANES[way] * (isLow ? 0.7 : 1)];
     }
 
     draw(game) {
@@ -123,6 +123,7 @@ export class Wire {
 
     drawWords() {
         const { pen, width, height } = this;
+        if (height < 300) return;
         pen.font = fontOf(11);
         pen.fillStyle = colours.dim;
         pen.textAlign = "center";
