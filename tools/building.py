@@ -73,10 +73,15 @@ def not_proved():
     return [name for name in below() if is_old(name)]
 
 
-def is_fresh(archive=ARCHIVE):
-    """Whether the archive is there with its verdict, newer than the crate's own files and than each proved library below."""
+def is_newer(made):
+    """Whether what was made of the library is there, newer than the crate's own files and than each proved library below."""
     newest = [file.stat().st_mtime for file in files_of("tribes_link")] + [library(name).stat().st_mtime for name in below() if library(name).is_dir()]
-    return archive.exists() and verdict_of(archive).exists() and archive.stat().st_mtime >= max(newest)
+    return made.exists() and made.stat().st_mtime >= max(newest)
+
+
+def is_fresh(archive=ARCHIVE):
+    """Whether the archive is there with its verdict, and up to date."""
+    return verdict_of(archive).exists() and is_newer(archive)
 
 
 def verdict_of(archive):
