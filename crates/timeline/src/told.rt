@@ -186,7 +186,7 @@ impl Timeline {
     pub fn value_at(&self, slot: u32, field: u32, at: u64) -> Result<Option<i64>, Refusal>
         ensures { Answers StandsFor self.now
             (λ log. then_ok (then_check (slot_check self.now slot) (field_check self.now field))
-                (value_told self.now field at (told_of slot log))) result }
+            (value_told self.now field at (told_of slot log))) result }
     {
         if self.slots.len() <= slot as usize {
             return Err(Refusal::NoSlot);
