@@ -9,4 +9,5 @@ NoCorrection = (most : ℕ) (log : List FadingEvent) (value : ℤ) → offset_by
 
 -- 56 steps leave nothing of the greatest offset
 abbrev pub OffsetSettles : Type 0
-OffsetSettles = (most : ℕ) (log : List FadingEvent) (steps : ℕ) → most ≤ GREATEST_MOST → 56 ≤ steps → offset_by most (replicate steps Faded ++ log) ≡ pos 0
+OffsetSettles =
+    (most : ℕ) (log : List FadingEvent) (steps : ℕ) → most ≤ GREATEST_MOST → 56 ≤ steps → offset_by most (replicate steps Faded ++ log) ≡ pos 0

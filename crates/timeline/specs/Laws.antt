@@ -26,18 +26,19 @@ LiesOnWay (Turning least most) from to value =
 
 abbrev pub ValueIsBetween : Type 0
 ValueIsBetween =
-    (how : Interpolation) (at : ℕ) (frames : List Keyframe) (before after : Keyframe) → reached_of at frames ≡ Some before → next_of at frames ≡ Some after
+    (how : Interpolation) (at : ℕ) (frames : List Keyframe) (before after : Keyframe) → reached_of at frames ≡ Some before
+    → next_of at frames ≡ Some after
     → IfSome (value_in how at frames) (LiesOnWay how before.value after.value)
 
 abbrev pub OwnMomentIsItsValue : Type 0
 OwnMomentIsItsValue =
-    (how : Interpolation) (at : ℕ) (frames : List Keyframe) (frame : Keyframe) → reached_of at frames ≡ Some frame → at ≡ moment_of frame.packet
-    → value_in how at frames ≡ Some frame.value
+    (how : Interpolation) (at : ℕ) (frames : List Keyframe) (frame : Keyframe) → reached_of at frames ≡ Some frame
+    → at ≡ moment_of frame.packet → value_in how at frames ≡ Some frame.value
 
 abbrev pub NewestStays : Type 0
 NewestStays =
-    (how : Interpolation) (at : ℕ) (frames : List Keyframe) (newest : Keyframe) → slice_get frames 0 ≡ Some newest → moment_of newest.packet ≤ at
-    → value_in how at frames ≡ Some newest.value
+    (how : Interpolation) (at : ℕ) (frames : List Keyframe) (newest : Keyframe) → slice_get frames 0 ≡ Some newest
+    → moment_of newest.packet ≤ at → value_in how at frames ≡ Some newest.value
 
 abbrev pub WindowIsEnough : Type 0
 WindowIsEnough =

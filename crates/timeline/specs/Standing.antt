@@ -78,7 +78,8 @@ kind_told at log = kind_shown at (kind_of log) (end_of log)
 
 -- the value of a field of a slot's copy, by the newest `depth` of its keyframes
 abbrev pub value_told : Drawing → ℕ → ℕ → List Told → Option ℤ
-value_told t field at log = option_and_then (λ kind. value_in (way_of t.ways t.fields kind field) at (take t.depth (frames_of field log))) (kind_told at log)
+value_told t field at log =
+    option_and_then (λ kind. value_in (way_of t.ways t.fields kind field) at (take t.depth (frames_of field log))) (kind_told at log)
 
 -- ---- what is refused
 

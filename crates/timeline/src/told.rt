@@ -76,7 +76,8 @@ impl Timeline {
     pub fn new(alloc: Global, shape: Shape, ways: &[Interpolation]) -> Result<Timeline, NoMemory>
         requires { IsSound shape }
         ensures log { IfOk result (λ t. StandsFor t []) }
-        ensures shape { IfOk result (λ t. (t.ways ≡ ways.now) × (t.fields ≡ shape.fields) × (t.depth ≡ shape.depth) × (length t.slots ≡ shape.slots)) }
+        ensures shape { IfOk result (λ t.
+            (t.ways ≡ ways.now) × (t.fields ≡ shape.fields) × (t.depth ≡ shape.depth) × (length t.slots ≡ shape.slots)) }
     {
         let table = copied(alloc, ways)?;
         let slots = slots_of(alloc, shape)?;
@@ -99,7 +100,8 @@ impl Timeline {
     /// By this packet a copy of this kind is in the slot, and none that was there before is drawn any more. Then tell the values that
     /// came with it. Refused as the first that holds of `NoSlot`, `NoPacket`, `GoesBack` and `NoKind`; nothing changes then.
     pub fn began(&mut self, slot: u32, packet: u32, kind: u32) -> Result<(), Refusal>
-        ensures answer { result ≡ then_check (slot_check self.old slot) (then_check (packet_check self.old packet) (kind_check self.old kind)) }
+        ensures answer { result
+            ≡ then_check (slot_check self.old slot) (then_check (packet_check self.old packet) (kind_check self.old kind)) }
         ensures log { OnOk result (Does StandsFor self.old (record { slot = slot; packet = packet; what = Began kind }) self.new) }
         ensures refused { OnErr result (self.new ≡ self.old) }
     {
@@ -117,7 +119,8 @@ impl Timeline {
     /// This packet brought a value of a field of the slot's copy. Refused as the first that holds of `NoSlot`, `NoPacket`, `GoesBack` and
     /// `NoField`; nothing changes then.
     pub fn came(&mut self, slot: u32, packet: u32, field: u32, value: i32) -> Result<(), Refusal>
-        ensures answer { result ≡ then_check (slot_check self.old slot) (then_check (packet_check self.old packet) (field_check self.old field)) }
+        ensures answer { result
+            ≡ then_check (slot_check self.old slot) (then_check (packet_check self.old packet) (field_check self.old field)) }
         ensures log { OnOk result (Does StandsFor self.old (record { slot = slot; packet = packet; what = Came field value }) self.new) }
         ensures refused { OnErr result (self.new ≡ self.old) }
     {
@@ -182,7 +185,8 @@ impl Timeline {
     /// `NoSlot`, else as `NoField`.
     pub fn value_at(&self, slot: u32, field: u32, at: u64) -> Result<Option<i64>, Refusal>
         ensures { Answers StandsFor self.now
-            (λ log. then_ok (then_check (slot_check self.now slot) (field_check self.now field)) (value_told self.now field at (told_of slot log))) result }
+            (λ log. then_ok (then_check (slot_check self.now slot) (field_check self.now field))
+            (value_told self.now field at (told_of slot log))) result }
     {
         if self.slots.len() <= slot as usize {
             return Err(Refusal::NoSlot);
