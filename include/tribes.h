@@ -1,4 +1,4 @@
-/* TRIBES: one end of a connection, as a library (libtribes_link.a).
+/* TRIBES: one end of a connection, as a library (libtribes.a).
  *
  * The library has no sockets, no threads, no clock and no callbacks. It makes datagrams and takes datagrams; the game sends
  * them by whatever it has. A server has one end for each client; a client has one end.

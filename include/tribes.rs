@@ -1,4 +1,4 @@
-//! Safe Rust over `libtribes_link.a`: a server's end and a client's end of a connection, as two types, so that a call for the other end
+//! Safe Rust over `libtribes.a`: a server's end and a client's end of a connection, as two types, so that a call for the other end
 //! is a compile error. `tribes.h`, beside this file, says what each call does and when it refuses.
 //!
 //! What the library tests is not tested again here. What it can't test, that a pointer points to as many items as said, is what the
@@ -157,6 +157,13 @@ pub struct Change {
     pub slot: u32,
     pub what: u32,
     pub fields: u32,
+}
+
+/// An event that came.
+#[derive(Clone, Debug, Default, PartialEq, Eq)]
+pub struct Event {
+    pub bytes: Vec<u8>,
+    pub guaranteed: bool,
 }
 
 /// A copy: the object's kind and block, and the values of its fields.
@@ -370,6 +377,15 @@ macro_rules! both {
                 Ok((code > 0).then(|| (&place[..count], code == 2)))
             }
 
+            /// The events that wait, the oldest first. Each is taken as it is asked for.
+            pub fn events(&mut self) -> impl Iterator<Item = Event> + '_ {
+                std::iter::from_fn(move || {
+                    let mut place = [0; MAX_EVENT];
+                    let (bytes, guaranteed) = self.event(&mut place).ok().flatten()?;
+                    Some(Event { bytes: bytes.to_vec(), guaranteed })
+                })
+            }
+
             /// The bytes of a block: at the server of its own, at the client of one that came.
             pub fn block(&mut self, number: u32) -> Result<Vec<u8>, Error> {
                 let (mut place, mut count) = ([0; MAX_BLOCK], 0);
@@ -527,6 +543,16 @@ impl Client {
         let mut slot = 0;
         let code = unsafe { tribes_next_copy(&mut self.0, from, &mut slot) };
         (code == 1).then_some(slot)
+    }
+
+    /// The copies with their slots, by rising slot.
+    pub fn copies(&mut self) -> impl Iterator<Item = (u32, Copy)> + '_ {
+        let mut from = 0;
+        std::iter::from_fn(move || {
+            let slot = self.next_copy(from)?;
+            from = slot + 1;
+            Some((slot, self.copy(slot)?))
+        })
     }
 
     /// What the last datagram did to slots.

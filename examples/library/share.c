@@ -1,6 +1,6 @@
 /* Ten things that move, shared over UDP at 20 packets a second: a server and its clients, in C.
 
-       cc -O2 -Iinclude examples/library/share.c crates/tribes_link/out/libtribes_link.a KIT/c/liblibc_c.a -o share
+       cc -O2 -Iinclude examples/library/share.c crates/tribes_link/out/libtribes.a -o share
        share serve PORT TURNS LOSS          share join PORT NUMBER TURNS LOSS
 
    Thing k is driven by client k, where there is one, by moves of a throttle, a yaw and eight buttons; else it moves by itself. Each side

@@ -1,7 +1,7 @@
 //! Ten things that move, shared over UDP at 20 packets a second: a server and its clients, in safe Rust. It is the twin of `share.c`, and
 //! each plays with the other.
 //!
-//!     rustc --edition 2024 -O examples/library/share.rs -C link-arg=crates/tribes_link/out/libtribes_link.a -C link-arg=KIT/c/liblibc_c.a
+//!     rustc --edition 2024 -O examples/library/share.rs -C link-arg=crates/tribes_link/out/libtribes.a
 //!     share serve PORT TURNS LOSS          share join PORT NUMBER TURNS LOSS
 //!
 //! Thing k is driven by client k, where there is one, by moves of a throttle, a yaw and eight buttons; else it moves by itself. Each side

@@ -8,8 +8,8 @@ from script import MADE_BY
 from words import label, taken_apart
 
 ROW, HEAD = 20, 34
-GUTTER, MARGIN = 170, 240
-GUTTER_LETTERS = 23
+GUTTER, MARGIN, LEAST_MARGIN, LETTER = 170, 240, 40, 6.5
+GUTTER_LETTERS = 17
 CROWDED = 4
 AT_SERVER = ("post", "pack", "up", "raw", "scan", "tick", "world")
 
@@ -61,8 +61,13 @@ class Chart:
         between = 330 if self.clients == 1 else 220 if self.clients <= CROWDED else 170
         left = self.clients // 2
         lanes = [*range(left), None, *range(left, self.clients)]
-        self.lanes = {client: GUTTER + MARGIN + place * between for place, client in enumerate(lanes)}
-        self.width = GUTTER + 2 * MARGIN + (len(lanes) - 1) * between
+        self.lanes = {client: MARGIN + place * between for place, client in enumerate(lanes)}
+        # No label is cut at the right, and at the left no room is wasted.
+        labels = [(*self.side(row), LETTER * sum(len(span.text) + 3 for span in label(row))) for row in self.rows]
+        left = min([min(self.lanes.values()) - LEAST_MARGIN, *(x - long for x, anchor, long in labels if anchor == "end")])
+        right = max([max(self.lanes.values()) + LEAST_MARGIN, *(x + long for x, anchor, long in labels if anchor == "start")])
+        self.lanes = {client: x - left for client, x in self.lanes.items()}
+        self.width = right - left
 
     def y(self, line: int) -> float:
         """The middle of a line's row; lines that are not drawn lie at the edges."""
@@ -84,11 +89,15 @@ class Chart:
 
     # ---- arrows
 
-    def lost_arrow(self, datagram: Datagram) -> str:
-        """An arrow that breaks off."""
+    def short_arrow(self, datagram: Datagram) -> str:
+        """An arrow whose end no line tells: it comes where its verdict says so, breaks off where it is lost, and ends in nothing where no
+        verdict is known."""
         x, to_x = self.ends(datagram)
         y = self.y(datagram.line)
-        return broken((x, y), (x + 0.45 * (to_x - x), y + 0.7 * ROW))
+        if datagram.fate == "came":
+            return arrow((x, y), (to_x, y + 0.7 * ROW))
+        way = (x, y), (x + 0.45 * (to_x - x), y + 0.7 * ROW)
+        return broken(*way) if datagram.fate == "lost" else arrow(*way, has_head=False)
 
     def arrows(self, datagram: Datagram) -> str:
         """An arrow to each delivery of a drawn line, and to the edge for one that comes later."""
@@ -100,11 +109,11 @@ class Chart:
                 path = arrow((x, self.y(datagram.line)), (to_x, self.y(line)), has_head=is_here)
                 look = f"delivery{' refused' if refusal else ''}" if is_here else "later"
                 drawn.append(element("g", path, class_=look))
-        return "".join(drawn) if datagram.deliveries else self.lost_arrow(datagram)
+        return "".join(drawn) if datagram.deliveries else self.short_arrow(datagram)
 
     def datagram(self, datagram: Datagram) -> str:
         kind = "forged" if datagram.way == "raw" else "ping" if datagram.packet.is_ping else "data"
-        fate = "" if datagram.deliveries else " lost"
+        fate = "" if datagram.deliveries else f" {datagram.fate}"
         drawn = element("title", escape(taken_apart(datagram))) + self.arrows(datagram)
         return element("g", drawn, class_=f"datagram {datagram.way} {kind}{fate}", data_line=datagram.line, tabindex=-1)
 
@@ -123,15 +132,19 @@ class Chart:
     def row(self, row: Row) -> str:
         y = self.y(row.line.number)
         asked, told = " ".join(row.line.asked), " ".join(row.line.told)
-        short = asked if len(asked) <= GUTTER_LETTERS else asked[: GUTTER_LETTERS - 1] + "…"
         drawn = element("title", f"{row.line.number}: {escape(asked)}\n→ {escape(told)}")
         drawn += element("rect", x=0, y=f"{y - ROW / 2:g}", width=self.width, height=ROW)
-        drawn += element("text", str(row.line.number), class_="number", x=44, y=f"{y + 4:g}")
-        drawn += element("text", escape(short), class_="asked", x=54, y=f"{y + 4:g}")
         if row.line.word == "tick":
             left, right = min(self.lanes.values()), max(self.lanes.values())
             drawn += element("path", class_="tick-rule", d=f"M{left} {y:g}H{right}")
         return element("g", drawn, class_=f"row {row.line.word}", data_line=row.line.number)
+
+    def line(self, row: Row) -> str:
+        """A line's number and its first words."""
+        y, asked = self.y(row.line.number), " ".join(row.line.asked)
+        short = asked if len(asked) <= GUTTER_LETTERS else asked[: GUTTER_LETTERS - 1] + "…"
+        drawn = element("text", str(row.line.number), class_="number", x=44, y=f"{y + 4:g}")
+        return drawn + element("text", escape(short), class_="asked", x=54, y=f"{y + 4:g}")
 
     def label(self, row: Row) -> str:
         x, anchor = self.side(row)
@@ -144,7 +157,8 @@ class Chart:
         if row.line.word not in looks:
             return ""
         x = self.lanes[None if row.line.word in ("post", "pack") else row.line.client]
-        return element("circle", class_=f"dot {looks[row.line.word]}", cx=x, cy=f"{self.y(row.line.number):g}", r=3.5)
+        look = "made" if row.datagram and row.datagram.way == "up" else looks[row.line.word]
+        return element("circle", class_=f"dot {look}", cx=x, cy=f"{self.y(row.line.number):g}", r=3.5)
 
     # ---- the whole
 
@@ -152,6 +166,10 @@ class Chart:
         """The names of the lanes."""
         names = [("server" if client is None else f"client {client}", x) for client, x in self.lanes.items()]
         return "".join(element("text", name, class_="lane-name", x=x, y=22, text_anchor="middle") for name, x in names)
+
+    def gutter(self) -> str:
+        """The script at the left of the lanes."""
+        return "".join(map(self.line, self.rows))
 
     def body(self) -> str:
         rows = "".join(map(self.row, self.rows))
@@ -162,7 +180,10 @@ class Chart:
 
     def file(self, style: str) -> str:
         """The chart as a picture by itself."""
-        ground = element("rect", class_="ground", width=self.width, height=self.height + HEAD)
-        drawn = element("style", style) + ground + self.head() + element("g", self.body(), transform=f"translate(0 {HEAD})")
-        size = {"width": self.width, "height": self.height + HEAD, "viewBox": f"0 0 {self.width} {self.height + HEAD}"}
+        width, height = GUTTER + self.width, self.height + HEAD
+        ground = element("rect", class_="ground", width=f"{width:g}", height=height)
+        gutter = element("g", self.gutter(), class_="gutter", transform=f"translate(0 {HEAD})")
+        head = element("g", self.head(), transform=f"translate({GUTTER} 0)")
+        drawn = element("style", style) + ground + gutter + head + element("g", self.body(), transform=f"translate({GUTTER} {HEAD})")
+        size = {"width": f"{width:g}", "height": height, "viewBox": f"0 0 {width:g} {height}"}
         return element("svg", drawn, xmlns="http://www.w3.org/2000/svg", class_="chart", **size) + "\n"

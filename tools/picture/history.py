@@ -22,7 +22,8 @@ class Verdict(NamedTuple):
 
 @dataclass(eq=False, slots=True)
 class Datagram:
-    """`way` is down, up or raw. What is no packet has a fault. `again` has the bits at which items stand that are sent again."""
+    """`way` is down, up or raw. What is no packet has a fault. `again` has the bits at which items stand that are sent again. `judged` is
+    what its sender learnt of it, and the line at which it did."""
 
     way: str
     client: int
@@ -34,6 +35,15 @@ class Datagram:
     deliveries: list[Delivery] = field(default_factory=list)
     objects: dict[int, int] = field(default_factory=dict)
     again: set[int] = field(default_factory=set)
+    is_served: bool = False
+    judged: tuple[int, bool] | None = None
+
+    @property
+    def fate(self) -> str:
+        """What became of it: came, lost, or unknown. A server that is served over a network knows of its datagrams by verdicts alone."""
+        if not self.is_served:
+            return "came" if self.deliveries else "lost"
+        return "unknown" if self.judged is None else "came" if self.judged[1] else "lost"
 
 
 @dataclass(eq=False, slots=True)
@@ -94,12 +104,13 @@ class Sender:
         if packet.moves:
             self.next_move = max(self.next_move, packet.moves[-1].number + 1)
 
-    def judge(self, acknowledgement: Packet, sent: dict[int, Packet], periods: Periods) -> list[Verdict]:
-        """The verdicts that an acknowledgement brings. `sent` has the packets of this end, by number."""
+    def judge(self, acknowledgement: Packet, sent: dict[int, Datagram], line: int, periods: Periods) -> list[Verdict]:
+        """The verdicts that an acknowledgement brings in that line. `sent` has the data packets of this end, by number."""
         verdicts = []
         for seq in range(self.first_unjudged, acknowledgement.horizon + 1):
             verdicts.append(Verdict(seq, acknowledgement.acknowledges(seq)))
-            self.settle(verdicts[-1], sent[seq], periods)
+            sent[seq].judged = line, verdicts[-1].is_received
+            self.settle(verdicts[-1], sent[seq].packet, periods)
         self.first_unjudged = max(self.first_unjudged, acknowledgement.horizon + 1)
         return verdicts
 
@@ -117,13 +128,14 @@ class Sender:
 
 
 class Connection:
-    """What happened between the server and one client."""
+    """What happened between the server and one client. Of a served client (`is_served`) the script has what the server sent and what came,
+    as bytes: none of what the client did, and not which of the server's datagrams came."""
 
-    def __init__(self, script: Script, client: int):
-        self.script, self.client = script, client
+    def __init__(self, script: Script, client: int, is_served: bool):
+        self.script, self.client, self.is_served = script, client, is_served
         self.senders = {way: Sender(script.version) for way in ("down", "up")}
         self.sent: dict[str, list[Datagram]] = {"down": [], "up": []}
-        self.packets: dict[str, dict[int, Packet]] = {"down": {}, "up": {}}
+        self.packets: dict[str, dict[int, Datagram]] = {"down": {}, "up": {}}
         self.periods = Periods()
         self.held: dict[int, int] = {}
         self.accepted = self.taken = 0
@@ -133,26 +145,34 @@ class Connection:
         if way == "down" and line.told[3] == "data":
             self.periods.grant()
         packet = read_server(data, self.script.version, self.held) if way == "down" else read_client(data, self.script.version)
-        datagram = Datagram(way, self.client, line.number, data, packet, place=line.place, deliveries=deliveries)
+        is_served = self.is_served and way == "down"
+        datagram = Datagram(way, self.client, line.number, data, packet, place=line.place, deliveries=deliveries, is_served=is_served)
         self.sent[way].append(datagram)
         if not packet.is_ping:
             self.held = kinds_behind(packet, self.held)
-            self.packets[way][packet.seq] = packet
+            self.packets[way][packet.seq] = datagram
             self.senders[way].send(datagram, self.periods)
         return datagram
 
     def raw(self, line: Line) -> Datagram:
+        """Bytes that came over the connection: a datagram of a served client where they are taken, or come late; else somebody's."""
         data = bytes.fromhex(line.asked[2].replace("-", ""))
         deliveries = [Delivery(line.number, line.refusal)]
         try:
-            return Datagram("raw", self.client, line.number, data, read_client(data, self.script.version), deliveries=deliveries)
+            packet = read_client(data, self.script.version)
         except Fault as fault:
             return Datagram("raw", self.client, line.number, data, None, fault, deliveries=deliveries)
+        datagram = Datagram("raw", self.client, line.number, data, packet, deliveries=deliveries)
+        if self.is_served and line.answer[0] in ("ok", "old"):
+            datagram.way = "up"
+            if not line.refusal and not packet.is_ping:
+                self.senders["up"].send(datagram, self.periods)
+        return datagram
 
     def came(self, line: Line, datagram: Datagram) -> Row:
         """A datagram that was taken."""
         way = "up" if line.word == "down" else "down"
-        row = Row(line, datagram, self.senders[way].judge(datagram.packet, self.packets[way], self.periods))
+        row = Row(line, datagram, self.senders[way].judge(datagram.packet, self.packets[way], line.number, self.periods))
         if line.word != "down":
             row.accepted = range(self.accepted, self.accepted + int(line.answer[1]))
             self.accepted = row.accepted.stop
@@ -183,6 +203,12 @@ def deliveries_of(lines: list[Line]) -> dict[tuple[str, int, int], list[Delivery
     return found
 
 
+def served_clients(lines: list[Line]) -> set[int]:
+    """The clients of which the script has bytes that came, and nothing that their ends or the network did."""
+    heard = {line.client for line in lines if line.word == "raw" and not line.refusal}
+    return heard - {line.client for line in lines if line.word in ("cpack", "down", "up")}
+
+
 class History:
     """The rows of a match up to the last line that was looked at, and over them, for each client, which objects it is shown and
     which object each slot has."""
@@ -190,7 +216,8 @@ class History:
     def __init__(self, script: Script, lines: list[Line], seen: Seen):
         self.script, self.seen = script, seen
         self.deliveries = deliveries_of(lines)
-        self.connections = [Connection(script, client) for client in range(script.clients)]
+        served = served_clients(lines)
+        self.connections = [Connection(script, client, client in served) for client in range(script.clients)]
         self.shown: dict[int, list[tuple[int, list[int]]]] = defaultdict(list)
         self.slots: dict[int, list[tuple[int, dict[int, int]]]] = defaultdict(list)
         self.world = World(seen.worlds[0])

@@ -5,7 +5,7 @@ from html import escape
 from pathlib import Path
 from string import Template
 
-from chart import HEAD, Chart, arrow, broken, element
+from chart import GUTTER, HEAD, Chart, arrow, broken, element
 from datagram import USES
 from strip import Strip
 from words import counted
@@ -16,7 +16,8 @@ SAMPLES = (
     ("of a client", "up", arrow((40, 7), (2, 7))),
     ("ping", "ping", arrow((2, 7), (40, 7))),
     ("raw bytes", "forged", arrow((2, 7), (40, 7))),
-    ("never delivered", "", broken((2, 7), (28, 7))),
+    ("lost", "", broken((2, 7), (28, 7))),
+    ("not known yet (of a served match)", "unknown", arrow((2, 7), (28, 7), has_head=False)),
     ("refused where it came", "refused", arrow((2, 7), (40, 7))),
 )
 MARKS = (("good", "✓ received"), ("bad", "✗ lost: the sender knows it now"), ("", "↻ sent again"))
@@ -41,23 +42,26 @@ def counts(chart: Chart, lines: int) -> str:
     arrivals = [row for row in chart.rows if row.line.word in ("down", "up", "raw") and row.datagram]
     refused = sum(row.line.refusal != "" for row in arrivals)
     pings = sum(one.packet is not None and one.packet.is_ping and one.way != "raw" for one in chart.datagrams)
-    lost = sum(not one.deliveries for one in chart.datagrams)
+    served = [one.fate for one in chart.datagrams if one.is_served]
+    lost = sum(one.fate == "lost" and not one.is_served for one in chart.datagrams)
+    judged = f" · of the server {served.count('came')} came, {served.count('lost')} lost, {served.count('unknown')} not known" if served else ""
     return (
         f"lines {chart.first} to {chart.last} of {lines} · {counted(len(chart.datagrams), 'datagram')} ({counted(pings, 'ping')}) · "
-        f"{counted(len(arrivals), 'delivery', 'deliveries')}, {refused} refused · {lost} never delivered"
+        f"{counted(len(arrivals), 'delivery', 'deliveries')}, {refused} refused · {lost} never delivered{judged}"
     )
 
 
 def page(chart: Chart, strip: Strip, data: dict, lines: int, notice: str) -> str:
     """`data` is what the map is drawn from, `lines` how many the report has; the notice says what is not drawn."""
-    size = {"class_": "chart body", "width": chart.width, "height": chart.height}
+    size = {"class_": "chart body", "width": f"{chart.width:g}", "height": chart.height}
     return Template(read("page.html")).substitute(
         title=f"A match of {counted(chart.clients, 'client')}",
         style=read("chart.css") + read("page.css"),
         counts=counts(chart, lines),
         notice=f'<p class="notice">{escape(notice)}</p>' if notice else "",
         marks=marks(),
-        lane_names=element("svg", chart.head(), class_="chart", width=chart.width, height=HEAD),
+        lane_names=element("svg", chart.head(), class_="chart", width=f"{chart.width:g}", height=HEAD),
+        gutter=element("svg", chart.gutter(), class_="chart gutter", width=GUTTER, height=chart.height, aria_hidden="true"),
         chart=element("svg", chart.body(), role="img", aria_label="sequence chart", **size),
         clients="".join(f'<option value="{client}">client {client}</option>' for client in range(chart.clients)),
         first=chart.first,

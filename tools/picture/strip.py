@@ -23,8 +23,10 @@ def bits_by_tick(rows: list[Row], first: int) -> tuple[list[int], dict[tuple[int
             tick = int(row.line.told[1])
         if row.line.number == first:
             begin = tick
-        if row.line.number >= first and row.line.word in MADE_BY and row.datagram:
-            bits[row.line.client, MADE_BY[row.line.word], tick] += row.datagram.packet.bits()
+        # (a served client's datagrams stand where they came)
+        is_counted = row.line.word in MADE_BY or (row.line.word == "raw" and row.datagram.way == "up")
+        if row.line.number >= first and is_counted and row.datagram:
+            bits[row.line.client, row.datagram.way, tick] += row.datagram.packet.bits()
     return list(range(begin, tick + 1)), bits
 
 

@@ -8,6 +8,8 @@ from kinds import KINDS
 
 AGAIN = "↻"
 LABEL_LETTERS = 20
+# Of a served match: what the server knows by the verdict on its packet. A ping has none.
+FATES = {"came": "it came", "lost": "it was lost", "unknown": "whether it came is not known"}
 SENDER = {"down": "the server", "up": "client {}", "raw": "somebody, as client {}"}
 
 
@@ -202,7 +204,9 @@ def packet_words(datagram: Datagram) -> list[str]:
 def fate_words(datagram: Datagram) -> Iterator[str]:
     for line, refusal in datagram.deliveries:
         yield f"line {line}: refused, {refusal}" if refusal else f"line {line}: taken"
-    if not datagram.deliveries:
+    if datagram.is_served:
+        yield f"{FATES[datagram.fate]}{f', as line {datagram.judged[0]} tells' if datagram.judged else ''}"
+    elif not datagram.deliveries:
         yield "never delivered"
 
 

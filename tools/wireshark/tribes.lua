@@ -2,10 +2,12 @@
 --
 --   wireshark -X lua_script:tools/wireshark/tribes.lua CAPTURE
 --
--- What comes from port 28000 is the server's, what goes to it a client's. Each part is an item of the tree, with its line of
--- docs/packets.md; its filter is `tribes.` and its name, as `tribes.seq == 5`, and `tribes.event.payload` has the
--- bytes of an event. The version of the wire is told by the welcome, where the capture has it, or by the preference.
+-- What comes from port 28000 is the server's, what goes to it a client's. Each ghost, event, block and move is a branch of the tree that says
+-- in words what it is, and each part is a leaf, with its line of docs/packets.md. A part's filter is `tribes.` and its name, as
+-- `tribes.seq == 5`; what further filters there are is said there too. The version of the wire is told by the welcome, where the capture has
+-- it, or by the preference. With `-X lua_script1:tap` tshark tells at its end how many bits each part took.
 
+local words_of_script = { ... }
 local tribes = Proto("tribes", "Tribes networking")
 local PORT = 28000
 
@@ -52,6 +54,10 @@ for kind = 0, KIND_COUNT - 1 do
 end
 fields["block.data"] = ProtoField.bytes("tribes.block.data", "block.data")
 fields["event.payload"] = ProtoField.bytes("tribes.event.payload", "event.payload")
+for _, name in ipairs({ "ghost", "event", "block", "move" }) do fields[name] = ProtoField.string("tribes." .. name, name) end
+fields["ghost.of"] = ProtoField.string("tribes.ghost.of", "ghost.of")
+fields["verdict"] = ProtoField.string("tribes.verdict", "verdict")
+fields["lost"] = ProtoField.uint32("tribes.lost", "lost")
 fields["fault"] = ProtoField.string("tribes.fault", "fault")
 fields["way"] = ProtoField.string("tribes.way", "way")
 tribes.fields = fields
@@ -64,7 +70,7 @@ local Reader = {}
 Reader.__index = Reader
 
 local function reader(tvb, tree)
-    return setmetatable({ tvb = tvb, bits = 8 * tvb:len(), at = 0, tree = tree, said = {} }, Reader)
+    return setmetatable({ tvb = tvb, bits = 8 * tvb:len(), at = 0, tree = tree, said = {}, used = {} }, Reader)
 end
 
 -- The bytes that these bits touch.
@@ -99,11 +105,25 @@ function Reader:take(name, width, check, mean)
     local cause = check and check(value)
     if cause then self:fail(at, cause) end
     self.at = at + width
+    self.used[#self.used + 1] = { name, width }
     local meaning = mean and mean(value)
     local text = string.format("%d %d %s %d%s", at, width, name, value, meaning and (" " .. meaning) or "")
     local item = self.tree:add(fields[name], self:range(at, width), value)
     item:set_text(text)
     return value, item
+end
+
+-- An item of a packet: a branch, whose parts `read` takes. `read` gives the branch's words, which stand in the column too.
+function Reader:branch(name, read)
+    local trunk, at = self.tree, self.at
+    local item = trunk:add(fields[name], self:range(at, 1), "")
+    item:set_text(name)
+    self.tree = item
+    local text = read(item)
+    self.tree = trunk
+    item:set_len(self:range(at, self.at - at):len())
+    item:set_text(text)
+    self.said[#self.said + 1] = text
 end
 
 local function at_most(most, cause) return function(value) if value > most then return cause end end end
@@ -117,8 +137,8 @@ function Reader:header()
     local client = self:take("client", 4)
     local seq = self:take("seq", 24, function(value) if value == 0 then return "ZeroSeq" end end)
     local horizon = self:take("horizon", 24)
-    self:take("mask", 32)
-    return kind, client, seq, horizon
+    local mask = self:take("mask", 32)
+    return kind, client, seq, horizon, mask
 end
 
 -- So many bytes, and all of them together under another name.
@@ -133,12 +153,21 @@ function Reader:bytes(name, whole, count)
     return data
 end
 
+-- Bytes in words: in quotes, where they are text.
+local function quoted(data)
+    if data:len() == 0 then return "nothing" end
+    local text = data:raw()
+    return text:find("^[ -~]*$") and '"' .. text .. '"' or data:tohex(true)
+end
+
+function Reader:block()
+    local number = self:take("block.number", 6)
+    return string.format("block %d %s", number, quoted(self:bytes("block.byte", "block.data", (self:take("block.length", 6, at_most(40, "LengthBits"))))))
+end
+
 function Reader:blocks()
     local count = self:take("block.count", 4)
-    for _ = 1, count do
-        self:take("block.number", 6)
-        self:bytes("block.byte", "block.data", (self:take("block.length", 6, at_most(40, "LengthBits"))))
-    end
+    for _ = 1, count do self:branch("block", function() return self:block() end) end
     return count
 end
 
@@ -154,24 +183,31 @@ function Reader:text(count)
     return '"' .. table.concat(text) .. '"'
 end
 
+function Reader:event(version)
+    local name = "loose event"
+    if self:take("event.guaranteed", 1) == 1 then name = string.format("event %d", (self:take("event.number", version == 2 and 7 or 24))) end
+    local length = self:take("event.length", 5, at_most(24, "LengthBits"), function(value) return self:text(value) end)
+    return name .. " " .. quoted(self:bytes("event.byte", "event.payload", length))
+end
+
 function Reader:events(version)
     local count = self:take("event.count", 5)
-    for _ = 1, count do
-        if self:take("event.guaranteed", 1) == 1 then self:take("event.number", version == 2 and 7 or 24) end
-        local length = self:take("event.length", 5, at_most(24, "LengthBits"), function(value) return self:text(value) end)
-        self:bytes("event.byte", "event.payload", length)
-    end
+    for _ = 1, count do self:branch("event", function() return self:event(version) end) end
     return count
 end
 
 local function is_set(mask, number) return math.floor(mask / 2 ^ number) % 2 == 1 end
 
+-- The fields of the mask, or all; gives them in words.
 function Reader:levels(kind, mask)
+    local said = {}
     for number, one in ipairs(KINDS[kind]) do
         if not mask or is_set(mask, number - 1) then
-            self:take(KINDS[kind].name .. "." .. one.name, one.bits, nil, function(level) return string.format("%d", shown(one, level)) end)
+            local mean = function(level) return string.format("%d", shown(one, level)) end
+            said[#said + 1] = one.name .. " " .. mean((self:take(KINDS[kind].name .. "." .. one.name, one.bits, nil, mean)))
         end
     end
+    return table.concat(said, " ")
 end
 
 function Reader:kind()
@@ -188,19 +224,20 @@ local function fields_of(kind)
     end
 end
 
--- One ghost. `changes` gets what the slot holds behind the packet: a kind, or false.
-function Reader:ghost(version, held, changes)
+-- One ghost; gives its words. `changes` gets what the slot holds behind the packet: a kind, or false.
+function Reader:ghost(item, version, held, changes)
     local slot = self:take("ghost.slot", 8)
     local op = self:take("ghost.op", 2, at_most(2, "OpBits"), words({ [0] = "kill", "create", "update" }))
+    local kind, levels
     if op == 0 then
         changes[#changes + 1] = { slot, false }
+        return string.format("kill slot %d", slot)
     elseif op == 1 then
-        local kind = self:kind()
+        kind = self:kind()
         self:take("ghost.block", 6)
-        self:levels(kind)
+        levels = self:levels(kind)
         changes[#changes + 1] = { slot, kind }
     else
-        local kind
         if version == 2 then
             kind = held[slot]
             if not kind then self:fail(self.at, "UnknownSlot") end
@@ -208,9 +245,10 @@ function Reader:ghost(version, held, changes)
             kind = self:kind()
             changes[#changes + 1] = { slot, kind }
         end
-        local mask = self:take("ghost.mask", #KINDS[kind], function(value) if value == 0 then return "EmptyMask" end end, fields_of(kind))
-        self:levels(kind, mask)
+        levels = self:levels(kind, (self:take("ghost.mask", #KINDS[kind], function(value) if value == 0 then return "EmptyMask" end end, fields_of(kind))))
     end
+    item:add(fields["ghost.of"], KINDS[kind].name):set_generated()
+    return string.format("%s slot %d %s %s", op == 1 and "create" or "update", slot, KINDS[kind].name, levels)
 end
 
 function Reader:server_body(version, held, changes)
@@ -218,19 +256,20 @@ function Reader:server_body(version, held, changes)
     if self:take("control.flag", 1) == 1 then self:take("control.slot", 8) end
     local blocks, events = self:blocks(), self:events(version)
     local ghosts = self:take("ghost.count", 8, at_most(128, "CountBits"))
-    for _ = 1, ghosts do self:ghost(version, held, changes) end
+    for _ = 1, ghosts do self:branch("ghost", function(item) return self:ghost(item, version, held, changes) end) end
     return string.format("blocks %d events %d ghosts %d", blocks, events, ghosts)
 end
 
+function Reader:move(number)
+    local dx, dy = self:take("move.dx", 4, nil, step), (self:take("move.dy", 4, nil, step))
+    local fires, uses = self:take("move.fire", 1) == 1, self:take("move.use", 1) == 1
+    return string.format("move %d %d %d%s%s", number, dx - 8, dy - 8, fires and " fires" or "", uses and " uses" or "")
+end
+
 function Reader:client_body(version)
-    self:take("move.first", 24)
+    local first = self:take("move.first", 24)
     local moves = self:take("move.count", 6, at_most(32, "CountBits"))
-    for _ = 1, moves do
-        self:take("move.dx", 4, nil, step)
-        self:take("move.dy", 4, nil, step)
-        self:take("move.fire", 1)
-        self:take("move.use", 1)
-    end
+    for k = 0, moves - 1 do self:branch("move", function() return self:move(first + k) end) end
     return string.format("moves %d events %d", moves, self:events(version))
 end
 
@@ -239,11 +278,55 @@ function Reader:close()
     if left > 7 or (left > 0 and self:number(self.at, left) > 0) then self:fail(self.at, "Padding") end
 end
 
--- ---- conversations: the version that a welcome told, and the kinds that slots held before each frame
+-- ---- conversations: the version that a welcome told, the kinds that slots held before each frame, and the verdicts that it brought
 
 local versions, held_now, held_before = {}, {}, {}
+-- For each way of each conversation the first packet without a verdict and the last that was seen; for each frame its verdicts.
+local first_unjudged, last_seen, verdicts = {}, {}, {}
+local bits_of = { down = {}, up = {} }
 
-function tribes.init() versions, held_now, held_before = {}, {}, {} end
+function tribes.init()
+    versions, held_now, held_before = {}, {}, {}
+    first_unjudged, last_seen, verdicts = {}, {}, {}
+    bits_of = { down = {}, up = {} }
+end
+
+-- What an acknowledgement that goes `way` says of the packets of the other way. One that names a packet which was not seen says nothing.
+local function judge(client, way, horizon, mask)
+    local other = (way == "down" and "up " or "down ") .. client
+    local first, lost, came = first_unjudged[other] or 1, {}, 0
+    if horizon > (last_seen[other] or 0) then return { lost = lost, came = 0 } end
+    for seq = first, horizon do
+        if horizon - seq < 32 and is_set(mask, horizon - seq) then came = came + 1 else lost[#lost + 1] = seq end
+    end
+    first_unjudged[other] = math.max(first, horizon + 1)
+    return { lost = lost, came = came }
+end
+
+-- On the first pass over the frames: the verdicts, and how many bits each part took.
+local function note(frame, client, way, read, kind, seq, horizon, mask)
+    verdicts[frame] = judge(client, way, horizon, mask)
+    if kind == 0 then last_seen[way .. " " .. client] = math.max(last_seen[way .. " " .. client] or 0, seq) end
+    for _, part in ipairs(read.used) do
+        local use = part[1]:match("^(%a+)%.") or "header"
+        if use == "control" then use = "header" end
+        bits_of[way][use] = (bits_of[way][use] or 0) + part[2]
+    end
+end
+
+local function tell_verdicts(frame, tvb, tree)
+    local told = verdicts[frame]
+    if not told then return "" end
+    for _, seq in ipairs(told.lost) do
+        local item = tree:add(fields["lost"], tvb(0, 1), seq)
+        item:set_text(string.format("packet %d lost", seq))
+        item:set_generated()
+    end
+    if told.came == 0 and #told.lost == 0 then return "" end
+    local text = string.format("%d came", told.came) .. (#told.lost > 0 and ", lost " .. table.concat(told.lost, " ") or "")
+    tree:add(fields["verdict"], tvb(0, 1), text):set_generated()
+    return #told.lost > 0 and string.format("; packet %s lost", table.concat(told.lost, " ")) or ""
+end
 
 local function version_of(client)
     if tribes.prefs.version > 0 then return tribes.prefs.version end
@@ -280,25 +363,34 @@ local function welcome(tvb, pinfo, tree, client)
     pinfo.cols.info = string.format("welcome client %d version %d", tvb(5, 1):uint(), tvb(11, 1):uint())
 end
 
+-- What is in a packet, in words, as long as a column is wide.
+local function summary(said, counts)
+    local text = table.concat(said, ", ")
+    return #said > 0 and #text <= 100 and text or counts
+end
+
 local function packet(tvb, pinfo, tree, is_down, client)
     local read, version, changes = reader(tvb, tree), version_of(client), {}
     local held = is_down and version == 2 and held_at(client, pinfo.number) or {}
-    local head
+    local way = is_down and "down" or "up"
+    local head, kind, seq, horizon, mask, _
     local fine, said = pcall(function()
-        local kind, number, seq, horizon = read:header()
+        kind, _, seq, horizon, mask = read:header()
         head = string.format("seq %d horizon %d", seq, horizon)
         if kind == 1 then
             read:close()
             return "ping"
         end
-        local inside = is_down and read:server_body(version, held, changes) or not is_down and read:client_body(version)
+        local counts = is_down and read:server_body(version, held, changes) or not is_down and read:client_body(version)
         read:close()
-        return inside
+        return summary(read.said, counts)
     end)
-    local way = is_down and "down" or "up"
     if fine then
-        if is_down and not pinfo.visited then follow(client, changes) end
-        pinfo.cols.info = string.format("%s %s %s", way, head, said)
+        if not pinfo.visited then
+            if is_down then follow(client, changes) end
+            note(pinfo.number, client, way, read, kind, seq, horizon, mask)
+        end
+        pinfo.cols.info = string.format("%s %s: %s%s", way, head, said, tell_verdicts(pinfo.number, tvb, tree))
     elseif type(said) == "table" then
         local text = string.format("%d fault %s", said.at, said.cause)
         local item = tree:add(fields["fault"], read:range(said.at, 1), said.cause)
@@ -327,3 +419,22 @@ function tribes.dissector(tvb, pinfo, root)
 end
 
 DissectorTable.get("udp.port"):add(PORT, tribes)
+
+-- ---- the tap: how many bits each part took
+
+if words_of_script[1] == "tap" then
+    local listener = Listener.new("udp", "tribes")
+    function listener.draw()
+        for _, way in ipairs({ "down", "up" }) do
+            local names, all = {}, 0
+            for name, bits in pairs(bits_of[way]) do
+                names[#names + 1] = name
+                all = all + bits
+            end
+            table.sort(names)
+            for _, name in ipairs(names) do
+                print(string.format("%s %s: %d bytes, %d of 100", way, name, bits_of[way][name] / 8, 100 * bits_of[way][name] / all))
+            end
+        end
+    end
+end

@@ -4,7 +4,7 @@ ghost use Rattle.std.specs.Prelude.{◌<◌, ◌≤◌};
 use crate::rows::whole;
 use crate::served::asked;
 use script_input::Status;
-use std::test::Fail;
+use std::alloc::{AllocError, Global};
 
 /// How many byte strings are tried.
 const TRIED: u32 = 5_000;
@@ -66,14 +66,14 @@ fn head_fault(bytes: &[u8]) -> Option<u32> {
 }
 
 /// Whether a text has the form of a replay's: lines `take K ..` from 0 on, and then one that begins with `end` or `cut`.
-fn has_form(rt: &HostRuntime, text: &str) -> Result<bool, Fail> {
+fn has_form(alloc: Global, text: &str) -> Result<bool, AllocError> {
     let mut k = 0u32;
     let mut ended = false;
     for line in text.lines() {
         if ended {
             return Ok(false);
         }
-        let begun = format!(in rt.alloc(); "take {k} ")?;
+        let begun = format!(in alloc; "take {k} ")?;
         if line.starts_with(begun.as_str()) {
             k = k.wrapping_add(1);
         } else if line.starts_with("end events ") || line.starts_with("cut events ") {
@@ -85,90 +85,95 @@ fn has_form(rt: &HostRuntime, text: &str) -> Result<bool, Fail> {
     Ok(ended)
 }
 
-/// Holds that a replay of these bytes ends as it should, and gives its text.
-fn told(rt: &HostRuntime, bytes: &[u8]) -> Result<String, Fail> {
-    let (status, text) = asked(rt, &["replay"], bytes)?;
-    let text = String::from_utf8(text)?;
+/// What a replay of these bytes writes; `None` where it does not end as it should.
+fn told(rt: &HostRuntime, bytes: &[u8]) -> Option<String> {
+    let (status, text) = asked(rt, &["replay"], bytes).ok()?;
+    let text = String::from_utf8(text).ok()?;
     let holds = match head_fault(bytes) {
         Some(place) => status == Status::Demo(place) && text.is_empty(),
-        None => status == Status::Done && has_form(rt, text.as_str())?,
+        None => status == Status::Done && has_form(rt.alloc(), text.as_str()) == Ok(true),
     };
-    if holds {
-        Ok(text)
-    } else {
-        Err("a replay that does not end as it should".into())
-    }
+    if holds { Some(text) } else { None }
 }
 
 /// So many bytes of chance after a front.
-fn chance(draws: &mut Draws, out: &mut Vec<u8>, count: usize) -> Result<(), Fail> {
+fn chance(draws: &mut Draws, out: &mut Vec<u8>, count: usize) -> Result<(), AllocError> {
     for _ in 0..count {
         out.push(draws.byte())?;
     }
     Ok(())
 }
 
+/// Bytes of chance: one time in four without a head, and one in four with a record of few bytes first.
+fn drawn(draws: &mut Draws, out: &mut Vec<u8>, head: &[u8], i: u32) -> Result<(), AllocError> {
+    if i % 4 != 0 {
+        out.extend_from_slice(head)?;
+    }
+    if i % 4 == 1 {
+        let few = draws.below(40);
+        out.push(few as u8)?;
+        out.push(0)?;
+    }
+    let count = draws.below(60);
+    chance(draws, out, count)
+}
+
 #[test]
-fn chance_bytes(rt: HostRuntime) -> Result<(), Fail> {
+fn chance_bytes(rt: HostRuntime) {
     let mut draws = Draws { state: 7 };
     let demo = whole();
     let (head, _) = demo.split_at(demo.len().min(11));
     for i in 0..TRIED {
         let mut bytes = Vec::new(rt.alloc());
-        // one in four has no head
-        if i % 4 != 0 {
-            bytes.extend_from_slice(head)?;
-        }
-        // and one in four has a record of few bytes first
-        if i % 4 == 1 {
-            let few = draws.below(40);
-            bytes.push(few as u8)?;
-            bytes.push(0)?;
-        }
-        let count = draws.below(60);
-        chance(&mut draws, &mut bytes, count)?;
-        told(&rt, bytes.as_slice())?;
+        drawn(&mut draws, &mut bytes, head, i).expect(&rt, "memory");
+        assert!(rt; told(&rt, bytes.as_slice()).is_some());
     }
-    Ok(())
+}
+
+/// Up to four bytes of a demo become others.
+fn forge(draws: &mut Draws, bytes: &mut [u8]) {
+    for _ in 0..1 + draws.below(4) {
+        let place = draws.below(195);
+        let byte = draws.byte();
+        if let Some(there) = bytes.get_mut(place) {
+            *there = byte;
+        }
+    }
 }
 
 #[test]
-fn forged(rt: HostRuntime) -> Result<(), Fail> {
+fn forged(rt: HostRuntime) {
     let mut draws = Draws { state: 11 };
     for _ in 0..TRIED {
-        let mut bytes = Vec::new(rt.alloc());
-        bytes.extend_from_slice(whole())?;
-        for _ in 0..1 + draws.below(4) {
-            let place = draws.below(195);
-            let byte = draws.byte();
-            if let Some(there) = bytes.as_mut_slice().get_mut(place) {
-                *there = byte;
-            }
-        }
-        told(&rt, bytes.as_slice())?;
+        let mut bytes = whole().to_vec(rt.alloc()).expect(&rt, "memory");
+        forge(&mut draws, bytes.as_mut_slice());
+        assert!(rt; told(&rt, bytes.as_slice()).is_some());
     }
-    Ok(())
+}
+
+/// Whether all lines of a text but the last are the first of the whole one's, and the last says that the demo is cut.
+fn is_cut(text: &str, whole: &str) -> bool {
+    let mut lines = whole.lines();
+    for line in text.lines() {
+        let is_so = if line.starts_with("take ") {
+            lines.next() == Some(line)
+        } else {
+            line.starts_with("cut events ")
+        };
+        if !is_so {
+            return false;
+        }
+    }
+    true
 }
 
 #[test]
-fn cuts(rt: HostRuntime) -> Result<(), Fail> {
+fn cuts(rt: HostRuntime) {
     let demo = whole();
-    let all = told(&rt, demo)?;
+    let all = told(&rt, demo).expect(&rt, "the whole demo");
     for count in 0..demo.len() {
         let (front, _) = demo.split_at(count);
-        let text = told(&rt, front)?;
-        if count < 11 {
-            continue;
-        }
-        // all lines but the last are the first of the whole one's, and the last says that the demo is cut
-        let mut lines = all.as_str().lines();
-        for line in text.as_str().lines() {
-            if line.starts_with("take ") {
-                assert_eq!(rt; Some(line), lines.next());
-            } else {
-                assert!(rt; line.starts_with("cut events "), "{line}");
-            }
-        }
+        let text = told(&rt, front).expect(&rt, "a demo that is cut");
+        assert!(rt; count < 11 || is_cut(text.as_str(), all.as_str()));
     }
-    Ok(())
 }

@@ -1,8 +1,9 @@
 //! Demos and replays whose bytes and texts were worked out by hand or by a second program.
 
-use crate::served::{ALL, asked, served};
+ghost use Rattle.std.specs.Prelude.{◌<◌};
+
+use crate::served::{ALL, served, writes};
 use script_input::Status;
-use std::test::Fail;
 
 /// A script of one event for a client that takes it.
 const FIRST_EVENT: &str = "tribes 1
@@ -89,50 +90,37 @@ const ROWS: [(usize, &[&str], &str); 8] = [
 ];
 
 #[test]
-fn demo_of_first_event(rt: HostRuntime) -> Result<(), Fail> {
-    let (status, bytes) = asked(&rt, &["demo", "0"], FIRST_EVENT.as_bytes())?;
-    assert_eq!(rt; status, Status::Done);
-    assert_eq!(rt; bytes.as_slice(), FIRST_DEMO.as_slice());
-    let (status, bytes) = asked(&rt, &["demo", "0"], FIRST_EVENT_2.as_bytes())?;
-    assert_eq!(rt; status, Status::Done);
-    assert_eq!(rt; bytes.as_slice(), FIRST_DEMO_2.as_slice());
+fn demo_of_first_event(rt: HostRuntime) {
+    let (first, second) = (FIRST_EVENT.as_bytes(), FIRST_EVENT_2.as_bytes());
+    assert!(rt; writes(&rt, &["demo", "0"], first, Status::Done, &FIRST_DEMO));
+    assert!(rt; writes(&rt, &["demo", "0"], second, Status::Done, &FIRST_DEMO_2));
     // the match has no such client
-    let (status, bytes) = asked(&rt, &["demo", "1"], FIRST_EVENT.as_bytes())?;
-    assert_eq!(rt; status, Status::Done);
-    assert_eq!(rt; bytes.len(), 0);
-    Ok(())
+    assert!(rt; writes(&rt, &["demo", "1"], first, Status::Done, &[]));
 }
 
 #[test]
-fn replay_of_first_event(rt: HostRuntime) -> Result<(), Fail> {
-    let (status, bytes) = asked(&rt, &["replay"], FIRST_DEMO.as_slice())?;
-    assert_eq!(rt; status, Status::Done);
-    assert_eq!(rt;
-        bytes.as_slice(),
-        b"take 0 ok g:6869\nend events 1 ghosts 0\n".as_slice()
-    );
-    let (status, bytes) = asked(&rt, &["replay"], FIRST_DEMO_2.as_slice())?;
-    assert_eq!(rt; status, Status::Done);
-    assert_eq!(rt;
-        bytes.as_slice(),
-        b"take 0 ok g:6869\nend events 1 ghosts 0\n".as_slice()
-    );
+fn replay_of_first_event(rt: HostRuntime) {
+    let text = b"take 0 ok g:6869\nend events 1 ghosts 0\n";
+    assert!(rt; writes(&rt, &["replay"], &FIRST_DEMO, Status::Done, text));
+    assert!(rt; writes(&rt, &["replay"], &FIRST_DEMO_2, Status::Done, text));
     let (front, _) = FIRST_DEMO.as_slice().split_at(20);
-    let (status, bytes) = asked(&rt, &["replay"], front)?;
-    assert_eq!(rt; status, Status::Done);
-    assert_eq!(rt; bytes.as_slice(), b"cut events 0 ghosts 0\n".as_slice());
-    Ok(())
+    assert!(rt;
+        writes(
+            &rt,
+            &["replay"],
+            front,
+            Status::Done,
+            b"cut events 0 ghosts 0\n"
+        )
+    );
 }
 
 #[test]
-fn replays(rt: HostRuntime) -> Result<(), Fail> {
+fn replays(rt: HostRuntime) {
     for (count, words, want) in ROWS {
         let (bytes, _) = WHOLE.as_slice().split_at(count.min(WHOLE.len()));
-        let (status, text) = asked(&rt, words, bytes)?;
-        assert_eq!(rt; status, Status::Done, "{want}");
-        assert_eq!(rt; text.as_slice(), want.as_bytes(), "{want}");
+        assert!(rt; writes(&rt, words, bytes, Status::Done, want.as_bytes()));
     }
-    Ok(())
 }
 
 /// Bytes that begin with no head, and the place of their fault.
@@ -148,15 +136,12 @@ const HEADLESS: [(&[u8], u32); 8] = [
 ];
 
 #[test]
-fn no_head(rt: HostRuntime) -> Result<(), Fail> {
+fn no_head(rt: HostRuntime) {
     for (bytes, place) in HEADLESS {
-        for words in [["replay"].as_slice(), ["replay", "7"].as_slice()] {
-            let (status, text) = asked(&rt, words, bytes)?;
-            assert_eq!(rt; status, Status::Demo(place));
-            assert_eq!(rt; text.len(), 0);
-        }
+        let status = Status::Demo(place);
+        assert!(rt; writes(&rt, &["replay"], bytes, status, &[]));
+        assert!(rt; writes(&rt, &["replay", "7"], bytes, status, &[]));
     }
-    Ok(())
 }
 
 /// Words that are no command, and the place where they stop being one.
@@ -173,34 +158,52 @@ const USAGE: [(&[&str], u32); 9] = [
 ];
 
 #[test]
-fn usage(rt: HostRuntime) -> Result<(), Fail> {
+fn usage(rt: HostRuntime) {
     for (words, place) in USAGE {
-        let (status, text) = asked(&rt, words, FIRST_DEMO.as_slice())?;
-        assert_eq!(rt; status, Status::Usage(place));
-        assert_eq!(rt; text.len(), 0);
+        assert!(rt; writes(&rt, words, &FIRST_DEMO, Status::Usage(place), &[]));
     }
-    Ok(())
+}
+
+// Whether a call over a source and a sink of which these calls fail answers this and writes this.
+fn fails(
+    rt: &HostRuntime,
+    words: &[&str],
+    input: &[u8],
+    most: usize,
+    failing_reads: &[u64],
+    failing_writes: &[u64],
+    status: Status,
+    text: &[u8],
+) -> bool
+    requires { 0 < most }
+{
+    match served(rt, words, input, most, failing_reads, failing_writes) {
+        Ok((answer, bytes)) => answer == status && bytes.as_slice() == text,
+        Err(_) => false,
+    }
 }
 
 #[test]
-fn faults_of_the_outside(rt: HostRuntime) -> Result<(), Fail> {
-    let (status, text) = served(&rt, &["replay"], WHOLE.as_slice(), 7, &[3], &[])?;
-    assert_eq!(rt; status, Status::ReadFault);
-    assert_eq!(rt; text.len(), 0);
+fn faults_of_the_outside(rt: HostRuntime) {
+    let (replay, demo) = (["replay"], ["demo", "0"]);
+    assert!(rt; fails(&rt, &replay, &WHOLE, 7, &[3], &[], Status::ReadFault, &[]));
     // the third line can't be written
-    let (status, text) = served(&rt, &["replay"], WHOLE.as_slice(), ALL, &[], &[2])?;
-    assert_eq!(rt; status, Status::WriteFault);
-    assert_eq!(rt;
-        text.as_slice(),
-        b"take 0 ok g:6869 u:07\ntake 1 client 1\n".as_slice()
+    let two = b"take 0 ok g:6869 u:07\ntake 1 client 1\n";
+    assert!(rt;
+        fails(
+            &rt,
+            &replay,
+            &WHOLE,
+            ALL,
+            &[],
+            &[2],
+            Status::WriteFault,
+            two
+        )
     );
     // a demo's head is written first, then the one record, then the end
-    let (status, bytes) = served(&rt, &["demo", "0"], FIRST_EVENT.as_bytes(), ALL, &[], &[1])?;
-    assert_eq!(rt; status, Status::WriteFault);
     let (front, _) = FIRST_DEMO.as_slice().split_at(11);
-    assert_eq!(rt; bytes.as_slice(), front);
-    let (status, bytes) = served(&rt, &["demo", "0"], FIRST_EVENT.as_bytes(), 5, &[], &[])?;
-    assert_eq!(rt; status, Status::Done);
-    assert_eq!(rt; bytes.as_slice(), FIRST_DEMO.as_slice());
-    Ok(())
+    let first = FIRST_EVENT.as_bytes();
+    assert!(rt; fails(&rt, &demo, first, ALL, &[], &[1], Status::WriteFault, front));
+    assert!(rt; fails(&rt, &demo, first, 5, &[], &[], Status::Done, &FIRST_DEMO));
 }

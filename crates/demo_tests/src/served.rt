@@ -3,7 +3,7 @@ ghost use Rattle.std.specs.Prelude.{◌<◌};
 
 use demo_top::top_demo;
 use script_input::Status;
-use std::test::Fail;
+use std::alloc::AllocError;
 use tn_outside::{MemSink, MemSource, SteadySource};
 
 /// More bytes than a call here reads or writes at once.
@@ -18,7 +18,7 @@ pub(crate) fn served<'a>(
     most: usize,
     failing_reads: &'a [u64],
     failing_writes: &'a [u64],
-) -> Result<(Status, Vec<u8>), Fail>
+) -> Result<(Status, Vec<u8>), AllocError>
     requires { 0 < most }
 {
     let mut all = Vec::new(rt.alloc());
@@ -54,6 +54,20 @@ pub(crate) fn asked(
     rt: &HostRuntime,
     words: &[&str],
     input: &[u8],
-) -> Result<(Status, Vec<u8>), Fail> {
+) -> Result<(Status, Vec<u8>), AllocError> {
     served(rt, words, input, ALL, &[], &[])
+}
+
+/// Whether a call with these words answers this and writes this.
+pub(crate) fn writes(
+    rt: &HostRuntime,
+    words: &[&str],
+    input: &[u8],
+    status: Status,
+    text: &[u8],
+) -> bool {
+    match asked(rt, words, input) {
+        Ok((answer, bytes)) => answer == status && bytes.as_slice() == text,
+        Err(_) => false,
+    }
 }

@@ -1,6 +1,6 @@
 //! What one line adds to the counts.
 ghost use Rattle.std.specs.Prelude.{◌≡◌, ℕ, ◌<◌, ◌≤◌, ◌+◌, count_by, length};
-ghost use Rattle.tn_types.specs.declared.limits.TheConstants.{MAX_BODY_LINES as MOST_LINES};
+ghost use Rattle.match_script.specs.declared.limits.TheConstants.{MAX_BODY_LINES as MOST_LINES};
 ghost use Rattle.match_count.specs.Counting.{is_guaranteed, with_line};
 ghost use Rattle.match_count.specs.Bounds.{AreAfter};
 

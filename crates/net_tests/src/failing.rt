@@ -1,9 +1,9 @@
 //! A link, a clock or a sink that fails in its turn, and a clock that goes back.
 
 use crate::rows::{HELLO, OTHER_HELLO, WELCOME};
-use crate::served::{Failing, Left, NONE, came, is_front, served, was_sent};
+use crate::served::{Failing, Left, NONE, came, is_done, is_front, served, was_sent};
 use script_input::Status;
-use std::test::Fail;
+use std::alloc::AllocError;
 use tn_outside::Arrival;
 
 const WORDS: [&str; 4] = ["serve", "7", "2", "3"];
@@ -12,7 +12,7 @@ const WORDS: [&str; 4] = ["serve", "7", "2", "3"];
 const TIMES: [u64; 4] = [1_000, 1_000, 1_060, 1_120];
 
 // Two hellos, a datagram, and pauses.
-fn serve_failing(rt: &HostRuntime, failing: Failing<'_>) -> Result<Left, Fail> {
+fn serve_failing(rt: &HostRuntime, failing: Failing<'_>) -> Result<Left, AllocError> {
     let arrivals = [
         came(5, &HELLO),
         came(6, &OTHER_HELLO),
@@ -25,7 +25,7 @@ fn serve_failing(rt: &HostRuntime, failing: Failing<'_>) -> Result<Left, Fail> {
 
 /// What of the outside fails.
 #[derive(Clone, Copy)]
-enum Part {
+pub(crate) enum Part {
     Sends,
     Receives,
     Times,
@@ -33,7 +33,7 @@ enum Part {
 }
 
 // Of this part these calls fail.
-fn failing(part: Part, calls: &[u64]) -> Failing<'_> {
+pub(crate) fn failing(part: Part, calls: &[u64]) -> Failing<'_> {
     let mut failing = NONE;
     match part {
         Part::Sends => failing.sends = calls,
@@ -45,25 +45,21 @@ fn failing(part: Part, calls: &[u64]) -> Failing<'_> {
 }
 
 // Whether a match of which one call of this part fails ends with this status, and what was served before is a prefix of the whole.
-fn is_cut(
-    rt: &HostRuntime,
-    whole: &Left,
-    part: Part,
-    call: u64,
-    status: Status,
-) -> Result<bool, Fail> {
-    let s = serve_failing(rt, failing(part, &[call]))?;
-    Ok(
-        s.status == status
-            && whole.text.as_slice().starts_with(s.text.as_slice())
-            && is_front(&s.sent, &whole.sent),
-    )
+fn is_cut(rt: &HostRuntime, whole: &Left, part: Part, call: u64, status: Status) -> bool {
+    match serve_failing(rt, failing(part, &[call])) {
+        Ok(s) => {
+            s.status == status
+                && whole.text.as_slice().starts_with(s.text.as_slice())
+                && is_front(&s.sent, &whole.sent)
+        }
+        Err(_) => false,
+    }
 }
 
 #[test]
-fn each_call_fails_once(rt: HostRuntime) -> Result<(), Fail> {
-    let whole = serve_failing(&rt, NONE)?;
-    let mut wrong = 0u32;
+fn each_call_fails_once(rt: HostRuntime) {
+    let whole = serve_failing(&rt, NONE).expect(&rt, "memory");
+    assert!(rt; whole.status == Status::Done && whole.sent.len() == 8);
     // the header is written in one piece, and then 3 ticks, a raw line, and 6 scans and packs
     for (part, calls, status) in [
         (Part::Sends, 8, Status::LinkFault),
@@ -72,49 +68,32 @@ fn each_call_fails_once(rt: HostRuntime) -> Result<(), Fail> {
         (Part::Writes, 17, Status::WriteFault),
     ] {
         for call in 0..calls {
-            if !is_cut(&rt, &whole, part, call, status)? {
-                wrong = wrong.saturating_add(1);
-            }
+            assert!(rt; is_cut(&rt, &whole, part, call, status));
         }
     }
-    assert_eq!(rt;
-        (whole.status, whole.sent.len(), wrong),
-        (Status::Done, 8, 0)
-    );
-    Ok(())
 }
 
 // A send that fails is not made, and those before it were.
 #[test]
-fn sends_before_the_failing_one(rt: HostRuntime) -> Result<(), Fail> {
+fn sends_before_the_failing_one(rt: HostRuntime) {
     for call in 0..8 {
-        let s = serve_failing(&rt, failing(Part::Sends, &[call]))?;
-        assert_eq!(rt; s.sent.len() as u64, call);
+        let s = serve_failing(&rt, failing(Part::Sends, &[call])).expect(&rt, "memory");
+        assert!(rt; s.sent.len() as u64 == call);
     }
-    Ok(())
 }
 
 #[test]
-fn second_send_fails(rt: HostRuntime) -> Result<(), Fail> {
+fn second_send_fails(rt: HostRuntime) {
     let arrivals = [came(5, &HELLO), came(6, &HELLO), came(5, &HELLO)];
-    let s = served(
-        &rt,
-        &["serve", "7", "1", "1"],
-        &arrivals,
-        &[0],
-        Failing {
-            sends: &[1],
-            ..NONE
-        },
-    )?;
-    assert_eq!(rt; s.status, Status::LinkFault);
-    assert_eq!(rt; s.sent.len(), 1);
-    assert!(rt; was_sent(rt.alloc(), &s.sent, 0, 5, WELCOME)?);
-    Ok(())
+    let words = ["serve", "7", "1", "1"];
+    let second = failing(Part::Sends, &[1]);
+    let s = served(&rt, &words, &arrivals, &[0], second).expect(&rt, "memory");
+    assert!(rt; s.status == Status::LinkFault && s.sent.len() == 1);
+    assert!(rt; was_sent(rt.alloc(), &s.sent, 0, 5, WELCOME));
 }
 
 #[test]
-fn clock_goes_back(rt: HostRuntime) -> Result<(), Fail> {
+fn clock_goes_back(rt: HostRuntime) {
     // Turn 1 is due 50 ms after the start: not where the clock went back, nor at 49 ms.
     let arrivals = [
         Arrival::Pause,
@@ -123,28 +102,14 @@ fn clock_goes_back(rt: HostRuntime) -> Result<(), Fail> {
         came(5, &HELLO),
         Arrival::Pause,
     ];
-    let s = served(
-        &rt,
-        &["serve", "7", "1", "2"],
-        &arrivals,
-        &[1_000, 900, 10, 1_049, 1_050],
-        NONE,
-    )?;
-    assert_eq!(rt; s.status, Status::Done);
-    assert!(rt;
-        s.text
-            .as_slice()
-            .ends_with(b"go\ntick\ntick\nscan 0\npack 0\n")
-    );
-    assert_eq!(rt; s.sent.len(), 2);
-    Ok(())
+    let times = [1_000, 900, 10, 1_049, 1_050];
+    let s = served(&rt, &["serve", "7", "1", "2"], &arrivals, &times, NONE).expect(&rt, "memory");
+    assert!(rt; is_done(&s, b"go\ntick\ntick\nscan 0\npack 0\n", 2));
 }
 
 #[test]
-fn clock_stands(rt: HostRuntime) -> Result<(), Fail> {
+fn clock_stands(rt: HostRuntime) {
     // A turn that is never due ends after 10,000 calls.
-    let s = served(&rt, &["serve", "7", "1", "2"], &[], &[0], NONE)?;
-    assert_eq!(rt; s.status, Status::Done);
-    assert!(rt; s.text.as_slice().ends_with(b"go\ntick\ntick\n"));
-    Ok(())
+    let s = served(&rt, &["serve", "7", "1", "2"], &[], &[0], NONE).expect(&rt, "memory");
+    assert!(rt; is_done(&s, b"go\ntick\ntick\n", 0));
 }

@@ -1,9 +1,9 @@
 //! Rows of what comes over a link, and of what is sent and written.
 
-use crate::served::{NONE, came, served, was_sent};
+use crate::served::{NONE, came, is_done, is_left, served, was_sent};
 use script_input::{Status, exit_of};
-use std::test::Fail;
-use tn_outside::Arrival;
+use std::alloc::{AllocError, Global};
+use tn_outside::{Arrival, Sending};
 
 pub(crate) const HELLO: [u8; 5] = [2, 1, 0, 0, 0];
 
@@ -18,68 +18,63 @@ const FIRST: [u8; 24] = [
     0x0d,
 ];
 
-#[test]
-fn one_hello(rt: HostRuntime) -> Result<(), Fail> {
-    let arrivals = [came(5, &HELLO)];
-    let s = served(&rt, &["serve", "7", "1", "1"], &arrivals, &[0], NONE)?;
-    assert_eq!(rt; s.status, Status::Done);
-    assert!(rt; s.text.as_slice().ends_with(b"go\ntick\nscan 0\npack 0\n"));
-    assert_eq!(rt; s.sent.len(), 2);
-    assert!(rt; was_sent(rt.alloc(), &s.sent, 0, 5, WELCOME)?);
-    match s.sent.get(1) {
-        Some(sending) => assert_eq!(rt; sending.peer.number, 5),
-        None => assert!(rt; false),
+// Whether these datagrams were sent to peers from this to that number.
+fn went_to(sent: &[Sending], first: u32, last: u32) -> bool {
+    for sending in sent {
+        if sending.peer.number < first || last < sending.peer.number {
+            return false;
+        }
     }
-    Ok(())
+    true
 }
 
 #[test]
-fn hello_comes_again(rt: HostRuntime) -> Result<(), Fail> {
+fn one_hello(rt: HostRuntime) {
+    let arrivals = [came(5, &HELLO)];
+    let s = served(&rt, &["serve", "7", "1", "1"], &arrivals, &[0], NONE).expect(&rt, "memory");
+    assert!(rt; is_done(&s, b"go\ntick\nscan 0\npack 0\n", 2));
+    assert!(rt; was_sent(rt.alloc(), &s.sent, 0, 5, WELCOME) && went_to(&s.sent, 5, 5));
+}
+
+#[test]
+fn hello_comes_again(rt: HostRuntime) {
     let arrivals = [
         came(5, &HELLO),
         came(6, &OTHER_HELLO),
         came(5, &OTHER_HELLO),
     ];
-    let s = served(&rt, &["serve", "7", "1", "1"], &arrivals, &[0], NONE)?;
-    assert_eq!(rt; s.status, Status::Done);
-    assert_eq!(rt; s.sent.len(), 3);
-    assert!(rt; was_sent(rt.alloc(), &s.sent, 0, 5, WELCOME)?);
-    assert!(rt; was_sent(rt.alloc(), &s.sent, 1, 5, WELCOME)?);
-    for sending in &s.sent {
-        assert_eq!(rt; sending.peer.number, 5);
-    }
-    Ok(())
+    let s = served(&rt, &["serve", "7", "1", "1"], &arrivals, &[0], NONE).expect(&rt, "memory");
+    assert!(rt; is_done(&s, b"", 3) && went_to(&s.sent, 5, 5));
+    assert!(rt; was_sent(rt.alloc(), &s.sent, 0, 5, WELCOME));
+    assert!(rt; was_sent(rt.alloc(), &s.sent, 1, 5, WELCOME));
 }
 
-#[test]
-fn many_hellos(rt: HostRuntime) -> Result<(), Fail> {
-    let mut arrivals = Vec::new(rt.alloc());
+// A hello of each of twenty peers.
+fn twenty_hellos<'a>(alloc: Global) -> Result<Vec<Arrival<'a>>, AllocError> {
+    let mut arrivals = Vec::new(alloc);
     for number in 100..120 {
         arrivals.push(came(number, &HELLO))?;
     }
-    let s = served(&rt, &["serve", "7", "16", "1"], &arrivals, &[0], NONE)?;
-    assert_eq!(rt; s.status, Status::Done);
-    // a welcome and a datagram for each of sixteen
-    assert_eq!(rt; s.sent.len(), 32);
-    for sending in &s.sent {
-        assert!(rt; sending.peer.number < 116);
-    }
-    Ok(())
+    Ok(arrivals)
 }
 
 #[test]
-fn nobody_says_hello(rt: HostRuntime) -> Result<(), Fail> {
-    let s = served(&rt, &["serve", "7", "1", "3"], &[], &[0, 200], NONE)?;
-    assert_eq!(rt; s.status, Status::Done);
-    assert_eq!(rt; s.sent.len(), 0);
-    assert!(rt; s.text.as_slice().ends_with(b"go\ntick\ntick\ntick\n"));
-    Ok(())
+fn many_hellos(rt: HostRuntime) {
+    let arrivals = twenty_hellos(rt.alloc()).expect(&rt, "memory");
+    let s = served(&rt, &["serve", "7", "16", "1"], &arrivals, &[0], NONE).expect(&rt, "memory");
+    // a welcome and a datagram for each of sixteen
+    assert!(rt; is_done(&s, b"", 32) && went_to(&s.sent, 100, 115));
+}
+
+#[test]
+fn nobody_says_hello(rt: HostRuntime) {
+    let s = served(&rt, &["serve", "7", "1", "3"], &[], &[0, 200], NONE).expect(&rt, "memory");
+    assert!(rt; is_done(&s, b"go\ntick\ntick\ntick\n", 0));
 }
 
 // The datagrams are those of a model of the rules in Python.
 #[test]
-fn event_is_posted_on(rt: HostRuntime) -> Result<(), Fail> {
-    let alloc = rt.alloc();
+fn event_is_posted_on(rt: HostRuntime) {
     let arrivals = [
         came(5, &HELLO),
         came(6, &OTHER_HELLO),
@@ -90,19 +85,12 @@ fn event_is_posted_on(rt: HostRuntime) -> Result<(), Fail> {
         came(5, &[]),
         came(5, &FIRST),
     ];
-    let s = served(
-        &rt,
-        &["serve", "7", "2", "2"],
-        &arrivals,
-        &[0, 10, 60, 60],
-        NONE,
-    )?;
-    assert_eq!(rt; s.status, Status::Done);
+    let times = [0, 10, 60, 60];
+    let s = served(&rt, &["serve", "7", "2", "2"], &arrivals, &times, NONE).expect(&rt, "memory");
     let end =
         b"go\nraw 0 40000000000000000000000000002002000008b434c2ed0d\npost 1 g 6869\ntick\nscan 0\npack 0\nscan 1\npack 1\n\
 raw 0 40000000000000000000000000002002000008b434c2ed0d\ntick\nscan 0\npack 0\nscan 1\npack 1\n";
-    assert!(rt; s.text.as_slice().ends_with(end));
-    assert_eq!(rt; s.sent.len(), 6);
+    assert!(rt; is_done(&s, end, 6));
     for (place, number, hex) in [
         (0, 5, WELCOME),
         (1, 6, "030200000001ffffff900101"),
@@ -119,16 +107,12 @@ raw 0 40000000000000000000000000002002000008b434c2ed0d\ntick\nscan 0\npack 0\nsc
         (4, 5, "80000040000040000000000000000000"),
         (5, 6, "84000000000000000000000000000000"),
     ] {
-        assert!(rt;
-            was_sent(alloc, &s.sent, place, number, hex)?,
-            "datagram {place}"
-        );
+        assert!(rt; was_sent(rt.alloc(), &s.sent, place, number, hex));
     }
-    Ok(())
 }
 
 #[test]
-fn usage(rt: HostRuntime) -> Result<(), Fail> {
+fn usage(rt: HostRuntime) {
     let rows: [(&[&str], u32); 15] = [
         (&[], 0),
         (&["run"], 0),
@@ -148,24 +132,26 @@ fn usage(rt: HostRuntime) -> Result<(), Fail> {
     ];
     let arrivals = [came(5, &HELLO)];
     for (words, place) in rows {
-        let s = served(&rt, words, &arrivals, &[0], NONE)?;
-        assert_eq!(rt; s.status, Status::Usage(place));
-        assert_eq!(rt; s.text.len(), 0);
-        assert_eq!(rt; s.sent.len(), 0);
+        let s = served(&rt, words, &arrivals, &[0], NONE).expect(&rt, "memory");
+        assert!(rt; is_left(&s, Status::Usage(place), b"", 0));
     }
-    Ok(())
+}
+
+// Whether a status is told in these words.
+fn is_told(alloc: Global, status: Status, words: &str) -> bool {
+    match format!(in alloc; "{status}") {
+        Ok(said) => said.as_str() == words,
+        Err(_) => false,
+    }
 }
 
 #[test]
-fn statuses_of_link_clock_and_demo(rt: HostRuntime) -> Result<(), Fail> {
+fn statuses_of_link_clock_and_demo(rt: HostRuntime) {
     for (status, exit, words) in [
         (Status::LinkFault, 8, "linkfault"),
         (Status::ClockFault, 9, "clockfault"),
         (Status::Demo(11), 10, "demo 11"),
     ] {
-        assert_eq!(rt; exit_of(status), exit);
-        let said = format!(in rt.alloc(); "{status}")?;
-        assert_eq!(rt; said.as_str(), words);
+        assert!(rt; exit_of(status) == exit && is_told(rt.alloc(), status, words));
     }
-    Ok(())
 }

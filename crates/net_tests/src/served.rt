@@ -3,8 +3,7 @@ ghost use Rattle.std.specs.Prelude.{◌<◌, length};
 
 use net_top::top_net;
 use script_input::Status;
-use std::alloc::Global;
-use std::test::Fail;
+use std::alloc::{AllocError, Global};
 use tn_outside::{Arrival, MemClock, MemLink, MemSink, Peer, Sending, SteadyClock};
 
 /// More bytes than a line has.
@@ -28,11 +27,20 @@ pub(crate) const NONE: Failing<'static> = Failing {
 };
 
 /// What a call left.
-#[derive(Drop)]
 pub(crate) struct Left {
     pub(crate) status: Status,
     pub(crate) text: Vec<u8>,
     pub(crate) sent: Vec<Sending>,
+}
+
+impl Drop for Left {
+    fn drop(self) {
+        let Left {
+            status: _,
+            text: _text,
+            sent: _sent,
+        } = self;
+    }
 }
 
 /// A datagram of a peer.
@@ -50,7 +58,7 @@ pub(crate) fn served<'a>(
     arrivals: &'a [Arrival<'a>],
     answers: &'a [u64],
     failing: Failing<'a>,
-) -> Result<Left, Fail>
+) -> Result<Left, AllocError>
     requires { 0 < length answers.now }
 {
     let alloc = rt.alloc();
@@ -108,6 +116,16 @@ pub(crate) fn served<'a>(
     })
 }
 
+/// Whether a call answered this, wrote this text, and sent so many datagrams.
+pub(crate) fn is_left(s: &Left, status: Status, text: &[u8], sent: usize) -> bool {
+    s.status == status && s.text.as_slice() == text && s.sent.len() == sent
+}
+
+/// Whether a call was done, its text has this end, and it sent so many datagrams.
+pub(crate) fn is_done(s: &Left, end: &[u8], sent: usize) -> bool {
+    s.status == Status::Done && s.text.as_slice().ends_with(end) && s.sent.len() == sent
+}
+
 /// Whether these bytes, in hexadecimal digits, were sent to this peer at this place.
 pub(crate) fn was_sent(
     alloc: Global,
@@ -115,13 +133,18 @@ pub(crate) fn was_sent(
     place: usize,
     number: u32,
     hex: &str,
-) -> Result<bool, Fail> {
+) -> bool {
     match sent.get(place) {
-        Some(sending) => {
-            let text = hex::encode(alloc, sending.bytes.as_slice())?;
-            Ok(sending.peer.number == number && text.as_str() == hex)
-        }
-        None => Ok(false),
+        Some(sending) => is_sending(alloc, sending, number, hex),
+        None => false,
+    }
+}
+
+/// Whether this is a datagram to this peer with these bytes, in hexadecimal digits.
+pub(crate) fn is_sending(alloc: Global, sending: &Sending, number: u32, hex: &str) -> bool {
+    match hex::encode(alloc, sending.bytes.as_slice()) {
+        Ok(text) => sending.peer.number == number && text.as_str() == hex,
+        Err(_) => false,
     }
 }
 

@@ -12,7 +12,6 @@ use match_script::{BodyLine, Script, parse, print_head, put_line};
 use script_input::Status;
 use script_maker::make;
 use std::alloc::{AllocError, Global};
-use std::test::Fail;
 use tn_types::{Move, NoMemory};
 
 const CLIENTS: u8 = 8;
@@ -253,18 +252,24 @@ fn made_text(alloc: Global, seed: u32) -> Result<String, NoMemory> {
     Ok(text)
 }
 
-#[test]
-fn predicted_as_by_a_fold(rt: HostRuntime) -> Result<(), Fail> {
-    let text = made_text(rt.alloc(), 7).ok().ok_or("no memory")?;
-    let script = parse(rt.alloc(), text.as_bytes()).ok().ok_or("no script")?;
-    for (client, word) in ["0", "1", "2", "3", "4", "5", "6", "7"].iter().enumerate() {
-        let lines = expected(rt.alloc(), &script, client as u8)
-            .ok()
-            .ok_or("no memory")?;
-        let (status, bytes) = served(&rt, &["predict", *word], text.as_bytes(), 65_536, &[], &[])?;
-        assert_eq!(rt; status, Status::Done);
-        assert_eq!(rt; bytes.as_slice(), lines.as_bytes());
-        assert!(rt; lines.len() > 1000);
+// Whether `predict` writes of a client what the fold makes of it, and that is much.
+fn is_as_folded(rt: &HostRuntime, text: &str, word: &str, lines: &str) -> bool {
+    match served(rt, &["predict", word], text.as_bytes(), 65_536, &[], &[]) {
+        Ok((status, bytes)) => {
+            status == Status::Done && bytes.as_slice() == lines.as_bytes() && lines.len() > 1000
+        }
+        Err(_) => false,
     }
-    Ok(())
+}
+
+#[test]
+fn predicted_as_by_a_fold(rt: HostRuntime) {
+    let text = made_text(rt.alloc(), 7).expect(&rt, "memory");
+    let script = parse(rt.alloc(), text.as_bytes())
+        .ok()
+        .expect(&rt, "no script");
+    for (client, word) in ["0", "1", "2", "3", "4", "5", "6", "7"].iter().enumerate() {
+        let lines = expected(rt.alloc(), &script, client as u8).expect(&rt, "memory");
+        assert!(rt; is_as_folded(&rt, text.as_str(), *word, lines.as_str()));
+    }
 }

@@ -3,7 +3,7 @@ ghost use Rattle.std.specs.Prelude.{◌<◌};
 
 use predict_top::top_predict;
 use script_input::Status;
-use std::test::Fail;
+use std::alloc::AllocError;
 use tn_outside::{MemSink, MemSource, SteadySource};
 
 /// What a call with these words answers, and what it writes. The source gives and the sink takes at most `most` bytes a
@@ -15,7 +15,7 @@ pub(crate) fn served<'a>(
     most: usize,
     failing_reads: &'a [u64],
     failing_writes: &'a [u64],
-) -> Result<(Status, Vec<u8>), Fail>
+) -> Result<(Status, Vec<u8>), AllocError>
     requires { 0 < most }
 {
     let mut all = Vec::new(rt.alloc());

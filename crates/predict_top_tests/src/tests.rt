@@ -3,7 +3,6 @@
 use crate::served::served;
 use match_script::ScriptFault;
 use script_input::Status;
-use std::test::Fail;
 
 // A player is shown to its client, samples two moves, and the server takes both.
 const TWO_MOVES: &str = "tribes 1
@@ -40,24 +39,46 @@ predict 0 1050 975 19 0 0
 predict 0 1050 975 19 0 0
 ";
 
+// Whether a call over a source and a sink of so many bytes a call, of which these calls fail, answers this and writes this.
+fn writes(
+    rt: &HostRuntime,
+    words: &[&str],
+    text: &str,
+    (most, failing_reads, failing_writes): (usize, &[u64], &[u64]),
+    (status, written): (Status, &[u8]),
+) -> bool {
+    if most == 0 {
+        return false;
+    }
+    match served(
+        rt,
+        words,
+        text.as_bytes(),
+        most,
+        failing_reads,
+        failing_writes,
+    ) {
+        Ok((answer, bytes)) => answer == status && bytes.as_slice() == written,
+        Err(_) => false,
+    }
+}
+
+// Nothing fails.
+const ALL: (usize, &[u64], &[u64]) = (4096, &[], &[]);
+
 #[test]
-fn predicted_as_accepted(rt: HostRuntime) -> Result<(), Fail> {
-    let (status, bytes) = served(&rt, &["predict", "0"], TWO_MOVES.as_bytes(), 4096, &[], &[])?;
-    assert_eq!(rt; status, Status::Done);
-    assert_eq!(rt; bytes.as_slice(), PREDICTED.as_bytes());
-    Ok(())
+fn predicted_as_accepted(rt: HostRuntime) {
+    let told = (Status::Done, PREDICTED.as_bytes());
+    assert!(rt; writes(&rt, &["predict", "0"], TWO_MOVES, ALL, told));
 }
 
 #[test]
-fn nothing_for_nobody(rt: HostRuntime) -> Result<(), Fail> {
-    let (status, bytes) = served(&rt, &["predict", "1"], TWO_MOVES.as_bytes(), 4096, &[], &[])?;
-    assert_eq!(rt; status, Status::Done);
-    assert_eq!(rt; bytes.len(), 0);
-    Ok(())
+fn nothing_for_nobody(rt: HostRuntime) {
+    assert!(rt; writes(&rt, &["predict", "1"], TWO_MOVES, ALL, (Status::Done, &[])));
 }
 
 #[test]
-fn words_that_are_no_command(rt: HostRuntime) -> Result<(), Fail> {
+fn words_that_are_no_command(rt: HostRuntime) {
     for (words, place) in [
         (&[] as &[&str], 0),
         (&["predicts"], 0),
@@ -68,15 +89,13 @@ fn words_that_are_no_command(rt: HostRuntime) -> Result<(), Fail> {
         (&["predict", "x"], 1),
         (&["predict", "0", "0"], 2),
     ] {
-        let (status, bytes) = served(&rt, words, TWO_MOVES.as_bytes(), 4096, &[0], &[0])?;
-        assert_eq!(rt; status, Status::Usage(place));
-        assert_eq!(rt; bytes.len(), 0);
+        let usage = (Status::Usage(place), b"".as_slice());
+        assert!(rt; writes(&rt, words, TWO_MOVES, (4096, &[0], &[0]), usage));
     }
-    Ok(())
 }
 
 #[test]
-fn texts_that_are_no_script(rt: HostRuntime) -> Result<(), Fail> {
+fn texts_that_are_no_script(rt: HostRuntime) {
     for (text, line, fault) in [
         ("", 1, ScriptFault::BadHeader),
         (
@@ -90,26 +109,21 @@ fn texts_that_are_no_script(rt: HostRuntime) -> Result<(), Fail> {
             ScriptFault::UnknownWord,
         ),
     ] {
-        let (status, bytes) = served(&rt, &["predict", "0"], text.as_bytes(), 4096, &[], &[])?;
-        assert_eq!(rt; status, Status::Script(line, fault));
-        assert_eq!(rt; bytes.len(), 0);
+        let refused = (Status::Script(line, fault), b"".as_slice());
+        assert!(rt; writes(&rt, &["predict", "0"], text, ALL, refused));
     }
-    Ok(())
 }
 
 #[test]
-fn outside_that_fails(rt: HostRuntime) -> Result<(), Fail> {
+fn outside_that_fails(rt: HostRuntime) {
+    let words = ["predict", "0"];
     // short reads and short writes change nothing
-    let (status, bytes) = served(&rt, &["predict", "0"], TWO_MOVES.as_bytes(), 3, &[], &[])?;
-    assert_eq!(rt; status, Status::Done);
-    assert_eq!(rt; bytes.as_slice(), PREDICTED.as_bytes());
+    let whole = (Status::Done, PREDICTED.as_bytes());
+    assert!(rt; writes(&rt, &words, TWO_MOVES, (3, &[], &[]), whole));
     // a read in midstream
-    let (status, bytes) = served(&rt, &["predict", "0"], TWO_MOVES.as_bytes(), 100, &[2], &[])?;
-    assert_eq!(rt; status, Status::ReadFault);
-    assert_eq!(rt; bytes.len(), 0);
+    let nothing = (Status::ReadFault, b"".as_slice());
+    assert!(rt; writes(&rt, &words, TWO_MOVES, (100, &[2], &[]), nothing));
     // the second write, of 10 bytes
-    let (status, bytes) = served(&rt, &["predict", "0"], TWO_MOVES.as_bytes(), 10, &[], &[1])?;
-    assert_eq!(rt; status, Status::WriteFault);
-    assert_eq!(rt; bytes.as_slice(), b"predict 0 ".as_slice());
-    Ok(())
+    let cut = (Status::WriteFault, b"predict 0 ".as_slice());
+    assert!(rt; writes(&rt, &words, TWO_MOVES, (10, &[], &[1]), cut));
 }

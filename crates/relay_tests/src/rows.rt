@@ -128,14 +128,14 @@ fn reported(rt: &HostRuntime, text: &str) -> Vec<u8> {
 #[test]
 fn clock_is_shown_on(rt: HostRuntime) {
     let report = reported(&rt, CLOCK);
-    assert_eq!(rt; report.as_slice(), CLOCK_REPORT.as_bytes());
+    assert!(rt; report.as_slice() == CLOCK_REPORT.as_bytes());
 }
 
 // What happens out of the relay's sight changes nothing of what a spectator is sent.
 #[test]
 fn hidden_lines_change_nothing(rt: HostRuntime) {
     let alone = reported(&rt, ALONE);
-    assert_eq!(rt; alone.as_slice(), PLAYER_REPORT.as_bytes());
+    assert!(rt; alone.as_slice() == PLAYER_REPORT.as_bytes());
     let beside = reported(&rt, BESIDE);
-    assert_eq!(rt; beside.as_slice(), PLAYER_REPORT.as_bytes());
+    assert!(rt; beside.as_slice() == PLAYER_REPORT.as_bytes());
 }

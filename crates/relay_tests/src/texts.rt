@@ -1,8 +1,13 @@
 //! Texts and their relay scripts or first faults, by the tables of docs/relay.md.
 use match_script::{MAX_BODY_LINES, ParseFault, ScriptFault};
 use relay_script::{RelayLine, parse_relay};
+<<<<<<< HEAD
 use std::alloc::Global;
 use std::test::Fail;
+=======
+use std::alloc::{AllocError, Global};
+use tn_types::MAX_BODY_LINES;
+>>>>>>> 9a54ac74b15c26388be8ba22fabdcb15782aae81
 
 // A header of two clients, after a first line.
 const HEADER: &str = "tribes 1\nmatch 1 2 100 128 1000\nblock 61\nplayer 0 0 0 5 5\ngo\n";
@@ -14,8 +19,13 @@ fn first_fault(alloc: Global, text: &[u8]) -> Option<(u32, ScriptFault)> {
     }
 }
 
+// The header after this line.
+fn first_line(alloc: Global, line: &str) -> Result<String, AllocError> {
+    format!(in alloc; "{line}\n{HEADER}")
+}
+
 #[test]
-fn first_lines(rt: HostRuntime) -> Result<(), Fail> {
+fn first_lines(rt: HostRuntime) {
     for (line, fault) in [
         ("relay 0 1", None),
         ("relay 1 16", None),
@@ -29,11 +39,13 @@ fn first_lines(rt: HostRuntime) -> Result<(), Fail> {
         ("r scan 0", Some(ScriptFault::BadHeader)),
         ("relay\t0 1", Some(ScriptFault::NotText)),
     ] {
-        let text = format!(in rt.alloc(); "{line}\n{HEADER}")?;
-        let want = fault.map(|f: ScriptFault| (1, f));
-        assert_eq!(rt; first_fault(rt.alloc(), text.as_bytes()), want, "at {line}");
+        let text = first_line(rt.alloc(), line).expect(&rt, "memory");
+        let want = match fault {
+            Some(fault) => Some((1, fault)),
+            None => None,
+        };
+        assert!(rt; first_fault(rt.alloc(), text.as_bytes()) == want);
     }
-    Ok(())
 }
 
 #[test]
@@ -70,16 +82,17 @@ fn headers(rt: HostRuntime) {
         ("relay 0 1\ntribes 1\nmatch 1 1 100 128 1000\nblock -\n", 5),
     ] {
         let want = Some((line, ScriptFault::BadHeader));
-        assert_eq!(rt;
-            first_fault(rt.alloc(), text.as_bytes()),
-            want,
-            "at {text:?}"
-        );
+        assert!(rt; first_fault(rt.alloc(), text.as_bytes()) == want);
     }
 }
 
+// A text whose ninth line is this, and whose tenth is none.
+fn body_line(alloc: Global, line: &str) -> Result<String, AllocError> {
+    format!(in alloc; "relay 0 2\n{HEADER}tick\nr show 0\n{line}\nbad\n")
+}
+
 #[test]
-fn lines_of_the_body(rt: HostRuntime) -> Result<(), Fail> {
+fn lines_of_the_body(rt: HostRuntime) {
     for (line, fault) in [
         ("r scan 1", None),
         ("r pack 0", None),
@@ -110,18 +123,17 @@ fn lines_of_the_body(rt: HostRuntime) -> Result<(), Fail> {
         ("show 1", None),
         ("show 2", Some(ScriptFault::OutOfRange)),
     ] {
-        let text = format!(in rt.alloc(); "relay 0 2\n{HEADER}tick\nr show 0\n{line}\nbad\n")?;
+        let text = body_line(rt.alloc(), line).expect(&rt, "memory");
         let want = match fault {
             Some(fault) => Some((9, fault)),
             None => Some((10, ScriptFault::UnknownWord)),
         };
-        assert_eq!(rt; first_fault(rt.alloc(), text.as_bytes()), want, "at {line}");
+        assert!(rt; first_fault(rt.alloc(), text.as_bytes()) == want);
     }
-    Ok(())
 }
 
 // So many lines after `go`, every second one the relay's.
-fn long_text(alloc: Global, lines: u32) -> Result<Vec<u8>, Fail> {
+fn long_text(alloc: Global, lines: u32) -> Result<Vec<u8>, AllocError> {
     let mut text = Vec::new(alloc);
     text.extend_from_slice(b"relay 0 1\n")?;
     text.extend_from_slice(HEADER.as_bytes())?;
@@ -132,30 +144,41 @@ fn long_text(alloc: Global, lines: u32) -> Result<Vec<u8>, Fail> {
     Ok(text)
 }
 
-#[test]
-fn lines_of_both_count(rt: HostRuntime) -> Result<(), Fail> {
-    let full = long_text(rt.alloc(), MAX_BODY_LINES)?;
-    let script = parse_relay(rt.alloc(), full.as_slice())
-        .ok()
-        .ok_or("no script")?;
-    assert_eq!(rt; script.script.body.len(), 50_000);
-    assert_eq!(rt; script.lines.len(), 50_000);
-    let long = long_text(rt.alloc(), MAX_BODY_LINES + 2)?;
-    let want = Some((100_007, ScriptFault::TooManyLines));
-    assert_eq!(rt; first_fault(rt.alloc(), long.as_slice()), want);
-    Ok(())
+// How many lines of both kinds a relay script has.
+fn counts(alloc: Global, text: &[u8]) -> Option<[usize; 2]> {
+    match parse_relay(alloc, text) {
+        Ok(script) => Some([script.script.body.len(), script.lines.len()]),
+        Err(_) => None,
+    }
 }
 
 #[test]
-fn each_line_stands_behind_its_own(rt: HostRuntime) -> Result<(), Fail> {
-    let mixed = format!(in rt.alloc();
+fn lines_of_both_count(rt: HostRuntime) {
+    let full = long_text(rt.alloc(), MAX_BODY_LINES).expect(&rt, "memory");
+    assert!(rt; counts(rt.alloc(), full.as_slice()) == Some([50_000, 50_000]));
+}
+
+#[test]
+fn one_line_too_many(rt: HostRuntime) {
+    let long = long_text(rt.alloc(), MAX_BODY_LINES + 2).expect(&rt, "memory");
+    let want = Some((100_007, ScriptFault::TooManyLines));
+    assert!(rt; first_fault(rt.alloc(), long.as_slice()) == want);
+}
+
+// Four lines of the relay among four of the match.
+fn mixed(alloc: Global) -> Result<String, AllocError> {
+    format!(in alloc;
         "relay 1 3\n{HEADER}r show 2\nscan 0\npack 0\nr scan 0\nr pack 1\ndown 0 0\nworld\nr up 2 7"
-    )?;
-    let script = parse_relay(rt.alloc(), mixed.as_bytes())
+    )
+}
+
+#[test]
+fn each_line_stands_behind_its_own(rt: HostRuntime) {
+    let text = mixed(rt.alloc()).expect(&rt, "memory");
+    let script = parse_relay(rt.alloc(), text.as_bytes())
         .ok()
-        .ok_or("no relay script")?;
-    assert_eq!(rt; script.script.body.len(), 4);
-    assert_eq!(rt; (script.client, script.spectators), (1, 3));
+        .expect(&rt, "no relay script");
+    assert!(rt; script.script.body.len() == 4 && script.client == 1 && script.spectators == 3);
     let want = [
         (0, RelayLine::Show { spectator: 2 }),
         (2, RelayLine::Scan { spectator: 0 }),
@@ -168,9 +191,8 @@ fn each_line_stands_behind_its_own(rt: HostRuntime) -> Result<(), Fail> {
             },
         ),
     ];
-    assert_eq!(rt; script.lines.len(), want.len());
+    assert!(rt; script.lines.len() == want.len());
     for (placed, (behind, line)) in script.lines.as_slice().iter().zip(want) {
-        assert_eq!(rt; (placed.behind, placed.line), (behind, line));
+        assert!(rt; placed.behind == behind && placed.line == line);
     }
-    Ok(())
 }

@@ -2,19 +2,18 @@
 use ghost_client::GhostFault;
 use match_report::{CopyList, CopyTold, FieldList, FieldTold, Told, Way, put_line};
 use std::alloc::Global;
-use std::test::Fail;
 use stream_manager::{ArriveFault, ClientFault};
-use tn_types::MAX_FIELDS;
+use tn_types::{MAX_FIELDS, NoMemory};
 use wire_format::{BitsCause, BitsFault};
 
-fn line_of(alloc: Global, told: &Told) -> Option<Vec<u8>> {
+// Whether what is told has this line.
+fn is_line(alloc: Global, told: &Told, want: &str) -> bool {
     let mut out = Vec::new(alloc);
-    put_line(alloc, told, &mut out).ok()?;
-    Some(out)
+    put_line(alloc, told, &mut out).is_ok() && out.as_slice() == want.as_bytes()
 }
 
 #[test]
-fn refusals_of_the_server(rt: HostRuntime) -> Result<(), Fail> {
+fn refusals_of_the_server(rt: HostRuntime) {
     let bits = BitsFault {
         place: 110,
         cause: BitsCause::CountBits,
@@ -43,14 +42,12 @@ fn refusals_of_the_server(rt: HostRuntime) -> Result<(), Fail> {
             k: 0,
             fault,
         };
-        let line = line_of(rt.alloc(), &told).ok_or("no memory")?;
-        assert_eq!(rt; line.as_slice(), want.as_bytes(), "{want}");
+        assert!(rt; is_line(rt.alloc(), &told, want));
     }
-    Ok(())
 }
 
 #[test]
-fn refusals_of_a_client(rt: HostRuntime) -> Result<(), Fail> {
+fn refusals_of_a_client(rt: HostRuntime) {
     for (fault, want) in [
         (
             ClientFault::AckAhead {
@@ -84,10 +81,8 @@ fn refusals_of_a_client(rt: HostRuntime) -> Result<(), Fail> {
             k: 3,
             fault,
         };
-        let line = line_of(rt.alloc(), &told).ok_or("no memory")?;
-        assert_eq!(rt; line.as_slice(), want.as_bytes(), "{want}");
+        assert!(rt; is_line(rt.alloc(), &told, want));
     }
-    Ok(())
 }
 
 fn copy_of(slot: u8, kind: u8, block: u8, values: &[(i64, bool)]) -> CopyTold {
@@ -108,8 +103,8 @@ fn copy_of(slot: u8, kind: u8, block: u8, values: &[(i64, bool)]) -> CopyTold {
     }
 }
 
-#[test]
-fn copies_of_a_client(rt: HostRuntime) -> Result<(), Fail> {
+// A player and a mine.
+fn two_copies(alloc: Global) -> Result<CopyList, NoMemory> {
     let player = [
         (975, false),
         (1000, true),
@@ -117,18 +112,16 @@ fn copies_of_a_client(rt: HostRuntime) -> Result<(), Fail> {
         (20, true),
         (0, true),
     ];
-    let mut copies = CopyList::new(rt.alloc());
-    copies
-        .push(rt.alloc(), copy_of(0, 0, 0, &player))
-        .ok()
-        .ok_or("no memory")?;
-    copies
-        .push(
-            rt.alloc(),
-            copy_of(12, 2, 3, &[(1100, true), (1000, true), (0, false)]),
-        )
-        .ok()
-        .ok_or("no memory")?;
+    let mine = [(1100, true), (1000, true), (0, false)];
+    let mut copies = CopyList::new(alloc);
+    copies.push(alloc, copy_of(0, 0, 0, &player))?;
+    copies.push(alloc, copy_of(12, 2, 3, &mine))?;
+    Ok(copies)
+}
+
+#[test]
+fn copies_of_a_client(rt: HostRuntime) {
+    let copies = two_copies(rt.alloc()).expect(&rt, "memory");
     let told = Told::Show {
         client: 7,
         events: 1,
@@ -138,25 +131,18 @@ fn copies_of_a_client(rt: HostRuntime) -> Result<(), Fail> {
         control: Some(0),
         copies,
     };
-    let line = line_of(rt.alloc(), &told).ok_or("no memory")?;
     let want = "show 7 events 1 sampled 2 accepted 3 taken 4 control 0 ghosts 2 \
 | 0 player 0 975 1000s 100s 20s 0s | 12 mine 3 1100s 1000s 0\n";
-    assert_eq!(rt; line.as_slice(), want.as_bytes());
-    Ok(())
+    assert!(rt; is_line(rt.alloc(), &told, want));
 }
 
 #[test]
-fn a_scan(rt: HostRuntime) -> Result<(), Fail> {
+fn a_scan(rt: HostRuntime) {
     let told = Told::Scan {
         client: 15,
         hides: 1,
         nears: 20,
         shows: 1024,
     };
-    let line = line_of(rt.alloc(), &told).ok_or("no memory")?;
-    assert_eq!(rt;
-        line.as_slice(),
-        b"scan 15 hide 1 near 20 show 1024\n".as_slice()
-    );
-    Ok(())
+    assert!(rt; is_line(rt.alloc(), &told, "scan 15 hide 1 near 20 show 1024\n"));
 }

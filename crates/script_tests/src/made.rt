@@ -2,7 +2,6 @@
 use match_script::print;
 use script_maker::make;
 use std::alloc::Global;
-use std::test::Fail;
 
 // The text of a made script.
 fn made_text(alloc: Global, seed: u32, clients: u8, steps: u32) -> Option<Vec<u8>> {
@@ -23,7 +22,7 @@ fn check_sum(bytes: &[u8]) -> u64 {
 }
 
 #[test]
-fn made_scripts_are_those_of_the_plain_program(rt: HostRuntime) -> Result<(), Fail> {
+fn made_scripts_are_those_of_the_plain_program(rt: HostRuntime) {
     for (seed, clients, steps, len, sum) in [
         (0, 1, 0, 1745, 1813317253),
         (7, 2, 40, 2110, 2378396771),
@@ -32,15 +31,9 @@ fn made_scripts_are_those_of_the_plain_program(rt: HostRuntime) -> Result<(), Fa
         (4294967295, 16, 2000, 20987, 3507058013),
         (7, 8, 5000, 48743, 3944766677),
     ] {
-        let text = made_text(rt.alloc(), seed, clients, steps).ok_or("no memory")?;
-        assert_eq!(rt; text.len(), len, "bytes of {seed} {clients} {steps}");
-        assert_eq!(rt;
-            check_sum(text.as_slice()),
-            sum,
-            "text of {seed} {clients} {steps}"
-        );
+        let text = made_text(rt.alloc(), seed, clients, steps).expect(&rt, "memory");
+        assert!(rt; text.len() == len && check_sum(text.as_slice()) == sum);
     }
-    Ok(())
 }
 
 // The first lines of the body that the plain program makes of seed 7 for two clients.
@@ -62,11 +55,10 @@ move 0 -2 6 0 1
 ";
 
 #[test]
-fn first_lines_of_a_body(rt: HostRuntime) -> Result<(), Fail> {
-    let text = made_text(rt.alloc(), 7, 2, 14).ok_or("no memory")?;
+fn first_lines_of_a_body(rt: HostRuntime) {
+    let text = made_text(rt.alloc(), 7, 2, 14).expect(&rt, "memory");
     let lines = FIRST_LINES.as_bytes();
     assert!(rt; lines.len() <= text.len());
     let (_, end) = text.as_slice().split_at(text.len() - lines.len());
-    assert_eq!(rt; end, lines);
-    Ok(())
+    assert!(rt; end == lines);
 }

@@ -1,7 +1,13 @@
 //! Of `match_script`: texts and their scripts or first faults, by the tables of docs/script.md.
+<<<<<<< HEAD
 use match_script::{MAX_THREAD_TICKS, ParseFault, ScriptFault, parse, parse_threads, print};
 use std::alloc::Global;
 use std::test::Fail;
+=======
+use match_script::{ParseFault, ScriptFault, parse, parse_threads, print};
+use std::alloc::{AllocError, Global};
+use tn_types::{MAX_THREAD_TICKS, NoMemory};
+>>>>>>> 9a54ac74b15c26388be8ba22fabdcb15782aae81
 
 const MATCH: &str = "tribes 1\nmatch 1 1 100 128 1000\n";
 
@@ -61,19 +67,25 @@ fn header_faults(rt: HostRuntime) {
         ),
     ] {
         let want = Some((line, ScriptFault::BadHeader));
-        assert_eq!(rt; first_fault(rt.alloc(), text), want, "at {text:?}");
+        assert!(rt; first_fault(rt.alloc(), text) == want);
     }
     for text in [
         "tribes 1\nmatch 0 1 1 128 0\ngo",
         "tribes 1\nmatch 4294967295 16 16777215 1200 65535\ngo\n",
         "tribes 2\nmatch 1 1 100 128 1000\ngo\n",
     ] {
-        assert_eq!(rt; first_fault(rt.alloc(), text), None, "at {text:?}");
+        assert!(rt; first_fault(rt.alloc(), text).is_none());
     }
 }
 
+// A script with this body.
+fn body_of(alloc: Global, line: &str) -> Result<String, AllocError> {
+    let header = MATCH;
+    format!(in alloc; "{header}go\n{line}")
+}
+
 #[test]
-fn body_faults(rt: HostRuntime) -> Result<(), Fail> {
+fn body_faults(rt: HostRuntime) {
     for (line, fault) in [
         ("pack\t0", ScriptFault::NotText),
         ("pack 0 ", ScriptFault::UnknownWord),
@@ -110,12 +122,10 @@ fn body_faults(rt: HostRuntime) -> Result<(), Fail> {
         ("move 0 0 0 0 2", ScriptFault::OutOfRange),
         ("pack 1\npack\t0", ScriptFault::OutOfRange),
     ] {
-        let header = MATCH;
-        let text = format!(in rt.alloc(); "{header}go\n{line}")?;
+        let text = body_of(rt.alloc(), line).expect(&rt, "memory");
         let want = Some((4, fault));
-        assert_eq!(rt; first_fault(rt.alloc(), text.as_str()), want, "at {line:?}");
+        assert!(rt; first_fault(rt.alloc(), text.as_str()) == want);
     }
-    Ok(())
 }
 
 // A script whose only line hands the server so many bytes, of which the last is written like this.
@@ -130,7 +140,7 @@ fn raw_script(alloc: Global, count: usize, last: &str) -> Option<String> {
 }
 
 #[test]
-fn bytes_of_a_datagram(rt: HostRuntime) -> Result<(), Fail> {
+fn bytes_of_a_datagram(rt: HostRuntime) {
     for (count, last, want) in [
         (1, "-", None),
         (1200, "fF", None),
@@ -138,14 +148,9 @@ fn bytes_of_a_datagram(rt: HostRuntime) -> Result<(), Fail> {
         (1201, "fg", Some((4, ScriptFault::BadHex))),
         (1200, "f", Some((4, ScriptFault::BadHex))),
     ] {
-        let text = raw_script(rt.alloc(), count, last).ok_or("no memory")?;
-        assert_eq!(rt;
-            first_fault(rt.alloc(), text.as_str()),
-            want,
-            "{count} bytes up to {last}"
-        );
+        let text = raw_script(rt.alloc(), count, last).expect(&rt, "memory");
+        assert!(rt; first_fault(rt.alloc(), text.as_str()) == want);
     }
-    Ok(())
 }
 
 const READ: &str = "tribes 1
@@ -194,36 +199,37 @@ show 0
 ";
 
 #[test]
-fn printed_scripts_are_read_again(rt: HostRuntime) -> Result<(), Fail> {
-    let script = parse(rt.alloc(), READ.as_bytes()).ok().ok_or("no script")?;
-    let got = print(rt.alloc(), &script).ok().ok_or("no memory")?;
-    assert_eq!(rt; got.as_slice(), PRINTED.as_bytes());
-    let head = script.head.copy(rt.alloc()).ok().ok_or("no memory")?;
-    assert_eq!(rt; head.blocks.len(), 2);
-    Ok(())
+fn printed_scripts_are_read_again(rt: HostRuntime) {
+    let script = parse(rt.alloc(), READ.as_bytes())
+        .ok()
+        .expect(&rt, "no script");
+    let got = print(rt.alloc(), &script).expect(&rt, "memory");
+    let head = script.head.copy(rt.alloc()).expect(&rt, "memory");
+    assert!(rt; got.as_slice() == PRINTED.as_bytes() && head.blocks.len() == 2);
 }
 
-// What is found in a text of the first header with so many lines `tick` and then this text.
-fn found_behind_ticks(
-    alloc: Global,
-    ticks: u32,
-    behind: &str,
-) -> Result<Option<(u32, ScriptFault)>, Fail> {
+// A text of the first header with so many lines `tick` and then this text.
+fn behind_ticks(alloc: Global, ticks: u32, behind: &str) -> Result<Vec<u8>, AllocError> {
     let mut text = Vec::from_slice(alloc, MATCH.as_bytes())?;
     text.extend_from_slice("go\n".as_bytes())?;
     for _ in 0..ticks {
         text.extend_from_slice("tick\n".as_bytes())?;
     }
     text.extend_from_slice(behind.as_bytes())?;
-    match parse_threads(alloc, text.as_slice()) {
+    Ok(text)
+}
+
+// What a match in threads finds in a text.
+fn found_in(alloc: Global, text: &[u8]) -> Result<Option<(u32, ScriptFault)>, NoMemory> {
+    match parse_threads(alloc, text) {
         Ok(_) => Ok(None),
         Err(ParseFault::Bad { line, fault }) => Ok(Some((line, fault))),
-        Err(ParseFault::NoMemory) => Err("no memory".into()),
+        Err(ParseFault::NoMemory) => Err(NoMemory),
     }
 }
 
 #[test]
-fn ticks_of_a_match_in_threads(rt: HostRuntime) -> Result<(), Fail> {
+fn ticks_of_a_match_in_threads(rt: HostRuntime) {
     for (ticks, behind, fault) in [
         (MAX_THREAD_TICKS, "scan 0\n", None),
         (
@@ -237,7 +243,7 @@ fn ticks_of_a_match_in_threads(rt: HostRuntime) -> Result<(), Fail> {
             Some((4100, ScriptFault::OutOfRange)),
         ),
     ] {
-        assert_eq!(rt; found_behind_ticks(rt.alloc(), ticks, behind)?, fault);
+        let text = behind_ticks(rt.alloc(), ticks, behind).expect(&rt, "memory");
+        assert!(rt; found_in(rt.alloc(), text.as_slice()) == Ok(fault));
     }
-    Ok(())
 }

@@ -4,7 +4,6 @@ use net_top::top_net;
 use script_input::Status;
 use std::alloc::Global;
 use std::net::Net;
-use std::test::Fail;
 use std::thread::join;
 use std::time::Clock as SystemTimes;
 use tn_outside::{MemSink, SERVER_PORT, SystemClock, UdpLink};
@@ -43,9 +42,14 @@ fn called<R: Net + SystemTimes>(
     Some((status, bytes))
 }
 
+// Whether a script has a line `raw`.
+fn has_raw(script: &[u8]) -> bool {
+    script.windows(5).any(|w| w == b"\nraw ".as_slice())
+}
+
 // A server of two clients, since a hello of another test may come; who joins goes first.
 #[test]
-fn both_ends_in_two_threads(rt: HostRuntime) -> Result<(), Fail> {
+fn both_ends_in_two_threads(rt: HostRuntime) {
     let alloc = rt.alloc();
     let (served, joined) = join(
         &rt,
@@ -53,22 +57,15 @@ fn both_ends_in_two_threads(rt: HostRuntime) -> Result<(), Fail> {
         || called(&rt, alloc, &["join", "20"], 0),
     );
     let Some((serving, script)) = served else {
-        return Ok(());
+        return;
     };
     let Some((joining, text)) = joined else {
-        return Ok(());
+        return;
     };
-    assert_eq!(rt; serving, Status::Done);
-    assert_eq!(rt; joining, Status::Done);
-    assert!(rt; script.as_slice().starts_with(b"tribes 1\n"));
-    assert!(rt; text.as_slice().starts_with(b"join "));
+    assert!(rt; serving == Status::Done && joining == Status::Done);
+    assert!(rt; script.as_slice().starts_with(b"tribes 1\n") && has_raw(script.as_slice()));
     // A welcome came, and what the client sent came too.
-    assert!(rt; !text.as_slice().starts_with(b"join none"));
     assert!(rt;
-        script
-            .as_slice()
-            .windows(5)
-            .any(|w| w == b"\nraw ".as_slice())
+        text.as_slice().starts_with(b"join ") && !text.as_slice().starts_with(b"join none")
     );
-    Ok(())
 }

@@ -74,30 +74,27 @@ fn pings(conn: &mut Conn, out: &mut [u8]) -> Option<Result<usize, TooSmall>>
     Some(ping_into(conn, out))
 }
 
+/// Whether a buffer begins with this datagram.
+fn begins(out: &[u8], datagram: &[u8]) -> bool {
+    out.starts_with(datagram)
+}
+
 #[test]
 fn datagrams_in_a_buffer(rt: HostRuntime) -> Result<(), Fail> {
     let mut conn = new_conn(rt.alloc(), CONFIG, &match_kinds())?;
-    let mut packer = Packer::new(rt.alloc())?;
+    let mut packer = Packer::new(rt.alloc()).expect(&rt, "memory");
     let mut small = [7; 127];
     let mut out = [7; 130];
     assert!(rt; shows_clock(&mut conn));
     let refused = Some(Err(TooSmall { needed: 128 }));
-    assert_eq!(rt;
-        packs(&mut packer, &mut conn, &[5], &[], &mut small),
-        refused
-    );
-    assert_eq!(rt; small, [7; 127]);
+    assert!(rt; packs(&mut packer, &mut conn, &[5], &[], &mut small) == refused);
+    assert!(rt; small == [7; 127]);
     let block = Some(Ok(Made::Body { len: 19 }));
-    assert_eq!(rt; packs(&mut packer, &mut conn, &[5], &[], &mut out), block);
-    assert_eq!(rt; out.get(..19), Some(BLOCK));
-    assert_eq!(rt; out.get(19..), Some(&[7; 111][..]));
+    assert!(rt; packs(&mut packer, &mut conn, &[5], &[], &mut out) == block);
+    assert!(rt; begins(&out, BLOCK) && out.get(19..) == Some(&[7; 111][..]));
     assert!(rt; takes(&mut conn, BLOCK_CAME));
     let clock = Some(Ok(Made::Body { len: 24 }));
-    assert_eq!(rt;
-        packs(&mut packer, &mut conn, &[5], &[0, 0, 0], &mut out),
-        clock
-    );
-    assert_eq!(rt; out.get(..24), Some(CLOCK));
-    assert_eq!(rt; pings(&mut conn, &mut out), None);
+    assert!(rt; packs(&mut packer, &mut conn, &[5], &[0, 0, 0], &mut out) == clock);
+    assert!(rt; begins(&out, CLOCK) && pings(&mut conn, &mut out).is_none());
     Ok(())
 }

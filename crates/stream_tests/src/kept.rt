@@ -52,7 +52,7 @@ fn posts_of_new(alloc: Global) -> Result<(Option<(u32, KeepFault)>, u32), Fail> 
 #[test]
 fn steps_are_kept_up_to_the_limit(rt: HostRuntime) -> Result<(), Fail> {
     let (fault, kept) = posts_of_new(rt.alloc())?;
-    assert_eq!(rt; fault, Some((65_536, KeepFault::NoRoom { kept: 65_536 })));
-    assert_eq!(rt; kept, 65_536);
+    let full = KeepFault::NoRoom { kept: 65_536 };
+    assert!(rt; fault == Some((65_536, full)) && kept == 65_536);
     Ok(())
 }

@@ -123,7 +123,6 @@ const EAST: Move = Move {
 };
 
 /// What is done, and what it has to give.
-#[derive(Drop)]
 enum Step {
     /// The server shows an object of this kind, with block 0, with or without control.
     Show(u8, bool),
@@ -536,9 +535,8 @@ const ROWS: [(&str, u8, u8, &[u8], &[Step]); 14] = [
 fn rows(rt: HostRuntime) -> Result<(), Fail> {
     for (name, version, move_bits, shown, steps) in ROWS {
         let wire = Wire { version, move_bits };
-        assert_eq!(rt;
-            first_wrong_of_new(rt.alloc(), wire, shown, steps)?,
-            None,
+        assert!(rt;
+            first_wrong_of_new(rt.alloc(), wire, shown, steps)?.is_none(),
             "{name}"
         );
     }

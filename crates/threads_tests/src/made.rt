@@ -2,7 +2,6 @@
 
 use crate::gates::WatchGate;
 use script_maker::make;
-use std::test::Fail;
 use threads_top::{Judgement, run_threads};
 use tn_outside::MemSink;
 
@@ -13,8 +12,8 @@ const RUNS: u32 = 3;
 const ALL: usize = 1 << 26;
 
 #[test]
-fn large_match_in_threads(rt: HostRuntime) -> Result<(), Fail> {
-    let script = make(rt.alloc(), 7, 8, 5000)?;
+fn large_match_in_threads(rt: HostRuntime) {
+    let script = make(rt.alloc(), 7, 8, 5000).expect(&rt, "memory");
     let gate = WatchGate::new();
     for _ in 0..RUNS {
         let mut sink = MemSink {
@@ -26,9 +25,7 @@ fn large_match_in_threads(rt: HostRuntime) -> Result<(), Fail> {
         };
         let mut judgement = Judgement::new();
         let ran = run_threads(&rt, rt.alloc(), &script, &gate, &mut judgement, &mut sink);
-        assert!(rt; ran.is_ok() && !judgement.is_refused());
-        assert!(rt; sink.bytes.len() > 0);
+        assert!(rt; ran.is_ok() && !judgement.is_refused() && sink.bytes.len() > 0);
     }
     assert!(rt; gate.saw_both());
-    Ok(())
 }

@@ -8,10 +8,9 @@ use match_script::{Script, parse};
 use plain_race::plain_race;
 use race_history::{Race, TickMoves};
 use race_run::race;
-use std::alloc::Global;
+use std::alloc::{AllocError, Global};
 use std::process::Abort;
 use std::sync::Wait;
-use std::test::Fail;
 use std::thread::Threads;
 use threads_top::{FreeGate, Gate, Judgement, judge, run_threads, tell};
 use tn_outside::MemSink;
@@ -215,13 +214,13 @@ fn script_of<R: Abort>(rt: &R, alloc: Global, text: &[u8]) -> Script
     }
 }
 
-/// What a match in threads writes under a gate, if its own race is told.
+/// What a match in threads writes under a gate; `None` where its own race is not told.
 fn written<R: Threads + Wait + Sync, G: Gate + Sync>(
     rt: &R,
     alloc: Global,
     script: &Script,
     gate: &G,
-) -> Result<Vec<u8>, Fail>
+) -> Option<Vec<u8>>
     requires { HasRanges script.now }
 {
     let mut sink = MemSink {
@@ -232,45 +231,33 @@ fn written<R: Threads + Wait + Sync, G: Gate + Sync>(
         faults: 0,
     };
     let mut judgement = Judgement::new();
-    let Ok(()) = run_threads(rt, alloc, script, gate, &mut judgement, &mut sink) else {
-        return Err("nothing was written".into());
-    };
-    if judgement.is_refused() {
-        return Err("a plain race was told".into());
+    let ran = run_threads(rt, alloc, script, gate, &mut judgement, &mut sink);
+    if ran.is_ok() && !judgement.is_refused() {
+        Some(sink.bytes)
+    } else {
+        None
     }
-    let MemSink {
-        bytes,
-        most: _,
-        failing: _,
-        calls: _,
-        faults: _,
-    } = sink;
-    Ok(bytes)
 }
 
 #[test]
-fn pack_inside_tick(rt: HostRuntime) -> Result<(), Fail> {
+fn pack_inside_tick(rt: HostRuntime) {
     let script = script_of(&rt, rt.alloc(), PACK_INSIDE_TICK.as_bytes());
     let gate = LineGate::new(&rt, Some(LAST_PACK));
-    let text = written(&rt, rt.alloc(), &script, &gate)?;
-    assert!(rt; !gate.gave_up());
-    assert_eq!(rt; text.as_slice(), PACK_INSIDE_TICK_TOLD.as_bytes());
-    Ok(())
+    let text = written(&rt, rt.alloc(), &script, &gate).expect(&rt, "no text");
+    assert!(rt; !gate.gave_up() && text.as_slice() == PACK_INSIDE_TICK_TOLD.as_bytes());
 }
 
 #[test]
-fn raw_bytes_under_a_gate(rt: HostRuntime) -> Result<(), Fail> {
+fn raw_bytes_under_a_gate(rt: HostRuntime) {
     for (text, told) in [
         (RAW_BESIDE_TICK, RAW_BESIDE_TICK_TOLD),
         (HOSTILE, HOSTILE_IN_TURN),
     ] {
         let script = script_of(&rt, rt.alloc(), text.as_bytes());
         let gate = LineGate::new(&rt, None);
-        let text = written(&rt, rt.alloc(), &script, &gate)?;
-        assert!(rt; !gate.gave_up());
-        assert_eq!(rt; text.as_slice(), told.as_bytes());
+        let text = written(&rt, rt.alloc(), &script, &gate).expect(&rt, "no text");
+        assert!(rt; !gate.gave_up() && text.as_slice() == told.as_bytes());
     }
-    Ok(())
 }
 
 /// A race without the moves of its ticks, which is not legal where there is a tick.
@@ -291,59 +278,71 @@ fn without_moves(alloc: Global, race: Race) -> Race {
 
 // No gate is known to bring about a race of threads that is not legal, so one is made up here, and judged.
 #[test]
-fn plainly(rt: HostRuntime) -> Result<(), Fail> {
+fn plainly(rt: HostRuntime) {
     let script = script_of(&rt, rt.alloc(), EVERY_LINE.as_bytes());
-    let legal = race(&rt, rt.alloc(), &script, &FreeGate)?;
+    let legal = race(&rt, rt.alloc(), &script, &FreeGate).expect(&rt, "memory");
     let mut judgement = Judgement::new();
-    judge(rt.alloc(), &script, &legal, &mut judgement)?;
-    assert!(rt; !judgement.is_refused());
+    let judged = judge(rt.alloc(), &script, &legal, &mut judgement);
+    assert!(rt; judged.is_ok() && !judgement.is_refused());
     let made_up = without_moves(rt.alloc(), legal);
     let mut judgement = Judgement::new();
-    let text = judge(rt.alloc(), &script, &made_up, &mut judgement)?;
-    assert!(rt; judgement.is_refused());
-    assert_eq!(rt; text.as_slice(), EVERY_LINE_TOLD_PLAINLY.as_bytes());
-    Ok(())
+    let text = judge(rt.alloc(), &script, &made_up, &mut judgement).expect(&rt, "memory");
+    assert!(rt; judgement.is_refused() && text.as_slice() == EVERY_LINE_TOLD_PLAINLY.as_bytes());
 }
 
-// The first line that has no room fills the client, and the rest is passed over.
-#[test]
-fn a_full_client(rt: HostRuntime) -> Result<(), Fail> {
-    let alloc = rt.alloc();
-    let mut text = String::from_str(alloc, EMPTY)?;
-    let mut told = String::new(alloc);
+/// One step more than is kept of a client, and a later one; and what is told of them.
+fn fill(text: &mut String, told: &mut String) -> Result<(), AllocError> {
+    text.push_str(EMPTY)?;
     for _ in 0..MAX_KEPT_STEPS {
         text.push_str("down 0 0\n")?;
         told.push_str("j 0 down 0\n")?;
     }
     text.push_str("down 0 0\ncpost 0 g 61\n")?;
-    told.push_str("j 0 full 65536\n")?;
-    told.push_str("show 0 events 0 sampled 0 accepted 0 taken 0 control - ghosts 0\n")?;
-    let script = script_of(&rt, alloc, text.as_bytes());
-    let in_threads = written(&rt, alloc, &script, &FreeGate)?;
-    assert!(rt; in_threads.as_slice() == told.as_bytes());
-    let made = plain_race(alloc, &script)?;
-    let mut plain = Vec::new(alloc);
-    assert_eq!(rt; tell(alloc, &script, &made, &mut plain)?, true);
-    assert!(rt; plain.as_slice() == told.as_bytes());
+    told.push_str(
+        "j 0 full 65536\nshow 0 events 0 sampled 0 accepted 0 taken 0 control - ghosts 0\n",
+    )?;
     Ok(())
+}
+
+/// What is told of a plain race.
+fn plainly_told(alloc: Global, script: &Script) -> Option<Vec<u8>>
+    requires { HasRanges script.now }
+{
+    let made = plain_race(alloc, script).ok()?;
+    let mut text = Vec::new(alloc);
+    if tell(alloc, script, &made, &mut text) == Ok(true) {
+        Some(text)
+    } else {
+        None
+    }
+}
+
+// The first line that has no room fills the client, and the rest is passed over.
+#[test]
+fn a_full_client(rt: HostRuntime) {
+    let mut text = String::new(rt.alloc());
+    let mut told = String::new(rt.alloc());
+    fill(&mut text, &mut told).expect(&rt, "memory");
+    let script = script_of(&rt, rt.alloc(), text.as_bytes());
+    let in_threads = written(&rt, rt.alloc(), &script, &FreeGate).expect(&rt, "no text");
+    assert!(rt; in_threads.as_slice() == told.as_bytes());
+    let plain = plainly_told(rt.alloc(), &script).expect(&rt, "no text");
+    assert!(rt; plain.as_slice() == told.as_bytes());
 }
 
 // A race that does one line after another is legal, and can't tell that text.
 #[test]
-fn threads_run_in_turn(rt: HostRuntime) -> Result<(), Fail> {
+fn threads_run_in_turn(rt: HostRuntime) {
     let script = script_of(&rt, rt.alloc(), PACK_INSIDE_TICK.as_bytes());
     let gate = LineGate::new(&rt, None);
-    let made = race(&rt, rt.alloc(), &script, &gate)?;
-    assert!(rt; !gate.gave_up());
+    let made = race(&rt, rt.alloc(), &script, &gate).expect(&rt, "memory");
     let mut text = Vec::new(rt.alloc());
-    assert_eq!(rt; tell(rt.alloc(), &script, &made, &mut text)?, true);
+    assert!(rt; !gate.gave_up() && tell(rt.alloc(), &script, &made, &mut text) == Ok(true));
     assert!(rt; text.as_slice() != PACK_INSIDE_TICK_TOLD.as_bytes());
-    Ok(())
 }
 
-#[test]
-fn forty_rounds(rt: HostRuntime) -> Result<(), Fail> {
-    let alloc = rt.alloc();
+/// A script of forty rounds, in each of which a move comes up and a packet down.
+fn rounds(alloc: Global) -> Result<String, AllocError> {
     let mut text = String::from_str(alloc, EMPTY)?;
     for i in 0..40 {
         let round = format!(in alloc;
@@ -351,24 +350,27 @@ fn forty_rounds(rt: HostRuntime) -> Result<(), Fail> {
         )?;
         text.push_str(round.as_str())?;
     }
-    let script = script_of(&rt, alloc, text.as_bytes());
-    let gate = LineGate::new(&rt, None);
-    let told = written(&rt, alloc, &script, &gate)?;
-    assert!(rt; !gate.gave_up());
-    let last = "\nshow 0 events 0 sampled 40 accepted 40 taken 40 control - ghosts 0\n";
-    assert!(rt; told.as_slice().ends_with(last.as_bytes()));
-    Ok(())
+    Ok(text)
 }
 
 #[test]
-fn moves_are_missing(rt: HostRuntime) -> Result<(), Fail> {
-    let mut text = String::from_str(rt.alloc(), EMPTY)?;
-    text.push_str("tick\n")?;
+fn forty_rounds(rt: HostRuntime) {
+    let text = rounds(rt.alloc()).expect(&rt, "memory");
     let script = script_of(&rt, rt.alloc(), text.as_bytes());
-    let legal = race(&rt, rt.alloc(), &script, &FreeGate)?;
-    let mut out = Vec::from_slice(rt.alloc(), b"before")?;
+    let gate = LineGate::new(&rt, None);
+    let told = written(&rt, rt.alloc(), &script, &gate).expect(&rt, "no text");
+    let last = "\nshow 0 events 0 sampled 40 accepted 40 taken 40 control - ghosts 0\n";
+    assert!(rt; !gate.gave_up() && told.as_slice().ends_with(last.as_bytes()));
+}
+
+const ONE_TICK: &str = "tribes 1\nmatch 1 1 100 128 1000\ngo\ntick\n";
+
+#[test]
+fn moves_are_missing(rt: HostRuntime) {
+    let script = script_of(&rt, rt.alloc(), ONE_TICK.as_bytes());
+    let legal = race(&rt, rt.alloc(), &script, &FreeGate).expect(&rt, "memory");
     let without = without_moves(rt.alloc(), legal);
-    assert_eq!(rt; tell(rt.alloc(), &script, &without, &mut out)?, false);
-    assert_eq!(rt; out.as_slice(), b"before".as_slice());
-    Ok(())
+    let mut out = Vec::from_slice(rt.alloc(), b"before").expect(&rt, "memory");
+    assert!(rt; tell(rt.alloc(), &script, &without, &mut out) == Ok(false));
+    assert!(rt; out.as_slice() == b"before".as_slice());
 }

@@ -2,9 +2,8 @@
 
 use match_script::ScriptFault;
 use script_input::Status;
-use std::alloc::Global;
+use std::alloc::{AllocError, Global};
 use std::sync::Wait;
-use std::test::Fail;
 use std::thread::Threads;
 use threads_top::{Judgement, top_threads};
 use tn_outside::{MemSink, MemSource, SteadySource};
@@ -16,20 +15,29 @@ const CLOCK: &str = "tribes 1\nmatch 1 1 100 128 1000\nblock 61\nspawn clock 0 0
 /// More bytes than a script or a text here has.
 const ALL: usize = 65_536;
 
-/// What a call with these words answers, and what it writes; no race is refused.
-fn served<R: Threads + Wait + Sync>(
-    rt: &R,
-    alloc: Global,
-    words: &[&str],
-    text: &[u8],
-) -> Result<(Status, Vec<u8>), Fail> {
+/// These words as a program is given them.
+fn owned(alloc: Global, words: &[&str]) -> Result<Vec<String>, AllocError> {
     let mut all = Vec::new(alloc);
     for word in words {
         all.push(String::from_str(alloc, word)?)?;
     }
+    Ok(all)
+}
+
+/// Whether a call with these words answers and writes this, and no race is refused.
+fn writes<R: Threads + Wait + Sync>(
+    rt: &R,
+    alloc: Global,
+    words: &[&str],
+    text: &str,
+    (status, told): (Status, &str),
+) -> bool {
+    let Ok(all) = owned(alloc, words) else {
+        return false;
+    };
     let mut source = MemSource {
         inner: SteadySource {
-            rest: text,
+            rest: text.as_bytes(),
             most: ALL,
         },
         failing: &[],
@@ -44,29 +52,21 @@ fn served<R: Threads + Wait + Sync>(
         faults: 0,
     };
     let mut judgement = Judgement::new();
-    let status = top_threads(rt, alloc, &all, &mut source, &mut judgement, &mut sink);
-    if judgement.is_refused() {
-        return Err("a plain race was told".into());
-    }
-    let MemSink {
-        bytes,
-        most: _,
-        failing: _,
-        calls: _,
-        faults: _,
-    } = sink;
-    Ok((status, bytes))
+    let answer = top_threads(rt, alloc, &all, &mut source, &mut judgement, &mut sink);
+    answer == status && sink.bytes.as_slice() == told.as_bytes() && !judgement.is_refused()
 }
 
-/// The script of a header and a body.
-fn script(alloc: Global, header: &str, body: &str) -> Result<String, Fail> {
+/// The script of a header and so many times these words.
+fn script(alloc: Global, header: &str, times: u32, body: &str) -> Result<String, AllocError> {
     let mut text = String::from_str(alloc, header)?;
-    text.push_str(body)?;
+    for _ in 0..times {
+        text.push_str(body)?;
+    }
     Ok(text)
 }
 
 #[test]
-fn texts_of_threads(rt: HostRuntime) -> Result<(), Fail> {
+fn texts_of_threads(rt: HostRuntime) {
     for (header, body, told) in [
         (
             EMPTY,
@@ -102,36 +102,26 @@ show 0 events 0 sampled 0 accepted 0 taken 0 control - ghosts 0
 ",
         ),
     ] {
-        let text = script(rt.alloc(), header, body)?;
-        let (status, bytes) = served(&rt, rt.alloc(), &["threads"], text.as_bytes())?;
-        assert_eq!(rt; status, Status::Done);
-        assert_eq!(rt; bytes.as_slice(), told.as_bytes());
+        let text = script(rt.alloc(), header, 1, body).expect(&rt, "memory");
+        let told = (Status::Done, told);
+        assert!(rt; writes(&rt, rt.alloc(), &["threads"], text.as_str(), told));
     }
-    Ok(())
 }
 
 #[test]
-fn one_tick_too_many(rt: HostRuntime) -> Result<(), Fail> {
-    let mut text = String::from_str(rt.alloc(), EMPTY)?;
-    for _ in 0..4097 {
-        text.push_str("tick\n")?;
-    }
-    let (status, bytes) = served(&rt, rt.alloc(), &["threads"], text.as_bytes())?;
-    assert_eq!(rt; status, Status::Script(4100, ScriptFault::TooManyLines));
-    assert_eq!(rt; bytes.len(), 0);
-    Ok(())
+fn one_tick_too_many(rt: HostRuntime) {
+    let text = script(rt.alloc(), EMPTY, 4097, "tick\n").expect(&rt, "memory");
+    let refused = (Status::Script(4100, ScriptFault::TooManyLines), "");
+    assert!(rt; writes(&rt, rt.alloc(), &["threads"], text.as_str(), refused));
 }
 
 #[test]
-fn usage(rt: HostRuntime) -> Result<(), Fail> {
+fn usage(rt: HostRuntime) {
     for (words, place) in [
         ([].as_slice(), 0),
         (["thread"].as_slice(), 0),
         (["threads", "x"].as_slice(), 1),
     ] {
-        let (status, bytes) = served(&rt, rt.alloc(), words, EMPTY.as_bytes())?;
-        assert_eq!(rt; status, Status::Usage(place));
-        assert_eq!(rt; bytes.len(), 0);
+        assert!(rt; writes(&rt, rt.alloc(), words, EMPTY, (Status::Usage(place), "")));
     }
-    Ok(())
 }

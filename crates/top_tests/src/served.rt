@@ -4,7 +4,6 @@ ghost use Rattle.std.specs.Prelude.{◌<◌};
 use match_top::top;
 use script_input::Status;
 use std::alloc::{AllocError, Global};
-use std::test::Fail;
 use tn_outside::{MemSink, MemSource, SteadySource};
 
 /// More bytes than a script or a line of its report here has.
@@ -30,7 +29,7 @@ pub(crate) fn served<'a>(
     most: usize,
     failing_reads: &'a [u64],
     failing_writes: &'a [u64],
-) -> Result<(Status, Vec<u8>), Fail>
+) -> Result<(Status, Vec<u8>), AllocError>
     requires { 0 < most }
 {
     let mut all = Vec::new(rt.alloc());
@@ -61,31 +60,35 @@ pub(crate) fn served<'a>(
     Ok((status, bytes))
 }
 
-/// Holds that a call with these words, for which no read or write fails, answers and writes this; else the name is told.
-pub(crate) fn hold_call(
+/// Whether a call with these words, for which no read or write fails, answers and writes this.
+pub(crate) fn writes(
     rt: &HostRuntime,
-    name: &'static str,
     words: &[&str],
     text: &[u8],
-    (status, written): (Status, &[u8]),
-) -> Result<(), Fail> {
-    let (found, bytes) = served(rt, words, text, ALL, &[], &[])?;
-    if found != status || bytes.as_slice() != written {
-        return Err(name.into());
+    status: Status,
+    written: &[u8],
+) -> bool {
+    match served(rt, words, text, ALL, &[], &[]) {
+        Ok((found, bytes)) => found == status && bytes.as_slice() == written,
+        Err(_) => false,
     }
-    Ok(())
 }
 
 /// Holds that `run` writes of each script its report; the name of the first of which it doesn't is told.
-pub(crate) fn hold(rt: &HostRuntime, rows: &[(&'static str, &str, &str)]) -> Result<(), Fail> {
+pub(crate) fn hold(
+    rt: &HostRuntime,
+    rows: &[(&'static str, &str, &str)],
+) -> Result<(), &'static str> {
     for (name, script, report) in rows {
-        hold_call(
+        if !writes(
             rt,
-            *name,
             &["run"],
             script.as_bytes(),
-            (Status::Done, report.as_bytes()),
-        )?;
+            Status::Done,
+            report.as_bytes(),
+        ) {
+            return Err(*name);
+        }
     }
     Ok(())
 }

@@ -5,13 +5,13 @@ use crate::long_reports::LONG_REPORTS;
 use crate::raw_rows::RAW_ROWS;
 use crate::refusals::REFUSALS;
 use crate::rows::ROWS;
-use crate::served::{ALL, hold, hold_call, served, written_out};
+use crate::served::{ALL, hold, served, writes, written_out};
 use crate::version_examples::VERSION_EXAMPLES;
 use crate::world_examples::WORLD_EXAMPLES;
 use crate::world_rows::WORLD_ROWS;
 use match_script::ScriptFault;
 use script_input::{Status, exit_of};
-use std::test::Fail;
+use std::alloc::Global;
 
 /// What the `pack 0` lines of both scripts of two clients print, whatever the other client does.
 const PACKS_OF_CLIENT_0: &str = "pack 0 0 data 40000000000000000000000000800082300000
@@ -29,76 +29,79 @@ moves 765
 bytes 79075
 ";
 
-#[test]
-fn reports(rt: HostRuntime) -> Result<(), Fail> {
-    hold(&rt, &ROWS)?;
-    hold(&rt, &WORLD_ROWS)?;
-    hold(&rt, &RAW_ROWS)?;
-    hold(&rt, &VERSION_EXAMPLES)?;
-    hold(&rt, &EXAMPLES)?;
-    hold(&rt, &WORLD_EXAMPLES)
+// The same of all tables.
+fn hold_all(rt: &HostRuntime) -> Result<(), &'static str> {
+    hold(rt, &ROWS)?;
+    hold(rt, &WORLD_ROWS)?;
+    hold(rt, &RAW_ROWS)?;
+    hold(rt, &VERSION_EXAMPLES)?;
+    hold(rt, &EXAMPLES)?;
+    hold(rt, &WORLD_EXAMPLES)
 }
 
 #[test]
-fn long_reports(rt: HostRuntime) -> Result<(), Fail> {
-    for (name, script, report) in LONG_REPORTS {
-        let script = written_out(rt.alloc(), script)?;
-        let report = written_out(rt.alloc(), report)?;
-        hold_call(
-            &rt,
-            name,
-            &["run"],
-            script.as_bytes(),
-            (Status::Done, report.as_bytes()),
-        )?;
+fn reports(rt: HostRuntime) {
+    hold_all(&rt).expect(&rt, "another report");
+}
+
+#[test]
+fn long_reports(rt: HostRuntime) {
+    for (_, script, report) in LONG_REPORTS {
+        let script = written_out(rt.alloc(), script).expect(&rt, "memory");
+        let report = written_out(rt.alloc(), report).expect(&rt, "memory");
+        assert!(rt;
+            writes(
+                &rt,
+                &["run"],
+                script.as_bytes(),
+                Status::Done,
+                report.as_bytes()
+            )
+        );
     }
-    Ok(())
 }
 
 #[test]
-fn refusals(rt: HostRuntime) -> Result<(), Fail> {
+fn refusals(rt: HostRuntime) {
     for (text, status) in REFUSALS {
-        let text = written_out(rt.alloc(), text)?;
-        hold_call(
-            &rt,
-            "a text that is no script",
-            &["run"],
-            text.as_bytes(),
-            (status, &[]),
-        )?;
+        let text = written_out(rt.alloc(), text).expect(&rt, "memory");
+        assert!(rt; writes(&rt, &["run"], text.as_bytes(), status, &[]));
     }
-    Ok(())
 }
 
 #[test]
-fn isolation_of_two_clients(rt: HostRuntime) -> Result<(), Fail> {
-    for (name, script, _) in [WORLD_ROWS[6], WORLD_ROWS[7]] {
-        let packs = (Status::Done, PACKS_OF_CLIENT_0.as_bytes());
-        hold_call(&rt, name, &["alone", "0"], script.as_bytes(), packs)?;
-        hold_call(
-            &rt,
-            name,
-            &["alone", "5"],
-            script.as_bytes(),
-            (Status::Done, &[]),
-        )?;
+fn isolation_of_two_clients(rt: HostRuntime) {
+    for (_, script, _) in [WORLD_ROWS[6], WORLD_ROWS[7]] {
+        let (text, packs) = (script.as_bytes(), PACKS_OF_CLIENT_0.as_bytes());
+        assert!(rt; writes(&rt, &["alone", "0"], text, Status::Done, packs));
+        assert!(rt; writes(&rt, &["alone", "5"], text, Status::Done, &[]));
     }
-    Ok(())
+}
+
+// Whether a call for which the first read and these writes fail answers and writes this.
+fn answers(
+    rt: &HostRuntime,
+    words: &[&str],
+    failing_writes: &[u64],
+    status: Status,
+    written: &[u8],
+) -> bool {
+    match served(rt, words, b"", ALL, &[0], failing_writes) {
+        Ok((found, bytes)) => found == status && bytes.as_slice() == written,
+        Err(_) => false,
+    }
 }
 
 #[test]
-fn large_match(rt: HostRuntime) -> Result<(), Fail> {
+fn large_match(rt: HostRuntime) {
     // No source is asked: it would fail.
-    let (status, bytes) = served(&rt, &["big", "7", "8", "5000"], b"", ALL, &[0], &[])?;
-    assert_eq!(rt; status, Status::Done);
-    assert_eq!(rt; bytes.as_slice(), LARGE_MATCH.as_bytes());
-    let (status, _) = served(&rt, &["big", "7", "8", "5"], b"", ALL, &[], &[0])?;
-    assert_eq!(rt; status, Status::WriteFault);
-    Ok(())
+    let counts = LARGE_MATCH.as_bytes();
+    assert!(rt; answers(&rt, &["big", "7", "8", "5000"], &[], Status::Done, counts));
+    assert!(rt; answers(&rt, &["big", "7", "8", "5"], &[0], Status::WriteFault, &[]));
 }
 
 #[test]
-fn usage(rt: HostRuntime) -> Result<(), Fail> {
+fn usage(rt: HostRuntime) {
     let cases: [(&[&str], u32); 18] = [
         (&[], 0),
         (&["walk"], 0),
@@ -120,15 +123,20 @@ fn usage(rt: HostRuntime) -> Result<(), Fail> {
         (&["big", "7", "8", "9", "x"], 4),
     ];
     for (words, place) in cases {
-        let (status, bytes) = served(&rt, words, b"", ALL, &[0], &[0])?;
-        assert_eq!(rt; status, Status::Usage(place));
-        assert_eq!(rt; bytes.len(), 0);
+        assert!(rt; answers(&rt, words, &[0], Status::Usage(place), &[]));
     }
-    Ok(())
+}
+
+// Whether a status is told in these words.
+fn is_told(alloc: Global, status: Status, words: &str) -> bool {
+    match format!(in alloc; "{status}") {
+        Ok(said) => said.as_str() == words,
+        Err(_) => false,
+    }
 }
 
 #[test]
-fn exit_statuses_and_words(rt: HostRuntime) -> Result<(), Fail> {
+fn exit_statuses_and_words(rt: HostRuntime) {
     for (status, exit, words) in [
         (Status::Done, 0, ""),
         (Status::Usage(1), 2, "usage 1"),
@@ -147,9 +155,6 @@ fn exit_statuses_and_words(rt: HostRuntime) -> Result<(), Fail> {
         (Status::WriteFault, 6, "writefault"),
         (Status::NoMemory, 7, "nomemory"),
     ] {
-        assert_eq!(rt; exit_of(status), exit, "{words}");
-        let said = format!(in rt.alloc(); "{status}")?;
-        assert_eq!(rt; said.as_str(), words, "{words}");
+        assert!(rt; exit_of(status) == exit && is_told(rt.alloc(), status, words));
     }
-    Ok(())
 }

@@ -1,4 +1,4 @@
-//! Values and offsets as they were worked out by hand, and a long course against a plain fold.
+//! Of `client_predict`: values and offsets as they were worked out by hand, and a long course against a plain fold.
 ghost use Rattle.std.specs.Prelude.{◌≡◌, true};
 ghost use Rattle.tn_types.specs.Steps.{is_step};
 
@@ -31,9 +31,9 @@ fn offset_fades(rt: HostRuntime) {
         predict.told(Some((base, 1000, 20)), &MoveList::new());
         for part in left {
             predict.sampled(step(0, 0, false));
-            assert_eq!(rt; predict.offset(), (part, 0));
+            assert!(rt; predict.offset() == (part, 0));
         }
-        assert_eq!(rt; predict.value(), Some((base, 1000, 20)));
+        assert!(rt; predict.value() == Some((base, 1000, 20)));
     }
 }
 
@@ -42,22 +42,20 @@ fn moves_are_played_at_once(rt: HostRuntime) {
     let (right, up) = (step(2, 0, false), step(0, -1, true));
     let mut predict = Predict::new();
     predict.sampled(right);
-    assert_eq!(rt; predict.value(), None);
+    assert!(rt; predict.value().is_none());
     predict.told(Some((1000, 1000, 20)), &MoveList::new());
     predict.sampled(right);
-    assert_eq!(rt; predict.value(), Some((1050, 1000, 20)));
+    assert!(rt; predict.value() == Some((1050, 1000, 20)));
     predict.sampled(up);
-    assert_eq!(rt; predict.value(), Some((1050, 975, 19)));
+    assert!(rt; predict.value() == Some((1050, 975, 19)));
     // the server took the first move, and where the player went is where he was predicted
     let mut pending = MoveList::new();
     pending.push(up);
     predict.told(Some((1050, 1000, 20)), &pending);
-    assert_eq!(rt; predict.value(), Some((1050, 975, 19)));
-    assert_eq!(rt; predict.offset(), (0, 0));
+    assert!(rt; predict.value() == Some((1050, 975, 19)) && predict.offset() == (0, 0));
     // it took the second one too, but not from there
     predict.told(Some((950, 975, 19)), &MoveList::new());
-    assert_eq!(rt; predict.value(), Some((950, 975, 19)));
-    assert_eq!(rt; predict.offset(), (100, 0));
+    assert!(rt; predict.value() == Some((950, 975, 19)) && predict.offset() == (100, 0));
 }
 
 #[test]
@@ -73,25 +71,23 @@ fn offset_past_the_greatest(rt: HostRuntime) {
         let mut predict = Predict::new();
         predict.told(Some((old.0, old.1, 20)), &MoveList::new());
         predict.told(Some((new.0, new.1, 20)), &MoveList::new());
-        assert_eq!(rt; predict.offset(), offset);
+        assert!(rt; predict.offset() == offset);
     }
 }
 
 #[test]
 fn no_player(rt: HostRuntime) {
     let mut predict = Predict::new();
-    assert_eq!(rt; predict.value(), None);
+    assert!(rt; predict.value().is_none());
     predict.told(Some((1000, 1000, 20)), &MoveList::new());
     predict.told(Some((1010, 1000, 20)), &MoveList::new());
-    assert_eq!(rt; predict.offset(), (-10, 0));
+    assert!(rt; predict.offset() == (-10, 0));
     predict.told(None, &MoveList::new());
-    assert_eq!(rt; predict.value(), None);
-    assert_eq!(rt; predict.offset(), (0, 0));
+    assert!(rt; predict.value().is_none() && predict.offset() == (0, 0));
     predict.sampled(step(1, 1, true));
-    assert_eq!(rt; predict.value(), None);
+    assert!(rt; predict.value().is_none());
     predict.told(Some((40, 1000, 20)), &MoveList::new());
-    assert_eq!(rt; predict.value(), Some((40, 1000, 20)));
-    assert_eq!(rt; predict.offset(), (0, 0));
+    assert!(rt; predict.value() == Some((40, 1000, 20)) && predict.offset() == (0, 0));
 }
 
 #[test]
@@ -99,11 +95,11 @@ fn settles_with_22_samples(rt: HostRuntime) {
     let mut predict = Predict::new();
     predict.told(Some((2000, 1000, 20)), &MoveList::new());
     predict.told(Some((1000, 2000, 20)), &MoveList::new());
-    assert_eq!(rt; predict.offset(), (1000, -1000));
+    assert!(rt; predict.offset() == (1000, -1000));
     for _ in 0..21 {
         predict.sampled(step(0, 0, false));
     }
-    assert_eq!(rt; predict.offset(), (1, -1));
+    assert!(rt; predict.offset() == (1, -1));
     predict.sampled(step(0, 0, false));
-    assert_eq!(rt; predict.offset(), (0, 0));
+    assert!(rt; predict.offset() == (0, 0));
 }

@@ -1,6 +1,6 @@
 use Rattle.std.proofs.Common.{reverse, take}
 use Rattle.match_engine.proofs.Continued.{few_done}
-use Rattle.scope_tests.proofs.walk.next_line.Goals as goal
+use Rattle.script_tests.proofs.walk.next_line.Goals as goal
 
 pub next-requires : goal.next-requires
 next-requires c =
