@@ -560,13 +560,18 @@ export class Server extends End {
         const count = tribes.word("count");
         tribes.isAsking = true;
         try {
-            for (let k = 0, ask = to.asks >> 2, place = to.values >> 2; k < count; k++, ask += 2, place += 2) {
-                const given = value(tribes.words[ask], tribes.words[ask + 1]), { words } = tribes;
-                const isSmall = (given | 0) === given;
-                if (!isSmall) exact(`the value of field ${words[ask + 1]} of period ${words[ask]}`, given);
-                words[place] = given;
-                words[place + 1] = isSmall ? given >> 31 : Math.floor(given / TWO_32);
+            const { words } = tribes, end = (to.asks >> 2) + 2 * count;
+            for (let ask = to.asks >> 2, at = to.values >> 2; ask < end; ask += 2, at += 2) {
+                const given = value(words[ask], words[ask + 1]);
+                if ((given | 0) === given) {
+                    words[at] = given;
+                    words[at + 1] = given >> 31;
+                } else {
+                    words[at] = exact(`the value of field ${words[ask + 1]} of period ${words[ask]}`, given);
+                    words[at + 1] = Math.floor(given / TWO_32);
+                }
             }
+            if (words !== tribes.words || words.length === 0) throw new Error("the memory grew while a datagram's values were asked for");
         } finally {
             tribes.isAsking = false;
         }
