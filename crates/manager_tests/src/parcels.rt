@@ -1,6 +1,8 @@
 //! Of `messages`: parcels of every length through both ends, in order; refusals and faults by their names.
 
-use messages::{HoldFault, Inbox, Outbox, ParcelKind, PieceFault, SmallPlace, loose_parcel, loose_piece};
+use messages::{
+    HoldFault, Inbox, Outbox, ParcelKind, PieceFault, SmallPlace, loose_parcel, loose_piece,
+};
 use std::alloc::Global;
 use std::test::Fail;
 use tn_types::{NoMemory, Payload};
@@ -33,7 +35,12 @@ fn move_over(outbox: &mut Outbox, inbox: &mut Inbox) -> usize {
 }
 
 /// Whether a message of these bytes comes back through ends that are just large enough, in so many pieces.
-fn comes_back(alloc: Global, bytes: &[u8], pieces: usize, place: &mut [u8]) -> Result<bool, NoMemory> {
+fn comes_back(
+    alloc: Global,
+    bytes: &[u8],
+    pieces: usize,
+    place: &mut [u8],
+) -> Result<bool, NoMemory> {
     let mut outbox = Outbox::new(alloc, pieces)?;
     let mut inbox = Inbox::new(alloc, bytes.len())?;
     if outbox.post(ParcelKind::Message, bytes).is_err() || outbox.free() != 0 {
@@ -43,10 +50,12 @@ fn comes_back(alloc: Global, bytes: &[u8], pieces: usize, place: &mut [u8]) -> R
         return Ok(false);
     }
     match inbox.hand_out(place) {
-        Ok(Some(whole)) => Ok(whole.kind == ParcelKind::Message
-            && whole.count == bytes.len()
-            && whole.count <= place.len()
-            && &place[..whole.count] == bytes),
+        Ok(Some(whole)) => Ok(
+            whole.kind == ParcelKind::Message
+                && whole.count == bytes.len()
+                && whole.count <= place.len()
+                && &place[..whole.count] == bytes,
+        ),
         _ => Ok(false),
     }
 }
