@@ -1,13 +1,7 @@
 //! Texts and their relay scripts or first faults, by the tables of docs/relay.md.
 use match_script::{MAX_BODY_LINES, ParseFault, ScriptFault};
 use relay_script::{RelayLine, parse_relay};
-<<<<<<< HEAD
-use std::alloc::Global;
-use std::test::Fail;
-=======
 use std::alloc::{AllocError, Global};
-use tn_types::MAX_BODY_LINES;
->>>>>>> 9a54ac74b15c26388be8ba22fabdcb15782aae81
 
 // A header of two clients, after a first line.
 const HEADER: &str = "tribes 1\nmatch 1 2 100 128 1000\nblock 61\nplayer 0 0 0 5 5\ngo\n";

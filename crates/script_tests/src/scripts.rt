@@ -1,13 +1,7 @@
 //! Of `match_script`: texts and their scripts or first faults, by the tables of docs/script.md.
-<<<<<<< HEAD
 use match_script::{MAX_THREAD_TICKS, ParseFault, ScriptFault, parse, parse_threads, print};
-use std::alloc::Global;
-use std::test::Fail;
-=======
-use match_script::{ParseFault, ScriptFault, parse, parse_threads, print};
 use std::alloc::{AllocError, Global};
-use tn_types::{MAX_THREAD_TICKS, NoMemory};
->>>>>>> 9a54ac74b15c26388be8ba22fabdcb15782aae81
+use tn_types::NoMemory;
 
 const MATCH: &str = "tribes 1\nmatch 1 1 100 128 1000\n";
 
