@@ -24,11 +24,8 @@ const WAYS: [Interpolation; 6] = [
 ];
 
 // The moment of a packet and so many of its 256 parts.
-fn moment(packet: u64, parts: u64) -> u64
-    requires packet { packet < 1000 }
-    requires parts { parts < 1000 }
-{
-    packet * 256 + parts
+fn moment(packet: u64, parts: u64) -> u64 {
+    packet.saturating_mul(256).saturating_add(parts)
 }
 
 #[test]
