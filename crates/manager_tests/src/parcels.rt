@@ -87,17 +87,17 @@ fn messages_of_each_length_come_back(rt: HostRuntime) -> Result<(), Fail> {
 #[test]
 fn what_has_no_place_is_refused(rt: HostRuntime) -> Result<(), Fail> {
     let bytes = vec![in rt.alloc(); 1u8; 65_536]?;
-    let (short, _) = bytes.split_at(24.min(bytes.len()));
-    let (name, _) = bytes.split_at(5.min(bytes.len()));
+    let short = [1u8; 24];
+    let name = [1u8; 5];
     let mut outbox = Outbox::new(rt.alloc(), 2)?;
     let too_long = HoldFault::TooLong { most: 65_535 };
     assert_eq!(rt; outbox.post(ParcelKind::Message, &bytes), Err(too_long));
     let too_long = HoldFault::TooLong { most: 23 };
-    assert_eq!(rt; outbox.post(ParcelKind::Event, short), Err(too_long));
-    assert_eq!(rt; outbox.post(ParcelKind::Event, name), Ok(()));
+    assert_eq!(rt; outbox.post(ParcelKind::Event, &short), Err(too_long));
+    assert_eq!(rt; outbox.post(ParcelKind::Event, &name), Ok(()));
     let no_places = HoldFault::NoPlaces { needed: 2, free: 1 };
-    assert_eq!(rt; outbox.post(ParcelKind::Message, short), Err(no_places));
-    assert_eq!(rt; outbox.post(ParcelKind::Message, name), Ok(()));
+    assert_eq!(rt; outbox.post(ParcelKind::Message, &short), Err(no_places));
+    assert_eq!(rt; outbox.post(ParcelKind::Message, &name), Ok(()));
     // Both share one order, and a place that is too small changes nothing.
     let mut inbox = Inbox::new(rt.alloc(), 30)?;
     let mut place = [0u8; 30];
