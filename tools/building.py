@@ -4,7 +4,6 @@
 `rt lib` comes to the same archive, and proves each crate below again first.
 """
 
-import os
 import pathlib
 import re
 import shutil
@@ -246,4 +245,4 @@ def make(names):
 
 
 if __name__ == "__main__":
-    os.sys.exit("this is a part of tools/library and tools/release")
+    raise SystemExit("this is a part of tools/library and tools/release")
