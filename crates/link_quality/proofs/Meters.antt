@@ -1,10 +1,9 @@
 -- A meter's second, and the ones after it, in which nothing went yet.
-use Rattle.std.proofs.Common.{ℕ, zero, suc, ◌+◌, ◌-◌, ◌/◌, ◌≡◌, ◌≢◌, ◌≤◌, ◌<◌, inl, inr, List, [], ◌∷◌, nat_eq, Bool, true, false, refl, sym, ◌∙◌, ap, arith}
+use Rattle.std.proofs.Common.{ℕ, zero, suc, ◌+◌, ◌-◌, ◌≡◌, ◌≢◌, ◌≤◌, ◌<◌, inl, inr, List, [], ◌∷◌, nat_eq, refl, sym, ◌∙◌, ap, arith}
 use Rattle.std.specs.Prelude.{All, if◌then◌else◌}
 use Rattle.std.proofs.lemmas.Bool.{eq-eqb}
 use Rattle.std.proofs.lemmas.Bool.Decides.{eqb_tells}
 use Rattle.std.proofs.lemmas.List.Elements.{All-head, All-tail, All-cons}
-use Rattle.link_quality.specs.declared.traffic.Traffic.{Traffic}
 use Rattle.link_quality.specs.Traffic.{Datagram, Meter, StandsFor, second_of, traffic_in, traffic_before, current_at, before_at, with_datagram, no_traffic}
 
 abbrev IsUpTo : ℕ → Datagram → Type 0

@@ -1,11 +1,11 @@
 -- What is told of packets.
-use Rattle.std.proofs.Common.{ℕ, zero, suc, ◌+◌, ◌-◌, ◌≡◌, ◌≤◌, ◌<◌, min, List, [], ◌∷◌, ◌++◌, drop, length, take, slice_get, Option, Some, None, refl, sym, ◌∙◌, ap, arith}
-use Rattle.std.proofs.lemmas.List.{take-take, length_push}
+use Rattle.std.proofs.Common.{ℕ, zero, suc, ◌-◌, ◌≡◌, ◌≤◌, List, [], ◌∷◌, ◌++◌, drop, length, take, slice_get, Option, Some, None, refl, sym, ◌∙◌, ap, arith}
+use Rattle.std.proofs.lemmas.List.{length_push}
 use Rattle.tn_types.specs.declared.choices.Verdict.{Verdict}
 use Rattle.tn_types.specs.declared.choices.Verdict.TheVariants.{Received, Lost}
 use Rattle.link_quality.specs.declared.smoothing.RoundTrip.{RoundTrip}
 use Rattle.link_quality.specs.declared.verdicts.TheConstants.{JUDGED_PACKETS}
-use Rattle.link_quality.specs.Packets.{PacketEvent, Sent, Judged, Quality, StandsFor, sent_of, verdicts_of, trips_of, trip_to, smoothed_by}
+use Rattle.link_quality.specs.Packets.{PacketEvent, Sent, Judged, Quality, StandsFor, sent_of, verdicts_of, trips_of, smoothed_by}
 use Rattle.link_quality.specs.Smoothing.{smoothed_of}
 
 -- ---- one by one

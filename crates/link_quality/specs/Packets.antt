@@ -1,6 +1,6 @@
 -- How packets went, by the list of what was told, the newest first: a packet was sent at a time, or it was judged at a time. Packets are judged in
 -- the order in which they were sent, so the third verdict is the third packet's. Times are milliseconds.
-use Rattle.std.specs.Prelude.{ℕ, suc, ◌+◌, ◌-◌, min, nat_lt, if◌then◌else◌, ◌≡◌, ◌≤◌, refl, List, [], ◌∷◌, ◌++◌, drop, take, length, slice_get, Option, Some, None, IfSome, Result, Ok, Err}
+use Rattle.std.specs.Prelude.{ℕ, suc, ◌-◌, min, nat_lt, if◌then◌else◌, ◌≡◌, ◌≤◌, refl, List, [], ◌∷◌, ◌++◌, drop, take, length, slice_get, Option, Some, None, Ok, Err}
 use Rattle.tn_types.specs.declared.choices.Verdict.{Verdict}
 use Rattle.tn_types.specs.declared.choices.Verdict.TheVariants.{Received, Lost}
 use Rattle.tn_types.specs.Checks.{Checked}

@@ -1,5 +1,5 @@
 -- How much went one way in a second, by the list of the datagrams, the newest first.
-use Rattle.std.specs.Prelude.{ℕ, zero, suc, ◌+◌, ◌-◌, ◌/◌, min, nat_lt, nat_eq, if◌then◌else◌, ◌≡◌, ◌≤◌, refl, List, [], ◌∷◌, All, Result, Ok, Err}
+use Rattle.std.specs.Prelude.{ℕ, zero, suc, ◌+◌, ◌-◌, ◌/◌, min, nat_lt, nat_eq, if◌then◌else◌, ◌≡◌, ◌≤◌, refl, List, [], ◌∷◌, All, Ok, Err}
 use Rattle.tn_types.specs.Checks.{Checked}
 use Rattle.link_quality.specs.declared.traffic.Traffic.{Traffic}
 use Rattle.link_quality.specs.declared.traffic.TheConstants.{SECOND}

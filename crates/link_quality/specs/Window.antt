@@ -1,5 +1,5 @@
 -- The last verdicts with a count of the losses among them.
-use Rattle.std.specs.Prelude.{ℕ, ◌≡◌, ◌≤◌, List, [], ◌∷◌, length, Option, Some, None}
+use Rattle.std.specs.Prelude.{ℕ, ◌≡◌, ◌≤◌, List, length, Option, Some, None}
 use Rattle.tn_types.specs.declared.choices.Verdict.{Verdict}
 use Rattle.tn_types.specs.declared.choices.Verdict.TheVariants.{Received, Lost}
 use Rattle.link_quality.specs.declared.verdicts.TheConstants.{JUDGED_PACKETS}

@@ -28,7 +28,7 @@ pub enum QualityRefusal {
 
 /// How the packets of one end go. Nothing after `new` takes memory.
 ///
-/// A clause sees `Quality`, and what it means by the list of what was told. The rules are in docs/joining.md.
+/// A clause sees `Quality`, and what it means by the list of what was told. The rules are in docs/pace.md.
 #[derive(Drop)]
 pub struct LinkQuality {
     waiting: HeapCircularBuffer<u64>,

@@ -27,7 +27,7 @@ pub enum MeterRefusal {
 /// What goes one way. The caller's clock has seconds of 1,000 milliseconds, the first one from 0 on; what is told is how much went in the whole
 /// second before. No call takes memory.
 ///
-/// A clause sees `Meter`, and what it means by the list of the datagrams. The rules are in docs/joining.md.
+/// A clause sees `Meter`, and what it means by the list of the datagrams. The rules are in docs/pace.md.
 #[derive(Drop)]
 pub struct TrafficMeter {
     second: u64,

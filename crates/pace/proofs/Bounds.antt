@@ -1,10 +1,10 @@
 -- The rate stays between its bounds, and so does what goes by it.
-use Rattle.std.proofs.Common.{ℕ, zero, suc, ◌+◌, ◌-◌, ◌*◌, ◌/◌, ◌≡◌, ◌≤◌, ◌<◌, min, max, List, [], ◌∷◌, Bool, true, false, refl, sym, ◌∙◌, ap, arith}
+use Rattle.std.proofs.Common.{ℕ, ◌+◌, ◌-◌, ◌*◌, ◌≡◌, ◌≤◌, List, [], ◌∷◌, Bool, true, false, ap, arith}
 use Rattle.std.specs.Prelude.{if◌then◌else◌}
 use Rattle.std.proofs.Math.Nat.{mul-le-mul_left, mul-add, mul_comm}
 use Rattle.pace.specs.declared.rate.PaceTerms.{PaceTerms}
 use Rattle.pace.specs.Rates.{AreTerms, raised, eased, saved_up}
-use Rattle.pace.specs.Pacing.{PaceEvent, Came, WasLost, Went, last_of, eased_of, rate_of, saved_of, saved_at, allowed_at, is_new}
+use Rattle.pace.specs.Pacing.{PaceEvent, Came, WasLost, Went, last_of, eased_of, rate_of, saved_of, saved_at, is_new}
 use Rattle.pace.specs.Laws.{IsKept, bytes_of}
 
 abbrev LiesBetween : PaceTerms → ℕ → Type 0

@@ -1,9 +1,8 @@
 -- What is told of a pace.
-use Rattle.std.proofs.Common.{ℕ, ◌+◌, ◌-◌, ◌*◌, ◌/◌, ◌≡◌, ◌≤◌, ◌<◌, List, [], ◌∷◌, nat_le, Bool, true, false, refl, sym, ◌∙◌, ap, arith}
+use Rattle.std.proofs.Common.{ℕ, ◌-◌, ◌*◌, ◌/◌, ◌≡◌, ◌≤◌, ◌<◌, List, ◌∷◌, nat_le, true, false, refl, sym, ◌∙◌, ap}
 use Rattle.std.proofs.lemmas.Bool.{le-leb, lt-leb}
-use Rattle.pace.specs.declared.rate.PaceTerms.{PaceTerms}
 use Rattle.pace.specs.Rates.{raised, eased, saved_up}
-use Rattle.pace.specs.Pacing.{PaceEvent, Came, WasLost, Went, Pacing, StandsFor, last_of, eased_of, rate_of, saved_of, saved_at, allowed_at, is_new}
+use Rattle.pace.specs.Pacing.{PaceEvent, Came, WasLost, Went, Pacing, StandsFor, eased_of, rate_of, saved_of, saved_at, allowed_at, is_new}
 
 -- what is saved up by the next time that is told
 pub saved_then : (p : Pacing) (time : ℕ) (log : List PaceEvent) → StandsFor p log

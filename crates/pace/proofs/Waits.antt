@@ -1,12 +1,11 @@
 -- How long it takes until so many bytes are saved up.
-use Rattle.std.proofs.Common.{ℕ, zero, suc, ◌+◌, ◌-◌, ◌*◌, ◌/◌, ◌%◌, ◌≡◌, ◌≤◌, ◌<◌, min, List, refl, sym, ◌∙◌, ap, subst, arith}
+use Rattle.std.proofs.Common.{ℕ, ◌+◌, ◌-◌, ◌*◌, ◌/◌, ◌≡◌, ◌≤◌, ◌<◌, List, sym, ◌∙◌, ap, subst, arith}
 use Rattle.std.proofs.lemmas.Grind.{div_ceil_times}
 use Rattle.std.proofs.Math.Nat.{add-mul, mul-le-mul_right}
-use Rattle.std.specs.Int.{div_ceil}
 use Rattle.pace.specs.declared.rate.PaceTerms.{PaceTerms}
-use Rattle.pace.specs.Rates.{saved_up, wait_for, AreTerms}
-use Rattle.pace.specs.Pacing.{PaceEvent, Pacing, StandsFor, saved_of, rate_of, last_of, saved_at, allowed_at}
-use Rattle.pace.specs.Waiting.{IsWait, IsWaitOf}
+use Rattle.pace.specs.Rates.{saved_up, wait_for}
+use Rattle.pace.specs.Pacing.{PaceEvent, Pacing, StandsFor, saved_at}
+use Rattle.pace.specs.Waiting.{IsWaitOf}
 use Rattle.pace.proofs.PaceFacts.{saved_then}
 
 -- what is saved up a while later, by what is saved up now

@@ -2,7 +2,7 @@
 use Rattle.std.specs.Prelude.{ℕ, ◌+◌, ◌-◌, ◌*◌, ◌≤◌, List, [], ◌∷◌}
 use Rattle.pace.specs.declared.rate.PaceTerms.{PaceTerms}
 use Rattle.pace.specs.Rates.{AreTerms}
-use Rattle.pace.specs.Pacing.{PaceEvent, Came, WasLost, Went, time_of, last_of, rate_of, allowed_at}
+use Rattle.pace.specs.Pacing.{PaceEvent, Came, WasLost, Went, last_of, rate_of, allowed_at}
 
 -- the rate lies between the least and the most
 abbrev pub RateStaysBetween : Type 0

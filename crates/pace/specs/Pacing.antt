@@ -1,5 +1,5 @@
 -- What may go, by the list of what was told, the newest first: a packet came, one was lost, or a datagram went. Times are milliseconds.
-use Rattle.std.specs.Prelude.{ℕ, ◌+◌, ◌-◌, ◌*◌, ◌/◌, Bool, nat_le, nat_lt, if◌then◌else◌, ◌≡◌, ◌≤◌, refl, List, [], ◌∷◌, Result, Ok, Err}
+use Rattle.std.specs.Prelude.{ℕ, ◌-◌, ◌*◌, ◌/◌, Bool, nat_le, nat_lt, if◌then◌else◌, ◌≡◌, ◌≤◌, refl, List, [], ◌∷◌, Ok, Err}
 use Rattle.tn_types.specs.Checks.{Checked}
 use Rattle.pace.specs.declared.rate.PaceTerms.{PaceTerms}
 use Rattle.pace.specs.declared.rate.TheConstants.{THOUSANDTHS}

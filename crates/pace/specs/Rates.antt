@@ -1,5 +1,5 @@
 -- The rate, in bytes a second, and what is saved up by it, in thousandths of a byte.
-use Rattle.std.specs.Prelude.{ℕ, ◌+◌, ◌-◌, ◌*◌, ◌/◌, min, max, Bool, nat_le, ◌≡◌, ◌≤◌, ◌<◌, refl}
+use Rattle.std.specs.Prelude.{ℕ, ◌+◌, ◌-◌, ◌*◌, ◌/◌, min, max, ◌≡◌, ◌≤◌, ◌<◌, refl}
 use Rattle.std.specs.Int.{div_ceil}
 use Rattle.pace.specs.declared.rate.PaceTerms.{PaceTerms}
 use Rattle.pace.specs.declared.rate.TheConstants.{THOUSANDTHS}

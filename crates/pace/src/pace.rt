@@ -16,7 +16,7 @@ pub enum PaceRefusal {
 /// How many bytes the next datagram should have: a rate that each packet that came raises by a step, and that a loss lowers by a quarter, at most
 /// once in a round trip. No call takes memory.
 ///
-/// A clause sees `Pacing`, and what it means by the list of what was told. The rules are in docs/joining.md.
+/// A clause sees `Pacing`, and what it means by the list of what was told. The rules are in docs/pace.md.
 #[derive(Drop)]
 pub struct Pace {
     terms: PaceTerms,

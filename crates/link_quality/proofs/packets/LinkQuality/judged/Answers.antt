@@ -1,4 +1,4 @@
-use Rattle.std.proofs.Common.{◌≡◌, sym, subst}
+use Rattle.std.proofs.Common.{sym, subst}
 use Rattle.link_quality.specs.Packets.{Quality, StandsFor}
 use Rattle.link_quality.specs.View.{quality_of}
 use Rattle.link_quality.proofs.PacketFacts.{judged_more}

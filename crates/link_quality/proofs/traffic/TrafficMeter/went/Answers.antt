@@ -1,4 +1,4 @@
-use Rattle.std.proofs.Common.{◌/◌, arith, ap}
+use Rattle.std.proofs.Common.{arith, ap}
 use Rattle.link_quality.specs.Traffic.{Meter}
 use Rattle.link_quality.proofs.Meters.{one_more}
 use Rattle.link_quality.proofs.traffic.TrafficMeter.went.Goals as goal

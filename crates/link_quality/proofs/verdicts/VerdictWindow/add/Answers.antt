@@ -1,5 +1,5 @@
-use Rattle.std.proofs.Common.{◌≡◌, ◌≤◌, ◌∷◌, ◌∙◌, ap, slice_get, arith}
-use Rattle.link_quality.specs.Window.{IsCounted, losses_of_option}
+use Rattle.std.proofs.Common.{◌∙◌, ap, arith}
+use Rattle.link_quality.specs.Window.{losses_of_option}
 use Rattle.link_quality.proofs.Windows.{few_lost, was_counted, slid}
 use Rattle.link_quality.proofs.verdicts.VerdictWindow.add.Goals as goal
 

@@ -1,4 +1,4 @@
-use Rattle.std.proofs.Common.{◌<◌, sym, subst, arith}
+use Rattle.std.proofs.Common.{sym, subst, arith}
 use Rattle.pace.specs.Pacing.{Pacing, StandsFor}
 use Rattle.pace.specs.View.{pacing_of}
 use Rattle.pace.specs.Waiting.{IsWait}
