@@ -1,0 +1,5 @@
+pub mod Smoothing
+pub mod Packets
+pub mod Window
+pub mod Traffic
+pub mod View

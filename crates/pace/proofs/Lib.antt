@@ -1,0 +1,3 @@
+pub mod PaceFacts
+pub mod Waits
+pub mod Bounds

@@ -1,0 +1,5 @@
+pub mod Rates
+pub mod Pacing
+pub mod Laws
+pub mod View
+pub mod Waiting
