@@ -3,3 +3,4 @@ pub mod Making
 pub mod Refusals
 pub mod Lists
 pub mod Sides
+pub mod Drawing

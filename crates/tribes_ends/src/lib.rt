@@ -5,6 +5,7 @@
 mod asking;
 mod client;
 mod counts;
+mod drawing;
 mod handing;
 mod link;
 mod refusal;
@@ -15,6 +16,7 @@ mod why;
 
 pub use asking::Ask;
 pub use counts::Counts;
+pub use drawing::{DrawFault, LEAST_VALUE, MOST_VALUE};
 pub use handing::Popped;
 pub use link::{Link, Packed, Side};
 pub use refusal::Refusal;
