@@ -15,6 +15,7 @@ pub const MAX_TIME: u64 = 70_368_744_177_664;
 pub const FINE_OF_MOMENT: u64 = 256;
 
 /// How a clock goes.
+#[repr(C)]
 #[derive(Clone, Copy)]
 pub struct Pace {
     /// Milliseconds from one packet of the server to the next, not 0.
@@ -39,6 +40,7 @@ pub enum ClockRefusal {
 }
 
 /// A clock's numbers, for callers that keep it themselves.
+#[repr(C)]
 #[derive(Clone, Copy)]
 pub struct ClockParts {
     pub pace: Pace,
