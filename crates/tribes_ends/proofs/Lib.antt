@@ -5,3 +5,4 @@ pub mod CopiesHeld
 pub mod Hearing
 pub mod Listing
 pub mod Passing
+pub mod Replayed

@@ -4,3 +4,4 @@ pub mod Refusals
 pub mod Lists
 pub mod Sides
 pub mod Drawing
+pub mod Played
