@@ -71,7 +71,8 @@ static int read_sequence(int *numbers) {
     int at = 2, place = 0;
     memset(numbers, 0, MOST_NUMBERS * sizeof *numbers);
     for (; at < count && (bytes[at] < '@' || bytes[at] > '~'); at++) {
-        if (bytes[at] >= '0' && bytes[at] <= '9' && place < MOST_NUMBERS && numbers[place] < OTHERS) numbers[place] = 10 * numbers[place] + bytes[at] - '0';
+        int digit = bytes[at] - '0';
+        if (digit >= 0 && digit <= 9 && place < MOST_NUMBERS && numbers[place] < OTHERS) numbers[place] = 10 * numbers[place] + digit;
         else if (bytes[at] == ';') place = (place | 1) + 1;
         else if (bytes[at] == ':') place = place & 1 ? MOST_NUMBERS : place + 1;
     }

@@ -146,7 +146,8 @@ class Watch:
                 self.box.hold(*copy.values[:2])
         self.screen.erase()
         state = "playing" if self.playing else "stopped"
-        self.put(0, 0, f"{demo.file.name}: {self.k} of {last} records, {shown.events} events, {len(shown.copies)} copies, {state}", curses.A_BOLD)
+        head = f"{demo.file.name}: {self.k} of {last} records, {shown.events} events, {len(shown.copies)} copies, {state}"
+        self.put(0, 0, head, curses.A_BOLD)
         self.put(1, 0, demo.takes[self.k - 1] if self.k else "(no record yet)")
         ending = "after the last record the demo " + ("ends" if demo.ending == "end" else "is cut")
         self.put(2, 0, "  ".join([said_in(demo.takes[self.k - 1])] * (self.k > 0) + [ending] * (self.k == last)))
