@@ -167,17 +167,35 @@ def seen(script, client, world):
     return sorted(found)
 
 
+LETTERS = {"drone": "dd", "disc": "*+", "flag": "FP", "player": "RB"}
+
+
+def letter_of(kind, blue, values):
+    """Each team has its own letters. A free flag lies at home, and only the other team can hold one."""
+    if kind == "mine":
+        return "mM"[values[2]]
+    if kind == "flag":
+        blue = values[2] & 1 if values[2] else values[0] > EDGE // 2
+    return LETTERS[kind][blue]
+
+
+def middle_by(place, size, count):
+    """The middle of the map by a place: the place, or as far from the field's end as the map reaches to it."""
+    return min(max(place, size * (count // 2)), EDGE + 1 - size * (count - count // 2))
+
+
 def drawn(shown, screen):
-    """The letters of the map as they are to be drawn: the copies round the place in the middle, one kind over another."""
+    """The letters of the map as they are to be drawn: the copies round the place, within the field, one kind over another."""
     high, wide = RADIUS // (MAP_ROWS // 2) + 1, RADIUS // (MAP_COLUMNS // 2) + 1
     high, wide = (2 * wide, wide) if high < 2 * wide else (high, (high + 1) // 2)
-    middle = (screen.place[0] + screen.offset[0], screen.place[1] + screen.offset[1])
+    here = (screen.place[0] + screen.offset[0], screen.place[1] + screen.offset[1])
+    middle = (middle_by(here[0], wide, MAP_COLUMNS), middle_by(here[1], high, MAP_ROWS))
     rows = {}
 
     def put(kind, values, letter):
         row = (values[1] - middle[1] + high * (MAP_ROWS // 2)) // high
         column = (values[0] - middle[0] + wide * (MAP_COLUMNS // 2)) // wide
-        if kind == "flag":
+        if kind in ("flag", "you"):
             row, column = min(max(row, 0), MAP_ROWS - 1), min(max(column, 0), MAP_COLUMNS - 1)
         if 0 <= row < MAP_ROWS and 0 <= column < MAP_COLUMNS:
             rows[row, column] = letter
@@ -186,11 +204,9 @@ def drawn(shown, screen):
         for slot in sorted(shown.copies):
             kind, block, values, _ = shown.copies[slot]
             if kind == order and slot != shown.own:
-                team = "RB"[block & 1]
-                letters = {"mine": "M" if values[-1] else "m", "drone": "d", "disc": "*", "flag": "F", "player": team}
-                put(kind, values, letters[kind])
+                put(kind, values, letter_of(kind, block & 1, values))
     put("player", shown.copies[shown.own][2], "o")
-    rows[MAP_ROWS // 2, MAP_COLUMNS // 2] = "@"
+    put("you", here, "@")
     return rows
 
 

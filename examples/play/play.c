@@ -11,6 +11,7 @@
 #include <ctype.h>
 #include <errno.h>
 #include <poll.h>
+#include <signal.h>
 #include <stdlib.h>
 #include <string.h>
 #include <time.h>
@@ -78,6 +79,18 @@ static int read_words(int count, char **word, words *w) {
 
 /* ---- turns */
 
+static volatile sig_atomic_t was_stopped;
+
+static void stop_at(int signal) { was_stopped = signal; }
+
+/* A signal ends the turns, and so the terminal is left as it was. */
+static void hear_signals(void) {
+    struct sigaction act = {.sa_handler = stop_at};
+    sigaction(SIGINT, &act, NULL);
+    sigaction(SIGTERM, &act, NULL);
+    sigaction(SIGHUP, &act, NULL);
+}
+
 static void wait_until(const session *s, int is_bot, int64_t then) {
     struct pollfd from[] = {{s->net.socket, POLLIN, 0}, {STDIN_FILENO, POLLIN, 0}};
     int64_t wait = then - milliseconds(), most = s->net.count ? 2 : TURN; /* what waits in the bad network may be due before */
@@ -94,7 +107,7 @@ static void draw_screen(session *s, const keys *k, const char *server) {
     else if (silent > 0) snprintf(state, sizeof state, "silent for %lld s", (long long)silent);
     else if (k->step.act) snprintf(state, sizeof state, "hand open");
     drawn_frozen = k->frozen;
-    screen_draw(s, &(around){server, state, k->types ? k->typed : NULL});
+    screen_draw(s, &(around){server, state, k->types ? k->typed : NULL, k->helps});
 }
 
 /* Turns until the words, a key or the server's silence end them. Answers whether the server was there at the end. */
@@ -102,13 +115,14 @@ static int play(session *s, const words *w, const char *server) {
     keys k = {.step = {0, 0, 0, 1}};
     uint32_t dice = w->seed;
     int64_t start = milliseconds(), next = start;
-    while (!k.quits && milliseconds() - start < w->ends) {
+    while (!k.quits && !was_stopped && milliseconds() - start < w->ends) {
         int64_t now = milliseconds();
         session_listen(s, now);
         if (!w->is_bot) keys_read(&k, s);
         if (now - s->heard > LOST_AFTER) return 0;
         if (now >= next) {
             if (w->is_bot) keys_of_bot(&k, s, &dice);
+            else keys_turn(&k);
             session_turn(s, &k.step, now);
             k.step.fire = 0;
             if (!w->is_bot) draw_screen(s, &k, server);
@@ -153,6 +167,7 @@ int main(int count, char **word) {
     if (tribes_version() != TRIBES_VERSION) return fprintf(stderr, "play: the library is of another version\n"), FAILED;
     if (session_start(&s, &w.server, (uint32_t)now ^ (uint32_t)getpid() << 16, now)) return stop("a socket");
     if (w.demo && !(s.demo = fopen(w.demo, "wb"))) return stop(w.demo);
+    if (!w.is_bot) hear_signals();
     if (!w.is_bot && screen_open()) {
         fprintf(stderr, "play: wanted is a terminal of at least %d columns and %d rows\n", LEAST_COLUMNS, LEAST_ROWS);
         return FAILED;

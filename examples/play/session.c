@@ -48,6 +48,8 @@ static void take_welcome(session *s, const uint8_t *bytes, size_t count, int64_t
     if (tribes_client(&s->end, &config, kinds, KINDS, fields, sizeof fields / sizeof *fields, &why) < 0) return; /* out of its ranges */
     s->config = config;
     s->welcomed = 1;
+    tribes_counts(&s->end, &s->counts);
+    s->places = s->counts.event_places;
     s->heard = now;
     uint8_t head[11] = "TND1";
     head[4] = (uint8_t)config.client;
@@ -97,13 +99,18 @@ static void note_changes(session *s) {
             if (changes[i].what == 1 || changes[i].fields >> f & 1) s->tells[changes[i].slot][f] = s->counts.sent + 1;
 }
 
+static said *next_line(session *s) {
+    said *line = &s->last[s->lines++ % KEPT_LINES];
+    memset(line, 0, sizeof *line);
+    return line;
+}
+
 static void hand_out_events(session *s) {
     uint8_t bytes[TRIBES_MAX_EVENT];
     size_t count;
-    while (tribes_event(&s->end, bytes, sizeof bytes, &count) > 0) {
-        char *text = s->texts[s->events++ % KEPT_EVENTS];
+    for (; tribes_event(&s->end, bytes, sizeof bytes, &count) > 0; s->events++) {
+        char *text = next_line(s)->text;
         for (size_t i = 0; i < count; i++) text[i] = bytes[i] >= ' ' && bytes[i] <= '~' ? (char)bytes[i] : '?';
-        text[count] = 0;
     }
 }
 
@@ -170,11 +177,18 @@ void session_turn(session *s, const tribes_step *move, int64_t now) {
 }
 
 void session_say(session *s, const char *words) {
-    char text[TRIBES_MAX_EVENT + 1];
-    uint32_t number;
     if (!s->welcomed) return;
-    snprintf(text, sizeof text, "%u: %s", s->config.client, words);
-    tribes_post(&s->end, (const uint8_t *)text, strlen(text), 1, &number);
+    said *line = next_line(s);
+    snprintf(line->text, sizeof line->text, "%u: %s", s->config.client, words);
+    line->is_own = 1;
+    line->was_refused = tribes_post(&s->end, (const uint8_t *)line->text, strlen(line->text), 1, &line->number) < 0;
+    if (!line->was_refused) s->posted = line->number + 1;
+    tribes_counts(&s->end, &s->counts);
+}
+
+int session_came(const session *s, const said *line) {
+    uint32_t wait = s->places - s->counts.event_places;
+    return !line->was_refused && line->number < s->posted - wait;
 }
 
 int session_copy(session *s, uint32_t from, copy *c) {

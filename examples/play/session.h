@@ -8,10 +8,13 @@
 #include "tribes.h"
 #include <stdio.h>
 
-enum { HELLO_BYTES = 5, CHALLENGE_BYTES = 5, REPEATED_BYTES = 9, WELCOME_BYTES = 12, KEPT_EVENTS = 8, LOST_AFTER = 5000 }; /* the last in milliseconds of silence */
+enum { HELLO_BYTES = 5, CHALLENGE_BYTES = 5, REPEATED_BYTES = 9, WELCOME_BYTES = 12, KEPT_LINES = 8, LOST_AFTER = 5000 }; /* the last in milliseconds of silence */
 
 /* what became of the last 64 of something, the newest in bit 0; a bit is set where it was lost */
 typedef struct { uint64_t lost; int count; } history;
+
+/* what was said: an event that came, or own words, which come as event `number` to the server */
+typedef struct { int is_own, was_refused; uint32_t number; char text[TRIBES_MAX_EVENT + 1]; } said;
 
 typedef struct {
     network net;
@@ -31,7 +34,9 @@ typedef struct {
     unsigned turns, taken, refused, events;
     uint64_t sent, received;      /* bytes that went through the socket up to the last whole second, and in that second */
     unsigned sent_then, received_then;
-    char texts[KEPT_EVENTS][TRIBES_MAX_EVENT + 1]; /* the last events, event e at e modulo KEPT_EVENTS */
+    unsigned lines;               /* what was said by now, both ways */
+    said last[KEPT_LINES];        /* line n at n modulo KEPT_LINES */
+    uint32_t places, posted;      /* how many guaranteed events may wait for the server; how many were posted */
     FILE *demo;                   /* where what was taken is kept (docs/demos.md), or NULL */
 } session;
 
@@ -47,6 +52,8 @@ void session_turn(session *s, const tribes_step *move, int64_t now);
 /* Says the words to all others, with the client's number before them, cut to TRIBES_MAX_EVENT bytes: as a guaranteed event, which comes,
    and in order, whatever is lost. */
 void session_say(session *s, const char *words);
+/* Whether the server is known to have what was said. */
+int session_came(const session *s, const said *line);
 /* The copy in the least slot from `from` on, in order to draw all: 0 where there is none. */
 int session_copy(session *s, uint32_t from, copy *c);
 /* The own player's copy: 0 where there is none. */
