@@ -97,9 +97,9 @@ static void wait_until(const session *s, int is_bot, int64_t then) {
     if (wait > 0) poll(from, is_bot ? 1 : 2, (int)(wait < most ? wait : most));
 }
 
-static void draw_screen(session *s, const keys *k, const char *server) {
+static void draw_screen(session *s, const keys *k, const char *server, int64_t now) {
     static int drawn_frozen;
-    int64_t silent = (milliseconds() - s->heard) / 1000;
+    int64_t silent = (now - s->heard) / 1000;
     char state[40] = "";
     if (k->frozen && drawn_frozen) return; /* the picture stands still, and the match goes on */
     if (k->frozen) snprintf(state, sizeof state, "frozen");
@@ -107,6 +107,7 @@ static void draw_screen(session *s, const keys *k, const char *server) {
     else if (silent > 0) snprintf(state, sizeof state, "silent for %lld s", (long long)silent);
     else if (k->step.act) snprintf(state, sizeof state, "hand open");
     drawn_frozen = k->frozen;
+    session_frame(s, now);
     screen_draw(s, &(around){server, state, k->types ? k->typed : NULL, k->helps});
 }
 
@@ -114,7 +115,7 @@ static void draw_screen(session *s, const keys *k, const char *server) {
 static int play(session *s, const words *w, const char *server) {
     keys k = {.step = {0, 0, 0, 1}};
     uint32_t dice = w->seed;
-    int64_t start = milliseconds(), next = start;
+    int64_t start = milliseconds(), next = start, frame = start;
     while (!k.quits && !was_stopped && milliseconds() - start < w->ends) {
         int64_t now = milliseconds();
         session_listen(s, now);
@@ -125,10 +126,13 @@ static int play(session *s, const words *w, const char *server) {
             else keys_turn(&k);
             session_turn(s, &k.step, now);
             k.step.fire = 0;
-            if (!w->is_bot) draw_screen(s, &k, server);
             next = now - next > 1000 ? now + TURN : next + TURN; /* after a sleep of this process turns don't pile up */
         }
-        wait_until(s, w->is_bot, next);
+        if (!w->is_bot && now >= frame) {
+            draw_screen(s, &k, server, now);
+            frame = now + FRAME;
+        }
+        wait_until(s, w->is_bot, w->is_bot || next < frame ? next : frame);
     }
     return 1;
 }

@@ -107,14 +107,14 @@ static chtype look_of(const copy *c) {
     }
 }
 
-/* kind by kind, so that players lie above all else; the own player where he is predicted, and apart what was told of him */
+/* kind by kind, so that players lie above all else, each where it is drawn at this moment; the own player where he is predicted, and apart what was told of him */
 static void draw_map(session *s, const view *v) {
     static const uint32_t order[] = {MINE, DRONE, DISC, FLAG, PLAYER};
     copy c, own;
     int has_own = session_own(s, &own);
     draw_ground(v);
     for (int i = 0; i < 5; i++)
-        for (uint32_t from = 0; session_copy(s, from, &c); from = c.slot + 1) {
+        for (uint32_t from = 0; session_drawn(s, from, &c); from = c.slot + 1) {
             attr_t dim = shade(s, c.slot, X) | shade(s, c.slot, Y);
             if (c.kind != order[i] || (has_own && c.slot == own.slot)) continue;
             put_on_map(v, c.values[X], c.values[Y], c.kind == FLAG, look_of(&c) | dim);
@@ -165,6 +165,7 @@ static void draw_figures(session *s, int at) {
     mvprintw(11, at, "lost   down %d%% up %d%%", session_percent(&s->down), session_percent(&s->up));
     mvprintw(12, at, "bytes/s down %u up %u", s->received_then, s->sent_then);
     mvprintw(13, at, "taken %u  refused %u", s->taken, s->refused);
+    mvprintw(14, at, "moment %llu", (unsigned long long)s->others.at);
     mvaddstr(15, at, "the network in here");
     mvprintw(16, at, "loss    %3u %%     1 -  2 +", s->net.loss);
     mvprintw(17, at, "delay   %3u ms    3 -  4 +", s->net.delay);

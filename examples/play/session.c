@@ -46,6 +46,10 @@ static void take_welcome(session *s, const uint8_t *bytes, size_t count, int64_t
     tribes_config config = {bytes[5], number_at(bytes + 6, 3), number_at(bytes + 9, 2), bytes[11], MOVE_BITS};
     tribes_reason why;
     if (tribes_client(&s->end, &config, kinds, KINDS, fields, sizeof fields / sizeof *fields, &why) < 0) return; /* out of its ranges */
+    if (drawn_open(&s->others, now) < 0) { /* no memory: the next welcome may find some */
+        tribes_free(&s->end);
+        return;
+    }
     s->config = config;
     s->welcomed = 1;
     tribes_counts(&s->end, &s->counts);
@@ -132,6 +136,7 @@ static void take(session *s, const uint8_t *bytes, size_t count, int64_t now) {
     for (uint32_t i = before + 1; i < s->counts.taken && i <= before + 64; i++) note(&s->down, 1);
     note(&s->down, 0);
     note_changes(s);
+    drawn_took(&s->others, &s->end, s->counts.taken, now);
     hand_out_events(s);
     copy own;
     standing base;
@@ -200,6 +205,16 @@ int session_copy(session *s, uint32_t from, copy *c) {
     return 1;
 }
 
+int session_drawn(session *s, uint32_t from, copy *c) {
+    for (c->slot = from; s->welcomed && c->slot < TRIBES_MAX_SLOTS; c->slot++)
+        if (drawn_in(&s->others, c->slot, &c->kind, &c->block, c->values)) return 1;
+    return 0;
+}
+
+void session_frame(session *s, int64_t now) {
+    if (s->welcomed) drawn_read(&s->others, now);
+}
+
 int session_own(session *s, copy *c) {
     uint32_t slot;
     return s->welcomed && tribes_control(&s->end, &slot) == 1 && session_copy(s, slot, c) && c->slot == slot;
@@ -210,5 +225,6 @@ int session_settled(const session *s, uint32_t slot, uint32_t field) { return s-
 void session_end(session *s) {
     uint8_t end[2] = {0, 0};
     if (s->demo && s->welcomed) fwrite(end, 1, 2, s->demo);
+    drawn_close(&s->others);
     if (s->welcomed) tribes_free(&s->end);
 }

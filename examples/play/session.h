@@ -2,6 +2,7 @@
 #ifndef SESSION_H
 #define SESSION_H
 
+#include "drawn.h"
 #include "match.h"
 #include "network.h"
 #include "predict.h"
@@ -24,6 +25,7 @@ typedef struct {
     uint8_t hello[REPEATED_BYTES]; /* the hello, and behind it the number of the newest challenge */
     int challenged;               /* whether a challenge came since the last hello: the next one repeats its number */
     prediction own;
+    drawn others;
     int64_t heard;                /* when the last datagram was taken, or the start */
     int64_t sent_at[64];          /* when data packet n was sent, at n modulo 64 */
     uint32_t known;               /* the last packet of this client that the server is known to have */
@@ -56,6 +58,10 @@ void session_say(session *s, const char *words);
 int session_came(const session *s, const said *line);
 /* The copy in the least slot from `from` on, in order to draw all: 0 where there is none. */
 int session_copy(session *s, uint32_t from, copy *c);
+/* The same of what is drawn at the moment of the last `session_frame`: a little behind the copies, between the packets that came. */
+int session_drawn(session *s, uint32_t from, copy *c);
+/* A picture is drawn now. */
+void session_frame(session *s, int64_t now);
 /* The own player's copy: 0 where there is none. */
 int session_own(session *s, copy *c);
 /* Whether the server is known to know that this client has the field's value. Until then it may send the field again. */

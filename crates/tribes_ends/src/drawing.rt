@@ -23,7 +23,7 @@ pub const LEAST_VALUE: i64 = -2_147_483_648;
 pub const MOST_VALUE: i64 = 2_147_483_647;
 
 /// Why a timeline was told nothing.
-#[derive(Clone, Copy, Debug, PartialEq, Eq)]
+#[derive(Clone, Copy)]
 pub enum DrawFault {
     /// The call is for a client's end.
     WrongEnd,

@@ -11,7 +11,7 @@ pub(crate) const NO_OFFSET: i32 = -102;
 
 /// An offset: the most that it may be either way, and what is left of it.
 #[repr(C)]
-#[derive(Clone, Copy, Debug, PartialEq, Eq)]
+#[derive(Clone, Copy)]
 pub struct OffsetRow {
     pub most: u32,
     pub left: i64,

@@ -69,7 +69,7 @@ impl TimelineHandle {
 
 /// How large a timeline is: slots, fields of the kind that has most, and keyframes of each field. A depth of 0 stands for the usual one.
 #[repr(C)]
-#[derive(Clone, Copy, Debug, PartialEq, Eq)]
+#[derive(Clone, Copy)]
 pub struct ShapeRow {
     pub slots: u32,
     pub fields: u32,
@@ -78,7 +78,7 @@ pub struct ShapeRow {
 
 /// How a field goes: 0 stepped, 1 linear, 2 turning from `least` to `most`.
 #[repr(C)]
-#[derive(Clone, Copy, Debug, PartialEq, Eq)]
+#[derive(Clone, Copy)]
 pub struct WayRow {
     pub how: u32,
     pub least: i32,
