@@ -35,14 +35,9 @@ pub second-passes : (a b : Checked Refusal) → then_check a b ≡ Ok tt → b �
 second-passes (Ok tt) b h = h
 second-passes (Err e) b h = absurd (cc)
 
-pub in-slots : (t : Drawing) (slot : ℕ) → slot_check t slot ≡ Ok tt → slot < length t.slots
-in-slots t slot h =
-    let e : nat_le (length t.slots) slot ≡ false = not-refused (nat_le (length t.slots) slot) h in
-    grind (arith, nat_tests)
-  where
-    not-refused : (b : Bool) → cond b (Err NoSlot) (Ok tt) ≡ Ok tt → b ≡ false
-    not-refused false h = refl
-    not-refused true h = absurd (cc)
+test-passed : (b : Bool) (e : Refusal) (rest : Checked Refusal) → cond b (Err e) rest ≡ Ok tt → b ≡ false
+test-passed false e rest h = refl
+test-passed true e rest h = absurd (cc)
 
 pub came_passes : (t : Drawing) (slot packet field : ℕ) → slot < length t.slots → packet_check t packet ≡ Ok tt → field < t.fields
     → then_check (slot_check t slot) (then_check (packet_check t packet) (field_check t field)) ≡ Ok tt
@@ -52,14 +47,10 @@ came_passes t slot packet field s p f =
 -- a packet that may tell may tell more
 pub still_heard : (old new : Drawing) (packet : ℕ) → packet_check old packet ≡ Ok tt → new.latest ≡ packet → packet_check new packet ≡ Ok tt
 still_heard old new packet h e =
-    let low : (packet == 0 || nat_lt MAX_LIFE packet) ≡ false = no-packet (packet == 0 || nat_lt MAX_LIFE packet) (cond (nat_lt packet old.latest) (Err GoesBack) (Ok tt)) h in
+    let low : (packet == 0 || nat_lt MAX_LIFE packet) ≡ false = test-passed (packet == 0 || nat_lt MAX_LIFE packet) NoPacket (cond (nat_lt packet old.latest) (Err GoesBack) (Ok tt)) h in
     let same : nat_lt packet new.latest ≡ false = grind (arith, nat_tests) in
     ap (λ (b : Bool). cond b (Err NoPacket) (cond (nat_lt packet new.latest) (Err GoesBack) (Ok tt))) low
     ∙ ap (λ (b : Bool). cond b (Err GoesBack) (Ok tt)) same
-  where
-    no-packet : (b : Bool) (rest : Checked Refusal) → cond b (Err NoPacket) rest ≡ Ok tt → b ≡ false
-    no-packet false rest h = refl
-    no-packet true rest h = absurd (cc)
 
 -- ---- what is told one after another
 
@@ -77,6 +68,14 @@ keeps-self t = record { ways = refl; fields = refl; depth = refl; slots = refl }
 
 pub keeps-more : (a b c : Drawing) → KeepsShape a b → KeepsShape b c → KeepsShape a c
 keeps-more a b c h k = record { ways = k.ways ∙ h.ways; fields = k.fields ∙ h.fields; depth = k.depth ∙ h.depth; slots = k.slots ∙ h.slots }
+
+of-ok : {X : Type 0} (r : Checked Refusal) → r ≡ Ok tt → OnOk r X → X
+of-ok (Ok tt) ok x = x
+of-ok (Err e) ok x = absurd (cc)
+
+pub came-heard : (t new : Drawing) (slot packet field : ℕ) (told : Told) (r : Checked Refusal) → slot < length t.slots → packet_check t packet ≡ Ok tt → field < t.fields
+    → r ≡ then_check (slot_check t slot) (then_check (packet_check t packet) (field_check t field)) → OnOk r (Does StandsFor t told new) → Hears t (told ∷ []) new
+came-heard t new slot packet field told r s p f is does log h = of-ok r (is ∙ came_passes t slot packet field s p f) does log h
 
 -- ---- items
 

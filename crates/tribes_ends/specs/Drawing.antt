@@ -1,7 +1,7 @@
 -- What a timeline is told of the packet that a client took last: item by item, each by the packet's number. A create begins a copy in its
 -- slot, with a value of each field; an update brings values of the fields of its mask; a kill ends the copy. Told is the value that the
 -- slot's copy shows, of as many fields as the timeline keeps. A timeline holds values of 32 bits: one beyond is told as the nearest.
-use Rattle.std.specs.Prelude.{◌≡◌, refl, ℕ, zero, suc, ◌-◌, ◌^◌, ℤ, pos, negsuc, int_le, List, [], ◌∷◌, ◌++◌, length, if◌then◌else◌, Option, Some, None}
+use Rattle.std.specs.Prelude.{◌≡◌, refl, ℕ, zero, suc, ◌+◌, ◌-◌, ◌^◌, ℤ, pos, negsuc, int_le, List, [], ◌∷◌, ◌++◌, length, if◌then◌else◌, Option, Some, None}
 use Rattle.std.specs.Option.{option_or, option_map}
 use Rattle.std.specs.Result.{result_err}
 use Rattle.tn_types.specs.BitWords.{has_bit}

@@ -1,12 +1,13 @@
 //! What a client's end tells a timeline of the packet that came last.
-ghost use Rattle.std.specs.Prelude.{◌≡◌, ◌≤◌, ◌<◌, Ok, None, OnOk, OnErr, length};
+ghost use Rattle.std.specs.Prelude.{◌≡◌, [], ◌∷◌, ◌≤◌, ◌<◌, Ok, None, OnOk, OnErr, length};
 ghost use Rattle.std.specs.Option.{option_or};
 ghost use Rattle.std.specs.Result.{result_err};
 ghost use Rattle.wire_format.specs.Ghosts.{slot_named};
 ghost use Rattle.ghost_client.specs.State.{value_of};
 ghost use Rattle.stream_manager.specs.ClientCalls.{Answers};
+ghost use Rattle.timeline.specs.Telling.{Came};
 ghost use Rattle.timeline.specs.Standing.{Hears, KeepsShape, slot_check, packet_check};
-ghost use Rattle.tribes_ends.specs.Drawing.{narrowed, told_value, told_field, told_fields, told_item, told_items, packet_of, HearsOf, item_fault, items_fault, hearing_fault};
+ghost use Rattle.tribes_ends.specs.Drawing.{narrowed, told_field, told_fields, told_item, told_items, packet_of, HearsOf, item_fault, items_fault, hearing_fault};
 
 use crate::asking::has_field;
 use crate::counts::or_zero;
@@ -44,23 +45,17 @@ fn narrowed(value: i64) -> i32
     value as i32
 }
 
-/// Tells the value of a field, where there is one.
+/// Tells a value of a field.
 #[tactic(auto, using(crate::proofs::Hearing::came_passes, crate::proofs::Hearing::still_heard))]
-fn tell_value(
-    timeline: &mut Timeline,
-    packet: u32,
-    slot: u8,
-    field: u32,
-    value: i64,
-)
+fn tell_value(timeline: &mut Timeline, packet: u32, slot: u32, field: u32, value: i32)
     requires slot { slot < length timeline.old.slots }
     requires field { field < timeline.old.fields }
     requires packet { packet_check timeline.old packet ≡ Ok tt }
-    ensures told { Hears timeline.old (told_value packet slot field (Some value)) timeline.new }
+    ensures told { Hears timeline.old (record { slot = slot; packet = packet; what = Came field value } ∷ []) timeline.new }
     ensures shape { KeepsShape timeline.old timeline.new }
     ensures packet { packet_check timeline.new packet ≡ Ok tt }
 {
-    let _ = timeline.came(u32::from(slot), packet, field, narrowed(value));
+    let _ = timeline.came(slot, packet, field, value);
 }
 
 /// Tells the value of a field, if its bit is set.
@@ -84,7 +79,7 @@ fn tell_field(
         return;
     }
     if let Some(value) = copies.value(slot, field as u8) {
-        tell_value(timeline, packet, slot, field, value);
+        tell_value(timeline, packet, u32::from(slot), field, narrowed(value));
     }
 }
 
