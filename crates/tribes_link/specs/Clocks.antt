@@ -8,9 +8,9 @@ use Rattle.draw_clock.specs.declared.clock.TheConstants.{MAX_TIME}
 use Rattle.draw_clock.specs.Clocking.{Clock, IsBounded}
 use Rattle.fading_offset.specs.Fading.{Shown}
 use Rattle.fading_offset.specs.Fading as fading
-use Rattle.tribes_link.specs.declared.draw_clock.TheConstants.{NO_CLOCK, BAD_PACE, NO_TIME, TIME_GOES_BACK, NOT_NEWER, NO_CLOCK_PACKET}
-use Rattle.tribes_link.specs.declared.fading.TheConstants.{NO_OFFSET}
-use Rattle.tribes_link.specs.declared.fading.OffsetRow.{OffsetRow}
+use Rattle.tribes_link.specs.declared.clocks.TheConstants.{NO_CLOCK, BAD_PACE, NO_TIME, TIME_GOES_BACK, NOT_NEWER, NO_CLOCK_PACKET}
+use Rattle.tribes_link.specs.declared.offsets.TheConstants.{NO_OFFSET}
+use Rattle.tribes_link.specs.declared.offsets.OffsetRow.{OffsetRow}
 
 abbrev pub clock_code : ClockRefusal → ℤ
 clock_code refused.NoTime = NO_TIME

@@ -15,9 +15,9 @@ use Rattle.tribes_ends.specs.declared.drawing.DrawFault.TheVariants as fault
 use Rattle.tribes_ends.specs.declared.link.Side.{Side}
 use Rattle.tribes_link.specs.declared.answering.TheConstants.{NO_END, NO_MEMORY}
 use Rattle.tribes_link.specs.declared.end.TheConstants.{OPEN}
-use Rattle.tribes_link.specs.declared.timeline.TheConstants.{OPEN_TIMELINE}
-use Rattle.tribes_link.specs.declared.timeline.ShapeRow.{ShapeRow}
-use Rattle.tribes_link.specs.declared.timeline.WayRow.{WayRow}
+use Rattle.tribes_link.specs.declared.timeline_handle.TheConstants.{OPEN_TIMELINE}
+use Rattle.tribes_link.specs.declared.timeline_handle.ShapeRow.{ShapeRow}
+use Rattle.tribes_link.specs.declared.timeline_handle.WayRow.{WayRow}
 use Rattle.tribes_link.specs.declared.timeline_answers.TheConstants.{NO_TIMELINE, BAD_SHAPE, BAD_WAY, NO_SLOT, NO_PACKET, GOES_BACK, NO_FIELD, NO_KIND, WRONG_END}
 use Rattle.tribes_link.specs.Answers.{is_answer}
 use Rattle.tribes_link.specs.Behind.{Tells}

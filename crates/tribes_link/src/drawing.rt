@@ -11,7 +11,7 @@ ghost use Rattle.tribes_link.specs.Drawing.{LineAnswered, LineAnswers, DrawAnswe
 
 use crate::answering::NO_END;
 use crate::end::End;
-use crate::timeline::TimelineHandle;
+use crate::timeline_handle::TimelineHandle;
 use crate::timeline_answers::{
     NO_TIMELINE, finish_heard, finish_kind, finish_told, finish_value,
 };

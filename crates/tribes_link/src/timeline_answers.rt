@@ -3,7 +3,7 @@ ghost use Rattle.std.specs.Prelude.{◌≡◌, ◌↔◌, pos, Ok, IsOk, Some, N
 ghost use Rattle.std.specs.Result.{result_err};
 ghost use Rattle.tribes_link.specs.Drawing.{line_code, LineAnswered, DrawAnswered};
 
-use crate::timeline::TimelineHandle;
+use crate::timeline_handle::TimelineHandle;
 use timeline::{Refusal, Timeline};
 use tribes_ends::DrawFault;
 
