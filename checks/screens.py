@@ -31,13 +31,14 @@ class Screen:
         self.clock = numbers(r"clock (\d+)", text)
         self.packet, self.copies = numbers(r"packet (\d+)  copies (\d+)", text) or (None, None)
         self.sampled, self.accepted = numbers(r"moves (\d+)  accepted (\d+)", text) or (None, None)
+        self.moment = (numbers(r"moment (\d+)", text) or (None,))[0]
         self.taken, self.refused = numbers(r"taken (\d+)  refused (\d+)", text) or (None, None)
         self.lost = numbers(r"lost +down (\d+)% up (\d+)%", text)
         self.events = (numbers(r"events (\d+)", text) or (None,))[0]
         self.map = [line.ljust(80)[:MAP_COLUMNS] for line in lines[1 : 1 + MAP_ROWS]]
 
     def is_whole(self):
-        return None not in (self.client, self.place, self.offset, self.told, self.clock, self.packet, self.sampled, self.taken)
+        return None not in (self.moment, self.client, self.place, self.offset, self.told, self.clock, self.packet, self.sampled, self.taken)
 
     def dim(self, row, pattern):
         """Whether what the pattern finds in that row is dim, all of it."""
@@ -129,6 +130,18 @@ class Served:
         return Shown(show), [it.split(" ") for it in world.split(" | ")[1:]]
 
 
+    def history(self, client, datagrams):
+        """What the client shows after each data packet of these datagrams, as pairs of the packet's number and that."""
+        places = self.places(client, datagrams)
+        packets = [head_of(data)[1] for data in datagrams if head_of(data)[0] == 0]
+        lines, taken = self.front(client, max(packets)), taking(client, places)
+        for line in taken:
+            lines += [line, f"show {client}"] if line.startswith("down ") else [line]
+        shows = [line for line in self.run("\n".join(lines) + "\n").splitlines() if line.startswith("show ")][-len(places) :]
+        kinds = [head_of(data)[:2] for data in datagrams]
+        return [(number, Shown(show)) for (kind, number), show in zip(kinds, shows, strict=True) if kind == 0]
+
+
 class Shown:
     """A line `show`: copies as (kind, values, whether each is settled), by slot."""
 
@@ -167,39 +180,88 @@ def seen(script, client, world):
     return sorted(found)
 
 
-def drawn(shown, screen):
-    """The letters of the map as they are to be drawn: the copies round the place in the middle, one kind over another."""
-    high, wide = RADIUS // (MAP_ROWS // 2) + 1, RADIUS // (MAP_COLUMNS // 2) + 1
-    high, wide = (2 * wide, wide) if high < 2 * wide else (high, (high + 1) // 2)
-    middle = (screen.place[0] + screen.offset[0], screen.place[1] + screen.offset[1])
-    rows = {}
-
-    def put(kind, values, letter):
-        row = (values[1] - middle[1] + high * (MAP_ROWS // 2)) // high
-        column = (values[0] - middle[0] + wide * (MAP_COLUMNS // 2)) // wide
-        if kind == "flag":
-            row, column = min(max(row, 0), MAP_ROWS - 1), min(max(column, 0), MAP_COLUMNS - 1)
-        if 0 <= row < MAP_ROWS and 0 <= column < MAP_COLUMNS:
-            rows[row, column] = letter
-
-    for order in ("mine", "drone", "disc", "flag", "player"):
-        for slot in sorted(shown.copies):
-            kind, block, values, _ = shown.copies[slot]
-            if kind == order and slot != shown.own:
-                team = "RB"[block & 1]
-                letters = {"mine": "M" if values[-1] else "m", "drone": "d", "disc": "*", "flag": "F", "player": team}
-                put(kind, values, letters[kind])
-    put("player", shown.copies[shown.own][2], "o")
-    rows[MAP_ROWS // 2, MAP_COLUMNS // 2] = "@"
-    return rows
+LETTERS = {"drone": "dd", "disc": "*+", "flag": "FP", "player": "RB"}
 
 
-def map_differs(shown, screen):
-    """The first place of the map that shows another letter than is to stand there. Ground is `.`, `:` or nothing."""
-    rows = drawn(shown, screen)
-    for row in range(MAP_ROWS):
-        for column in range(MAP_COLUMNS):
-            came, wanted = screen.map[row][column], rows.get((row, column))
-            if came != wanted if wanted else came not in " .:":
-                return f"row {row}, column {column} shows '{came}', wanted is '{wanted or 'ground'}'"
+def letter_of(kind, blue, values):
+    """Each team has its own letters. A free flag lies at home, and only the other team can hold one."""
+    if kind == "mine":
+        return "mM"[values[2]]
+    if kind == "flag":
+        blue = values[2] & 1 if values[2] else values[0] > EDGE // 2
+    return LETTERS[kind][blue]
+
+
+def middle_by(place, size, count):
+    """The middle of the map by a place: the place, or as far from the field's end as the map reaches to it."""
+    return min(max(place, size * (count // 2)), EDGE + 1 - size * (count - count // 2))
+
+
+class Around:
+    """The copy that a slot had last, by the packets that the client took: for each of its fields the two values that it showed around the
+    moment that is drawn. Between two packets that showed one value nothing else is drawn."""
+
+    def __init__(self, rows, moment):
+        before = [values for packet, values in rows if 256 * packet <= moment]
+        self.first = before[-1] if before else rows[0][1]
+        self.second = list(self.first)
+        for place, value in enumerate(self.first):
+            later = [values[place] for packet, values in rows if 256 * packet > moment and values[place] != value]
+            self.second[place] = later[0] if before and later else value
+
+
+def others(history, moment):
+    """What is drawn of the others at a moment, as (kind, team, Around), by the pairs of a packet that was taken and what was shown then."""
+    last, found = history[-1][1], []
+    for slot in {slot for _, shown in history for slot in shown.copies} - {last.own}:
+        at = max(place for place, (_, shown) in enumerate(history) if slot in shown.copies)
+        if at + 1 < len(history) and 256 * history[at + 1][0] <= moment:
+            continue
+        kind, block = history[at][1].copies[slot][:2]
+        rows = []
+        while at >= 0 and slot in history[at][1].copies and history[at][1].copies[slot][:2] == (kind, block):
+            rows.insert(0, (history[at][0], history[at][1].copies[slot][2]))
+            at -= 1
+        found.append((kind, block & 1, Around(rows, moment)))
+    return found
+
+
+class Map:
+    """Where places stand on the map: round the own place, within the field."""
+
+    def __init__(self, screen):
+        high, wide = RADIUS // (MAP_ROWS // 2) + 1, RADIUS // (MAP_COLUMNS // 2) + 1
+        self.high, self.wide = (2 * wide, wide) if high < 2 * wide else (high, (high + 1) // 2)
+        self.here = (screen.place[0] + screen.offset[0], screen.place[1] + screen.offset[1])
+        self.x, self.y = middle_by(self.here[0], self.wide, MAP_COLUMNS), middle_by(self.here[1], self.high, MAP_ROWS)
+
+    def cell(self, x, y, is_kept):
+        row = (y - self.y + self.high * (MAP_ROWS // 2)) // self.high
+        column = (x - self.x + self.wide * (MAP_COLUMNS // 2)) // self.wide
+        return (min(max(row, 0), MAP_ROWS - 1), min(max(column, 0), MAP_COLUMNS - 1)) if is_kept else (row, column)
+
+    def cells(self, kind, around):
+        """The cells from one place to the other, those that are off the map too."""
+        ends = [self.cell(*values[:2], kind == "flag") for values in (around.first, around.second)]
+        rows, columns = (range(min(it), max(it) + 1) for it in zip(*ends))
+        return {(row, column) for row in rows for column in columns}
+
+
+def map_differs(history, screen):
+    """The first fault of the map: a letter that nothing explains which is drawn between what it showed by the two packets around, or such a
+    thing that is neither there nor under another letter. Ground is `.`, `:` or nothing."""
+    places, wanted = Map(screen), []
+    for kind, team, around in others(history, screen.moment):
+        if kind != "clock":
+            letters = {letter_of(kind, team, values) for values in (around.first, around.second)}
+            wanted.append((letters, places.cells(kind, around)))
+    own = history[-1][1].copies[history[-1][1].own][2]
+    wanted += [({"o"}, {places.cell(own[0], own[1], False)}), ({"@"}, {places.cell(*places.here, True)})]
+    shows = {(row, column): screen.map[row][column] for row in range(MAP_ROWS) for column in range(MAP_COLUMNS)}
+    for cell, letter in shows.items():
+        if letter not in " .:" and not any(letter in letters and cell in cells for letters, cells in wanted):
+            return f"row {cell[0]}, column {cell[1]} shows '{letter}', which nothing explains"
+    for letters, cells in wanted:
+        if cells <= shows.keys() and all(shows[cell] in " .:" for cell in cells):
+            return f"none of {sorted(letters)} at {sorted(cells)}"
     return None

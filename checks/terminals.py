@@ -1,8 +1,13 @@
 """Programs on a terminal of tmux: keys are sent to it, and its screen is read."""
 
+import fcntl
 import os
+import pty
 import re
+import select
+import struct
 import subprocess
+import termios
 import time
 
 
@@ -59,3 +64,49 @@ class Terminal:
 
     def close(self):
         self.tmux("kill-server")
+
+
+class Telling:
+    """A terminal of 80 x 24 that has kitty's key protocol: it answers that it has, and then tells what it is made to send."""
+
+    def __init__(self, *words):
+        self.whole, end = pty.openpty()
+        fcntl.ioctl(end, termios.TIOCSWINSZ, struct.pack("4H", 24, 80, 0, 0))
+        environment = {**os.environ, "TERM": "xterm-256color"}
+        self.process = subprocess.Popen([*map(str, words)], stdin=end, stdout=end, stderr=end, start_new_session=True, env=environment)
+        os.close(end)
+        self.came, self.answers = b"", 0
+
+    def send(self, keys):
+        os.write(self.whole, keys)
+
+    def hear(self, seconds):
+        """Takes what the program writes, and answers its question."""
+        if not select.select([self.whole], [], [], seconds)[0]:
+            return
+        try:
+            self.came += os.read(self.whole, 65_536)
+        except OSError:  # (the program is gone)
+            time.sleep(seconds)
+        if self.came.count(b"\x1b[?u") > self.answers:
+            self.answers += 1
+            self.send(b"\x1b[?0u")
+
+    def rest(self, seconds):
+        end = time.monotonic() + seconds
+        while (left := end - time.monotonic()) > 0:
+            self.hear(left)
+
+    def comes(self, what, seconds=10):
+        """Whether the program wrote these bytes since it began, within so many seconds."""
+        end = time.monotonic() + seconds
+        while what not in self.came and time.monotonic() < end:
+            self.hear(0.05)
+        return what in self.came
+
+    def ended(self, seconds=10):
+        """The status with which the program ends within so many seconds."""
+        end = time.monotonic() + seconds
+        while self.process.poll() is None and time.monotonic() < end:
+            self.hear(0.05)
+        return self.process.returncode

@@ -127,6 +127,40 @@ export class Client extends End {
     changes(): Change[];
 }
 
+/** How a field goes from one value to the next; the last is the short way round a circle. */
+export type Way = "stepped" | "linear" | { least: number; most: number };
+
+export class Timeline {
+    private constructor();
+    free(): void;
+    take(client: Client): void;
+    began(slot: number, packet: number, kind: number): void;
+    came(slot: number, packet: number, field: number, value: number): void;
+    ended(slot: number, packet: number): void;
+    value(slot: number, field: number, at: number): number | null;
+    kind(slot: number, at: number): number | null;
+}
+
+/** Milliseconds from one packet of the server to the next; packets that what is drawn lies behind the last one; and that it may be ahead of it. */
+export interface Pace {
+    period: number;
+    delay?: number;
+    ahead?: number;
+}
+
+export class Clock {
+    private constructor();
+    came(packet: number, now: number): void;
+    moment(now: number): number;
+}
+
+export class Offset {
+    private constructor();
+    corrected(was: number, is: number): void;
+    faded(): void;
+    value(): number;
+}
+
 declare class Tribes {
     private constructor();
     /** The exports as in C, an address or a number of 64 bits as two of 32, the lower first. */
@@ -134,6 +168,10 @@ declare class Tribes {
     readonly memoryBytes: number;
     server(config: Config, kinds: Kind[], blocks?: (string | Bytes)[]): Server;
     client(config: Config, kinds: Kind[]): Client;
+    /** For each kind how its fields go. */
+    timeline(ways: Way[][], how?: { slots?: number; depth?: number }): Timeline;
+    clock(pace: Pace, now: number): Clock;
+    offset(most: number): Offset;
 }
 
 type Source = Response | Bytes | WebAssembly.Module;

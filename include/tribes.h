@@ -120,7 +120,21 @@ enum {
     TRIBES_EVENTS_FULL = -71,    /* first, last unacknowledged */
     TRIBES_MOVES_WORN = -72,     /* life */
     TRIBES_MOVES_FULL = -73,     /* first, last unacknowledged */
-    TRIBES_MOVE_TOO_WIDE = -74   /* the bits that a move has */
+    TRIBES_MOVE_TOO_WIDE = -74,  /* the bits that a move has */
+    /* timelines, clocks and offsets, which tribes_why does not tell of; they answer NO_KIND, NO_FIELD and NO_MEMORY too */
+    TRIBES_NO_TIMELINE = -90,
+    TRIBES_HAS_TIMELINE = -91,
+    TRIBES_BAD_SHAPE = -92,
+    TRIBES_BAD_WAY = -93,
+    TRIBES_NO_SLOT = -94,
+    TRIBES_NO_PACKET = -95,
+    TRIBES_GOES_BACK = -96,
+    TRIBES_NO_CLOCK = -97,
+    TRIBES_BAD_PACE = -98,
+    TRIBES_NO_TIME = -99,
+    TRIBES_TIME_GOES_BACK = -100,
+    TRIBES_NOT_NEWER = -101,
+    TRIBES_NO_OFFSET = -102
 };
 
 /* A handle. Fill it with zeros before the first call, and never copy it while an end is behind it. */
@@ -200,6 +214,44 @@ typedef struct tribes_change {
     uint32_t fields; /* bit f: field f */
 } tribes_change;
 
+/* A timeline's handle. Fill it with zeros before the first call, and never copy it while a timeline is behind it. */
+typedef struct tribes_timeline {
+    uint32_t state;
+    void *at;
+} tribes_timeline;
+
+typedef struct tribes_shape {
+    uint32_t slots;  /* 1 to 256, which is what a client can have */
+    uint32_t fields; /* 1 to 16: of each copy the first so many are kept */
+    uint32_t depth;  /* values that are kept of each field: 1 to 64, and 0 stands for 8 */
+} tribes_shape;
+
+/* how a field goes from one value to the next */
+typedef struct tribes_way {
+    uint32_t how;        /* 0: stepped; 1: linear; 2: turning, the short way round the circle from least to most */
+    int32_t least, most;
+} tribes_way;
+
+typedef struct tribes_pace {
+    uint32_t period; /* milliseconds from one packet of the server to the next, not 0 */
+    uint16_t delay;  /* packets that what is drawn lies behind the last one that came: 2 or 3 */
+    uint16_t ahead;  /* packets that it may be ahead of that one */
+} tribes_pace;
+
+/* A clock's numbers: tribes_clock_start makes them, and no one else changes them. It may be copied. */
+typedef struct tribes_clock {
+    tribes_pace pace;
+    uint64_t start;
+    uint32_t newest;
+    uint64_t came, read, position;
+} tribes_clock;
+
+/* An offset of one field: {1000, 0} is none, and none that will pass 1,000 either way. It may be copied. */
+typedef struct tribes_offset {
+    uint32_t most; /* at most 16,777,215 */
+    int64_t left;
+} tribes_offset;
+
 /* The functions of the library. A slice crosses as its pointer and then its count. */
 int32_t tribes_server(tribes_end *end, const tribes_config *config, const tribes_kind *kinds, size_t kind_count,
                       const tribes_field *fields, size_t field_count, const uint8_t *block_bytes, size_t byte_count,
@@ -254,6 +306,31 @@ int32_t tribes_copy(tribes_end *end, uint32_t slot, tribes_copied *copied, int64
 int32_t tribes_next_copy(tribes_end *end, uint32_t from, uint32_t *slot);
 int32_t tribes_changes(tribes_end *end, tribes_change *changes, size_t room, uint32_t *count);
 int32_t tribes_control(tribes_end *end, uint32_t *slot);
+
+/* what a client draws (docs/timeline.md). A timeline keeps the last values that came; ways has shape.fields rows for each kind. Call
+ * tribes_timeline_take once after each datagram that was taken: it tells the timeline what that one did to slots. Or tell it yourself: a
+ * copy began, a value came, a copy is gone. A moment is a packet's number times 256. tribes_timeline_value answers 1 with the value then,
+ * and tribes_timeline_kind with the kind of the copy that is drawn; 0: none is. Values are of 32 bits: one beyond is told as the nearest */
+int32_t tribes_timeline_open(tribes_timeline *timeline, const tribes_shape *shape, const tribes_way *ways, size_t way_count);
+int32_t tribes_timeline_free(tribes_timeline *timeline);
+int32_t tribes_timeline_take(tribes_timeline *timeline, tribes_end *end);
+int32_t tribes_timeline_began(tribes_timeline *timeline, uint32_t slot, uint32_t packet, uint32_t kind);
+int32_t tribes_timeline_came(tribes_timeline *timeline, uint32_t slot, uint32_t packet, uint32_t field, int32_t value);
+int32_t tribes_timeline_ended(tribes_timeline *timeline, uint32_t slot, uint32_t packet);
+int32_t tribes_timeline_value(tribes_timeline *timeline, uint32_t slot, uint32_t field, uint64_t at, int64_t *value);
+int32_t tribes_timeline_kind(tribes_timeline *timeline, uint32_t slot, uint64_t at, uint32_t *kind);
+
+/* which moment is drawn. `now` are the caller's milliseconds, which never go back; tell of each data packet that is newer (`taken` of
+ * tribes_counts), and read the clock once a frame */
+int32_t tribes_clock_start(tribes_clock *clock, const tribes_pace *pace, uint64_t now);
+int32_t tribes_clock_came(tribes_clock *clock, uint32_t packet, uint64_t now);
+int32_t tribes_clock_moment(tribes_clock *clock, uint64_t now, uint64_t *at);
+
+/* corrections of what was predicted, hidden: shown is a field's value plus the offset. tribes_offset_corrected takes up what the value
+ * jumps from `was` to `is`, and each tribes_offset_faded leaves three quarters */
+int32_t tribes_offset_corrected(tribes_offset *offset, int32_t was, int32_t is);
+int32_t tribes_offset_faded(tribes_offset *offset);
+int32_t tribes_offset_value(const tribes_offset *offset, int64_t *value);
 
 /* The answer in words. */
 static inline const char *tribes_text(int32_t code) {
@@ -318,6 +395,19 @@ static inline const char *tribes_text(int32_t code) {
     case TRIBES_MOVES_WORN: return "no further move has a number";
     case TRIBES_MOVES_FULL: return "32 moves are unacknowledged";
     case TRIBES_MOVE_TOO_WIDE: return "a move has a bit above those that are written";
+    case TRIBES_NO_TIMELINE: return "no timeline is behind the handle";
+    case TRIBES_HAS_TIMELINE: return "a timeline is behind the handle already";
+    case TRIBES_BAD_SHAPE: return "a timeline's slots, fields or depth are none";
+    case TRIBES_BAD_WAY: return "a field can't go so";
+    case TRIBES_NO_SLOT: return "the timeline has no slot of this number";
+    case TRIBES_NO_PACKET: return "no packet has this number";
+    case TRIBES_GOES_BACK: return "a packet of a higher number told before";
+    case TRIBES_NO_CLOCK: return "no clock has these numbers";
+    case TRIBES_BAD_PACE: return "a packet takes no time";
+    case TRIBES_NO_TIME: return "the time is too great";
+    case TRIBES_TIME_GOES_BACK: return "a later time was told before";
+    case TRIBES_NOT_NEWER: return "a packet of this or a higher number came before";
+    case TRIBES_NO_OFFSET: return "no offset has these numbers";
     default: return code < 0 ? "unknown" : "done";
     }
 }

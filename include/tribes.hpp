@@ -344,6 +344,105 @@ public:
     }
 };
 
+/* ---- what a client draws (docs/timeline.md) */
+
+using shape = tribes_shape;
+using pace = tribes_pace;
+using way = tribes_way;
+inline constexpr way stepped{0, 0, 0}, linear{1, 0, 0};
+/* The short way round the circle of these values. */
+constexpr way turning(std::int32_t least, std::int32_t most) { return {2, least, most}; }
+
+/* What a call gave that tells no more than its code. */
+template <class T> result<T> by_code(std::int32_t code, T value) {
+    if (code < 0) return refusal{code, 0, 0};
+    return value;
+}
+inline result<void> by_code(std::int32_t code) {
+    if (code < 0) return refusal{code, 0, 0};
+    return {};
+}
+
+/* The last values that came of each field of each slot, and between two of them a value for each moment. */
+class timeline {
+public:
+    /* `ways` has shape.fields rows for each kind. */
+    static result<timeline> make(const tribes::shape &shape, span<const way> ways) {
+        timeline made;
+        std::int32_t code = tribes_timeline_open(&made.handle_, &shape, ways.data(), ways.size());
+        if (code < 0) return refusal{code, 0, 0};
+        return result<timeline>(std::move(made));
+    }
+    timeline(const timeline &) = delete;
+    timeline &operator=(const timeline &) = delete;
+    timeline(timeline &&other) noexcept : handle_(other.handle_) { other.handle_ = {}; }
+    timeline &operator=(timeline &&other) noexcept {
+        std::swap(handle_, other.handle_);
+        return *this;
+    }
+    ~timeline() { tribes_timeline_free(&handle_); }
+
+    /* Takes over what the packet that the client took last did to slots: once after each datagram that was taken. */
+    result<void> take(client &from) { return by_code(tribes_timeline_take(&handle_, from.handle())); }
+    result<void> began(std::uint32_t slot, std::uint32_t packet, std::uint32_t kind) { return by_code(tribes_timeline_began(&handle_, slot, packet, kind)); }
+    result<void> came(std::uint32_t slot, std::uint32_t packet, std::uint32_t field, std::int32_t value) {
+        return by_code(tribes_timeline_came(&handle_, slot, packet, field, value));
+    }
+    result<void> ended(std::uint32_t slot, std::uint32_t packet) { return by_code(tribes_timeline_ended(&handle_, slot, packet)); }
+
+    /* The value of a field at a moment, and the kind of the copy that is drawn. */
+    result<std::optional<std::int64_t>> value(std::uint32_t slot, std::uint32_t field, std::uint64_t at) {
+        std::int64_t found = 0;
+        std::int32_t code = tribes_timeline_value(&handle_, slot, field, at, &found);
+        return by_code(code, code == 1 ? std::optional(found) : std::nullopt);
+    }
+    result<std::optional<std::uint32_t>> kind(std::uint32_t slot, std::uint64_t at) {
+        std::uint32_t found = 0;
+        std::int32_t code = tribes_timeline_kind(&handle_, slot, at, &found);
+        return by_code(code, code == 1 ? std::optional(found) : std::nullopt);
+    }
+
+private:
+    timeline() = default;
+    tribes_timeline handle_{};
+};
+
+/* Which moment is drawn. */
+class clock {
+public:
+    static result<clock> make(const tribes::pace &pace, std::uint64_t now) {
+        clock made;
+        std::int32_t code = tribes_clock_start(&made.kept_, &pace, now);
+        return by_code(code, made);
+    }
+    result<void> came(std::uint32_t packet, std::uint64_t now) { return by_code(tribes_clock_came(&kept_, packet, now)); }
+    result<std::uint64_t> moment(std::uint64_t now) {
+        std::uint64_t at = 0;
+        std::int32_t code = tribes_clock_moment(&kept_, now, &at);
+        return by_code(code, at);
+    }
+
+private:
+    clock() = default;
+    tribes_clock kept_{};
+};
+
+/* What hides corrections of one field: at most so much either way. */
+class offset {
+public:
+    explicit offset(std::uint32_t most) : kept_{most, 0} {}
+    result<void> corrected(std::int32_t was, std::int32_t is) { return by_code(tribes_offset_corrected(&kept_, was, is)); }
+    result<void> faded() { return by_code(tribes_offset_faded(&kept_)); }
+    result<std::int64_t> value() const {
+        std::int64_t left = 0;
+        std::int32_t code = tribes_offset_value(&kept_, &left);
+        return by_code(code, left);
+    }
+
+private:
+    tribes_offset kept_;
+};
+
 /* Fields side by side as one number, the first in its lowest bits. */
 inline result<std::uint64_t> put_bits(span<const std::uint32_t> widths, span<const std::uint64_t> values) {
     std::uint64_t bits = 0;

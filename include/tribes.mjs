@@ -96,6 +96,19 @@ const REFUSALS = {
     MOVES_WORN: [-72, "no further move has a number"],
     MOVES_FULL: [-73, "32 moves are unacknowledged"],
     MOVE_TOO_WIDE: [-74, "a move has a bit above those that are written"],
+    NO_TIMELINE: [-90, "no timeline is behind the handle"],
+    HAS_TIMELINE: [-91, "a timeline is behind the handle already"],
+    BAD_SHAPE: [-92, "a timeline's slots, fields or depth are none"],
+    BAD_WAY: [-93, "a field can't go so"],
+    NO_SLOT: [-94, "the timeline has no slot of this number"],
+    NO_PACKET: [-95, "no packet has this number"],
+    GOES_BACK: [-96, "a packet of a higher number told before"],
+    NO_CLOCK: [-97, "no clock has these numbers"],
+    BAD_PACE: [-98, "a packet takes no time"],
+    NO_TIME: [-99, "the time is too great"],
+    TIME_GOES_BACK: [-100, "a later time was told before"],
+    NOT_NEWER: [-101, "a packet of this or a higher number came before"],
+    NO_OFFSET: [-102, "no offset has these numbers"],
 };
 const BY_CODE = new Map(Object.entries(REFUSALS).map(([name, [code, words]]) => [code, { name, words }]));
 
@@ -110,6 +123,11 @@ export class Refusal extends Error {
         this.first = first;
         this.second = second;
     }
+}
+/** An answer; a refusal of a call that tells no more than its code is thrown. */
+function byCode(code) {
+    if (code < 0) throw new Refusal(code);
+    return code;
 }
 const refusalOf = (name, first, second) => new Refusal(REFUSALS[name][0], first, second);
 
@@ -144,6 +162,22 @@ export class Broken extends Error {
 function u32(argument, it) {
     if (typeof it !== "number" || it >>> 0 !== it) throw new BadArgument(argument, "a whole number from 0 to 4,294,967,295", it);
     return it;
+}
+
+function i32(argument, it) {
+    if (typeof it !== "number" || (it | 0) !== it) throw new BadArgument(argument, "a whole number of 32 bits", it);
+    return it;
+}
+
+function u16(argument, it) {
+    if (u32(argument, it) > 65_535) throw new BadArgument(argument, "a whole number from 0 to 65,535", it);
+    return it;
+}
+
+/** The two words of a number from 0 to 2^53 - 1, the lower first. */
+function halvesOf(argument, it) {
+    if (exact(argument, it) < 0) throw new BadArgument(argument, "a number from 0 on", it);
+    return [it >>> 0, Math.floor(it / TWO_32)];
 }
 
 function flag(argument, it) {
@@ -251,6 +285,7 @@ class Tribes {
         const version = this.calls.tribes_version();
         if (version !== VERSION) throw new Error(`the module has version ${version} of the interface, and not ${VERSION}`);
         this.ends = new FinalizationRegistry((at) => this.reason === null && this.release(at));
+        this.timelines = new FinalizationRegistry((at) => this.reason === null && this.releaseTimeline(at));
         this.to = {};
         for (const [name, size] of Object.entries(PLACES)) this.to[name] = this.take(size);
         this.look();
@@ -277,6 +312,21 @@ class Tribes {
     /** A client's end of its connection. */
     client(config, kinds) {
         return new Client(this, config, kinds);
+    }
+
+    /** What a client draws of the others: `ways` has for each kind how its fields go, "stepped", "linear" or { least, most } of a circle. */
+    timeline(ways, how = {}) {
+        return new Timeline(this, ways, how);
+    }
+
+    /** Which moment is drawn. `now` are the caller's milliseconds, which never go back. */
+    clock(pace, now) {
+        return new Clock(this, pace, now);
+    }
+
+    /** What hides corrections of one field: at most so much either way. */
+    offset(most) {
+        return new Offset(this, most);
     }
 
     /** How many bytes the module's memory has. */
@@ -360,6 +410,31 @@ class Tribes {
     release(at) {
         this.calls.tribes_free(at, 0);
         this.calls.tribes_give(at);
+    }
+
+    releaseTimeline(at) {
+        this.calls.tribes_timeline_free(at, 0);
+        this.calls.tribes_give(at);
+    }
+
+    /** Makes a timeline behind a handle of zeros, and gives the handle's address. */
+    makeTimeline(shape, rows) {
+        if (this.isAsking) throw new Error("a timeline is made while a datagram's values are asked for");
+        const held = [this.take(16)];
+        try {
+            held.push(this.take(Math.max(16, 12 * rows.length)));
+            this.look();
+            const [handle, table] = held;
+            this.words.set([0, 0, 0, 0], handle >> 2);
+            this.words.set(shape, this.to.small >> 2);
+            rows.forEach((row, k) => this.words.set(row, (table >> 2) + 3 * k));
+            const code = this.calls.tribes_timeline_open(handle, 0, this.to.small, 0, table, 0, rows.length, 0);
+            this.look();
+            held.push(...(byCode(code) === 0 ? [held.shift()] : []));
+            return held.pop();
+        } finally {
+            if (this.reason === null) for (const at of held) this.calls.tribes_give(at);
+        }
     }
 }
 
@@ -660,5 +735,151 @@ export class Client extends End {
         const { to } = this._tribes, what = ["gone", "new", "updated"];
         this._done(this._calls().tribes_changes(this._at, 0, to.bytes, 0, MAX_CHANGES, 0, to.number, 0));
         return this._listed(3, (words, at) => ({ slot: words[at], what: what[words[at + 1]], fields: words[at + 2] }));
+    }
+}
+
+// ---- what a client draws
+
+/** The row of how a field goes. */
+function wayOf(argument, it) {
+    if (it === "stepped") return [0, 0, 0];
+    if (it === "linear") return [1, 0, 0];
+    const { least, most } = object(argument, it);
+    return [2, i32(`${argument}.least`, least), i32(`${argument}.most`, most)];
+}
+
+/** The last values that came of each field of each slot, and between two of them a value for each moment. A moment is a packet's number times 256. */
+export class Timeline {
+    constructor(tribes, ways, how) {
+        const { slots = 256, depth = 8 } = object("how it is kept", how);
+        const kinds = list("ways", ways).map((it, k) => list(`ways[${k}]`, it).map((way, f) => wayOf(`ways[${k}][${f}]`, way)));
+        const fields = Math.max(1, ...kinds.map((it) => it.length));
+        const rows = kinds.flatMap((it) => [...it, ...Array(fields - it.length).fill([0, 0, 0])]);
+        this._tribes = tribes;
+        this._at = 0;
+        this._at = tribes.makeTimeline([u32("slots", slots), fields, u32("depth", depth)], rows);
+        tribes.timelines.register(this, this._at, this);
+    }
+
+    /** Frees the timeline. One that is not freed is so some time after the last reference to it is gone. */
+    free() {
+        if (this._at === 0) return;
+        const at = this._at;
+        this._at = 0;
+        this._tribes.timelines.unregister(this);
+        this._tribes.releaseTimeline(at);
+    }
+
+    [Symbol.dispose ?? Symbol.for("Symbol.dispose")]() {
+        this.free();
+    }
+
+    _calls() {
+        const tribes = this._tribes;
+        if (this._at === 0) throw refusalOf("NO_TIMELINE");
+        if (tribes.words.length === 0) tribes.look();
+        return tribes.calls;
+    }
+
+    /** Takes over what the packet that the client took last did to slots: once after each datagram that was taken. */
+    take(client) {
+        if (!(client instanceof Client) || client._tribes !== this._tribes) throw new BadArgument("the client", "a client of the same module", client);
+        client._calls();
+        byCode(this._calls().tribes_timeline_take(this._at, 0, client._at, 0));
+    }
+
+    /** A copy of this kind is in the slot from this packet on. */
+    began(slot, packet, kind) {
+        byCode(this._calls().tribes_timeline_began(this._at, 0, u32("the slot", slot), u32("the packet", packet), u32("the kind", kind)));
+    }
+
+    /** This packet brought a value of a field. */
+    came(slot, packet, field, value) {
+        const words = [u32("the slot", slot), u32("the packet", packet), u32("the field", field), i32("the value", value)];
+        byCode(this._calls().tribes_timeline_came(this._at, 0, ...words));
+    }
+
+    /** The slot's copy is gone by this packet. */
+    ended(slot, packet) {
+        byCode(this._calls().tribes_timeline_ended(this._at, 0, u32("the slot", slot), u32("the packet", packet)));
+    }
+
+    /** The value of a field at a moment, or null. */
+    value(slot, field, at) {
+        const tribes = this._tribes, { to } = tribes, moment = halvesOf("the moment", at);
+        const code = this._calls().tribes_timeline_value(this._at, 0, u32("the slot", slot), u32("the field", field), ...moment, to.count, 0);
+        return byCode(code) === 1 ? (tribes.word("count", 1) | 0) * TWO_32 + tribes.word("count") : null;
+    }
+
+    /** The kind of the copy that is drawn in the slot at a moment, or null. */
+    kind(slot, at) {
+        const { to } = this._tribes, moment = halvesOf("the moment", at);
+        const code = this._calls().tribes_timeline_kind(this._at, 0, u32("the slot", slot), ...moment, to.number, 0);
+        return byCode(code) === 1 ? this._tribes.word("number") : null;
+    }
+}
+
+/** Numbers that a call reads and writes, and that are kept here between two calls. */
+class Kept {
+    constructor(tribes, words) {
+        this._tribes = tribes;
+        this._words = new Uint32Array(words);
+    }
+
+    _does(call, ...words) {
+        const tribes = this._tribes, first = tribes.to.small >> 2;
+        if (tribes.words.length === 0) tribes.look();
+        tribes.words.set(this._words, first);
+        byCode(tribes.calls[call](tribes.to.small, 0, ...words));
+        this._words.set(tribes.words.subarray(first, first + this._words.length));
+    }
+}
+
+/** Which moment is drawn: it follows the packets that come. */
+export class Clock extends Kept {
+    constructor(tribes, pace, now) {
+        super(tribes, 12);
+        const { period, delay = 2, ahead = 2 } = object("the pace", pace), { to } = tribes, time = halvesOf("the time", now);
+        const row = [u32("the period", period), u16("the delay", delay) | (u16("ahead", ahead) << 16)];
+        if (tribes.words.length === 0) tribes.look();
+        tribes.words.set(row, to.fields >> 2);
+        this._does("tribes_clock_start", to.fields, 0, ...time);
+    }
+
+    /** A data packet came, which is newer than those before. */
+    came(packet, now) {
+        this._does("tribes_clock_came", u32("the packet", packet), ...halvesOf("the time", now));
+    }
+
+    /** The moment to draw. */
+    moment(now) {
+        const tribes = this._tribes;
+        this._does("tribes_clock_moment", ...halvesOf("the time", now), tribes.to.number, 0);
+        return tribes.word("number", 1) * TWO_32 + tribes.word("number");
+    }
+}
+
+/** What hides corrections of one field. Shown is the field's value plus it. */
+export class Offset extends Kept {
+    constructor(tribes, most) {
+        super(tribes, 4);
+        this._words[0] = u32("the bound", most);
+    }
+
+    /** The value, which was predicted as `was`, is `is`: what is shown stays. */
+    corrected(was, is) {
+        this._does("tribes_offset_corrected", i32("the value before", was), i32("the value", is));
+    }
+
+    /** A step passed: three quarters are left. */
+    faded() {
+        this._does("tribes_offset_faded");
+    }
+
+    /** What is to be added to the field's value where it is shown. */
+    value() {
+        const tribes = this._tribes;
+        this._does("tribes_offset_value", tribes.to.number, 0);
+        return (tribes.word("number", 1) | 0) * TWO_32 + tribes.word("number");
     }
 }

@@ -254,6 +254,19 @@ pub fn words(code: i32) -> &'static str {
         -72 => "no further move has a number",
         -73 => "32 moves are unacknowledged",
         -74 => "a move has a bit above those that are written",
+        -90 => "no timeline is behind the handle",
+        -91 => "a timeline is behind the handle already",
+        -92 => "a timeline's slots, fields or depth are none",
+        -93 => "a field can't go so",
+        -94 => "the timeline has no slot of this number",
+        -95 => "no packet has this number",
+        -96 => "a packet of a higher number told before",
+        -97 => "no clock has these numbers",
+        -98 => "a packet takes no time",
+        -99 => "the time is too great",
+        -100 => "a later time was told before",
+        -101 => "a packet of this or a higher number came before",
+        -102 => "no offset has these numbers",
         0.. => "done",
         _ => "unknown",
     }
@@ -278,6 +291,70 @@ struct Copied {
     kind: u32,
     block: u32,
     fields: u32,
+}
+
+/// How large a timeline is: slots, 1 to 256; fields of a copy that are kept, 1 to 16; values of each field that are, 1 to 64, and 0 stands for 8.
+#[repr(C)]
+#[derive(Clone, Copy, Debug)]
+pub struct Shape {
+    pub slots: u32,
+    pub fields: u32,
+    pub depth: u32,
+}
+
+/// How a field goes from one value to the next: 0 stepped, 1 linear, 2 turning from `least` to `most`.
+#[repr(C)]
+#[derive(Clone, Copy, Debug, Default)]
+pub struct Way {
+    pub how: u32,
+    pub least: i32,
+    pub most: i32,
+}
+
+impl Way {
+    pub const STEPPED: Way = Way { how: 0, least: 0, most: 0 };
+    pub const LINEAR: Way = Way { how: 1, least: 0, most: 0 };
+
+    /// The short way round the circle of these values.
+    pub const fn turning(least: i32, most: i32) -> Way {
+        Way { how: 2, least, most }
+    }
+}
+
+/// How a clock goes: milliseconds from one packet of the server to the next; packets that what is drawn lies behind the last one that came; and
+/// packets that it may be ahead of that one.
+#[repr(C)]
+#[derive(Clone, Copy, Debug)]
+pub struct Pace {
+    pub period: u32,
+    pub delay: u16,
+    pub ahead: u16,
+}
+
+/// Which moment is drawn.
+#[repr(C)]
+#[derive(Clone, Copy, Debug)]
+pub struct Clock {
+    pace: Pace,
+    start: u64,
+    newest: u32,
+    came: u64,
+    read: u64,
+    position: u64,
+}
+
+/// What hides corrections of one field: at most so much either way, and what is left of it.
+#[repr(C)]
+#[derive(Clone, Copy, Debug, Default)]
+pub struct Offset {
+    most: u32,
+    left: i64,
+}
+
+#[repr(C)]
+struct TimelineHandle {
+    state: u32,
+    at: *mut c_void,
 }
 
 #[rustfmt::skip]
@@ -314,6 +391,20 @@ unsafe extern "C" {
     fn tribes_next_copy(end: *mut Handle, from: u32, slot: *mut u32) -> i32;
     fn tribes_changes(end: *mut Handle, changes: *mut Change, room: usize, count: *mut u32) -> i32;
     fn tribes_control(end: *mut Handle, slot: *mut u32) -> i32;
+    fn tribes_timeline_open(timeline: *mut TimelineHandle, shape: *const Shape, ways: *const Way, way_count: usize) -> i32;
+    fn tribes_timeline_free(timeline: *mut TimelineHandle) -> i32;
+    fn tribes_timeline_take(timeline: *mut TimelineHandle, end: *mut Handle) -> i32;
+    fn tribes_timeline_began(timeline: *mut TimelineHandle, slot: u32, packet: u32, kind: u32) -> i32;
+    fn tribes_timeline_came(timeline: *mut TimelineHandle, slot: u32, packet: u32, field: u32, value: i32) -> i32;
+    fn tribes_timeline_ended(timeline: *mut TimelineHandle, slot: u32, packet: u32) -> i32;
+    fn tribes_timeline_value(timeline: *mut TimelineHandle, slot: u32, field: u32, at: u64, value: *mut i64) -> i32;
+    fn tribes_timeline_kind(timeline: *mut TimelineHandle, slot: u32, at: u64, kind: *mut u32) -> i32;
+    fn tribes_clock_start(clock: *mut Clock, pace: *const Pace, now: u64) -> i32;
+    fn tribes_clock_came(clock: *mut Clock, packet: u32, now: u64) -> i32;
+    fn tribes_clock_moment(clock: *mut Clock, now: u64, at: *mut u64) -> i32;
+    fn tribes_offset_corrected(offset: *mut Offset, was: i32, is: i32) -> i32;
+    fn tribes_offset_faded(offset: *mut Offset) -> i32;
+    fn tribes_offset_value(offset: *const Offset, value: *mut i64) -> i32;
 }
 
 /// The version of the interface that the library has: it fits where this is `VERSION`.
@@ -560,5 +651,114 @@ impl Client {
         let (mut changes, mut count) = ([Change::default(); MAX_CHANGES], 0);
         let _ = unsafe { tribes_changes(&mut self.0, changes.as_mut_ptr(), changes.len(), &mut count) };
         changes[..count as usize].to_vec()
+    }
+}
+
+/// Moments to a packet: packet n has the moment `n * MOMENTS`.
+pub const MOMENTS: u64 = 256;
+
+/// The refusal of a call that tells no more than its code.
+fn by_code(code: i32) -> Result<i32, Error> {
+    if code < 0 { Err(Error { code, first: 0, second: 0 }) } else { Ok(code) }
+}
+
+/// What a client draws of the others: the last values that came, and between two of them a value for each moment.
+pub struct Timeline(TimelineHandle);
+
+// SAFETY: as of an end: `&mut` gives it to one call at a time.
+unsafe impl Send for Timeline {}
+
+// SAFETY, of each call: as of an end.
+impl Timeline {
+    /// `ways` has `shape.fields` rows for each kind.
+    pub fn new(shape: Shape, ways: &[Way]) -> Result<Timeline, Error> {
+        let mut made = TimelineHandle { state: 0, at: core::ptr::null_mut() };
+        by_code(unsafe { tribes_timeline_open(&mut made, &shape, ways.as_ptr(), ways.len()) })?;
+        Ok(Timeline(made))
+    }
+
+    /// Takes over what the packet that the client took last did to slots: once after each datagram that was taken.
+    pub fn take(&mut self, client: &mut Client) -> Result<(), Error> {
+        by_code(unsafe { tribes_timeline_take(&mut self.0, &mut client.0) }).map(|_| ())
+    }
+
+    /// A copy of this kind is in the slot from this packet on.
+    pub fn began(&mut self, slot: u32, packet: u32, kind: u32) -> Result<(), Error> {
+        by_code(unsafe { tribes_timeline_began(&mut self.0, slot, packet, kind) }).map(|_| ())
+    }
+
+    /// This packet brought a value of a field.
+    pub fn came(&mut self, slot: u32, packet: u32, field: u32, value: i32) -> Result<(), Error> {
+        by_code(unsafe { tribes_timeline_came(&mut self.0, slot, packet, field, value) }).map(|_| ())
+    }
+
+    /// The slot's copy is gone by this packet.
+    pub fn ended(&mut self, slot: u32, packet: u32) -> Result<(), Error> {
+        by_code(unsafe { tribes_timeline_ended(&mut self.0, slot, packet) }).map(|_| ())
+    }
+
+    /// The value of a field at a moment.
+    pub fn value(&mut self, slot: u32, field: u32, at: u64) -> Result<Option<i64>, Error> {
+        let mut value = 0;
+        let code = by_code(unsafe { tribes_timeline_value(&mut self.0, slot, field, at, &mut value) })?;
+        Ok((code == 1).then_some(value))
+    }
+
+    /// The kind of the copy that is drawn in the slot at a moment.
+    pub fn kind(&mut self, slot: u32, at: u64) -> Result<Option<u32>, Error> {
+        let mut kind = 0;
+        let code = by_code(unsafe { tribes_timeline_kind(&mut self.0, slot, at, &mut kind) })?;
+        Ok((code == 1).then_some(kind))
+    }
+}
+
+impl Drop for Timeline {
+    fn drop(&mut self) {
+        let _ = unsafe { tribes_timeline_free(&mut self.0) };
+    }
+}
+
+impl Clock {
+    /// `now` are the caller's milliseconds, which never go back.
+    pub fn new(pace: Pace, now: u64) -> Result<Clock, Error> {
+        let mut clock = Clock { pace, start: 0, newest: 0, came: 0, read: 0, position: 0 };
+        by_code(unsafe { tribes_clock_start(&mut clock, &pace, now) })?;
+        Ok(clock)
+    }
+
+    /// A data packet came, which is newer than those before.
+    pub fn came(&mut self, packet: u32, now: u64) -> Result<(), Error> {
+        by_code(unsafe { tribes_clock_came(self, packet, now) }).map(|_| ())
+    }
+
+    /// The moment to draw.
+    pub fn moment(&mut self, now: u64) -> Result<u64, Error> {
+        let mut at = 0;
+        by_code(unsafe { tribes_clock_moment(self, now, &mut at) })?;
+        Ok(at)
+    }
+}
+
+impl Offset {
+    /// No offset, and none that will pass `most` either way, which is 16,777,215 at most.
+    pub fn new(most: u32) -> Offset {
+        Offset { most, left: 0 }
+    }
+
+    /// The value, which was predicted as `was`, is `is`: what is shown stays.
+    pub fn corrected(&mut self, was: i32, is: i32) -> Result<(), Error> {
+        by_code(unsafe { tribes_offset_corrected(self, was, is) }).map(|_| ())
+    }
+
+    /// A step passed: three quarters are left.
+    pub fn faded(&mut self) -> Result<(), Error> {
+        by_code(unsafe { tribes_offset_faded(self) }).map(|_| ())
+    }
+
+    /// What is to be added to the field's value where it is shown.
+    pub fn value(&self) -> Result<i64, Error> {
+        let mut value = 0;
+        by_code(unsafe { tribes_offset_value(self, &mut value) })?;
+        Ok(value)
     }
 }

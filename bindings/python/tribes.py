@@ -66,6 +66,11 @@ _Change = struct("_Change", ("slot", u32), ("what", u32), ("fields", u32))
 _NAMES = "sent unjudged taken delivered waiting moves accepted event_places loose_places move_places"
 _Counts = struct("_Counts", *((it, u32) for it in _NAMES.split()))
 Counts = namedtuple("Counts", _NAMES)
+_Shape = struct("_Shape", *((it, u32) for it in ("slots", "fields", "depth")))
+_Way = struct("_Way", ("how", u32), ("least", ctypes.c_int32), ("most", ctypes.c_int32))
+_Pace = struct("_Pace", ("period", u32), ("delay", ctypes.c_uint16), ("ahead", ctypes.c_uint16))
+_Clock = struct("_Clock", ("pace", _Pace), ("start", u64), ("newest", u32), ("came", u64), ("read", u64), ("position", u64))
+_Offset = struct("_Offset", ("most", u32), ("left", i64))
 Config = namedtuple("Config", "client life size version move_bits", defaults=(0, 16_777_215, 1200, 3, 10))
 
 
@@ -260,6 +265,110 @@ class Client(_End):
     def changes(self):
         """What the last datagram did to slots: `what` is 0 where the copy is gone, 1 where it is new, 2 where fields changed."""
         return [Change(it.slot, it.what, it.fields) for it in self._list("changes", _Change, MAX_CHANGES)]
+
+
+def _by_code(code):
+    if code < 0:
+        raise Refusal(code)
+    return code
+
+
+def signed_word(number):
+    if not -(1 << 31) <= number < 1 << 31:
+        raise OverflowError(f"{number} is no number of 32 bits")
+    return ctypes.c_int32(number)
+
+
+STEPPED, LINEAR = (0, 0, 0), (1, 0, 0)
+
+
+def turning(least, most):
+    """The short way round the circle of these values."""
+    return (2, least, most)
+
+
+class Timeline:
+    """What a client draws of the others: the last values that came, and between two of them a value for each moment. `ways` has for each kind
+    how its fields go: STEPPED, LINEAR or turning(least, most)."""
+
+    def __init__(self, ways, slots=256, depth=8):
+        self._timeline, fields = _Handle(), max([1, *map(len, ways)])
+        rows = [row for kind in ways for row in [*kind, *[STEPPED] * (fields - len(kind))]]
+        table = (_Way * max(1, len(rows)))(*((how, signed_word(least), signed_word(most)) for how, least, most in rows))
+        shape = _Shape(*within(32, slots, fields, depth))
+        _by_code(_lib.tribes_timeline_open(ctypes.byref(self._timeline), ctypes.byref(shape), table, size_t(len(rows))))
+
+    def _call(self, name, *arguments):
+        return _by_code(getattr(_lib, f"tribes_timeline_{name}")(ctypes.byref(self._timeline), *arguments))
+
+    def free(self):
+        _lib.tribes_timeline_free(ctypes.byref(self._timeline))
+
+    def __del__(self):
+        if _lib and hasattr(self, "_timeline"):
+            self.free()
+
+    def take(self, client):
+        """Takes over what the packet that the client took last did to slots: once after each datagram that was taken."""
+        self._call("take", ctypes.byref(client._end))
+
+    def began(self, slot, packet, kind):
+        self._call("began", word(slot), word(packet), word(kind))
+
+    def came(self, slot, packet, field, value):
+        self._call("came", word(slot), word(packet), word(field), signed_word(value))
+
+    def ended(self, slot, packet):
+        self._call("ended", word(slot), word(packet))
+
+    def value(self, slot, field, at):
+        """The value of a field at a moment, or None."""
+        value = i64()
+        return value.value if self._call("value", word(slot), word(field), u64(*within(64, at)), ctypes.byref(value)) == 1 else None
+
+    def kind(self, slot, at):
+        """The kind of the copy that is drawn in the slot at a moment, or None."""
+        kind = u32()
+        return kind.value if self._call("kind", word(slot), u64(*within(64, at)), ctypes.byref(kind)) == 1 else None
+
+
+class Clock:
+    """Which moment is drawn. `now` are the caller's milliseconds, which never go back."""
+
+    def __init__(self, period, now, delay=2, ahead=2):
+        self._clock, pace = _Clock(), _Pace(*within(32, period), *within(16, delay, ahead))
+        _by_code(_lib.tribes_clock_start(ctypes.byref(self._clock), ctypes.byref(pace), u64(*within(64, now))))
+
+    def came(self, packet, now):
+        """A data packet came, which is newer than those before."""
+        _by_code(_lib.tribes_clock_came(ctypes.byref(self._clock), word(packet), u64(*within(64, now))))
+
+    def moment(self, now):
+        """The moment to draw."""
+        at = u64()
+        _by_code(_lib.tribes_clock_moment(ctypes.byref(self._clock), u64(*within(64, now)), ctypes.byref(at)))
+        return at.value
+
+
+class Offset:
+    """What hides corrections of one field: at most so much either way."""
+
+    def __init__(self, most):
+        self._offset = _Offset(*within(32, most), 0)
+
+    def corrected(self, was, is_now):
+        """The value, which was predicted as `was`, is another: what is shown stays."""
+        _by_code(_lib.tribes_offset_corrected(ctypes.byref(self._offset), signed_word(was), signed_word(is_now)))
+
+    def faded(self):
+        """A step passed: three quarters are left."""
+        _by_code(_lib.tribes_offset_faded(ctypes.byref(self._offset)))
+
+    def value(self):
+        """What is to be added to the field's value where it is shown."""
+        left = i64()
+        _by_code(_lib.tribes_offset_value(ctypes.byref(self._offset), ctypes.byref(left)))
+        return left.value
 
 
 def put_bits(widths, values):

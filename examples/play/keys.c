@@ -1,27 +1,57 @@
 /* Keys, and the moves of a bot: keys.h says what they make. */
 #include "keys.h"
-#include "screen.h"
-#include <ncurses.h>
+#include "terminal.h"
 #include <string.h>
 
-enum { FULL_STEP = 7, ESCAPE = 27, DELETE = 127 };
+/* A press goes a step: so many turns, about a column of the map. Where releases are told it goes on until then, and at least a turn. */
+enum { FULL_STEP = 7, STEP_TURNS = 5 };
 
-/* Against the way that the player goes a key stops him; else he goes that way. */
-static void steer(int32_t *axis, int way) { *axis = *axis * way < 0 ? 0 : way * FULL_STEP; }
+static void stand(keys *k) {
+    memset(k->turns, 0, sizeof k->turns);
+    memset(k->held, 0, sizeof k->held);
+}
+
+static void steer(keys *k, int way, deed deed) {
+    if (deed == RELEASED) k->held[way] = 0;
+    if (deed != PRESSED) return;
+    k->turns[way ^ 1] = 0;
+    k->held[way] = terminal_tells_releases();
+    k->turns[way] = k->held[way] ? 1 : STEP_TURNS;
+    k->order[way] = ++k->presses;
+}
+
+static int goes(const keys *k, int way) { return k->held[way] || k->turns[way]; }
+
+/* the move along one axis: forth, back or not */
+static int32_t along(const keys *k, int forth, int back) {
+    if (goes(k, forth) && goes(k, back)) return k->order[forth] > k->order[back] ? FULL_STEP : -FULL_STEP;
+    return goes(k, forth) ? FULL_STEP : goes(k, back) ? -FULL_STEP : 0;
+}
+
+void keys_turn(keys *k) {
+    k->step.dx = along(k, RIGHT, LEFT);
+    k->step.dy = along(k, DOWN, UP);
+    for (int way = 0; way < WAYS; way++) k->turns[way] -= k->turns[way] > 0;
+}
 
 static void change(unsigned *value, int by, int most) {
     int to = (int)*value + by;
     *value = (unsigned)(to < 0 ? 0 : to > most ? most : to);
 }
 
+static void begin_text(keys *k) {
+    stand(k);
+    k->types = 1;
+    memset(k->typed, 0, sizeof k->typed);
+    terminal_types(1);
+}
+
 /* a text is typed until Enter sends it, or Escape doesn't */
 static void type(keys *k, session *s, int key) {
     size_t length = strlen(k->typed);
-    if (key == '\n' || key == '\r' || key == KEY_ENTER) {
-        if (length) session_say(s, k->typed);
-        k->types = 0;
-    } else if (key == ESCAPE) k->types = 0;
-    else if ((key == DELETE || key == '\b' || key == KEY_BACKSPACE) && length) k->typed[length - 1] = 0;
+    if (key == ENTER && length) session_say(s, k->typed);
+    if (key == ENTER || key == ESCAPE) terminal_types(k->types = 0);
+    else if (key == DELETE && length) k->typed[length - 1] = 0;
     else if (key >= ' ' && key <= '~' && length < MOST_TYPED) k->typed[length] = (char)key;
 }
 
@@ -32,29 +62,42 @@ static void change_network(network *n, int key) {
     if (key == '0') n->loss = n->delay = n->repeats = 0;
 }
 
-static void press(keys *k, session *s, int key) {
+static int way_of(int key) {
     switch (key) {
-    case KEY_LEFT: case 'a': steer(&k->step.dx, -1); break;
-    case KEY_RIGHT: case 'd': steer(&k->step.dx, 1); break;
-    case KEY_UP: case 'w': steer(&k->step.dy, -1); break;
-    case KEY_DOWN: case 's': steer(&k->step.dy, 1); break;
-    case 'x': k->step.dx = k->step.dy = 0; break;
-    case ' ': k->step.fire = 1; break;
-    case 'e': k->step.act = !k->step.act; break;
-    case 'p': k->frozen = !k->frozen; break;
-    case 'q': k->quits = 1; break;
-    case '\n': case '\r': case KEY_ENTER:
-        k->types = 1;
-        memset(k->typed, 0, sizeof k->typed);
-        break;
-    default: change_network(&s->net, key);
+    case ARROW_UP: case 'w': return UP;
+    case ARROW_DOWN: case 's': return DOWN;
+    case ARROW_RIGHT: case 'd': return RIGHT;
+    case ARROW_LEFT: case 'a': return LEFT;
+    default: return WAYS;
     }
 }
 
+/* a key that does something when it goes down */
+static void press(keys *k, int key) {
+    switch (key) {
+    case 'x': stand(k); break;
+    case 'e': k->step.act = !k->step.act; break;
+    case 'p': k->frozen = !k->frozen; break;
+    case '?': case 'h': k->helps = !k->helps; break;
+    case 'q': k->quits = 1; break;
+    case ENTER: begin_text(k); break;
+    }
+}
+
+static void stroke_on_map(keys *k, session *s, stroke stroke) {
+    int way = way_of(stroke.key);
+    if (way < WAYS) steer(k, way, stroke.deed);
+    else if (stroke.key == OUT_OF_FOCUS) stand(k);
+    else if (stroke.deed == PRESSED) press(k, stroke.key);
+    if (stroke.deed == RELEASED) return;
+    if (stroke.key == ' ') k->step.fire = 1;
+    change_network(&s->net, stroke.key);
+}
+
 void keys_read(keys *k, session *s) {
-    for (int key = screen_key(); key >= 0; key = screen_key()) {
-        if (k->types) type(k, s, key);
-        else press(k, s, key);
+    for (stroke stroke; terminal_stroke(&stroke);) {
+        if (!k->types) stroke_on_map(k, s, stroke);
+        else if (stroke.deed != RELEASED) type(k, s, stroke.key);
     }
 }
 

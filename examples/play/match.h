@@ -12,6 +12,7 @@ enum {
     STEP = 25,      /* centimetres that a player goes in a turn for each unit of its move */
     RADIUS = 16000, /* how far a player of a made match sees, in centimetres (docs/maker.md) */
     TURN = 50,      /* milliseconds */
+    FRAME = 25,     /* milliseconds from one picture to the next */
     MOVE_BITS = 10  /* a step each way and two flags */
 };
 

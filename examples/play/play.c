@@ -11,6 +11,7 @@
 #include <ctype.h>
 #include <errno.h>
 #include <poll.h>
+#include <signal.h>
 #include <stdlib.h>
 #include <string.h>
 #include <time.h>
@@ -78,15 +79,27 @@ static int read_words(int count, char **word, words *w) {
 
 /* ---- turns */
 
+static volatile sig_atomic_t was_stopped;
+
+static void stop_at(int signal) { was_stopped = signal; }
+
+/* A signal ends the turns, and so the terminal is left as it was. */
+static void hear_signals(void) {
+    struct sigaction act = {.sa_handler = stop_at};
+    sigaction(SIGINT, &act, NULL);
+    sigaction(SIGTERM, &act, NULL);
+    sigaction(SIGHUP, &act, NULL);
+}
+
 static void wait_until(const session *s, int is_bot, int64_t then) {
     struct pollfd from[] = {{s->net.socket, POLLIN, 0}, {STDIN_FILENO, POLLIN, 0}};
     int64_t wait = then - milliseconds(), most = s->net.count ? 2 : TURN; /* what waits in the bad network may be due before */
     if (wait > 0) poll(from, is_bot ? 1 : 2, (int)(wait < most ? wait : most));
 }
 
-static void draw_screen(session *s, const keys *k, const char *server) {
+static void draw_screen(session *s, const keys *k, const char *server, int64_t now) {
     static int drawn_frozen;
-    int64_t silent = (milliseconds() - s->heard) / 1000;
+    int64_t silent = (now - s->heard) / 1000;
     char state[40] = "";
     if (k->frozen && drawn_frozen) return; /* the picture stands still, and the match goes on */
     if (k->frozen) snprintf(state, sizeof state, "frozen");
@@ -94,27 +107,32 @@ static void draw_screen(session *s, const keys *k, const char *server) {
     else if (silent > 0) snprintf(state, sizeof state, "silent for %lld s", (long long)silent);
     else if (k->step.act) snprintf(state, sizeof state, "hand open");
     drawn_frozen = k->frozen;
-    screen_draw(s, &(around){server, state, k->types ? k->typed : NULL});
+    session_frame(s, now);
+    screen_draw(s, &(around){server, state, k->types ? k->typed : NULL, k->helps});
 }
 
 /* Turns until the words, a key or the server's silence end them. Answers whether the server was there at the end. */
 static int play(session *s, const words *w, const char *server) {
     keys k = {.step = {0, 0, 0, 1}};
     uint32_t dice = w->seed;
-    int64_t start = milliseconds(), next = start;
-    while (!k.quits && milliseconds() - start < w->ends) {
+    int64_t start = milliseconds(), next = start, frame = start;
+    while (!k.quits && !was_stopped && milliseconds() - start < w->ends) {
         int64_t now = milliseconds();
         session_listen(s, now);
         if (!w->is_bot) keys_read(&k, s);
         if (now - s->heard > LOST_AFTER) return 0;
         if (now >= next) {
             if (w->is_bot) keys_of_bot(&k, s, &dice);
+            else keys_turn(&k);
             session_turn(s, &k.step, now);
             k.step.fire = 0;
-            if (!w->is_bot) draw_screen(s, &k, server);
             next = now - next > 1000 ? now + TURN : next + TURN; /* after a sleep of this process turns don't pile up */
         }
-        wait_until(s, w->is_bot, next);
+        if (!w->is_bot && now >= frame) {
+            draw_screen(s, &k, server, now);
+            frame = now + FRAME;
+        }
+        wait_until(s, w->is_bot, w->is_bot || next < frame ? next : frame);
     }
     return 1;
 }
@@ -153,6 +171,7 @@ int main(int count, char **word) {
     if (tribes_version() != TRIBES_VERSION) return fprintf(stderr, "play: the library is of another version\n"), FAILED;
     if (session_start(&s, &w.server, (uint32_t)now ^ (uint32_t)getpid() << 16, now)) return stop("a socket");
     if (w.demo && !(s.demo = fopen(w.demo, "wb"))) return stop(w.demo);
+    if (!w.is_bot) hear_signals();
     if (!w.is_bot && screen_open()) {
         fprintf(stderr, "play: wanted is a terminal of at least %d columns and %d rows\n", LEAST_COLUMNS, LEAST_ROWS);
         return FAILED;

@@ -6,14 +6,12 @@
 
 enum { LEAST_ROWS = 24, LEAST_COLUMNS = 80 };
 
-/* What stands in the title and the last line beside the session: a text that is typed, or NULL. */
-typedef struct { const char *server, *state, *typed; } around;
+/* What stands in the title and the last line beside the session: a text that is typed, or NULL; and whether help covers the map. */
+typedef struct { const char *server, *state, *typed; int helps; } around;
 
 /* Answers 0, or -1 where there is no terminal of LEAST_ROWS by LEAST_COLUMNS or more. */
 int screen_open(void);
 void screen_draw(session *s, const around *a);
-/* The next key that was pressed (ncurses' number), or -1. */
-int screen_key(void);
 void screen_close(void);
 
 #endif

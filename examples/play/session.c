@@ -46,8 +46,14 @@ static void take_welcome(session *s, const uint8_t *bytes, size_t count, int64_t
     tribes_config config = {bytes[5], number_at(bytes + 6, 3), number_at(bytes + 9, 2), bytes[11], MOVE_BITS};
     tribes_reason why;
     if (tribes_client(&s->end, &config, kinds, KINDS, fields, sizeof fields / sizeof *fields, &why) < 0) return; /* out of its ranges */
+    if (drawn_open(&s->others, now) < 0) { /* no memory: the next welcome may find some */
+        tribes_free(&s->end);
+        return;
+    }
     s->config = config;
     s->welcomed = 1;
+    tribes_counts(&s->end, &s->counts);
+    s->places = s->counts.event_places;
     s->heard = now;
     uint8_t head[11] = "TND1";
     head[4] = (uint8_t)config.client;
@@ -97,13 +103,18 @@ static void note_changes(session *s) {
             if (changes[i].what == 1 || changes[i].fields >> f & 1) s->tells[changes[i].slot][f] = s->counts.sent + 1;
 }
 
+static said *next_line(session *s) {
+    said *line = &s->last[s->lines++ % KEPT_LINES];
+    memset(line, 0, sizeof *line);
+    return line;
+}
+
 static void hand_out_events(session *s) {
     uint8_t bytes[TRIBES_MAX_EVENT];
     size_t count;
-    while (tribes_event(&s->end, bytes, sizeof bytes, &count) > 0) {
-        char *text = s->texts[s->events++ % KEPT_EVENTS];
+    for (; tribes_event(&s->end, bytes, sizeof bytes, &count) > 0; s->events++) {
+        char *text = next_line(s)->text;
         for (size_t i = 0; i < count; i++) text[i] = bytes[i] >= ' ' && bytes[i] <= '~' ? (char)bytes[i] : '?';
-        text[count] = 0;
     }
 }
 
@@ -125,6 +136,7 @@ static void take(session *s, const uint8_t *bytes, size_t count, int64_t now) {
     for (uint32_t i = before + 1; i < s->counts.taken && i <= before + 64; i++) note(&s->down, 1);
     note(&s->down, 0);
     note_changes(s);
+    drawn_took(&s->others, &s->end, s->counts.taken, now);
     hand_out_events(s);
     copy own;
     standing base;
@@ -170,11 +182,18 @@ void session_turn(session *s, const tribes_step *move, int64_t now) {
 }
 
 void session_say(session *s, const char *words) {
-    char text[TRIBES_MAX_EVENT + 1];
-    uint32_t number;
     if (!s->welcomed) return;
-    snprintf(text, sizeof text, "%u: %s", s->config.client, words);
-    tribes_post(&s->end, (const uint8_t *)text, strlen(text), 1, &number);
+    said *line = next_line(s);
+    snprintf(line->text, sizeof line->text, "%u: %s", s->config.client, words);
+    line->is_own = 1;
+    line->was_refused = tribes_post(&s->end, (const uint8_t *)line->text, strlen(line->text), 1, &line->number) < 0;
+    if (!line->was_refused) s->posted = line->number + 1;
+    tribes_counts(&s->end, &s->counts);
+}
+
+int session_came(const session *s, const said *line) {
+    uint32_t wait = s->places - s->counts.event_places;
+    return !line->was_refused && line->number < s->posted - wait;
 }
 
 int session_copy(session *s, uint32_t from, copy *c) {
@@ -184,6 +203,16 @@ int session_copy(session *s, uint32_t from, copy *c) {
     c->kind = copied.kind;
     c->block = copied.block;
     return 1;
+}
+
+int session_drawn(session *s, uint32_t from, copy *c) {
+    for (c->slot = from; s->welcomed && c->slot < TRIBES_MAX_SLOTS; c->slot++)
+        if (drawn_in(&s->others, c->slot, &c->kind, &c->block, c->values)) return 1;
+    return 0;
+}
+
+void session_frame(session *s, int64_t now) {
+    if (s->welcomed) drawn_read(&s->others, now);
 }
 
 int session_own(session *s, copy *c) {
@@ -196,5 +225,6 @@ int session_settled(const session *s, uint32_t slot, uint32_t field) { return s-
 void session_end(session *s) {
     uint8_t end[2] = {0, 0};
     if (s->demo && s->welcomed) fwrite(end, 1, 2, s->demo);
+    drawn_close(&s->others);
     if (s->welcomed) tribes_free(&s->end);
 }

@@ -68,6 +68,12 @@ def shown_in(line):
     return Shown(int(events), told)
 
 
+def said_in(take):
+    """The events of a record's line that are text, as one reads them."""
+    events = [bytes.fromhex(word[2:].strip("-")) for word in take.split(" ")[3:] if word[:2] in ("g:", "u:")]
+    return "  ".join(f'says "{it.decode()}"' for it in events if it and all(0x20 <= byte <= 0x7E for byte in it))
+
+
 @dataclass
 class Demo:
     """A demo in a file, which the program tells."""
@@ -140,10 +146,11 @@ class Watch:
                 self.box.hold(*copy.values[:2])
         self.screen.erase()
         state = "playing" if self.playing else "stopped"
-        self.put(0, 0, f"{demo.file.name}: {self.k} of {last} records, {shown.events} events, {len(shown.copies)} copies, {state}", curses.A_BOLD)
+        head = f"{demo.file.name}: {self.k} of {last} records, {shown.events} events, {len(shown.copies)} copies, {state}"
+        self.put(0, 0, head, curses.A_BOLD)
         self.put(1, 0, demo.takes[self.k - 1] if self.k else "(no record yet)")
-        if self.k == last:
-            self.put(2, 0, "behind the last record the demo " + ("ends" if demo.ending == "end" else "is cut"))
+        ending = "after the last record the demo " + ("ends" if demo.ending == "end" else "is cut")
+        self.put(2, 0, "  ".join([said_in(demo.takes[self.k - 1])] * (self.k > 0) + [ending] * (self.k == last)))
         self.draw_list(shown, 3, max(0, columns - LIST_WIDTH), rows - 4)
         self.draw_map(shown, 3, columns - LIST_WIDTH - 2, rows - 5)
         self.put(rows - 1, 0, "right left: a record   PageDown PageUp: 64   End Home   space: play   q: end", curses.A_DIM)

@@ -6,6 +6,7 @@ use Rattle.tn_types.specs.Checks.{Checked}
 use Rattle.draw_clock.specs.declared.pace.TheConstants.{FINE}
 use Rattle.draw_clock.specs.declared.clock.TheConstants.{MAX_TIME}
 use Rattle.draw_clock.specs.declared.clock.Pace.{Pace}
+use Rattle.draw_clock.specs.declared.clock.ClockParts.{ClockParts}
 use Rattle.draw_clock.specs.declared.clock.ClockRefusal.{ClockRefusal}
 use Rattle.draw_clock.specs.declared.clock.ClockRefusal.TheVariants.{NoTime, TimeGoesBack, NoPacket, NotNewer}
 use Rattle.draw_clock.specs.Following.{distance, followed}
@@ -60,6 +61,10 @@ pub record Clock : Type 0 where
   pub came : ℕ
   pub read : ℕ
   pub position : ℕ
+
+-- a clock of these numbers
+abbrev pub clock_from : ClockParts → Clock
+clock_from p = record { pace = p.pace; start = p.start; newest = p.newest; came = p.came; read = p.read; position = p.position }
 
 pub record StandsFor (c : Clock) (log : List ClockEvent) : Type 0 where
   pub newest_is : c.newest ≡ newest_of log

@@ -1,8 +1,8 @@
 //! The clock: packets that come, and the moment that is drawn.
-ghost use Rattle.std.specs.Prelude.{◌≡◌, ◌≤◌, ◌<◌, ◌+◌, ◌^◌, ◌*◌, ◌/◌, [], IfOk, OnOk, OnErr, IsTrue, ◌↔◌};
+ghost use Rattle.std.specs.Prelude.{◌≡◌, ◌≤◌, ◌<◌, ◌+◌, ◌^◌, ◌*◌, ◌/◌, [], IfOk, IfSome, IsSome, OnOk, OnErr, IsTrue, ◌↔◌};
 ghost use Rattle.tn_types.specs.Histories.{Does};
 ghost use Rattle.tn_types.specs.Checks.{then_check};
-ghost use Rattle.draw_clock.specs.Clocking.{bound_of, target_of, gone_to};
+ghost use Rattle.draw_clock.specs.Clocking.{bound_of, target_of, gone_to, IsBounded, clock_from};
 
 use crate::pace::{FINE, distance, followed};
 use std::marker::Model;
@@ -15,6 +15,7 @@ pub const MAX_TIME: u64 = 70_368_744_177_664;
 pub const FINE_OF_MOMENT: u64 = 256;
 
 /// How a clock goes.
+#[repr(C)]
 #[derive(Clone, Copy)]
 pub struct Pace {
     /// Milliseconds from one packet of the server to the next, not 0.
@@ -36,6 +37,21 @@ pub enum ClockRefusal {
     NoPacket,
     /// A packet of this or a higher number came before.
     NotNewer,
+}
+
+/// A clock's numbers, for callers that keep it themselves.
+#[repr(C)]
+#[derive(Clone, Copy)]
+pub struct ClockParts {
+    pub pace: Pace,
+    /// When it began.
+    pub start: u64,
+    /// The packet that came last, 0 if none did, and when.
+    pub newest: u32,
+    pub came: u64,
+    /// When it was read last, and where it is, in its own units.
+    pub read: u64,
+    pub position: u64,
 }
 
 /// Which moment is drawn. No call takes memory.
@@ -83,11 +99,45 @@ impl DrawClock {
         }
     }
 
+    /// The clock of these numbers: `None` exactly if no clock has them.
+    pub fn of_parts(parts: ClockParts) -> Option<DrawClock>
+        ensures some { IsSome result ↔ IsBounded (clock_from parts) }
+        ensures value { IfSome result (λ c. c ≡ clock_from parts) }
+    {
+        let bounded = are_bounded(parts);
+        if bounded {
+            return Some(DrawClock {
+                pace: parts.pace,
+                start: parts.start,
+                newest: parts.newest,
+                came: parts.came,
+                read: parts.read,
+                position: parts.position,
+            });
+        }
+        None
+    }
+
+    /// Its numbers.
+    pub fn parts(&self) -> ClockParts
+        ensures { clock_from result ≡ self.now }
+    {
+        ClockParts {
+            pace: self.pace,
+            start: self.start,
+            newest: self.newest,
+            came: self.came,
+            read: self.read,
+            position: self.position,
+        }
+    }
+
     /// A data packet came. Refused as the first that holds of `NoTime`, `TimeGoesBack`, `NoPacket` and `NotNewer`.
     #[tactic(auto, using(crate::proofs::ClockFacts::came_more, crate::proofs::ClockFacts::second_check, crate::proofs::ClockFacts::first_refuses))]
     pub fn came(&mut self, packet: u32, now: u64) -> Result<(), ClockRefusal>
         ensures answer { result ≡ then_check (time_check self.old now) (packet_check self.old packet) }
         ensures log { OnOk result (Does StandsFor self.old (Came packet now) self.new) }
+        ensures pace { (self.new.pace ≡ self.old.pace) × (self.new.start ≡ self.old.start) }
         ensures stays { self.new.position ≡ self.old.position }
         ensures refused { OnErr result (self.new ≡ self.old) }
     {
@@ -110,6 +160,7 @@ impl DrawClock {
     pub fn moment(&mut self, now: u64) -> Result<u64, ClockRefusal>
         ensures answer { result ≡ then_ok (time_check self.old now) (self.new.position / FINE_OF_MOMENT) }
         ensures log { OnOk result (Does StandsFor self.old (Read now) self.new) }
+        ensures pace { (self.new.pace ≡ self.old.pace) × (self.new.start ≡ self.old.start) }
         ensures never_back { self.old.position ≤ self.new.position }
         ensures bound { self.new.position ≤ bound_of self.new.pace self.new.newest }
         ensures refused { OnErr result (self.new ≡ self.old) }
@@ -136,6 +187,20 @@ impl DrawClock {
         }
         Ok(())
     }
+}
+
+// Whether a clock may have these numbers.
+fn are_bounded(parts: ClockParts) -> bool
+    ensures { IsTrue result ↔ IsBounded (clock_from parts) }
+{
+    if parts.pace.period == 0
+        || MAX_LIFE < parts.newest
+        || MAX_TIME < parts.came
+        || MAX_TIME < parts.read
+    {
+        return false;
+    }
+    parts.position <= bound(parts.pace, parts.newest)
 }
 
 // As far as the clock may go.

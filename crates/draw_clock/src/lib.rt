@@ -4,5 +4,5 @@
 mod clock;
 mod pace;
 
-pub use clock::{ClockRefusal, DrawClock, MAX_TIME, Pace};
+pub use clock::{ClockParts, ClockRefusal, DrawClock, MAX_TIME, Pace};
 pub use pace::FINE;

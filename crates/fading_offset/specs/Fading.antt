@@ -1,7 +1,9 @@
 -- How far from a field's value it is still shown. A log has what happened, the newest first: the value was corrected, from one to another, or a
 -- step passed. Shown is value + offset, so a correction adds what the value jumps down; each step leaves three quarters.
-use Rattle.std.specs.Prelude.{◌≡◌, refl, ℕ, ℤ, pos, ◌+ℤ◌, ◌-ℤ◌, List, [], ◌∷◌}
+use Rattle.std.specs.Prelude.{◌≡◌, refl, ℕ, ◌≤◌, ℤ, pos, ◌+ℤ◌, ◌-ℤ◌, List, [], ◌∷◌}
+use Rattle.std.specs.Int.RustNames.{unsigned_abs}
 use Rattle.tn_types.specs.Histories as histories
+use Rattle.fading_offset.specs.declared.fading.TheConstants.{GREATEST_MOST}
 use Rattle.fading_offset.specs.Parts.{decayed, kept}
 
 pub data FadingEvent : Type 0 where
@@ -18,6 +20,11 @@ offset_by most (Faded ∷ log) = decayed (offset_by most log)
 pub record Shown : Type 0 where
   pub most : ℕ
   pub offset : ℤ
+
+-- what holds of every offset
+pub record IsBounded (f : Shown) : Type 0 where
+  pub most : f.most ≤ GREATEST_MOST
+  pub within : unsigned_abs f.offset ≤ f.most
 
 pub record StandsFor (f : Shown) (log : List FadingEvent) : Type 0 where
   pub offset_is : f.offset ≡ offset_by f.most log

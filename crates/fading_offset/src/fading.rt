@@ -1,5 +1,5 @@
 //! The offset of one field.
-ghost use Rattle.std.specs.Prelude.{◌≡◌, ◌≤◌, [], ◌+ℤ◌, ◌-ℤ◌};
+ghost use Rattle.std.specs.Prelude.{◌≡◌, ◌≤◌, [], ◌+ℤ◌, ◌-ℤ◌, IfSome, IsSome, ◌↔◌};
 ghost use Rattle.std.specs.Int.RustNames.{unsigned_abs};
 ghost use Rattle.fading_offset.specs.Parts.{decayed, kept};
 
@@ -31,7 +31,7 @@ impl Model for Fading {
 }
 
 impl Fading {
-    ghost use Rattle.fading_offset.specs.Fading.{StandsFor, Corrected, Faded, offset_by, Does, Answers};
+    ghost use Rattle.fading_offset.specs.Fading.{IsBounded, StandsFor, Corrected, Faded, offset_by, Does, Answers};
 
     /// No offset, and none that will pass `most` either way: a correction that would is shown at once.
     pub fn new(most: u32) -> Fading
@@ -40,6 +40,17 @@ impl Fading {
         ensures most { result.most ≡ most }
     {
         Fading { most, offset: 0 }
+    }
+
+    /// The offset of these numbers, for callers that keep them themselves: `None` exactly if no offset has them.
+    pub fn of_parts(most: u32, offset: i64) -> Option<Fading>
+        ensures some { IsSome result ↔ IsBounded (record { most = most; offset = offset }) }
+        ensures value { IfSome result (λ f. f ≡ record { most = most; offset = offset }) }
+    {
+        if GREATEST_MOST < most || (most as u64) < offset.unsigned_abs() {
+            return None;
+        }
+        Some(Fading { most, offset })
     }
 
     /// What is to be added to the field's value where it is shown.

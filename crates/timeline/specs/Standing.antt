@@ -1,5 +1,5 @@
 -- What is kept of what was told, and the value at a moment by the list of all that was told.
-use Rattle.std.specs.Prelude.{ℕ, ℤ, ◌+◌, ◌-◌, ◌*◌, ◌<◌, ◌≤◌, ◌==◌, ◌||◌, nat_le, nat_lt, ◌≡◌, List, [], ◌∷◌, length, take, replicate, slice_get, Bool, false, if◌then◌else◌, Option, Some, None, Result, Ok, Err, unwrap_or}
+use Rattle.std.specs.Prelude.{ℕ, ℤ, ◌+◌, ◌-◌, ◌*◌, ◌<◌, ◌≤◌, ◌==◌, ◌||◌, nat_le, nat_lt, ◌≡◌, List, [], ◌∷◌, ◌++◌, length, take, replicate, slice_get, Bool, false, if◌then◌else◌, Option, Some, None, Result, Ok, Err, unwrap_or}
 use Rattle.std.specs.Option.{option_and_then}
 use Rattle.tn_types.specs.declared.limits.TheConstants.{MAX_LIFE, MAX_FIELDS}
 use Rattle.tn_types.specs.Checks.{Checked}
@@ -58,6 +58,17 @@ pub record SlotStandsFor (depth fields : ℕ) (s : SlotKept) (log : List Told) :
 pub record StandsFor (t : Drawing) (log : List Told) : Type 0 where
   pub latest_is : t.latest ≡ latest_of log
   pub slots_are : (slot : ℕ) (s : SlotKept) → slice_get t.slots slot ≡ Some s → SlotStandsFor t.depth t.fields s (told_of slot log)
+
+-- what telling leaves as it was
+pub record KeepsShape (old new : Drawing) : Type 0 where
+  pub ways : new.ways ≡ old.ways
+  pub fields : new.fields ≡ old.fields
+  pub depth : new.depth ≡ old.depth
+  pub slots : length new.slots ≡ length old.slots
+
+-- for every list that the old timeline stood for, the new one stands for it with all of this told, the newest first
+abbrev pub Hears : Drawing → List Told → Drawing → Type 0
+Hears old told new = (log : List Told) → StandsFor old log → StandsFor new (told ++ log)
 
 -- ---- the value at a moment
 

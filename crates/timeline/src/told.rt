@@ -2,6 +2,7 @@
 ghost use Rattle.std.specs.Prelude.{◌≡◌, ℕ, ◌+◌, ◌*◌, ◌≤◌, ◌<◌, ◌^◌, ℤ, length, replicate, IfOk, OnOk, OnErr, [], IsTrue, ◌↔◌};
 ghost use Rattle.tn_types.specs.Histories.{Does, Answers};
 ghost use Rattle.tn_types.specs.Checks.{then_check};
+ghost use Rattle.std.specs.Result.{result_err};
 ghost use Rattle.timeline.specs.Standing.{fresh};
 
 use crate::between::{Interpolation, Keyframe};
@@ -68,7 +69,7 @@ impl Model for Timeline {
 
 impl Timeline {
     ghost use Rattle.timeline.specs.Telling.{Began, Came, Ended, Told, told_of};
-    ghost use Rattle.timeline.specs.Standing.{StandsFor, slot_check, packet_check, field_check, kind_check, value_told, kind_told, then_ok, way_of};
+    ghost use Rattle.timeline.specs.Standing.{StandsFor, slot_check, packet_check, field_check, kind_check, value_told, kind_told, then_ok, way_of, KeepsShape};
     ghost use Rattle.timeline.specs.Shapes.{IsSound};
 
     /// Nothing was told yet. `ways` says how the fields go, `shape.fields` of them for each kind: field f of kind k at
@@ -97,12 +98,52 @@ impl Timeline {
         self.latest
     }
 
+    /// How many slots it has.
+    pub fn slots(&self) -> usize
+        ensures { result ≡ length self.now.slots }
+    {
+        self.slots.len()
+    }
+
+    /// How many fields of each copy it keeps.
+    pub fn fields(&self) -> usize
+        ensures value { result ≡ self.now.fields }
+        ensures few { result ≤ MAX_FIELDS }
+    {
+        self.fields
+    }
+
+    /// What is refused of a packet: `NoPacket`, else `GoesBack`.
+    pub fn check_packet(&self, packet: u32) -> Result<(), Refusal>
+        ensures { result ≡ packet_check self.now packet }
+    {
+        if packet == 0 || MAX_LIFE < packet {
+            return Err(Refusal::NoPacket);
+        }
+        if packet < self.latest {
+            return Err(Refusal::GoesBack);
+        }
+        Ok(())
+    }
+
+    /// What is refused of a kind: `NoKind`.
+    pub fn check_kind(&self, kind: u32) -> Result<(), Refusal>
+        ensures { result ≡ kind_check self.now kind }
+    {
+        if self.ways.len() <= kind as usize * self.fields {
+            return Err(Refusal::NoKind);
+        }
+        Ok(())
+    }
+
     /// By this packet a copy of this kind is in the slot, and none that was there before is drawn any more. Then tell the values that
     /// came with it. Refused as the first that holds of `NoSlot`, `NoPacket`, `GoesBack` and `NoKind`; nothing changes then.
     pub fn began(&mut self, slot: u32, packet: u32, kind: u32) -> Result<(), Refusal>
         ensures answer { result
             ≡ then_check (slot_check self.old slot) (then_check (packet_check self.old packet) (kind_check self.old kind)) }
         ensures log { OnOk result (Does StandsFor self.old (record { slot = slot; packet = packet; what = Began kind }) self.new) }
+        ensures shape { OnOk result (KeepsShape self.old self.new) }
+        ensures latest { OnOk result (self.new.latest ≡ packet) }
         ensures refused { OnErr result (self.new ≡ self.old) }
     {
         if let Err(refusal) = self.checked(slot, packet) {
@@ -122,6 +163,8 @@ impl Timeline {
         ensures answer { result
             ≡ then_check (slot_check self.old slot) (then_check (packet_check self.old packet) (field_check self.old field)) }
         ensures log { OnOk result (Does StandsFor self.old (record { slot = slot; packet = packet; what = Came field value }) self.new) }
+        ensures shape { OnOk result (KeepsShape self.old self.new) }
+        ensures latest { OnOk result (self.new.latest ≡ packet) }
         ensures refused { OnErr result (self.new ≡ self.old) }
     {
         if let Err(refusal) = self.checked(slot, packet) {
@@ -140,6 +183,8 @@ impl Timeline {
     pub fn ended(&mut self, slot: u32, packet: u32) -> Result<(), Refusal>
         ensures answer { result ≡ then_check (slot_check self.old slot) (packet_check self.old packet) }
         ensures log { OnOk result (Does StandsFor self.old (record { slot = slot; packet = packet; what = Ended }) self.new) }
+        ensures shape { OnOk result (KeepsShape self.old self.new) }
+        ensures latest { OnOk result (self.new.latest ≡ packet) }
         ensures refused { OnErr result (self.new ≡ self.old) }
     {
         if let Err(refusal) = self.checked(slot, packet) {
@@ -172,7 +217,8 @@ impl Timeline {
     /// The kind of the copy that is drawn in the slot at a moment: `None` if none began there, or the moment is not before its end.
     /// Refused as `NoSlot` alone.
     pub fn kind_at(&self, slot: u32, at: u64) -> Result<Option<u32>, Refusal>
-        ensures { Answers StandsFor self.now (λ log. then_ok (slot_check self.now slot) (kind_told at (told_of slot log))) result }
+        ensures told { Answers StandsFor self.now (λ log. then_ok (slot_check self.now slot) (kind_told at (told_of slot log))) result }
+        ensures refused { result_err result ≡ result_err (slot_check self.now slot) }
     {
         if self.slots.len() <= slot as usize {
             return Err(Refusal::NoSlot);
@@ -184,9 +230,10 @@ impl Timeline {
     /// The value of a field of the slot's copy at a moment: `None` where `kind_at` has none, or no value of the field came. Refused as
     /// `NoSlot`, else as `NoField`.
     pub fn value_at(&self, slot: u32, field: u32, at: u64) -> Result<Option<i64>, Refusal>
-        ensures { Answers StandsFor self.now
+        ensures told { Answers StandsFor self.now
             (λ log. then_ok (then_check (slot_check self.now slot) (field_check self.now field))
             (value_told self.now field at (told_of slot log))) result }
+        ensures refused { result_err result ≡ result_err (then_check (slot_check self.now slot) (field_check self.now field)) }
     {
         if self.slots.len() <= slot as usize {
             return Err(Refusal::NoSlot);

@@ -3,3 +3,5 @@ pub mod Making
 pub mod Refusals
 pub mod Lists
 pub mod Sides
+pub mod Drawing
+pub mod Played

@@ -21,7 +21,7 @@ pub struct Ask {
 }
 
 /// Whether the bit of this field is set.
-fn has_field(mask: u32, field: u32) -> bool
+pub(crate) fn has_field(mask: u32, field: u32) -> bool
     requires { field < 32 }
     ensures { result ≡ has_bit mask field }
 {

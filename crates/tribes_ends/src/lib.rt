@@ -5,7 +5,9 @@
 mod asking;
 mod client;
 mod counts;
+mod drawing;
 mod handing;
+mod laws;
 mod link;
 mod refusal;
 mod rows;
@@ -15,7 +17,9 @@ mod why;
 
 pub use asking::Ask;
 pub use counts::Counts;
+pub use drawing::{DrawFault, LEAST_VALUE, MOST_VALUE};
 pub use handing::Popped;
+pub use laws::accepted_moves_change_nothing;
 pub use link::{Link, Packed, Side};
 pub use refusal::Refusal;
 pub use rows::{Change, Copied, Judged};

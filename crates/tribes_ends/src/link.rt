@@ -5,6 +5,7 @@ ghost use Rattle.tn_types.specs.declared.choices.Class.TheVariants.{Guaranteed};
 
 use crate::asking::Ask;
 use crate::counts::Counts;
+use crate::drawing::{self, DrawFault};
 use crate::handing::Popped;
 use crate::refusal::Refusal;
 use crate::rows::{Change, Copied, Judged};
@@ -14,6 +15,7 @@ use crate::{client, server};
 use std::alloc::Global;
 use std::marker::Model;
 use stream_manager::{Client, Conn};
+use timeline::Timeline;
 use tn_types::{Class, MAX_EVENT_BYTES, MAX_PACKET_GHOSTS, MAX_PACKET_MOVES, MAX_UNJUDGED_PACKETS};
 
 /// What a pack made.
@@ -77,7 +79,9 @@ const NONE: Why = Why {
 
 impl Link {
     ghost use Rattle.stream_manager.specs.Server.{Scoped, Show, Hide, Near, Absorb};
+    ghost use Rattle.timeline.specs.Standing.{KeepsShape};
     ghost use Rattle.tribes_ends.specs.Codes.{is_refusal, code_of};
+    ghost use Rattle.tribes_ends.specs.Drawing.{HearsAt, HearingRefused};
     ghost use Rattle.tribes_ends.specs.Lists.{ListsMoves, ListsPending, ListsVerdicts, ListsChanges, HasBlock, IsNextCopy, HasCopy};
     ghost use Rattle.tribes_ends.specs.Making.{config_of, kinds_of, terms_from, server_refusal, client_refusal, IsMadeUnless};
     ghost use Rattle.tribes_ends.specs.Refusals.{at_server, at_client, show_refusal, hide_refusal, near_refusal, changed_refusal, settled_refusal, slot_refusal, room_refusal, moves_refusal, ask_refusal, PostRefused, SampleRefused, ArrivalRefused, PackRefused, BlockRefused, CopyRefused};
@@ -383,6 +387,23 @@ impl Link {
         match &self.side {
             Side::Server(_) => Err(Refusal::WrongEnd),
             Side::Client(end) => client::copy(end, slot, values),
+        }
+    }
+
+    /// Tells a timeline what the packet that the client took last did to its slots (docs/timeline.md): copies that began, values that
+    /// came, copies that are gone. Call it once after each datagram that was taken.
+    pub fn tell(&self, timeline: &mut Timeline) -> Result<(), DrawFault>
+        ensures told { OnOk result (HearsAt self.now timeline.old timeline.new) }
+        ensures shape { OnOk result (KeepsShape timeline.old timeline.new) }
+        ensures unchanged { OnErr result (timeline.new ≡ timeline.old) }
+        ensures refused { HearingRefused timeline.old self.now (λ r. result_err result ≡ r) }
+    {
+        match &self.side {
+            Side::Server(_) => Err(DrawFault::WrongEnd),
+            Side::Client(end) => match drawing::tell(end, timeline) {
+                Ok(()) => Ok(()),
+                Err(refusal) => Err(DrawFault::Untold(refusal)),
+            },
         }
     }
 }

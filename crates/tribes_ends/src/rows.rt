@@ -84,7 +84,7 @@ pub(crate) fn list_verdicts(verdicts: &Verdicts, place: &mut [Judged]) -> u32
 }
 
 /// The bits of so many fields.
-fn first_bits(count: usize) -> u32
+pub(crate) fn first_bits(count: usize) -> u32
     requires { count < 32 }
     ensures { result ≡ 2 ^ count - 1 }
 {

@@ -1,0 +1,134 @@
+-- What a timeline takes: no call is refused, and what each adds adds up.
+use Rattle.std.proofs.Common.{◌≡◌, ◌∙◌, ℕ, zero, suc, ◌+◌, ◌*◌, ◌<◌, ◌≤◌, Bool, true, false, cond, ◌||◌, ◌==◌, List, [], ◌∷◌, ◌++◌, length, take, drop, get_or, Option, Some, None, Ok, Err, refl, sym, ap, subst, arith, append_assoc, append-nil, add-one}
+use Rattle.std.specs.Prelude.{ℤ, nat_lt, nat_le, OnOk, Result}
+use Rattle.std.specs.Option.{option_or}
+use Rattle.std.specs.Result.{result_err}
+use Rattle.std.proofs.Math.Seq.{drop-cons}
+use Rattle.std.proofs.lemmas.List.{take_more}
+use Rattle.std.proofs.lemmas.Bool.Decides.{nat_tests}
+use Rattle.tn_types.specs.Checks.{Checked, then_check}
+use Rattle.tn_types.specs.Histories.{Does}
+use Rattle.tn_types.specs.declared.limits.TheConstants.{MAX_LIFE}
+use Rattle.wire_format.specs.declared.ghosts.GhostItem.{GhostItem}
+use Rattle.wire_format.specs.declared.ghosts.GhostItem.TheVariants.{Kill, Create, Update}
+use Rattle.timeline.specs.declared.refusal.Refusal.{Refusal}
+use Rattle.timeline.specs.declared.refusal.Refusal.TheVariants.{NoSlot, NoPacket, GoesBack, NoKind}
+use Rattle.timeline.specs.Telling.{Told}
+use Rattle.timeline.specs.Standing.{Drawing, StandsFor, Hears, KeepsShape, slot_check, packet_check, field_check, kind_check}
+use Rattle.timeline.proofs.AnswerFacts.{slot_good, field_good}
+use Rattle.tribes_ends.specs.Drawing.{told_item, told_items, item_fault, items_fault}
+
+-- ---- checks that pass
+
+pub both-pass : (a b : Checked Refusal) → a ≡ Ok tt → b ≡ Ok tt → then_check a b ≡ Ok tt
+both-pass a b ha hb = ap (λ x. then_check x b) ha ∙ hb
+
+pub none-refused : (r : Checked Refusal) → result_err r ≡ None → r ≡ Ok tt
+none-refused (Ok tt) h = refl
+none-refused (Err e) h = absurd (cc)
+
+pub first-passes : (a b : Checked Refusal) → then_check a b ≡ Ok tt → a ≡ Ok tt
+first-passes (Ok tt) b h = refl
+first-passes (Err e) b h = absurd (cc)
+
+pub second-passes : (a b : Checked Refusal) → then_check a b ≡ Ok tt → b ≡ Ok tt
+second-passes (Ok tt) b h = h
+second-passes (Err e) b h = absurd (cc)
+
+test-passed : (b : Bool) (e : Refusal) (rest : Checked Refusal) → cond b (Err e) rest ≡ Ok tt → b ≡ false
+test-passed false e rest h = refl
+test-passed true e rest h = absurd (cc)
+
+pub came_passes : (t : Drawing) (slot packet field : ℕ) → slot < length t.slots → packet_check t packet ≡ Ok tt → field < t.fields
+    → then_check (slot_check t slot) (then_check (packet_check t packet) (field_check t field)) ≡ Ok tt
+came_passes t slot packet field s p f =
+    both-pass (slot_check t slot) (then_check (packet_check t packet) (field_check t field)) (slot_good t slot s) (both-pass (packet_check t packet) (field_check t field) p (field_good t field f))
+
+-- a packet that may tell may tell more
+pub still_heard : (old new : Drawing) (packet : ℕ) → packet_check old packet ≡ Ok tt → new.latest ≡ packet → packet_check new packet ≡ Ok tt
+still_heard old new packet h e =
+    let low : (packet == 0 || nat_lt MAX_LIFE packet) ≡ false = test-passed (packet == 0 || nat_lt MAX_LIFE packet) NoPacket (cond (nat_lt packet old.latest) (Err GoesBack) (Ok tt)) h in
+    let same : nat_lt packet new.latest ≡ false = grind (arith, nat_tests) in
+    ap (λ (b : Bool). cond b (Err NoPacket) (cond (nat_lt packet new.latest) (Err GoesBack) (Ok tt))) low
+    ∙ ap (λ (b : Bool). cond b (Err GoesBack) (Ok tt)) same
+
+-- ---- what is told one after another
+
+pub hears-none : (t : Drawing) → Hears t [] t
+hears-none t log h = h
+
+pub hears-one : (old new : Drawing) (told : Told) → Does StandsFor old told new → Hears old (told ∷ []) new
+hears-one old new told h log s = h log s
+
+pub hears-more : (a b c : Drawing) (before after : List Told) → Hears a before b → Hears b after c → Hears a (after ++ before) c
+hears-more a b c before after h k log s = subst (StandsFor c) (sym (append_assoc after before log)) (k (before ++ log) (h log s))
+
+pub keeps-self : (t : Drawing) → KeepsShape t t
+keeps-self t = record { ways = refl; fields = refl; depth = refl; slots = refl }
+
+pub keeps-more : (a b c : Drawing) → KeepsShape a b → KeepsShape b c → KeepsShape a c
+keeps-more a b c h k = record { ways = k.ways ∙ h.ways; fields = k.fields ∙ h.fields; depth = k.depth ∙ h.depth; slots = k.slots ∙ h.slots }
+
+of-ok : {X : Type 0} (r : Checked Refusal) → r ≡ Ok tt → OnOk r X → X
+of-ok (Ok tt) ok x = x
+of-ok (Err e) ok x = absurd (cc)
+
+pub came-heard : (t new : Drawing) (slot packet field : ℕ) (told : Told) (r : Checked Refusal) → slot < length t.slots → packet_check t packet ≡ Ok tt → field < t.fields
+    → r ≡ then_check (slot_check t slot) (then_check (packet_check t packet) (field_check t field)) → OnOk r (Does StandsFor t told new) → Hears t (told ∷ []) new
+came-heard t new slot packet field told r s p f is does log h = of-ok r (is ∙ came_passes t slot packet field s p f) does log h
+
+-- ---- items
+
+slot-same : (a b : Drawing) (slot : ℕ) → KeepsShape a b → slot_check b slot ≡ slot_check a slot
+slot-same a b slot k = ap (λ (n : ℕ). cond (nat_le n slot) (Err NoSlot) (Ok tt)) k.slots
+
+kind-same : (a b : Drawing) (kind : ℕ) → KeepsShape a b → kind_check b kind ≡ kind_check a kind
+kind-same a b kind k =
+    ap (λ ways. cond (nat_le (length ways) (kind * b.fields)) (Err NoKind) (Ok tt)) k.ways
+    ∙ ap (λ (n : ℕ). cond (nat_le (length a.ways) (kind * n)) (Err NoKind) (Ok tt)) k.fields
+
+item-same : (a b : Drawing) (item : GhostItem) → KeepsShape a b → item_fault b item ≡ item_fault a item
+item-same a b (Kill slot) k = ap result_err (slot-same a b slot k)
+item-same a b (Create slot kind block levels) k =
+    ap (λ c. result_err (then_check c (kind_check b kind))) (slot-same a b slot k) ∙ ap (λ c. result_err (then_check (slot_check a slot) c)) (kind-same a b kind k)
+item-same a b (Update slot kind mask levels) k = ap result_err (slot-same a b slot k)
+
+pub items-same : (a b : Drawing) (items : List GhostItem) → KeepsShape a b → items_fault b items ≡ items_fault a items
+items-same a b [] k = refl
+items-same a b (item ∷ items) k = ap (λ o. option_or o (items_fault b items)) (item-same a b item k) ∙ ap (option_or (item_fault a item)) (items-same a b items k)
+
+first-none : {E : Type 0} (a b : Option E) → option_or a b ≡ None → a ≡ None
+first-none None b h = refl
+first-none (Some e) b h = absurd (cc)
+
+rest-none : {E : Type 0} (a b : Option E) → option_or a b ≡ None → b ≡ None
+rest-none None b h = h
+rest-none (Some e) b h = absurd (cc)
+
+module _ (items : List GhostItem) (i : ℕ) (item : GhostItem) (less : i < length items) (at : item ≡ get_or items i item) where
+  cut : drop i items ≡ item ∷ drop (i + 1) items
+  cut = drop-cons items i item less ∙ ap (λ x. x ∷ drop (suc i) items) (sym at) ∙ ap (λ n. item ∷ drop n items) (sym (add-one i))
+
+  pub item-none : (t : Drawing) → items_fault t (drop i items) ≡ None → item_fault t item ≡ None
+  item-none t h = first-none (item_fault t item) (items_fault t (drop (i + 1) items)) (sym (ap (items_fault t) cut) ∙ h)
+
+  pub rest-of-none : (t : Drawing) → items_fault t (drop i items) ≡ None → items_fault t (drop (i + 1) items) ≡ None
+  rest-of-none t h = rest-none (item_fault t item) (items_fault t (drop (i + 1) items)) (sym (ap (items_fault t) cut) ∙ h)
+
+  pub item-passed : (t : Drawing) → item_fault t item ≡ None → items_fault t (drop i items) ≡ items_fault t (drop (i + 1) items)
+  item-passed t h = ap (items_fault t) cut ∙ ap (λ o. option_or o (items_fault t (drop (i + 1) items))) h
+
+  pub item-refused : (t : Drawing) (r : Refusal) → item_fault t item ≡ Some r → items_fault t (drop i items) ≡ Some r
+  item-refused t r h = ap (items_fault t) cut ∙ ap (λ o. option_or o (items_fault t (drop (i + 1) items))) h
+
+  pub told-more : (packet : ℕ) (value : ℕ → ℕ → Option ℤ) (fields : ℕ)
+      → told_items packet value fields (take (i + 1) items) ≡ told_item packet value fields item ++ told_items packet value fields (take i items)
+  told-more packet value fields =
+      ap (told_items packet value fields) (take_more items i item less ∙ ap (λ x. take i items ++ x ∷ []) (sym at)) ∙ told-last packet value fields (take i items) item
+    where
+      told-last : (packet : ℕ) (value : ℕ → ℕ → Option ℤ) (fields : ℕ) (xs : List GhostItem) (x : GhostItem)
+          → told_items packet value fields (xs ++ x ∷ []) ≡ told_item packet value fields x ++ told_items packet value fields xs
+      told-last packet value fields [] x = sym (append-nil (told_item packet value fields x))
+      told-last packet value fields (y ∷ ys) x =
+          ap (λ l. l ++ told_item packet value fields y) (told-last packet value fields ys x)
+          ∙ append_assoc (told_item packet value fields x) (told_items packet value fields ys) (told_item packet value fields y)
