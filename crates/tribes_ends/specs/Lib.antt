@@ -3,3 +3,5 @@ pub mod Making
 pub mod Refusals
 pub mod Lists
 pub mod Sides
+pub mod Channel
+pub mod GatheredBy

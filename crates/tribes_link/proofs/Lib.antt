@@ -2,3 +2,4 @@ pub mod Values
 pub mod HeldValues
 pub mod Below
 pub mod MadeEnds
+pub mod HeldChannelValues

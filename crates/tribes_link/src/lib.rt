@@ -5,14 +5,22 @@
 #![tactic(auto)]
 
 mod answering;
+mod channel_handle;
+mod channels;
 mod datagrams;
 mod end;
 mod events;
 mod held;
+mod held_channel;
 mod making;
 mod objects;
 mod telling;
 
+pub use channel_handle::{ChannelHandle, OPEN_CHANNEL};
+pub use channels::{
+    tribes_channel_counts, tribes_close_channel, tribes_message, tribes_open_channel,
+    tribes_post_message,
+};
 pub use datagrams::{tribes_arrive, tribes_pack, tribes_plan};
 pub use end::{End, OPEN};
 pub use events::{tribes_event, tribes_moves, tribes_pending, tribes_post, tribes_sample};
