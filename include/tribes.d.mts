@@ -5,6 +5,8 @@ export const MAX_DATAGRAM: 1200;
 export const MAX_EVENT: 24;
 export const MAX_BLOCK: 40;
 export const MAX_MOVE_BITS: 64;
+export const MAX_SHORT: 23;
+export const MAX_MESSAGE: 65535;
 
 /** The client's number, 0 to 15; the life of each counter; the bytes of a datagram at the most; the version of the datagrams; and the widths of a move's parts. */
 export interface Config {
@@ -53,6 +55,18 @@ export interface Event {
     guaranteed: boolean;
 }
 
+export interface Message {
+    bytes: Uint8Array;
+    /** It is a short event, and no message. */
+    short: boolean;
+    guaranteed: boolean;
+}
+
+export interface Places {
+    held: number;
+    free: number;
+}
+
 export interface Verdict {
     number: number;
     received: boolean;
@@ -91,11 +105,20 @@ export class BadArgument extends TypeError {
 
 export class Broken extends Error {}
 
+export class Channel {
+    private constructor();
+    free(): void;
+    places(): Places;
+}
+
 declare class End {
     free(): void;
     post(event: string | Bytes, how?: { guaranteed?: boolean }): number | null;
     event(): Event | null;
     events(): Generator<Event, void>;
+    postMessage(channel: Channel, message: string | Bytes, how?: { guaranteed?: boolean; short?: boolean }): void;
+    message(channel: Channel): Message | null;
+    messages(channel: Channel): Generator<Message, void>;
     block(number: number): Uint8Array;
     counts(): Counts;
     verdicts(): Verdict[];
@@ -172,6 +195,7 @@ declare class Tribes {
     timeline(ways: Way[][], how?: { slots?: number; depth?: number }): Timeline;
     clock(pace: Pace, now: number): Clock;
     offset(most: number): Offset;
+    channel(places: number, longest: number): Channel;
 }
 
 type Source = Response | Bytes | WebAssembly.Module;

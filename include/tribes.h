@@ -23,7 +23,8 @@
  * Threads: any number of ends may be used in any number of threads; one end in one call at a time. An end stays on the thread
  * that made it, or is handed on under a lock or by a thread's start or join.
  *
- * Memory: from malloc and free, in tribes_server and tribes_client alone, freed by tribes_free.
+ * Memory: from malloc and free, in tribes_server, tribes_client and tribes_open_channel alone, freed by tribes_free and
+ * tribes_close_channel.
  *
  * Versions: a header fits a library where tribes_version() answers TRIBES_VERSION. docs/library.md says what changes it. The version of
  * the datagrams is another thing: it stands in tribes_config, and both ends of a connection have the same. */
@@ -52,7 +53,9 @@ enum {
     TRIBES_MAX_MOVE_BITS = 64,  /* bits of a move */
     TRIBES_MAX_ASKS = 2048,     /* values that a plan can ask for */
     TRIBES_MAX_JUDGED = 32,     /* data packets that one datagram judges */
-    TRIBES_MAX_CHANGES = 128    /* slots that one datagram changes */
+    TRIBES_MAX_CHANGES = 128,   /* slots that one datagram changes */
+    TRIBES_MAX_SHORT = 23,      /* bytes of a short event of a channel */
+    TRIBES_MAX_MESSAGE = 65535  /* bytes of a message of a channel */
 };
 
 enum {
@@ -121,6 +124,20 @@ enum {
     TRIBES_MOVES_WORN = -72,     /* life */
     TRIBES_MOVES_FULL = -73,     /* first, last unacknowledged */
     TRIBES_MOVE_TOO_WIDE = -74,  /* the bits that a move has */
+    /* channels */
+    TRIBES_NO_PLACES = -75,      /* pieces, free places */
+    TRIBES_BAD_LONGEST = -76,    /* longest */
+    TRIBES_NO_CHANNEL = -77,
+    TRIBES_HAS_CHANNEL = -78,
+    /* a piece that no honest end sends: it ends the channel */
+    TRIBES_PIECE_EMPTY = -80,
+    TRIBES_PIECE_UNKNOWN_FORM = -81, /* form */
+    TRIBES_PIECE_NOT_BEGUN = -82,
+    TRIBES_PIECE_NOT_ENDED = -83,
+    TRIBES_PIECE_ONE_PIECE = -84,    /* length */
+    TRIBES_PIECE_MORE_BYTES = -85,
+    TRIBES_PIECE_FEWER_BYTES = -86,
+    TRIBES_PIECE_TOO_LONG = -87,     /* length, longest */
     /* timelines, clocks and offsets, which tribes_why does not tell of; they answer NO_KIND, NO_FIELD and NO_MEMORY too */
     TRIBES_NO_TIMELINE = -90,
     TRIBES_HAS_TIMELINE = -91,
@@ -142,6 +159,12 @@ typedef struct tribes_end {
     uint32_t state;
     void *at;
 } tribes_end;
+
+/* A handle of a channel, filled with zeros before the first call, and never copied while a channel is behind it. */
+typedef struct tribes_channel {
+    uint32_t state;
+    void *at;
+} tribes_channel;
 
 typedef struct tribes_config {
     uint32_t client;    /* 0 to 15 */
@@ -214,6 +237,10 @@ typedef struct tribes_change {
     uint32_t fields; /* bit f: field f */
 } tribes_change;
 
+/* pieces of a channel that wait to be posted, and how many more may */
+typedef struct tribes_places {
+    uint32_t held, free;
+} tribes_places;
 /* A timeline's handle. Fill it with zeros before the first call, and never copy it while a timeline is behind it. */
 typedef struct tribes_timeline {
     uint32_t state;
@@ -280,6 +307,22 @@ int32_t tribes_arrive(tribes_end *end, const uint8_t *bytes, size_t count, uint3
 /* events, both ways. tribes_event answers 2: a guaranteed one, 1: another, 0: none waits */
 int32_t tribes_post(tribes_end *end, const uint8_t *bytes, size_t count, uint32_t guaranteed, uint32_t *number);
 int32_t tribes_event(tribes_end *end, uint8_t *bytes, size_t room, size_t *count);
+
+/* messages of any length, both ways, and short events in one order with them. A channel goes with one end, from its first event on:
+ * what the end posts and pops as guaranteed events are its pieces, so call neither tribes_post nor tribes_event at that end.
+ * tribes_open_channel makes one that holds so many pieces of 24 bytes which are still to be posted, for messages that come with at most
+ * `longest` bytes, 23 to TRIBES_MAX_MESSAGE. tribes_post_message takes a message, or where `kind` is 0 a short event, whole or not at
+ * all, and posts pieces while the end has places; with `guaranteed` 0 it has at most TRIBES_MAX_SHORT bytes, and is one unguaranteed event.
+ * tribes_message posts what is still held, and hands out the oldest parcel that is whole: it answers 2: a guaranteed one, 1: another, 0:
+ * none is; `kind` is then 0 for a short event and 1 for a message, and there has to be room for `longest`. Call it behind tribes_arrive
+ * until it answers 0, and before tribes_plan, since it may drop a plan. A piece that no honest end sends ends the channel: it answers
+ * PIECE_.. from then on, behind all that was whole before; the end goes on, and tribes_event pops what comes */
+int32_t tribes_open_channel(tribes_channel *channel, uint32_t places, uint32_t longest, tribes_reason *reason);
+int32_t tribes_close_channel(tribes_channel *channel);
+int32_t tribes_post_message(tribes_end *end, tribes_channel *channel, uint32_t kind, const uint8_t *bytes, size_t count,
+                            uint32_t guaranteed);
+int32_t tribes_message(tribes_end *end, tribes_channel *channel, uint8_t *bytes, size_t room, uint32_t *kind, size_t *count);
+int32_t tribes_channel_counts(tribes_channel *channel, tribes_places *places);
 
 /* moves: sampled at the client, taken at the server from the datagram that arrived last. A move is a number of as many bits as the
  * configuration says, and the game says what they mean: tribes_put_bits and tribes_take_bits make it of fields. Ends of a client and a
@@ -395,6 +438,18 @@ static inline const char *tribes_text(int32_t code) {
     case TRIBES_MOVES_WORN: return "no further move has a number";
     case TRIBES_MOVES_FULL: return "32 moves are unacknowledged";
     case TRIBES_MOVE_TOO_WIDE: return "a move has a bit above those that are written";
+    case TRIBES_NO_PLACES: return "more pieces than places are free";
+    case TRIBES_BAD_LONGEST: return "the longest message is none of 23 to 65,535 bytes";
+    case TRIBES_NO_CHANNEL: return "no channel is behind the handle";
+    case TRIBES_HAS_CHANNEL: return "a channel is behind the handle already";
+    case TRIBES_PIECE_EMPTY: return "a piece without a byte";
+    case TRIBES_PIECE_UNKNOWN_FORM: return "a piece of no form";
+    case TRIBES_PIECE_NOT_BEGUN: return "a piece of no message";
+    case TRIBES_PIECE_NOT_ENDED: return "a message that begins before the last one ended";
+    case TRIBES_PIECE_ONE_PIECE: return "a message in pieces that fits one";
+    case TRIBES_PIECE_MORE_BYTES: return "a piece with too many bytes";
+    case TRIBES_PIECE_FEWER_BYTES: return "a piece with too few bytes";
+    case TRIBES_PIECE_TOO_LONG: return "a message that is longer than the channel's longest";
     case TRIBES_NO_TIMELINE: return "no timeline is behind the handle";
     case TRIBES_HAS_TIMELINE: return "a timeline is behind the handle already";
     case TRIBES_BAD_SHAPE: return "a timeline's slots, fields or depth are none";

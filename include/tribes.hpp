@@ -118,6 +118,45 @@ struct event {
     std::string_view text() const { return text_of(bytes()); }
 };
 
+/* A message of any length that came, or a short event. */
+struct message {
+    tribes::bytes bytes;
+    bool short_event = false, guaranteed = false;
+    std::string_view text() const { return text_of(bytes); }
+};
+
+/* Messages of any length over one end, and short events in one order with them. It goes with one end, from its first event on. */
+class channel {
+public:
+    /* It holds so many pieces of 24 bytes that are still to be posted, for messages that come with at most `longest` bytes. */
+    static result<channel> make(std::uint32_t places, std::uint32_t longest) {
+        channel made;
+        tribes_reason why{};
+        if (tribes_open_channel(&made.handle_, places, longest, &why) < 0) return refusal{why.code, why.first, why.second};
+        return result<channel>(std::move(made));
+    }
+    channel(const channel &) = delete;
+    channel &operator=(const channel &) = delete;
+    channel(channel &&other) noexcept : handle_(other.handle_) { other.handle_ = {}; }
+    channel &operator=(channel &&other) noexcept {
+        std::swap(handle_, other.handle_);
+        return *this;
+    }
+    ~channel() { tribes_close_channel(&handle_); }
+
+    /* Pieces that wait to be posted, and how many more may. */
+    tribes_places places() {
+        tribes_places all{};
+        tribes_channel_counts(&handle_, &all);
+        return all;
+    }
+    tribes_channel *handle() { return &handle_; }
+
+private:
+    channel() = default;
+    tribes_channel handle_{};
+};
+
 /* A copy of an object at the client. */
 struct copy {
     std::uint32_t slot = 0, kind = 0, block = 0;
@@ -162,6 +201,25 @@ public:
         if (code <= 0) return std::nullopt;
         came.guaranteed = code == 2;
         return came;
+    }
+
+    /* Posts a message, or a short event, whole or not at all. */
+    result<void> post(channel &to, bytes message, bool guaranteed = true) {
+        return told(tribes_post_message(&handle_, to.handle(), 1, message.data(), message.size(), guaranteed));
+    }
+    result<void> post(channel &to, std::string_view text, bool guaranteed = true) { return post(to, bytes_of(text), guaranteed); }
+    result<void> post_short(channel &to, bytes event, bool guaranteed = true) {
+        return told(tribes_post_message(&handle_, to.handle(), 0, event.data(), event.size(), guaranteed));
+    }
+
+    /* The oldest message or short event that is whole, in that place, which has room for the channel's longest message. */
+    result<std::optional<tribes::message>> next_message(channel &from, place out) {
+        std::uint32_t kind = 0;
+        std::size_t count = 0;
+        std::int32_t code = tribes_message(&handle_, from.handle(), out.data(), out.size(), &kind, &count);
+        std::optional<tribes::message> found;
+        if (code > 0) found = tribes::message{bytes(out.data(), count), kind == 0, code == 2};
+        return told(code, found);
     }
 
     /* The bytes of a block, in that place. */

@@ -26,6 +26,8 @@ export const MAX_DATAGRAM = 1_200;
 export const MAX_EVENT = 24;
 export const MAX_BLOCK = 40;
 export const MAX_MOVE_BITS = 64;
+export const MAX_SHORT = 23;
+export const MAX_MESSAGE = 65_535;
 const MAX_FIELDS = 16;
 const MAX_MOVES = 32;
 const MAX_ASKS = 2_048;
@@ -96,6 +98,18 @@ const REFUSALS = {
     MOVES_WORN: [-72, "no further move has a number"],
     MOVES_FULL: [-73, "32 moves are unacknowledged"],
     MOVE_TOO_WIDE: [-74, "a move has a bit above those that are written"],
+    NO_PLACES: [-75, "more pieces than places are free"],
+    BAD_LONGEST: [-76, "the longest message is none of 23 to 65,535 bytes"],
+    NO_CHANNEL: [-77, "no channel is behind the handle"],
+    HAS_CHANNEL: [-78, "a channel is behind the handle already"],
+    PIECE_EMPTY: [-80, "a piece without a byte"],
+    PIECE_UNKNOWN_FORM: [-81, "a piece of no form"],
+    PIECE_NOT_BEGUN: [-82, "a piece of no message"],
+    PIECE_NOT_ENDED: [-83, "a message that begins before the last one ended"],
+    PIECE_ONE_PIECE: [-84, "a message in pieces that fits one"],
+    PIECE_MORE_BYTES: [-85, "a piece with too many bytes"],
+    PIECE_FEWER_BYTES: [-86, "a piece with too few bytes"],
+    PIECE_TOO_LONG: [-87, "a message that is longer than the channel's longest"],
     NO_TIMELINE: [-90, "no timeline is behind the handle"],
     HAS_TIMELINE: [-91, "a timeline is behind the handle already"],
     BAD_SHAPE: [-92, "a timeline's slots, fields or depth are none"],
@@ -285,6 +299,7 @@ class Tribes {
         const version = this.calls.tribes_version();
         if (version !== VERSION) throw new Error(`the module has version ${version} of the interface, and not ${VERSION}`);
         this.ends = new FinalizationRegistry((at) => this.reason === null && this.release(at));
+        this.channels = new FinalizationRegistry((at) => this.reason === null && this.close(at));
         this.timelines = new FinalizationRegistry((at) => this.reason === null && this.releaseTimeline(at));
         this.to = {};
         for (const [name, size] of Object.entries(PLACES)) this.to[name] = this.take(size);
@@ -314,6 +329,14 @@ class Tribes {
         return new Client(this, config, kinds);
     }
 
+    /**
+     * Messages of any length over one end: it holds so many pieces of 24 bytes that are still to be posted, for messages that come with at most
+     * `longest` bytes.
+     */
+    channel(places, longest) {
+        return new Channel(this, places, longest);
+    }
+
     /** What a client draws of the others: `ways` has for each kind how its fields go, "stepped", "linear" or { least, most } of a circle. */
     timeline(ways, how = {}) {
         return new Timeline(this, ways, how);
@@ -334,7 +357,7 @@ class Tribes {
         return this.calls.memory.buffer.byteLength;
     }
 
-    /** Looks at the memory as it is now. It grows where an end is made, and there alone. */
+    /** Looks at the memory as it is now. It grows where an end or a channel is made, and there alone. */
     look() {
         const { buffer } = this.calls.memory;
         this.bytes = new Uint8Array(buffer);
@@ -412,6 +435,25 @@ class Tribes {
         this.calls.tribes_give(at);
     }
 
+    /** Makes a channel behind a handle of zeros, and gives the handle's address. */
+    open(places, longest) {
+        if (this.isAsking) throw new Error("a channel is made while a datagram's values are asked for");
+        const at = this.take(16);
+        this.look();
+        this.words.fill(0, at >> 2, (at >> 2) + 4);
+        const code = this.calls.tribes_open_channel(at, 0, places, longest, this.to.why, 0);
+        this.look();
+        if (code >= 0) return at;
+        this.calls.tribes_give(at);
+        throw this.why();
+    }
+
+    /** Frees a channel, and its handle. */
+    close(at) {
+        this.calls.tribes_close_channel(at, 0);
+        this.calls.tribes_give(at);
+    }
+
     releaseTimeline(at) {
         this.calls.tribes_timeline_free(at, 0);
         this.calls.tribes_give(at);
@@ -461,6 +503,46 @@ function kindsOf(kinds) {
         });
         return { weight, fields: rows };
     });
+}
+
+// ---- channels
+
+/** Messages of any length over one end, and short events in one order with them. The guaranteed events of that end are its pieces. */
+export class Channel {
+    constructor(tribes, places, longest) {
+        this._tribes = tribes;
+        this._longest = u32("the longest message", longest);
+        this._at = tribes.open(u32("the places", places), longest);
+        tribes.channels.register(this, this._at, this);
+    }
+
+    /** Frees the channel. One that is not freed is so some time after the last reference to it is gone. */
+    free() {
+        if (this._at === 0) return;
+        const at = this._at;
+        this._at = 0;
+        this._tribes.channels.unregister(this);
+        this._tribes.close(at);
+    }
+
+    [Symbol.dispose ?? Symbol.for("Symbol.dispose")]() {
+        this.free();
+    }
+
+    /** How many pieces wait to be posted, and how many more may. */
+    places() {
+        const { to } = this._tribes;
+        if (this._at === 0) throw refusalOf("NO_CHANNEL");
+        this._tribes.calls.tribes_channel_counts(this._at, 0, to.small, 0);
+        return { held: this._tribes.word("small"), free: this._tribes.word("small", 1) };
+    }
+}
+
+/** The address of a channel of these calls. */
+function channelOf(tribes, it) {
+    if (!(it instanceof Channel) || it._tribes !== tribes) throw new BadArgument("the channel", "a channel of this module", it);
+    if (it._at === 0) throw refusalOf("NO_CHANNEL");
+    return it._at;
 }
 
 // ---- ends
@@ -557,6 +639,26 @@ class End {
     /** Takes out the events that wait, oldest first: they have to be out before the next datagram arrives. */
     *events() {
         for (let it = this.event(); it; it = this.event()) yield it;
+    }
+
+    /** Posts a message, or a short event of up to 23 bytes, whole or not at all. One that may be lost has up to 23 bytes. */
+    postMessage(channel, message, how = {}) {
+        const bytes = bytesOf("the message", message, true), { guaranteed = true, short = false } = object("how it is posted", how);
+        const kept = flag("guaranteed", guaranteed), kind = 1 - flag("short", short), at = channelOf(this._tribes, channel), calls = this._calls();
+        const { to } = this._tribes;
+        this._done(calls.tribes_post_message(this._at, 0, at, 0, kind, to.bytes, 0, this._tribes.bring(bytes, MAX_MESSAGE), 0, kept));
+    }
+
+    /** The oldest message or short event that is whole, or null. */
+    message(channel) {
+        const { to } = this._tribes, at = channelOf(this._tribes, channel);
+        const code = this._done(this._calls().tribes_message(this._at, 0, at, 0, to.bytes, 0, channel._longest, 0, to.number, 0, to.count, 0));
+        return code === 0 ? null : { bytes: this._tribes.bytesOut(), short: this._tribes.word("number") === 0, guaranteed: code === 2 };
+    }
+
+    /** Takes out what is whole, oldest first: after a datagram arrived, and before the next one is packed. */
+    *messages(channel) {
+        for (let it = this.message(channel); it; it = this.message(channel)) yield it;
     }
 
     /** The bytes of a block: at the server one of its own, at the client one that came. */

@@ -17,6 +17,10 @@ pub const MAX_EVENT: usize = 24;
 /// Bytes of a block at the most.
 pub const MAX_BLOCK: usize = 40;
 const MAX_FIELDS: usize = 16;
+/// Bytes of a short event of a channel at the most.
+pub const MAX_SHORT: usize = 23;
+/// Bytes of a message of a channel at the most.
+pub const MAX_MESSAGE: usize = 65_535;
 /// Bits of a move at the most.
 pub const MAX_MOVE_BITS: usize = 64;
 const MAX_MOVES: usize = 32;
@@ -166,6 +170,21 @@ pub struct Event {
     pub guaranteed: bool,
 }
 
+/// Pieces of a channel that wait to be posted, and how many more may.
+#[repr(C)]
+#[derive(Clone, Copy, Debug, Default, PartialEq, Eq)]
+pub struct Places {
+    pub held: u32,
+    pub free: u32,
+}
+
+/// A parcel is a short event of at most `MAX_SHORT` bytes, or a message.
+#[derive(Clone, Copy, Debug, PartialEq, Eq)]
+pub enum Parcel {
+    ShortEvent,
+    Message,
+}
+
 /// A copy: the object's kind and block, and the values of its fields.
 #[derive(Clone, Debug, Default)]
 pub struct Copy {
@@ -254,6 +273,18 @@ pub fn words(code: i32) -> &'static str {
         -72 => "no further move has a number",
         -73 => "32 moves are unacknowledged",
         -74 => "a move has a bit above those that are written",
+        -75 => "more pieces than places are free",
+        -76 => "the longest message is none of 23 to 65,535 bytes",
+        -77 => "no channel is behind the handle",
+        -78 => "a channel is behind the handle already",
+        -80 => "a piece without a byte",
+        -81 => "a piece of no form",
+        -82 => "a piece of no message",
+        -83 => "a message that begins before the last one ended",
+        -84 => "a message in pieces that fits one",
+        -85 => "a piece with too many bytes",
+        -86 => "a piece with too few bytes",
+        -87 => "a message that is longer than the channel's longest",
         -90 => "no timeline is behind the handle",
         -91 => "a timeline is behind the handle already",
         -92 => "a timeline's slots, fields or depth are none",
@@ -274,6 +305,12 @@ pub fn words(code: i32) -> &'static str {
 
 #[repr(C)]
 struct Handle {
+    state: u32,
+    at: *mut c_void,
+}
+
+#[repr(C)]
+struct ChannelHandle {
     state: u32,
     at: *mut c_void,
 }
@@ -381,6 +418,15 @@ unsafe extern "C" {
     fn tribes_arrive(end: *mut Handle, bytes: *const u8, count: usize, room: u32, moves: *mut u32) -> i32;
     fn tribes_post(end: *mut Handle, bytes: *const u8, count: usize, guaranteed: u32, number: *mut u32) -> i32;
     fn tribes_event(end: *mut Handle, bytes: *mut u8, room: usize, count: *mut usize) -> i32;
+    fn tribes_open_channel(channel: *mut ChannelHandle, places: u32, longest: u32, error: *mut Error) -> i32;
+    fn tribes_close_channel(channel: *mut ChannelHandle) -> i32;
+    fn tribes_post_message(
+        end: *mut Handle, channel: *mut ChannelHandle, kind: u32, bytes: *const u8, count: usize, guaranteed: u32,
+    ) -> i32;
+    fn tribes_message(
+        end: *mut Handle, channel: *mut ChannelHandle, bytes: *mut u8, room: usize, kind: *mut u32, count: *mut usize,
+    ) -> i32;
+    fn tribes_channel_counts(channel: *mut ChannelHandle, places: *mut Places) -> i32;
     fn tribes_sample(end: *mut Handle, bits: u64, number: *mut u32) -> i32;
     fn tribes_moves(end: *mut Handle, moves: *mut u64, room: usize, count: *mut u32) -> i32;
     fn tribes_pending(end: *mut Handle, moves: *mut u64, room: usize, count: *mut u32) -> i32;
@@ -446,6 +492,36 @@ impl Drop for Handle {
     }
 }
 
+/// Messages of any length over one end, and short events in one order with them.
+///
+/// It goes with one end, from its first event on: the guaranteed events of that end are its pieces.
+pub struct Channel(ChannelHandle);
+
+// SAFETY: what is behind it has no thread of its own, and `&mut` gives it to one call at a time.
+unsafe impl Send for Channel {}
+
+impl Channel {
+    /// It holds so many pieces of 24 bytes that are still to be posted, for messages that come with at most `longest` bytes.
+    pub fn new(places: u32, longest: u32) -> Result<Channel, Error> {
+        let mut channel = Channel(ChannelHandle { state: 0, at: core::ptr::null_mut() });
+        let mut error = Error::default();
+        let code = unsafe { tribes_open_channel(&mut channel.0, places, longest, &mut error) };
+        if code < 0 { Err(error) } else { Ok(channel) }
+    }
+
+    pub fn places(&mut self) -> Places {
+        let mut places = Places::default();
+        let _ = unsafe { tribes_channel_counts(&mut self.0, &mut places) };
+        places
+    }
+}
+
+impl Drop for Channel {
+    fn drop(&mut self) {
+        let _ = unsafe { tribes_close_channel(&mut self.0) };
+    }
+}
+
 /// What both ends have.
 macro_rules! both {
     ($end:ident) => {
@@ -475,6 +551,24 @@ macro_rules! both {
                     let (bytes, guaranteed) = self.event(&mut place).ok().flatten()?;
                     Some(Event { bytes: bytes.to_vec(), guaranteed })
                 })
+            }
+
+            /// Posts a message or a short event whole or not at all; an unguaranteed one has at most `MAX_SHORT` bytes.
+            pub fn post_message(&mut self, channel: &mut Channel, parcel: Parcel, bytes: &[u8], guaranteed: bool) -> Result<(), Error> {
+                let kind = (parcel == Parcel::Message) as u32;
+                let (to, count) = (&mut channel.0, bytes.len());
+                let code = unsafe { tribes_post_message(&mut self.0, to, kind, bytes.as_ptr(), count, guaranteed as u32) };
+                self.0.told(code).map(|_| ())
+            }
+
+            /// The oldest parcel that is whole, and whether it is a guaranteed one. `place` has room for the channel's longest message.
+            pub fn message<'a>(&mut self, channel: &mut Channel, place: &'a mut [u8]) -> Result<Option<(Parcel, &'a [u8], bool)>, Error> {
+                let (mut kind, mut count) = (0, 0);
+                let to = &mut channel.0;
+                let code = unsafe { tribes_message(&mut self.0, to, place.as_mut_ptr(), place.len(), &mut kind, &mut count) };
+                let code = self.0.told(code)?;
+                let parcel = if kind == 0 { Parcel::ShortEvent } else { Parcel::Message };
+                Ok((code > 0).then(|| (parcel, &place[..count], code == 2)))
             }
 
             /// The bytes of a block: at the server of its own, at the client of one that came.

@@ -76,6 +76,13 @@ impl Inbox {
         }
     }
 
+    /// The most bytes that a parcel may have.
+    pub fn room(&self) -> usize
+        ensures { result ≡ self.now.room }
+    {
+        self.gathered.capacity()
+    }
+
     /// Whether a parcel waits to be handed out.
     pub fn waits(&self) -> bool
         ensures { result ≡ is_some (waiting self.now) }
@@ -316,6 +323,34 @@ impl Inbox {
         self.gathered.read_into(&mut place[..count]);
         self.stage = Stage::Idle;
         Ok(Some(Whole { kind, count }))
+    }
+
+    /// Hands out the parcel that waits, at the front of a place with room for any parcel; `None` exactly where none does.
+    pub fn hand_to(&mut self, place: &mut [u8]) -> Option<Whole>
+        requires room { self.old.room ≤ length place.old }
+        ensures none { IsNone result → (waiting self.old ≡ None) × (self.new ≡ self.old) }
+        ensures whole { IfSome result (λ w. waiting self.old ≡ Some (record { kind = w.kind; bytes = take w.count place.new })) }
+        ensures stands { IfSome result (λ w.
+            Does InboxStandsFor self.old (HandedOut (record { kind = w.kind; bytes = take w.count place.new })) self.new) }
+        ensures rest { IfSome result (λ w. drop w.count place.new ≡ drop w.count place.old) }
+        ensures none_waits { waiting self.new ≡ None }
+        ensures fault { self.new.fault ≡ self.old.fault }
+        ensures room { self.new.room ≡ self.old.room }
+    {
+        let Stage::Whole { kind } = self.stage else {
+            return None;
+        };
+        let count = self.gathered.len();
+        self.gathered.read_into(&mut place[..count]);
+        self.stage = Stage::Idle;
+        Some(Whole { kind, count })
+    }
+
+    /// Ends what comes in with this fault, of a piece that was sent unguaranteed: no piece is taken after it.
+    pub fn end(&mut self, named: PieceFault)
+        ensures { self.new ≡ record self.old { fault = Some named } }
+    {
+        self.fault = Some(named);
     }
 }
 

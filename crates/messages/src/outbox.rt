@@ -64,7 +64,8 @@ impl Outbox {
 
     /// How many pieces are held.
     pub fn held(&self) -> usize
-        ensures { result ≡ length self.now.held }
+        ensures count { result ≡ length self.now.held }
+        ensures few { result ≤ self.now.places }
     {
         self.held.len()
     }

@@ -34,6 +34,7 @@ pub fn loose_piece(kind: ParcelKind, bytes: &[u8]) -> Result<Payload, HoldFault>
 pub fn loose_parcel(piece: &Payload) -> Result<(ParcelKind, &[u8]), PieceFault>
     ensures refused { result_err result ≡ loose_fault piece.now }
     ensures parcel { IfOk result (λ parcel. pieces_by parcel.0 parcel.1.now ≡ piece.now ∷ []) }
+    ensures few { IfOk result (λ parcel. length parcel.1.now ≤ MAX_SINGLE_BYTES) }
 {
     let Some((byte, bytes)) = parted(piece.as_slice()) else {
         return Err(PieceFault::Empty);

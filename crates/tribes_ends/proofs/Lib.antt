@@ -6,3 +6,4 @@ pub mod Hearing
 pub mod Listing
 pub mod Passing
 pub mod Replayed
+pub mod Channelling

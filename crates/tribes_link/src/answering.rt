@@ -16,6 +16,12 @@ pub(crate) const HAS_END: i32 = -2;
 /// Memory was not to be had.
 pub(crate) const NO_MEMORY: i32 = -3;
 
+/// No channel is behind the handle.
+pub(crate) const NO_CHANNEL: i32 = -77;
+
+/// A channel is behind the handle already.
+pub(crate) const HAS_CHANNEL: i32 = -78;
+
 /// Notes why a call did nothing, and gives the refusal's code, which is below 0.
 #[tactic(auto, using(crate::proofs::Below::is_below))]
 pub(crate) fn refused(link: &mut Link, refusal: Refusal) -> i32

@@ -5,12 +5,15 @@
 #![tactic(auto)]
 
 mod answering;
+mod channel_handle;
+mod channels;
 mod clocks;
 mod datagrams;
 mod drawing;
 mod end;
 mod events;
 mod held;
+mod held_channel;
 mod held_timeline;
 mod making;
 mod objects;
@@ -19,6 +22,11 @@ mod telling;
 mod timeline_answers;
 mod timeline_handle;
 
+pub use channel_handle::{ChannelHandle, OPEN_CHANNEL};
+pub use channels::{
+    tribes_channel_counts, tribes_close_channel, tribes_message, tribes_open_channel,
+    tribes_post_message,
+};
 pub use clocks::{tribes_clock_came, tribes_clock_moment, tribes_clock_start};
 pub use datagrams::{tribes_arrive, tribes_pack, tribes_plan};
 pub use drawing::{

@@ -1,0 +1,8 @@
+use Rattle.message_laws.proofs.InStep.{arrive}
+use Rattle.message_laws.proofs.laws.messages_over_a_connection.Goals as goal
+
+pub returns-clause-down : goal.returns-clause-down
+returns-clause-down c t steps limits fit met honest = arrive _ _ (c.delivers_in_order.ensures.down t steps limits fit met honest)
+
+pub returns-clause-up : goal.returns-clause-up
+returns-clause-up c t steps limits fit met honest = arrive _ _ (c.delivers_in_order.ensures.up t steps limits fit met honest)
