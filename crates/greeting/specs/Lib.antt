@@ -1,0 +1,4 @@
+pub mod Words
+pub mod Datagrams
+pub mod Door
+pub mod Passing
