@@ -6,7 +6,7 @@ use Rattle.greeting.specs.declared.datagrams.Reason.{Reason}
 use Rattle.greeting.specs.declared.datagrams.Reason.TheVariants.{OtherVersion, OtherProtocol, Full, TokenRefused}
 use Rattle.greeting.specs.declared.datagrams.Form.{Form}
 use Rattle.greeting.specs.declared.datagrams.Form.TheVariants.{Hello, OtherHello, Challenge, Answer, Welcome, Refusal, Nothing}
-use Rattle.greeting.specs.declared.datagrams.TheConstants.{HELLO, CHALLENGE, ANSWER, WELCOME, REFUSAL, GREETING_VERSION, HELLO_BYTES, CHALLENGE_BYTES, ANSWER_BYTES, WELCOME_BYTES, REFUSAL_BYTES, MAX_GREETING_BYTES}
+use Rattle.greeting.specs.declared.datagrams.TheConstants.{HELLO, CHALLENGE, ANSWER, WELCOME, REFUSAL, GREETING_VERSION, HELLO_BYTES, CHALLENGE_BYTES, ANSWER_BYTES, WELCOME_BYTES, REFUSAL_BYTES, MAX_GREETING_BYTES, TERMS_BYTES}
 use Rattle.greeting.specs.Words.{bytes_of, sixteen_at}
 
 -- ---- what is written
@@ -82,7 +82,7 @@ unfoldable pub client_in : List ℕ → ℕ
 client_in bytes = from_le_bytes w32 (take 4 (drop 18 bytes))
 
 abbrev pub terms_in : List ℕ → List ℕ
-terms_in bytes = drop 22 bytes
+terms_in bytes = take TERMS_BYTES (drop 22 bytes)
 
 abbrev pub reason_of : ℕ → Option Reason
 reason_of byte =

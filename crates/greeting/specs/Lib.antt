@@ -2,3 +2,4 @@ pub mod Words
 pub mod Datagrams
 pub mod Door
 pub mod Passing
+pub mod Knock

@@ -125,11 +125,14 @@ impl Door {
         })
     }
 
-    // Whether a seat is free.
-    fn has_room(&self) -> bool
-        ensures { result ≡ is_some (position is_free self.now.seats) }
+    // A free seat, if there is one.
+    fn free(&self) -> Option<usize>
+        ensures { result ≡ position is_free self.now.seats }
     {
-        self.seats.iter().position(|seat| seat.is_none()).is_some()
+        self.seats.iter().position(|seat| match seat {
+            Some(_) => false,
+            None => true,
+        })
     }
 
     // A hello of this version came.
@@ -164,7 +167,7 @@ impl Door {
             reply.write_welcome(nonce, client, &self.terms);
             return Heard::Again { client };
         }
-        if self.has_room() {
+        if self.free().is_some() {
             self.asking = Some(Guest {
                 address: from,
                 nonce,
@@ -194,12 +197,11 @@ impl Door {
         self.admit(from, nonce, reply)
     }
 
-    /// A datagram came from an address. What `reply` then has is to go back there, if it has any bytes.
-    pub fn hear(&mut self, from: Address, bytes: &[u8], reply: &mut GreetingBytes) -> Heard
+    // A datagram came.
+    fn judge(&mut self, from: Address, bytes: &[u8], reply: &mut GreetingBytes) -> Heard
         ensures answer { Hears self.old from bytes.now result }
         ensures reply { reply.new ≡ reply_of self.old from bytes.now result }
         ensures asks { self.new ≡ record self.old { asking = asking_of from bytes.now result } }
-        ensures log { Does self.old (Came from bytes.now reply.new) self.new }
     {
         reply.clear();
         self.asking = None;
@@ -214,6 +216,27 @@ impl Door {
             Form::Answer => self.check(from, bytes, reply),
             _ => Heard::Dropped,
         }
+    }
+
+    /// A datagram came from an address. What `reply` then has is to go back there, if it has any bytes.
+    pub fn hear(&mut self, from: Address, bytes: &[u8], reply: &mut GreetingBytes) -> Heard
+        ensures answer { Hears self.old from bytes.now result }
+        ensures reply { reply.new ≡ reply_of self.old from bytes.now result }
+        ensures asks { self.new ≡ record self.old { asking = asking_of from bytes.now result } }
+        ensures log { Does self.old (Came from bytes.now reply.new) self.new }
+    {
+        self.judge(from, bytes, reply)
+    }
+
+    // The seat is that of who asks.
+    fn take(&mut self, guest: Guest, client: u32, reply: &mut GreetingBytes)
+        requires { client < length self.old.seats }
+        ensures given { self.new ≡ seated self.old client guest }
+        ensures reply { reply.new ≡ welcome guest.nonce client self.old.terms }
+    {
+        self.seats[client as usize] = Some(guest);
+        self.asking = None;
+        reply.write_welcome(guest.nonce, client, &self.terms);
     }
 
     /// Who asks has this client from now on. What `reply` then has is to go to its address.
@@ -234,10 +257,15 @@ impl Door {
         if self.seats[i].is_some() {
             return Err(AcceptFault::SeatIsTaken);
         }
-        self.seats[i] = Some(guest);
-        self.asking = None;
-        reply.write_welcome(guest.nonce, client, &self.terms);
+        self.take(guest, client, reply);
         Ok(())
+    }
+
+    // Nobody asks any more.
+    fn turn(&mut self)
+        ensures { self.new ≡ record self.old { asking = None } }
+    {
+        self.asking = None;
     }
 
     /// The game does not take the token of who asks; true, and `reply` is to go to its address. False: nobody asks, and nothing is changed.
@@ -251,7 +279,7 @@ impl Door {
         let Some(guest) = self.asking else {
             return false;
         };
-        self.asking = None;
+        self.turn();
         reply.write_refusal(guest.nonce, Reason::TokenRefused);
         true
     }

@@ -3,8 +3,10 @@
 
 mod datagrams;
 mod door;
+mod knock;
 mod words;
 
 pub use datagrams::{GreetingBytes, Reason};
 pub use door::{AcceptFault, Door, Guest, Heard};
+pub use knock::{Knock, Reached};
 pub use words::{Address, SECRET_BYTES, Sixteen};
