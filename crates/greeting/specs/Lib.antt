@@ -1,0 +1,5 @@
+pub mod Words
+pub mod Datagrams
+pub mod Door
+pub mod Passing
+pub mod Knock

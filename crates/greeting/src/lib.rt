@@ -1,0 +1,12 @@
+//! How a server and a client greet each other: no client without an address that reads what is sent to it, and no datagrams for anybody else.
+#![tactic(auto)]
+
+mod datagrams;
+mod door;
+mod knock;
+mod words;
+
+pub use datagrams::{GreetingBytes, Reason};
+pub use door::{AcceptFault, Door, Guest, Heard};
+pub use knock::{Knock, Reached};
+pub use words::{Address, SECRET_BYTES, Sixteen};

@@ -1,0 +1,3 @@
+pub mod Sealing
+pub mod Laws
+pub mod Numbers
