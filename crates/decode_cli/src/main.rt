@@ -1,4 +1,4 @@
-//! The program `decode`: the table of a datagram, or of each datagram of a report (docs/packets.md).
+//! The program `decode`: the table of a datagram, or of each datagram of a report, or a line for each (docs/packets.md).
 #![tactic(auto)]
 
 mod report;
@@ -8,12 +8,11 @@ mod words;
 
 ghost use Rattle.std.specs.Prelude.{◌≤◌, length};
 
-use report::report_tables;
+use report::{datagram_text, push_line, report_text};
 use std::alloc::Global;
 use std::io::{self, Read, Write};
 use std::process::ExitCode;
 use std::{env, str};
-use table::{down_table, up_table};
 use tn_types::{End, MAX_READ_BYTES};
 use words::{Command, Options, Refusal, read_command};
 
@@ -35,24 +34,26 @@ fn arguments(rt: &HostRuntime) -> Result<Vec<String>, Refusal> {
     Ok(words)
 }
 
-/// The table of one datagram.
-fn datagram_table(
-    alloc: Global,
-    by: End,
-    bytes: &[u8],
-    options: Options,
-) -> Result<Vec<u8>, Refusal>
+/// The table of one datagram, or its line behind a word for its way.
+fn one_text(alloc: Global, by: End, bytes: &[u8], options: Options) -> Result<Vec<u8>, Refusal>
     requires { length bytes.now ≤ MAX_READ_BYTES }
 {
-    let Options { version, mut slots } = options;
-    let made = match by {
-        End::Server => down_table(alloc, version, bytes, &mut slots),
-        End::Client => up_table(alloc, version, bytes),
-    };
-    match made {
-        Ok(text) => Ok(text),
-        Err(_) => Err(Refusal::NoMemory),
+    let Options {
+        version,
+        mut slots,
+        brief,
+    } = options;
+    let made = datagram_text(alloc, version, by, bytes, &mut slots, brief)?;
+    if !brief {
+        return Ok(made);
     }
+    let way = match by {
+        End::Server => "down",
+        End::Client => "up",
+    };
+    let mut text = Vec::new(alloc);
+    push_line(&mut text, way, made.as_slice())?;
+    Ok(text)
 }
 
 /// The text that the words ask for.
@@ -63,7 +64,7 @@ fn text_of(rt: &HostRuntime) -> Result<Vec<u8>, Refusal> {
             if bytes.len() > MAX_READ_BYTES {
                 return Err(Refusal::LongHex);
             }
-            datagram_table(rt.alloc(), by, bytes.as_slice(), options)
+            one_text(rt.alloc(), by, bytes.as_slice(), options)
         }
         Command::Report { options } => {
             let mut bytes = Vec::new(rt.alloc());
@@ -71,7 +72,7 @@ fn text_of(rt: &HostRuntime) -> Result<Vec<u8>, Refusal> {
                 return Err(Refusal::Unread);
             }
             match str::from_utf8(bytes.as_slice()) {
-                Ok(report) => report_tables(rt.alloc(), options.version, report),
+                Ok(report) => report_text(rt.alloc(), options.version, report, options.brief),
                 Err(_) => Err(Refusal::NoReport),
             }
         }

@@ -2,7 +2,7 @@
 ghost use Rattle.std.specs.Prelude.{◌≤◌, length};
 
 use crate::slots::Slots;
-use crate::table::{down_table, up_table};
+use crate::table::{down_text, up_text};
 use crate::words::{Refusal, bytes_of};
 use std::alloc::Global;
 use tn_types::{End, MAX_CLIENTS, MAX_READ_BYTES};
@@ -72,23 +72,33 @@ fn all_slots(alloc: Global) -> Result<Vec<Slots>, Refusal> {
     Ok(all)
 }
 
-/// The table of a datagram.
-fn table(
+/// The table of a datagram, or its line.
+pub(crate) fn datagram_text(
     alloc: Global,
     version: u8,
-    sent: &Sent<'_>,
+    by: End,
     bytes: &[u8],
     slots: &mut Slots,
+    brief: bool,
 ) -> Result<Vec<u8>, Refusal>
     requires { length bytes.now ≤ MAX_READ_BYTES }
 {
-    let made = match sent.by {
-        End::Server => down_table(alloc, version, bytes, slots),
-        End::Client => up_table(alloc, version, bytes),
+    let made = match by {
+        End::Server => down_text(alloc, version, bytes, slots, brief),
+        End::Client => up_text(alloc, version, bytes, brief),
     };
     match made {
         Ok(text) => Ok(text),
         Err(_) => Err(Refusal::NoMemory),
+    }
+}
+
+/// Adds a line's head and what stands behind it.
+pub(crate) fn push_line(text: &mut Vec<u8>, head: &str, line: &[u8]) -> Result<(), Refusal> {
+    if text.extend_from_slice(head.as_bytes()).is_ok() && text.extend_from_slice(line).is_ok() {
+        Ok(())
+    } else {
+        Err(Refusal::NoMemory)
     }
 }
 
@@ -105,8 +115,22 @@ fn push_table(text: &mut Vec<u8>, head: &str, table: &[u8]) -> Result<(), Refusa
     }
 }
 
-/// The tables of the datagrams of a report. Kinds that slots hold are followed along, client by client.
-pub(crate) fn report_tables(alloc: Global, version: u8, report: &str) -> Result<Vec<u8>, Refusal> {
+/// Adds what was made of a datagram.
+fn push_made(text: &mut Vec<u8>, head: &str, made: &[u8], brief: bool) -> Result<(), Refusal> {
+    if brief {
+        push_line(text, head, made)
+    } else {
+        push_table(text, head, made)
+    }
+}
+
+/// The tables of the datagrams of a report, or a line for each. Kinds that slots hold are followed along, client by client.
+pub(crate) fn report_text(
+    alloc: Global,
+    version: u8,
+    report: &str,
+    brief: bool,
+) -> Result<Vec<u8>, Refusal> {
     let mut all = all_slots(alloc)?;
     let mut text = Vec::new(alloc);
     for line in report.lines() {
@@ -114,8 +138,9 @@ pub(crate) fn report_tables(alloc: Global, version: u8, report: &str) -> Result<
             if let Ok(bytes) = bytes_of(alloc, sent.hex) {
                 if let Some(slots) = all.get_mut(sent.client) {
                     if bytes.len() <= MAX_READ_BYTES {
-                        let made = table(alloc, version, &sent, bytes.as_slice(), slots)?;
-                        push_table(&mut text, sent.head, made.as_slice())?;
+                        let bytes = bytes.as_slice();
+                        let made = datagram_text(alloc, version, sent.by, bytes, slots, brief)?;
+                        push_made(&mut text, sent.head, made.as_slice(), brief)?;
                     }
                 }
             }

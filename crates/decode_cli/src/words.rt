@@ -10,26 +10,27 @@ use tn_types::{End, MAX_READ_BYTES};
 /// What the words ask for.
 #[derive(Drop)]
 pub(crate) enum Command {
-    /// The table of one datagram, as one that this end sent.
+    /// One datagram, as one that this end sent.
     Datagram {
         by: End,
         bytes: Vec<u8>,
         options: Options,
     },
-    /// The table of each datagram of a report.
+    /// Each datagram of a report.
     Report {
         options: Options,
     },
 }
 
-/// The version of the wire, and what the slots hold before the datagram.
+/// The version of the wire, what the slots hold before the datagram, and whether a line is wanted in place of a table.
 #[derive(Drop)]
 pub(crate) struct Options {
     pub(crate) version: u8,
     pub(crate) slots: Slots,
+    pub(crate) brief: bool,
 }
 
-/// Why the program gives no table.
+/// Why the program gives no text.
 #[derive(Clone, Copy, Debug, PartialEq, Eq)]
 pub(crate) enum Refusal {
     NoWay,
@@ -57,7 +58,12 @@ impl fmt::Display for Refusal {
             Refusal::NoVersion => write!(f, "wanted behind --version is 1 or 2"),
             Refusal::NoHeld => { write!(f, "wanted behind --held are slots and kinds, as 0:2,5:1") }
             Refusal::NoKind => write!(f, "a kind is from 0 to 5"),
-            Refusal::NoOption => write!(f, "behind the datagram only --version and --held stand"),
+            Refusal::NoOption => {
+                write!(
+                    f,
+                    "after the datagram only --version, --held and --brief stand"
+                )
+            }
             Refusal::NoReport => write!(f, "the report is no text"),
             Refusal::Unread => write!(f, "standard input could not be read"),
             Refusal::NoMemory => write!(f, "memory was not to be had"),
@@ -127,6 +133,7 @@ fn read_options(words: &[String], from: usize) -> Result<Options, Refusal> {
     let mut read = Options {
         version: 1,
         slots: Slots::new(),
+        brief: false,
     };
     let mut named = None;
     for place in from..words.len() {
@@ -136,6 +143,10 @@ fn read_options(words: &[String], from: usize) -> Result<Options, Refusal> {
                 named = match word {
                     "--version" => Some(Named::Version),
                     "--held" => Some(Named::Held),
+                    "--brief" => {
+                        read.brief = true;
+                        None
+                    }
                     _ => return Err(Refusal::NoOption),
                 };
             }

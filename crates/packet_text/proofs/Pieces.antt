@@ -4,6 +4,7 @@ use Rattle.std.proofs.lemmas.List.{append-nil, drop_all, length-drop}
 use Rattle.quantised_fields.specs.declared.kind.Kind.{Kind}
 use Rattle.packet_parts.specs.declared.part.Part.{Part}
 use Rattle.packet_text.specs.Table.{field_text, fields_text, part_text, parts_text}
+use Rattle.packet_text.specs.Brief.{brief_of, briefs_of}
 
 -- a piece of what is left was added
 moved : (before piece rest now whole : List ℕ) → now ≡ before ++ piece → before ++ (piece ++ rest) ≡ whole → now ++ rest ≡ whole
@@ -57,3 +58,16 @@ next_line kinds ps i d p rest before now whole lt is left e h =
 pub last_line : (kinds : List Kind) (ps : List Part) (i : ℕ) (now whole : List ℕ) → length ps ≤ i → now ++ parts_text kinds (drop i ps) ≡ whole → now ≡ whole
 unfolding parts_text
 last_line kinds ps i now whole le h = sym (append-nil now) ∙ ap (λ (l : List Part). now ++ parts_text kinds l) (sym (drop_all i ps le)) ∙ h
+
+-- ---- what a line says
+
+pub next_brief : (kinds : List Kind) (ps : List Part) (i : ℕ) (d p : Part) (rest : List Part) (before now whole : List ℕ) → i < length ps → p ≡ get_or ps i d → rest ≡ drop (i + 1) ps
+    → now ≡ before ++ brief_of kinds p.name p.value rest → before ++ briefs_of kinds (drop i ps) ≡ whole → now ++ briefs_of kinds (drop (i + 1) ps) ≡ whole
+unfolding briefs_of
+next_brief kinds ps i d p rest before now whole lt is left e h =
+    moved before (brief_of kinds p.name p.value (drop (i + 1) ps)) (briefs_of kinds (drop (i + 1) ps)) now whole (e ∙ ap (λ (l : List Part). before ++ brief_of kinds p.name p.value l) left)
+    (ap (λ (l : List Part). before ++ briefs_of kinds l) (sym (drop_first ps i d p lt is)) ∙ h)
+
+pub last_brief : (kinds : List Kind) (ps : List Part) (i : ℕ) (now whole : List ℕ) → length ps ≤ i → now ++ briefs_of kinds (drop i ps) ≡ whole → now ≡ whole
+unfolding briefs_of
+last_brief kinds ps i now whole le h = sym (append-nil now) ∙ ap (λ (l : List Part). now ++ briefs_of kinds l) (sym (drop_all i ps le)) ∙ h

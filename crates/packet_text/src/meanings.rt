@@ -21,13 +21,13 @@ const FIRST_TEXT: u32 = 32;
 
 const LAST_TEXT: u32 = 126;
 
-fn kind_meaning(value: u32) -> &'static str
+pub(crate) fn kind_meaning(value: u32) -> &'static str
     ensures { result.now ≡ kind_meaning value }
 {
     if value == 0 { " data" } else { " ping" }
 }
 
-fn op_meaning(value: u32) -> &'static str
+pub(crate) fn op_meaning(value: u32) -> &'static str
     ensures { result.now ≡ op_meaning value }
 {
     match value {
@@ -71,7 +71,7 @@ fn push_mask(out: &mut Text, kind: u8, mask: u32, width: u32) -> Result<(), NoMe
 }
 
 /// The name of a kind.
-fn push_kind(out: &mut Text, kind: u32) -> Result<(), NoMemory>
+pub(crate) fn push_kind(out: &mut Text, kind: u32) -> Result<(), NoMemory>
     ensures { OnOk result (out.new ≡ out.old ++ number_meaning kind) }
 {
     if kind > 255 {
@@ -114,7 +114,7 @@ fn push_level(out: &mut Text, spec: &FieldSpec, level: u32) -> Result<(), NoMemo
 }
 
 /// The value that a level shows.
-fn push_shown(
+pub(crate) fn push_shown(
     out: &mut Text,
     kinds: &KindTable,
     kind: u8,
@@ -153,7 +153,7 @@ fn push_bytes(out: &mut Text, parts: &[Part]) -> Result<(), NoMemory>
 }
 
 /// An event of text: of these parts the first `count` are its bytes.
-fn push_event(out: &mut Text, count: u32, parts: &[Part]) -> Result<(), NoMemory>
+pub(crate) fn push_event(out: &mut Text, count: u32, parts: &[Part]) -> Result<(), NoMemory>
     ensures { OnOk result (out.new ≡ out.old ++ event_text count parts.now) }
 {
     if count == 0 || parts.len() < count as usize {

@@ -13,7 +13,7 @@ use tn_types::NoMemory;
 use wire_format::{BitsCause, BitsFault};
 
 /// What is wrong with a part, by its name.
-fn cause_word(cause: BitsCause) -> &'static str
+pub(crate) fn cause_word(cause: BitsCause) -> &'static str
     ensures { result.now ≡ cause_word cause }
 {
     match cause {
