@@ -110,7 +110,10 @@ fn tell_item(timeline: &mut Timeline, packet: u32, copies: &Copies, item: &Ghost
             let _ = timeline.ended(u32::from(*slot), packet);
         }
         GhostItem::Create {
-            slot, kind, levels, ..
+            slot,
+            kind,
+            levels,
+            ..
         } => {
             let _ = timeline.began(u32::from(*slot), packet, u32::from(*kind));
             tell_fields(timeline, packet, copies, *slot, first_bits(levels.len()));
