@@ -1,6 +1,6 @@
 -- What a timeline takes: no call is refused, and what each adds adds up.
-use Rattle.std.proofs.Common.{◌≡◌, ◌∙◌, ℕ, zero, suc, ◌+◌, ◌*◌, ◌<◌, ◌≤◌, Bool, true, false, cond, ◌||◌, ◌==◌, List, [], ◌∷◌, ◌++◌, length, take, drop, get_or, Option, Some, None, Ok, Err, refl, sym, ap, subst, arith, append_assoc, append-nil, add-one}
-use Rattle.std.specs.Prelude.{ℤ, nat_lt, nat_le, OnOk, Result}
+use Rattle.std.proofs.Common.{◌≡◌, ◌∙◌, ℕ, suc, ◌+◌, ◌*◌, ◌<◌, ◌≤◌, Bool, true, false, cond, ◌||◌, ◌==◌, List, [], ◌∷◌, ◌++◌, length, take, drop, get_or, Option, Some, None, Ok, Err, refl, sym, ap, subst, arith, append_assoc, append-nil, add-one}
+use Rattle.std.specs.Prelude.{ℤ, nat_lt, nat_le, OnOk}
 use Rattle.std.specs.Option.{option_or}
 use Rattle.std.specs.Result.{result_err}
 use Rattle.std.proofs.Math.Seq.{drop-cons}
@@ -16,24 +16,15 @@ use Rattle.timeline.specs.declared.refusal.Refusal.TheVariants.{NoSlot, NoPacket
 use Rattle.timeline.specs.Telling.{Told}
 use Rattle.timeline.specs.Standing.{Drawing, StandsFor, Hears, KeepsShape, slot_check, packet_check, field_check, kind_check}
 use Rattle.timeline.proofs.AnswerFacts.{slot_good, field_good}
-use Rattle.tribes_ends.specs.Drawing.{told_item, told_items, item_fault, items_fault}
+use Rattle.ghost_client.specs.State.{State, value_of}
+use Rattle.stream_manager.specs.Stands.{ClientState}
+use Rattle.stream_manager.specs.ClientCalls.{Answers}
+use Rattle.tribes_ends.specs.Drawing.{told_item, told_items, item_fault, items_fault, hearing_fault, packet_of, HearsOf}
 
 -- ---- checks that pass
 
-pub both-pass : (a b : Checked Refusal) → a ≡ Ok tt → b ≡ Ok tt → then_check a b ≡ Ok tt
+both-pass : (a b : Checked Refusal) → a ≡ Ok tt → b ≡ Ok tt → then_check a b ≡ Ok tt
 both-pass a b ha hb = ap (λ x. then_check x b) ha ∙ hb
-
-pub none-refused : (r : Checked Refusal) → result_err r ≡ None → r ≡ Ok tt
-none-refused (Ok tt) h = refl
-none-refused (Err e) h = absurd (cc)
-
-pub first-passes : (a b : Checked Refusal) → then_check a b ≡ Ok tt → a ≡ Ok tt
-first-passes (Ok tt) b h = refl
-first-passes (Err e) b h = absurd (cc)
-
-pub second-passes : (a b : Checked Refusal) → then_check a b ≡ Ok tt → b ≡ Ok tt
-second-passes (Ok tt) b h = h
-second-passes (Err e) b h = absurd (cc)
 
 test-passed : (b : Bool) (e : Refusal) (rest : Checked Refusal) → cond b (Err e) rest ≡ Ok tt → b ≡ false
 test-passed false e rest h = refl
@@ -54,17 +45,8 @@ still_heard old new packet h e =
 
 -- ---- what is told one after another
 
-pub hears-none : (t : Drawing) → Hears t [] t
-hears-none t log h = h
-
-pub hears-one : (old new : Drawing) (told : Told) → Does StandsFor old told new → Hears old (told ∷ []) new
-hears-one old new told h log s = h log s
-
 pub hears-more : (a b c : Drawing) (before after : List Told) → Hears a before b → Hears b after c → Hears a (after ++ before) c
 hears-more a b c before after h k log s = subst (StandsFor c) (sym (append_assoc after before log)) (k (before ++ log) (h log s))
-
-pub keeps-self : (t : Drawing) → KeepsShape t t
-keeps-self t = record { ways = refl; fields = refl; depth = refl; slots = refl }
 
 pub keeps-more : (a b c : Drawing) → KeepsShape a b → KeepsShape b c → KeepsShape a c
 keeps-more a b c h k = record { ways = k.ways ∙ h.ways; fields = k.fields ∙ h.fields; depth = k.depth ∙ h.depth; slots = k.slots ∙ h.slots }
@@ -97,10 +79,6 @@ pub items-same : (a b : Drawing) (items : List GhostItem) → KeepsShape a b →
 items-same a b [] k = refl
 items-same a b (item ∷ items) k = ap (λ o. option_or o (items_fault b items)) (item-same a b item k) ∙ ap (option_or (item_fault a item)) (items-same a b items k)
 
-first-none : {E : Type 0} (a b : Option E) → option_or a b ≡ None → a ≡ None
-first-none None b h = refl
-first-none (Some e) b h = absurd (cc)
-
 rest-none : {E : Type 0} (a b : Option E) → option_or a b ≡ None → b ≡ None
 rest-none None b h = h
 rest-none (Some e) b h = absurd (cc)
@@ -109,17 +87,8 @@ module _ (items : List GhostItem) (i : ℕ) (item : GhostItem) (less : i < lengt
   cut : drop i items ≡ item ∷ drop (i + 1) items
   cut = drop-cons items i item less ∙ ap (λ x. x ∷ drop (suc i) items) (sym at) ∙ ap (λ n. item ∷ drop n items) (sym (add-one i))
 
-  pub item-none : (t : Drawing) → items_fault t (drop i items) ≡ None → item_fault t item ≡ None
-  item-none t h = first-none (item_fault t item) (items_fault t (drop (i + 1) items)) (sym (ap (items_fault t) cut) ∙ h)
-
   pub rest-of-none : (t : Drawing) → items_fault t (drop i items) ≡ None → items_fault t (drop (i + 1) items) ≡ None
   rest-of-none t h = rest-none (item_fault t item) (items_fault t (drop (i + 1) items)) (sym (ap (items_fault t) cut) ∙ h)
-
-  pub item-passed : (t : Drawing) → item_fault t item ≡ None → items_fault t (drop i items) ≡ items_fault t (drop (i + 1) items)
-  item-passed t h = ap (items_fault t) cut ∙ ap (λ o. option_or o (items_fault t (drop (i + 1) items))) h
-
-  pub item-refused : (t : Drawing) (r : Refusal) → item_fault t item ≡ Some r → items_fault t (drop i items) ≡ Some r
-  item-refused t r h = ap (items_fault t) cut ∙ ap (λ o. option_or o (items_fault t (drop (i + 1) items))) h
 
   pub told-more : (packet : ℕ) (value : ℕ → ℕ → Option ℤ) (fields : ℕ)
       → told_items packet value fields (take (i + 1) items) ≡ told_item packet value fields item ++ told_items packet value fields (take i items)
@@ -132,3 +101,17 @@ module _ (items : List GhostItem) (i : ℕ) (item : GhostItem) (less : i < lengt
       told-last packet value fields (y ∷ ys) x =
           ap (λ l. l ++ told_item packet value fields y) (told-last packet value fields ys x)
           ∙ append_assoc (told_item packet value fields x) (told_items packet value fields ys) (told_item packet value fields y)
+
+-- ---- the packet that a client took last
+
+pub all_told : (c : ClientState) (old new : Drawing) (packet : ℕ) (copies : State) (items : List GhostItem) → Answers c packet_of packet → copies ≡ c.copies → items ≡ c.changes
+    → Hears old (told_items packet (value_of copies) old.fields items) new → HearsOf c old new
+all_told c old new packet copies items at same these h log s =
+    let one : Hears old (told_items packet (value_of c.copies) old.fields items) new = subst (λ (k : State). Hears old (told_items packet (value_of k) old.fields items) new) same h in
+    let two : Hears old (told_items packet (value_of c.copies) old.fields c.changes) new =
+    subst (λ (l : List GhostItem). Hears old (told_items packet (value_of c.copies) old.fields l) new) these one in
+    subst (λ (p : ℕ). Hears old (told_items p (value_of c.copies) old.fields c.changes) new) (at log s) two
+
+pub all_refused : (c : ClientState) (t : Drawing) (packet : ℕ) (items : List GhostItem) (o : Option Refusal) → Answers c packet_of packet → items ≡ c.changes
+    → o ≡ hearing_fault t packet items → Answers c (λ log. hearing_fault t (packet_of log) c.changes) o
+all_refused c t packet items o at these is log s = is ∙ ap (hearing_fault t packet) these ∙ ap (λ p. hearing_fault t p c.changes) (at log s)

@@ -8,7 +8,6 @@ use Rattle.tn_types.specs.BitWords.{has_bit}
 use Rattle.tn_types.specs.Checks.{then_check}
 use Rattle.wire_format.specs.declared.ghosts.GhostItem.{GhostItem}
 use Rattle.wire_format.specs.declared.ghosts.GhostItem.TheVariants.{Kill, Create, Update}
-use Rattle.wire_format.specs.Ghosts.{slot_named}
 use Rattle.ghost_client.specs.State.{value_of}
 use Rattle.stream_manager.specs.End.{last_taken_of}
 use Rattle.stream_manager.specs.Client.{ClientEvent, client_end}

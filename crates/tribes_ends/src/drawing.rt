@@ -1,8 +1,6 @@
 //! What a client's end tells a timeline of the packet that came last.
 ghost use Rattle.std.specs.Prelude.{◌≡◌, [], ◌∷◌, ◌≤◌, ◌<◌, Ok, None, OnOk, OnErr, length};
-ghost use Rattle.std.specs.Option.{option_or};
 ghost use Rattle.std.specs.Result.{result_err};
-ghost use Rattle.wire_format.specs.Ghosts.{slot_named};
 ghost use Rattle.ghost_client.specs.State.{value_of};
 ghost use Rattle.stream_manager.specs.ClientCalls.{Answers};
 ghost use Rattle.timeline.specs.Telling.{Came};
@@ -110,7 +108,10 @@ fn tell_item(timeline: &mut Timeline, packet: u32, copies: &Copies, item: &Ghost
             let _ = timeline.ended(u32::from(*slot), packet);
         }
         GhostItem::Create {
-            slot, kind, levels, ..
+            slot,
+            kind,
+            levels,
+            ..
         } => {
             let _ = timeline.began(u32::from(*slot), packet, u32::from(*kind));
             tell_fields(timeline, packet, copies, *slot, first_bits(levels.len()));
@@ -182,14 +183,22 @@ fn check(timeline: &Timeline, packet: u32, items: &[GhostItem]) -> Result<(), Re
     }
 }
 
+/// The number of the packet that the client took last, 0 where none was.
+fn packet_taken(client: &Client) -> u32
+    ensures { Answers client.now packet_of result }
+{
+    or_zero(client.last_taken())
+}
+
 /// Tells a timeline what the packet that the client took last did to its slots.
+#[tactic(auto, using(crate::proofs::Hearing::all_told, crate::proofs::Hearing::all_refused))]
 pub(crate) fn tell(client: &Client, timeline: &mut Timeline) -> Result<(), Refusal>
     ensures told { OnOk result (HearsOf client.now timeline.old timeline.new) }
     ensures shape { OnOk result (KeepsShape timeline.old timeline.new) }
     ensures unchanged { OnErr result (timeline.new ≡ timeline.old) }
     ensures refused { Answers client.now (λ log. hearing_fault timeline.old (packet_of log) client.now.changes) (result_err result) }
 {
-    let packet = or_zero(client.last_taken());
+    let packet = packet_taken(client);
     let items = client.changes();
     match check(timeline, packet, items) {
         Ok(()) => {

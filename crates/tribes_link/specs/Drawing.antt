@@ -38,17 +38,17 @@ is_way r = if r.how == 0 then true else if r.how == 1 then true else if r.how ==
 abbrev pub is_no_way : WayRow → Bool
 is_no_way r = not (is_way r)
 
-pub record HasShape (s : Shape) (ways : List WayRow) (t : Drawing) : Type 0 where
-  pub ways : t.ways ≡ map way_of ways
+pub record HasShape (s : Shape) (rows : List WayRow) (t : Drawing) : Type 0 where
+  pub ways : t.ways ≡ map way_of rows
   pub fields : t.fields ≡ s.fields
   pub depth : t.depth ≡ s.depth
   pub slots : length t.slots ≡ s.slots
 
 -- the first that is wrong is refused; else it is made, if memory is to be had
-pub record Opens (s : Shape) (ways : List WayRow) (code : ℤ) : Type 0 where
+pub record Opens (s : Shape) (rows : List WayRow) (code : ℤ) : Type 0 where
   pub shape : (IsSound s → ⊥) → code ≡ BAD_SHAPE
-  pub ways : IsSound s → list_any is_no_way ways ≡ true → code ≡ BAD_WAY
-  pub made : IsSound s → list_any is_no_way ways ≡ false → (code ≡ pos 0) ⊎ (code ≡ NO_MEMORY)
+  pub ways : IsSound s → list_any is_no_way rows ≡ true → code ≡ BAD_WAY
+  pub made : IsSound s → list_any is_no_way rows ≡ false → (code ≡ pos 0) ⊎ (code ≡ NO_MEMORY)
 
 -- ---- what is answered
 

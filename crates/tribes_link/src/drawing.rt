@@ -11,10 +11,8 @@ ghost use Rattle.tribes_link.specs.Drawing.{LineAnswered, LineAnswers, DrawAnswe
 
 use crate::answering::NO_END;
 use crate::end::End;
+use crate::timeline_answers::{NO_TIMELINE, finish_heard, finish_kind, finish_told, finish_value};
 use crate::timeline_handle::TimelineHandle;
-use crate::timeline_answers::{
-    NO_TIMELINE, finish_heard, finish_kind, finish_told, finish_value,
-};
 use std::alloc::Global;
 
 /// Tells the timeline what the packet that the client's end took last did to its slots.

@@ -30,6 +30,7 @@ pub(crate) const GOES_BACK: i32 = -96;
 
 /// No such kind, and no such field, as at an end.
 pub(crate) const NO_KIND: i32 = -30;
+
 pub(crate) const NO_FIELD: i32 = -37;
 
 /// The call is for a client's end.

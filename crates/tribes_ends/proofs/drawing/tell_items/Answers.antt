@@ -16,7 +16,7 @@ items-preserved c =
     let item = c.item-item.result in
     let value = value_of c.args.copies.now in
     let told : Hears now (told_item c.args.packet value old.fields item) new =
-        subst (λ (n : ℕ). Hears now (told_item c.args.packet value n item) new) c.items.invariant.shape.fields c.tell_item.ensures.told in
+    subst (λ (n : ℕ). Hears now (told_item c.args.packet value n item) new) c.items.invariant.shape.fields c.tell_item.ensures.told in
     record {
       told =
           subst (λ (l : List Told). Hears old l new) (sym (told-more items i item c.items-test.true c.item-item.is c.args.packet value old.fields))
