@@ -1,11 +1,11 @@
 //! Messages and short events both ways, over datagrams of which many are lost or come twice, and all of them come: byte for byte, in
 //! order, once.
 
+use messages::{HoldFault, ParcelKind};
 use std::alloc::Global;
 use std::test::Fail;
-use tribes_ends::{
-    Ask, Channel, Class, ConfigRow, FieldRow, Handed, KindRow, Link, Packed, ParcelKind, Refusal,
-};
+use tribes_channel::{Channel, Handed, NextFault, OpenFault};
+use tribes_ends::{Ask, Class, ConfigRow, FieldRow, KindRow, Link, Packed};
 
 const CONFIG: ConfigRow = ConfigRow {
     client: 0,
@@ -58,7 +58,7 @@ struct Seat {
     taken: u32,
 }
 
-fn seat(alloc: Global, link: Link) -> Result<Seat, Refusal> {
+fn seat(alloc: Global, link: Link) -> Result<Seat, OpenFault> {
     match Channel::new(alloc, PLACES, LONGEST as u32) {
         Ok(channel) => Ok(Seat {
             link,
@@ -66,7 +66,7 @@ fn seat(alloc: Global, link: Link) -> Result<Seat, Refusal> {
             posted: 0,
             taken: 0,
         }),
-        Err(refusal) => Err(refusal),
+        Err(fault) => Err(fault),
     }
 }
 
@@ -217,16 +217,16 @@ fn parcels_come_in_order_whatever_is_lost(rt: HostRuntime) -> Result<(), Fail> {
 #[test]
 fn a_message_of_any_other_size_is_refused(rt: HostRuntime) -> Result<(), Fail> {
     let alloc = rt.alloc();
-    assert!(rt; matches!(Channel::new(alloc, 1, 22), Err(Refusal::BadLongest { longest: 22 })));
+    assert!(rt; matches!(Channel::new(alloc, 1, 22), Err(OpenFault::BadLongest { longest: 22 })));
     assert!(rt; Channel::new(alloc, 1, 23).is_ok());
     let link = Link::client(alloc, &CONFIG, &[KIND], &[FIELD]).expect(&rt, "client");
     let mut seat = seat(alloc, link).expect(&rt, "channel");
     let bytes = vec![in alloc; 1u8; 65_536]?;
     let refused = seat.channel.post(&mut seat.link, ParcelKind::Message, &bytes);
-    assert!(rt; matches!(refused, Err(Refusal::TooLong { most: 65_535 })));
+    assert!(rt; matches!(refused, Err(HoldFault::TooLong { most: 65_535 })));
     let mut place = [0u8; LONGEST];
     let (small, _) = place.split_at_mut(LONGEST - 1);
     let refused = seat.channel.next(&mut seat.link, small);
-    assert!(rt; matches!(refused, Err(Refusal::NoRoom { needed: 4_000 })));
+    assert!(rt; matches!(refused, Err(NextFault::NoRoom { needed: 4_000 })));
     Ok(())
 }

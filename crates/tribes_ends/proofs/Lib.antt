@@ -4,4 +4,3 @@ pub mod Sealing
 pub mod CopiesHeld
 pub mod Listing
 pub mod Passing
-pub mod Channelling

@@ -3,5 +3,3 @@ pub mod Making
 pub mod Refusals
 pub mod Lists
 pub mod Sides
-pub mod Channel
-pub mod GatheredBy

@@ -3,7 +3,6 @@
 #![tactic(auto)]
 
 mod asking;
-mod channel;
 mod client;
 mod counts;
 mod handing;
@@ -15,11 +14,9 @@ mod tables;
 mod why;
 
 pub use asking::Ask;
-pub use channel::{Channel, Handed, Places};
 pub use counts::Counts;
 pub use handing::Popped;
 pub use link::{Link, Packed, Side};
-pub use messages::ParcelKind;
 pub use refusal::Refusal;
 pub use rows::{Change, Copied, Judged};
 pub use tables::{ConfigRow, FieldRow, KindRow};

@@ -18,8 +18,8 @@ mod telling;
 
 pub use channel_handle::{ChannelHandle, OPEN_CHANNEL};
 pub use channels::{
-    tribes_channel_counts, tribes_close_channel, tribes_message, tribes_open_channel,
-    tribes_post_message,
+    tribes_channel_counts, tribes_channel_why, tribes_close_channel, tribes_message,
+    tribes_open_channel, tribes_post_message,
 };
 pub use datagrams::{tribes_arrive, tribes_pack, tribes_plan};
 pub use end::{End, OPEN};
