@@ -313,7 +313,7 @@ int32_t tribes_event(tribes_end *end, uint8_t *bytes, size_t room, size_t *count
  * tribes_open_channel makes one that holds so many pieces of 24 bytes which are still to be posted, for messages that come with at most
  * `longest` bytes, 23 to TRIBES_MAX_MESSAGE. tribes_post_message takes a message, or where `kind` is 0 a short event, whole or not at
  * all, and posts pieces while the end has places; with `guaranteed` 0 it has at most TRIBES_MAX_SHORT bytes, and is one unguaranteed event.
- * tribes_message posts what is still held, and hands out the oldest parcel that is whole: it answers 2: a guaranteed one, 1: another, 0:
+ * tribes_message hands out the oldest parcel that is whole, and posts what is still held: it answers 2: a guaranteed one, 1: another, 0:
  * none is; `kind` is then 0 for a short event and 1 for a message, and there has to be room for `longest`. Call it behind tribes_arrive
  * until it answers 0, and before tribes_plan, since it may drop a plan. A piece that no honest end sends ends the channel: it answers
  * PIECE_.. from then on, behind all that was whole before; the end goes on, and tribes_event pops what comes */
@@ -323,6 +323,7 @@ int32_t tribes_post_message(tribes_end *end, tribes_channel *channel, uint32_t k
                             uint32_t guaranteed);
 int32_t tribes_message(tribes_end *end, tribes_channel *channel, uint8_t *bytes, size_t room, uint32_t *kind, size_t *count);
 int32_t tribes_channel_counts(tribes_channel *channel, tribes_places *places);
+int32_t tribes_channel_why(tribes_channel *channel, tribes_reason *reason); /* of the last call of the channel that did nothing */
 
 /* moves: sampled at the client, taken at the server from the datagram that arrived last. A move is a number of as many bits as the
  * configuration says, and the game says what they mean: tribes_put_bits and tribes_take_bits make it of fields. Ends of a client and a

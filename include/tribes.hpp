@@ -152,6 +152,13 @@ public:
     }
     tribes_channel *handle() { return &handle_; }
 
+    /* The refusal of a call that answered so: where an end or a channel was missing, the answer is all there is. */
+    refusal why(std::int32_t code) {
+        tribes_reason reason{};
+        if (code == TRIBES_NO_END || tribes_channel_why(&handle_, &reason) < 0) return {code, 0, 0};
+        return {reason.code, reason.first, reason.second};
+    }
+
 private:
     channel() = default;
     tribes_channel handle_{};
@@ -205,11 +212,11 @@ public:
 
     /* Posts a message, or a short event, whole or not at all. */
     result<void> post(channel &to, bytes message, bool guaranteed = true) {
-        return told(tribes_post_message(&handle_, to.handle(), 1, message.data(), message.size(), guaranteed));
+        return posted(to, tribes_post_message(&handle_, to.handle(), 1, message.data(), message.size(), guaranteed));
     }
     result<void> post(channel &to, std::string_view text, bool guaranteed = true) { return post(to, bytes_of(text), guaranteed); }
     result<void> post_short(channel &to, bytes event, bool guaranteed = true) {
-        return told(tribes_post_message(&handle_, to.handle(), 0, event.data(), event.size(), guaranteed));
+        return posted(to, tribes_post_message(&handle_, to.handle(), 0, event.data(), event.size(), guaranteed));
     }
 
     /* The oldest message or short event that is whole, in that place, which has room for the channel's longest message. */
@@ -218,8 +225,9 @@ public:
         std::size_t count = 0;
         std::int32_t code = tribes_message(&handle_, from.handle(), out.data(), out.size(), &kind, &count);
         std::optional<tribes::message> found;
+        if (code < 0) return from.why(code);
         if (code > 0) found = tribes::message{bytes(out.data(), count), kind == 0, code == 2};
-        return told(code, found);
+        return found;
     }
 
     /* The bytes of a block, in that place. */
@@ -261,6 +269,10 @@ protected:
     }
     result<void> told(std::int32_t code) {
         if (code < 0) return why(code);
+        return {};
+    }
+    static result<void> posted(channel &to, std::int32_t code) {
+        if (code < 0) return to.why(code);
         return {};
     }
     result<std::uint32_t> took(bytes datagram, std::uint32_t room) {

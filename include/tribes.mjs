@@ -529,6 +529,13 @@ export class Channel {
         this.free();
     }
 
+    /** A call's answer; a refusal is thrown. */
+    _done(code) {
+        if (code >= 0) return code;
+        this._tribes.calls.tribes_channel_why(this._at, 0, this._tribes.to.why, 0);
+        throw this._tribes.why();
+    }
+
     /** How many pieces wait to be posted, and how many more may. */
     places() {
         const { to } = this._tribes;
@@ -646,13 +653,13 @@ class End {
         const bytes = bytesOf("the message", message, true), { guaranteed = true, short = false } = object("how it is posted", how);
         const kept = flag("guaranteed", guaranteed), kind = 1 - flag("short", short), at = channelOf(this._tribes, channel), calls = this._calls();
         const { to } = this._tribes;
-        this._done(calls.tribes_post_message(this._at, 0, at, 0, kind, to.bytes, 0, this._tribes.bring(bytes, MAX_MESSAGE), 0, kept));
+        channel._done(calls.tribes_post_message(this._at, 0, at, 0, kind, to.bytes, 0, this._tribes.bring(bytes, MAX_MESSAGE), 0, kept));
     }
 
     /** The oldest message or short event that is whole, or null. */
     message(channel) {
         const { to } = this._tribes, at = channelOf(this._tribes, channel);
-        const code = this._done(this._calls().tribes_message(this._at, 0, at, 0, to.bytes, 0, channel._longest, 0, to.number, 0, to.count, 0));
+        const code = channel._done(this._calls().tribes_message(this._at, 0, at, 0, to.bytes, 0, channel._longest, 0, to.number, 0, to.count, 0));
         return code === 0 ? null : { bytes: this._tribes.bytesOut(), short: this._tribes.word("number") === 0, guaranteed: code === 2 };
     }
 

@@ -427,6 +427,7 @@ unsafe extern "C" {
         end: *mut Handle, channel: *mut ChannelHandle, bytes: *mut u8, room: usize, kind: *mut u32, count: *mut usize,
     ) -> i32;
     fn tribes_channel_counts(channel: *mut ChannelHandle, places: *mut Places) -> i32;
+    fn tribes_channel_why(channel: *mut ChannelHandle, error: *mut Error) -> i32;
     fn tribes_sample(end: *mut Handle, bits: u64, number: *mut u32) -> i32;
     fn tribes_moves(end: *mut Handle, moves: *mut u64, room: usize, count: *mut u32) -> i32;
     fn tribes_pending(end: *mut Handle, moves: *mut u64, room: usize, count: *mut u32) -> i32;
@@ -509,6 +510,15 @@ impl Channel {
         if code < 0 { Err(error) } else { Ok(channel) }
     }
 
+    fn told(&mut self, code: i32) -> Result<i32, Error> {
+        if code >= 0 {
+            return Ok(code);
+        }
+        let mut error = Error::default();
+        let _ = unsafe { tribes_channel_why(&mut self.0, &mut error) };
+        Err(error)
+    }
+
     pub fn places(&mut self) -> Places {
         let mut places = Places::default();
         let _ = unsafe { tribes_channel_counts(&mut self.0, &mut places) };
@@ -558,7 +568,7 @@ macro_rules! both {
                 let kind = (parcel == Parcel::Message) as u32;
                 let (to, count) = (&mut channel.0, bytes.len());
                 let code = unsafe { tribes_post_message(&mut self.0, to, kind, bytes.as_ptr(), count, guaranteed as u32) };
-                self.0.told(code).map(|_| ())
+                channel.told(code).map(|_| ())
             }
 
             /// The oldest parcel that is whole, and whether it is a guaranteed one. `place` has room for the channel's longest message.
@@ -566,7 +576,7 @@ macro_rules! both {
                 let (mut kind, mut count) = (0, 0);
                 let to = &mut channel.0;
                 let code = unsafe { tribes_message(&mut self.0, to, place.as_mut_ptr(), place.len(), &mut kind, &mut count) };
-                let code = self.0.told(code)?;
+                let code = channel.told(code)?;
                 let parcel = if kind == 0 { Parcel::ShortEvent } else { Parcel::Message };
                 Ok((code > 0).then(|| (parcel, &place[..count], code == 2)))
             }

@@ -55,10 +55,10 @@ static tribes_places places_of(tribes_channel *channel) {
     is("places in all", all.held + all.free, places);
     return all;
 }
-static void refused(const char *what, tribes_end *end, int32_t code, int32_t wanted, uint32_t first, uint32_t second) {
+static void refused(const char *what, tribes_channel *channel, int32_t code, int32_t wanted, uint32_t first, uint32_t second) {
     tribes_reason why;
     answers(what, code, wanted);
-    answers("why", tribes_why(end, &why), 0);
+    answers("why", tribes_channel_why(channel, &why), 0);
     answers(what, why.code, wanted);
     is(what, why.first, first);
     is(what, why.second, second);
@@ -70,7 +70,8 @@ static void made(side *server, side *client, uint32_t version) {
     const uint8_t none = 0;
     const uint32_t no_length = 0;
     tribes_reason why;
-    tribes_config config = {draw(16), 1000000, 300 + draw(901), version, version < 3 ? 0 : 1 + draw(64)};
+    uint32_t number = draw(16), size = 300 + draw(901), bits = 1 + draw(64);
+    tribes_config config = {number, 1000000, size, version, version < 3 ? 0 : bits};
     answers("server", tribes_server(&server->end, &config, &kind, 1, &field, 1, &none, 0, &no_length, 0, &why), 0);
     answers("client", tribes_client(&client->end, &config, &kind, 1, &field, 1, &why), 0);
 }
@@ -81,7 +82,8 @@ static void opened(tribes_end *end, tribes_channel *channel) {
     uint32_t kind;
     size_t count;
     answers("no channel", tribes_message(end, channel, place, longest, &kind, &count), TRIBES_NO_CHANNEL);
-    refused("no channel", end, tribes_post_message(end, channel, 1, place, 0, 1), TRIBES_NO_CHANNEL, 0, 0);
+    answers("no channel", tribes_post_message(end, channel, 1, place, 0, 1), TRIBES_NO_CHANNEL);
+    answers("no channel", tribes_channel_why(channel, &why), TRIBES_NO_CHANNEL);
     answers("no channel", tribes_channel_counts(channel, &all), TRIBES_NO_CHANNEL);
     answers("no channel", tribes_close_channel(channel), TRIBES_NO_CHANNEL);
     answers("too short", tribes_open_channel(channel, places, TRIBES_MAX_SHORT - 1, &why), TRIBES_BAD_LONGEST);
@@ -89,7 +91,7 @@ static void opened(tribes_end *end, tribes_channel *channel) {
     is("names it", why.first, TRIBES_MAX_MESSAGE + 1);
     answers("open", tribes_open_channel(channel, places, longest, &why), 0);
     answers("again", tribes_open_channel(channel, places, longest, &why), TRIBES_HAS_CHANNEL);
-    refused("a place too small", end, tribes_message(end, channel, place, longest - 1, &kind, &count), TRIBES_NO_ROOM, longest, 0);
+    refused("a place too small", channel, tribes_message(end, channel, place, longest - 1, &kind, &count), TRIBES_NO_ROOM, longest, 0);
 }
 
 /* ---- over a network */
@@ -122,8 +124,8 @@ static void post(side *from, uint32_t length) {
     after = counts_of(&from->end);
     left = places_of(&from->channel);
     if (length > most || (guaranteed && pieces > held.free)) {
-        if (length > most) refused("too long", &from->end, code, TRIBES_TOO_LONG, most, 0);
-        else refused("no places", &from->end, code, TRIBES_NO_PLACES, pieces, held.free);
+        if (length > most) refused("too long", &from->channel, code, TRIBES_TOO_LONG, most, 0);
+        else refused("no places", &from->channel, code, TRIBES_NO_PLACES, pieces, held.free);
         is("held", left.held, held.held);
         is("event places", after.event_places, before.event_places);
         free(bytes);
@@ -221,7 +223,10 @@ static void connection(uint32_t version, uint32_t turns) {
         int ends = turn >= turns;
         if (turn > turns + 3000) is("turns", turn, 0);
         if (turn % 100 == 50) post(&server, TRIBES_MAX_MESSAGE + 1);
-        for (uint32_t k = ends ? 0 : draw(3); k; k--) post(draw(2) ? &server : &client, drawn_length());
+        for (uint32_t k = ends ? 0 : draw(3); k; k--) {
+            uint32_t length = drawn_length();
+            post(draw(2) ? &server : &client, length);
+        }
         send(&client, 0, ends ? 0 : loss);
         come(&server, &client, ends ? 0 : draw(MOST_WAITING));
         send(&server, 1, ends ? 0 : loss);
@@ -327,7 +332,7 @@ static void dishonest(uint32_t run) {
         piece p;
         drawn_piece(&p);
         uint32_t guaranteed = draw(20) > 0;
-        if (!guaranteed) p.bytes[0] %= 6;
+        if (!guaranteed && p.count) p.bytes[0] %= 6;
         answers("a piece by hand", tribes_post(&client.end, p.bytes, p.count, guaranteed, &number), 0);
         datagram made;
         const int64_t none = 0;

@@ -11,7 +11,7 @@ int main(void) {
     tribes_channel to_server = {0}, from_client = {0};
     tribes_reason why;
     static tribes_ask asks[TRIBES_MAX_ASKS];
-    uint8_t bytes[TRIBES_MAX_DATAGRAM], message[1000];
+    uint8_t bytes[TRIBES_MAX_DATAGRAM] = {0}, message[1000];
     uint32_t none = 0, moves, kind_of;
     int64_t value = 0;
     size_t count;

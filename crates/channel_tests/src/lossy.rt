@@ -1,11 +1,11 @@
 //! Messages and short events both ways, over datagrams of which many are lost or come twice, and all of them come: byte for byte, in
 //! order, once.
 
+use messages::{HoldFault, ParcelKind};
 use std::alloc::Global;
 use std::test::Fail;
-use tribes_ends::{
-    Ask, Channel, Class, ConfigRow, FieldRow, Handed, KindRow, Link, Packed, ParcelKind, Refusal,
-};
+use tribes_channel::{Channel, Handed, NextFault, OpenFault};
+use tribes_ends::{Ask, Class, ConfigRow, FieldRow, KindRow, Link, Packed};
 
 const CONFIG: ConfigRow = ConfigRow {
     client: 0,
@@ -27,6 +27,7 @@ const FIELD: FieldRow = FieldRow {
 };
 
 const PLACES: u32 = 300;
+
 const LONGEST: usize = 4_000;
 
 /// Numbers that look drawn.
@@ -58,7 +59,7 @@ struct Seat {
     taken: u32,
 }
 
-fn seat(alloc: Global, link: Link) -> Result<Seat, Refusal> {
+fn seat(alloc: Global, link: Link) -> Result<Seat, OpenFault> {
     match Channel::new(alloc, PLACES, LONGEST as u32) {
         Ok(channel) => Ok(Seat {
             link,
@@ -66,7 +67,7 @@ fn seat(alloc: Global, link: Link) -> Result<Seat, Refusal> {
             posted: 0,
             taken: 0,
         }),
-        Err(refusal) => Err(refusal),
+        Err(fault) => Err(fault),
     }
 }
 
@@ -152,7 +153,13 @@ fn make(seat: &mut Seat, place: &mut [u8]) -> usize {
 }
 
 /// A datagram goes over, so often, and what it brings is taken; tells whether that is right.
-fn go_over(from: &mut Seat, to: &mut Seat, times: u32, place: &mut [u8], wanted: &mut [u8]) -> bool {
+fn go_over(
+    from: &mut Seat,
+    to: &mut Seat,
+    times: u32,
+    place: &mut [u8],
+    wanted: &mut [u8],
+) -> bool {
     let mut datagram = [0u8; 600];
     let count = make(from, &mut datagram).min(datagram.len());
     let (bytes, _) = datagram.split_at(count);
@@ -205,7 +212,9 @@ fn parcels_come_in_order_whatever_is_lost(rt: HostRuntime) -> Result<(), Fail> {
         Link::client(alloc, &CONFIG, &[KIND], &[FIELD]).expect(&rt, "client"),
     )
     .expect(&rt, "channel");
-    let mut dice = Dice { state: 2_463_534_242 };
+    let mut dice = Dice {
+        state: 2_463_534_242,
+    };
     assert!(rt; plays(&mut server, &mut client, &mut dice, 200, 4));
     assert!(rt; plays(&mut server, &mut client, &mut dice, 200, 0));
     assert!(rt; server.posted > 60 && client.posted > 60);
@@ -217,16 +226,23 @@ fn parcels_come_in_order_whatever_is_lost(rt: HostRuntime) -> Result<(), Fail> {
 #[test]
 fn a_message_of_any_other_size_is_refused(rt: HostRuntime) -> Result<(), Fail> {
     let alloc = rt.alloc();
-    assert!(rt; matches!(Channel::new(alloc, 1, 22), Err(Refusal::BadLongest { longest: 22 })));
+    assert!(rt;
+        matches!(
+            Channel::new(alloc, 1, 22),
+            Err(OpenFault::BadLongest { longest: 22 })
+        )
+    );
     assert!(rt; Channel::new(alloc, 1, 23).is_ok());
     let link = Link::client(alloc, &CONFIG, &[KIND], &[FIELD]).expect(&rt, "client");
     let mut seat = seat(alloc, link).expect(&rt, "channel");
     let bytes = vec![in alloc; 1u8; 65_536]?;
-    let refused = seat.channel.post(&mut seat.link, ParcelKind::Message, &bytes);
-    assert!(rt; matches!(refused, Err(Refusal::TooLong { most: 65_535 })));
+    let refused = seat
+        .channel
+        .post(&mut seat.link, ParcelKind::Message, &bytes);
+    assert!(rt; matches!(refused, Err(HoldFault::TooLong { most: 65_535 })));
     let mut place = [0u8; LONGEST];
     let (small, _) = place.split_at_mut(LONGEST - 1);
     let refused = seat.channel.next(&mut seat.link, small);
-    assert!(rt; matches!(refused, Err(Refusal::NoRoom { needed: 4_000 })));
+    assert!(rt; matches!(refused, Err(NextFault::NoRoom { needed: 4_000 })));
     Ok(())
 }

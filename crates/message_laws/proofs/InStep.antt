@@ -6,7 +6,7 @@ use Rattle.messages.specs.InboxState.{InboxState}
 use Rattle.messages.specs.InboxStands.{InboxEvent}
 use Rattle.messages.specs.Laws.{AreJoined}
 use Rattle.messages.proofs.InOrder.{handed-front, whole-front, all-whole}
-use Rattle.tribes_ends.specs.Channel.{after_each}
+use Rattle.tribes_channel.specs.Channel.{after_each}
 use Rattle.message_laws.specs.Laws.{AreInStep, AreInOrder, Arrive}
 
 prefix-of-prefix : {A : Type 0} (xs ys zs : List A) → IsPrefixOf xs ys → IsPrefixOf ys zs → IsPrefixOf xs zs

@@ -4,7 +4,7 @@ ghost use Rattle.tn_types.specs.declared.choices.Class.TheVariants.{Guaranteed};
 ghost use Rattle.messages.specs.OutboxStands.{OutboxEvent, HandedOn, handed_on, posted_of};
 ghost use Rattle.messages.specs.InboxStands.{InboxEvent, Took, took_of, handed_out};
 ghost use Rattle.pair_laws.specs.Laws.{Always, posted_at};
-ghost use Rattle.tribes_ends.specs.Channel.{after_each};
+ghost use Rattle.tribes_channel.specs.Channel.{after_each};
 ghost use Rattle.stream_manager.specs.Server as server;
 ghost use Rattle.stream_manager.specs.Server.{ServerEvent, server_end};
 ghost use Rattle.stream_manager.specs.Client as client;

@@ -6,4 +6,3 @@ pub mod Hearing
 pub mod Listing
 pub mod Passing
 pub mod Replayed
-pub mod Channelling

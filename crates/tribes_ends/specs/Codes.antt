@@ -5,10 +5,6 @@ use Rattle.event_manager.specs.declared.sender.PostFault.{PostFault}
 use Rattle.event_manager.specs.declared.sender.PostFault.TheVariants as post
 use Rattle.ghost_client.specs.declared.fault.GhostFault.{GhostFault}
 use Rattle.ghost_client.specs.declared.fault.GhostFault.TheVariants as ghost
-use Rattle.messages.specs.declared.faults.HoldFault.{HoldFault}
-use Rattle.messages.specs.declared.faults.HoldFault.TheVariants as hold
-use Rattle.messages.specs.declared.faults.PieceFault.{PieceFault}
-use Rattle.messages.specs.declared.faults.PieceFault.TheVariants as piece
 use Rattle.move_manager.specs.declared.faults.MoveFault.{MoveFault}
 use Rattle.move_manager.specs.declared.faults.MoveFault.TheVariants as move
 use Rattle.quantised_fields.specs.declared.table.KindFault.{KindFault}
@@ -80,16 +76,6 @@ client_why (client.BlockDiffers number) = why 55 number 0
 client_why (client.EventAhead number delivered) = why 56 number delivered
 client_why (client.Ghost fault) = ghost_why fault
 
-abbrev pub piece_why : PieceFault → Why
-piece_why piece.Empty = why 80 0 0
-piece_why (piece.UnknownForm form) = why 81 form 0
-piece_why piece.NotBegun = why 82 0 0
-piece_why piece.NotEnded = why 83 0 0
-piece_why (piece.OnePiece length) = why 84 length 0
-piece_why piece.MoreBytes = why 85 0 0
-piece_why piece.FewerBytes = why 86 0 0
-piece_why (piece.TooLong length most) = why 87 length most
-
 abbrev pub why_of : Refusal → Why
 why_of refused.NoMemory = why 3 0 0
 why_of refused.WrongEnd = why 4 0 0
@@ -122,10 +108,6 @@ why_of (refused.EventsFull first last) = why 71 first last
 why_of (refused.MovesWorn life) = why 72 life 0
 why_of (refused.MovesFull first last) = why 73 first last
 why_of (refused.MoveTooWide width) = why 74 width 0
-why_of (refused.NoPlaces needed free) = why 75 needed free
-why_of (refused.BadLongest longest) = why 76 longest 0
-why_of refused.NoChannel = why 77 0 0
-why_of (refused.BadPiece fault) = piece_why fault
 
 abbrev pub code_of : Refusal → ℤ
 code_of refusal = (why_of refusal).code
@@ -140,12 +122,6 @@ abbrev pub move_refusal : MoveFault → Refusal
 move_refusal (move.TooWide width) = refused.MoveTooWide width
 move_refusal (move.Worn life) = refused.MovesWorn life
 move_refusal (move.Full first last) = refused.MovesFull first last
-
--- ---- what a parcel is refused for
-
-abbrev pub hold_refusal : HoldFault → Refusal
-hold_refusal (hold.TooLong most) = refused.TooLong most
-hold_refusal (hold.NoPlaces needed free) = refused.NoPlaces needed free
 
 -- ---- examples
 

@@ -5,5 +5,3 @@ pub mod Lists
 pub mod Sides
 pub mod Drawing
 pub mod Played
-pub mod Channel
-pub mod GatheredBy

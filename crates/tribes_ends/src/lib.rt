@@ -3,7 +3,6 @@
 #![tactic(auto)]
 
 mod asking;
-mod channel;
 mod client;
 mod counts;
 mod drawing;
@@ -17,13 +16,11 @@ mod tables;
 mod why;
 
 pub use asking::Ask;
-pub use channel::{Channel, Handed, Places};
 pub use counts::Counts;
 pub use drawing::{DrawFault, LEAST_VALUE, MOST_VALUE};
 pub use handing::Popped;
 pub use laws::accepted_moves_change_nothing;
 pub use link::{Link, Packed, Side};
-pub use messages::ParcelKind;
 pub use refusal::Refusal;
 pub use rows::{Change, Copied, Judged};
 pub use tables::{ConfigRow, FieldRow, KindRow};

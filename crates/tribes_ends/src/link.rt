@@ -1,7 +1,7 @@
 //! One end of a connection, whichever it is.
-ghost use Rattle.std.specs.Prelude.{◌≡◌, ℕ, ◌≤◌, IfOk, IfSome, IsNone, IsTrue, IsFalse, OnOk, OnErr, Ok, None, true, length, take};
+ghost use Rattle.std.specs.Prelude.{◌≡◌, ℕ, ◌≤◌, IfOk, IfSome, IsNone, OnOk, OnErr, Ok, None, true, length, take};
 ghost use Rattle.std.specs.Result.{result_err};
-ghost use Rattle.tn_types.specs.declared.choices.Class.TheVariants.{Guaranteed, Loose};
+ghost use Rattle.tn_types.specs.declared.choices.Class.TheVariants.{Guaranteed};
 
 use crate::asking::Ask;
 use crate::counts::Counts;
@@ -16,9 +16,7 @@ use std::alloc::Global;
 use std::marker::Model;
 use stream_manager::{Client, Conn};
 use timeline::Timeline;
-use tn_types::{
-    Class, MAX_EVENT_BYTES, MAX_PACKET_GHOSTS, MAX_PACKET_MOVES, MAX_UNJUDGED_PACKETS, Payload,
-};
+use tn_types::{Class, MAX_EVENT_BYTES, MAX_PACKET_GHOSTS, MAX_PACKET_MOVES, MAX_UNJUDGED_PACKETS};
 
 /// What a pack made.
 #[derive(Clone, Copy, Debug, PartialEq, Eq)]
@@ -82,7 +80,6 @@ const NONE: Why = Why {
 impl Link {
     ghost use Rattle.stream_manager.specs.Server.{Scoped, Show, Hide, Near, Absorb};
     ghost use Rattle.timeline.specs.Standing.{KeepsShape};
-    ghost use Rattle.tribes_ends.specs.Channel.{HasNoPlace, ready_of};
     ghost use Rattle.tribes_ends.specs.Codes.{is_refusal, code_of};
     ghost use Rattle.tribes_ends.specs.Drawing.{HearsAt, HearingRefused};
     ghost use Rattle.tribes_ends.specs.Lists.{ListsMoves, ListsPending, ListsVerdicts, ListsChanges, HasBlock, IsNextCopy, HasCopy};
@@ -291,44 +288,6 @@ impl Link {
         match &mut self.side {
             Side::Server(conn) => server::pop(conn, place),
             Side::Client(end) => client::pop(end, place),
-        }
-    }
-
-    /// Posts a piece as a guaranteed event; tells whether it could.
-    pub(crate) fn post_piece(&mut self, piece: Payload) -> bool
-        ensures posted { IsTrue result → Posts self.old Guaranteed piece self.new }
-        ensures full { IsFalse result → HasNoPlace self.old }
-        ensures unchanged { IsFalse result → self.new ≡ self.old }
-        ensures ready { ready_of self.new ≡ ready_of self.old }
-    {
-        match &mut self.side {
-            Side::Server(conn) => conn.post(piece).is_ok(),
-            Side::Client(end) => end.post(piece).is_ok(),
-        }
-    }
-
-    /// Posts a piece as an unguaranteed event.
-    pub(crate) fn post_loose(&mut self, piece: Payload)
-        ensures { Posts self.old Loose piece self.new }
-    {
-        match &mut self.side {
-            Side::Server(conn) => {
-                let _ = conn.post_loose(piece);
-            }
-            Side::Client(end) => {
-                let _ = end.post_loose(piece);
-            }
-        }
-    }
-
-    /// Hands out the oldest event that waits, as it lies.
-    pub(crate) fn pop_piece(&mut self) -> Option<(Class, Payload)>
-        ensures popped { IfSome result (λ e. Pops self.old e.0 e.1 self.new) }
-        ensures none { IsNone result → HasNoEvent self.old self.new }
-    {
-        match &mut self.side {
-            Side::Server(conn) => conn.pop_event(),
-            Side::Client(end) => end.pop_event(),
         }
     }
 

@@ -1,7 +1,6 @@
 //! Why a call did nothing.
 
 use event_manager::PostFault;
-use messages::{HoldFault, PieceFault};
 use move_manager::MoveFault;
 use quantised_fields::KindFault;
 use stream_manager::{ArriveFault, ClientFault};
@@ -68,14 +67,6 @@ pub enum Refusal {
     MovesWorn { life: u32 },
     /// These moves are unacknowledged, as many as may be.
     MovesFull { first: u32, last: u32 },
-    /// A parcel has so many pieces, and the outbox has so many places free.
-    NoPlaces { needed: u32, free: u32 },
-    /// The longest message of a channel is none of 23 to 65,535 bytes.
-    BadLongest { longest: u32 },
-    /// The call is of a channel, and there is none.
-    NoChannel,
-    /// The other end sent a piece that no honest end sends: the channel takes nothing more.
-    BadPiece(PieceFault),
     /// The server's end refused a datagram.
     AtServer(ArriveFault),
     /// The client's end refused a datagram.
@@ -118,20 +109,6 @@ impl From<MoveFault> for Refusal {
             MoveFault::TooWide { width } => Refusal::MoveTooWide { width },
             MoveFault::Worn { life } => Refusal::MovesWorn { life },
             MoveFault::Full { first, last } => Refusal::MovesFull { first, last },
-        }
-    }
-}
-
-impl From<HoldFault> for Refusal {
-    ghost use Rattle.std.specs.Prelude.{◌≡◌};
-    ghost use Rattle.tribes_ends.specs.Codes.{hold_refusal};
-
-    ghost from_gives = { λ fault refusal. refusal ≡ hold_refusal fault };
-
-    fn from(fault: HoldFault) -> Refusal {
-        match fault {
-            HoldFault::TooLong { most } => Refusal::TooLong { most },
-            HoldFault::NoPlaces { needed, free } => Refusal::NoPlaces { needed, free },
         }
     }
 }

@@ -1,11 +1,10 @@
 //! A refusal as numbers.
 ghost use Rattle.std.specs.Prelude.{◌≡◌, true};
-ghost use Rattle.tribes_ends.specs.Codes.{is_refusal, kinds_why, bits_why, ghost_why, server_why, client_why, piece_why, why_of};
+ghost use Rattle.tribes_ends.specs.Codes.{is_refusal, kinds_why, bits_why, ghost_why, server_why, client_why, why_of};
 
 use crate::refusal::Refusal;
 use event_manager::PostFault;
 use ghost_client::GhostFault;
-use messages::PieceFault;
 use move_manager::MoveFault;
 use quantised_fields::KindFault;
 use stream_manager::{ArriveFault, ClientFault};
@@ -101,21 +100,6 @@ fn client_why(fault: ClientFault) -> Why
     }
 }
 
-fn piece_why(fault: PieceFault) -> Why
-    ensures { result ≡ piece_why fault }
-{
-    match fault {
-        PieceFault::Empty => told(-80, 0, 0),
-        PieceFault::UnknownForm { form } => told(-81, u32::from(form), 0),
-        PieceFault::NotBegun => told(-82, 0, 0),
-        PieceFault::NotEnded => told(-83, 0, 0),
-        PieceFault::OnePiece { length } => told(-84, length, 0),
-        PieceFault::MoreBytes => told(-85, 0, 0),
-        PieceFault::FewerBytes => told(-86, 0, 0),
-        PieceFault::TooLong { length, most } => told(-87, length, most),
-    }
-}
-
 impl Refusal {
     /// The refusal as numbers.
     pub fn why(&self) -> Why
@@ -154,10 +138,6 @@ impl Refusal {
             Refusal::MovesWorn { life } => told(-72, life, 0),
             Refusal::MovesFull { first, last } => told(-73, first, last),
             Refusal::MoveTooWide { width } => told(-74, width, 0),
-            Refusal::NoPlaces { needed, free } => told(-75, needed, free),
-            Refusal::BadLongest { longest } => told(-76, longest, 0),
-            Refusal::NoChannel => told(-77, 0, 0),
-            Refusal::BadPiece(fault) => piece_why(fault),
         }
     }
 }

@@ -29,7 +29,7 @@ use Rattle.std.specs.contracts.alloc.Global as heap
 use Rattle.std.proofs.alloc.Global.TheLaws as heap_laws
 use Rattle.std.specs.contracts.impls.GlobalAllocator.TheImpl.{ghosts}
 use Rattle.tribes_link.specs.Owned.{owned}
-use Rattle.tribes_ends.specs.contracts.channel.Channel as channel
+use Rattle.tribes_channel.specs.contracts.channel.Channel as channel
 use Rattle.tribes_link.specs.contracts.held_channel.HeldChannel as held
 use Rattle.tribes_link.proofs.Values.{both, Loose}
 

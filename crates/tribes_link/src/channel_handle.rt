@@ -7,7 +7,7 @@ use crate::held::Loose;
 use crate::held_channel::HeldChannel;
 use std::alloc::Global;
 use std::mem;
-use tribes_ends::Channel;
+use tribes_channel::Channel;
 
 /// What the first number of a handle is where a channel is behind it.
 pub const OPEN_CHANNEL: u32 = 1_414_676_803;

@@ -3,20 +3,21 @@ ghost use Rattle.std.specs.Prelude.{◌≡◌, ◌⊎◌, ◌↔◌, ◌<◌, �
 ghost use Rattle.std.specs.Option.{option_map};
 ghost use Rattle.std.specs.Result.{result_err};
 ghost use Rattle.messages.specs.OutboxStands.{post_answer, free_places};
-ghost use Rattle.messages.specs.declared.limits.TheConstants.{MAX_SINGLE_BYTES};
-ghost use Rattle.tribes_ends.specs.Channel.{IsNewChannel, longest_refusal, Holds, PostsLoose, GivesWhole, GivesLoose, Awaits, Turns};
-ghost use Rattle.tribes_ends.specs.Codes.{code_of, why_of, hold_refusal};
-ghost use Rattle.tribes_ends.specs.Refusals.{length_refusal};
-ghost use Rattle.tribes_link.specs.Answers.{Answered, IsMade};
-ghost use Rattle.tribes_link.specs.Behind.{Behind, Tells};
-ghost use Rattle.tribes_link.specs.Channels.{kind_of, BehindBoth, AnswersByBoth, NextAnswered, EndsWith};
+ghost use Rattle.tribes_channel.specs.Channel.{IsNewChannel, longest_fault, Holds, LooseRefused, PostsLoose, GivesWhole, GivesLoose, Awaits, Turns};
+ghost use Rattle.tribes_channel.specs.Codes.{open_why, hold_why};
+ghost use Rattle.tribes_ends.specs.Codes.{why_of};
+ghost use Rattle.tribes_link.specs.Behind.{Tells};
+ghost use Rattle.tribes_link.specs.Channels.{kind_of, BehindBoth, AnswersByBoth, CodedBy, IsOpened, NextAnswered, AnswersLoose, EndsWith};
 
-use crate::answering::{HAS_CHANNEL, NO_CHANNEL, NO_END, NO_MEMORY, refused};
+use crate::answering::{HAS_CHANNEL, NO_CHANNEL, NO_END, NO_MEMORY};
 use crate::channel_handle::{ChannelHandle, OPEN_CHANNEL};
 use crate::end::{End, OPEN};
 use std::alloc::Global;
 use tn_types::Class;
-use tribes_ends::{Channel, Handed, Link, ParcelKind, Places, Refusal, Why};
+use tribes_channel::{
+    Channel, Handed, OpenFault, ParcelKind, Places, hold_why, next_why, open_why,
+};
+use tribes_ends::{Link, Why};
 
 /// What a caller's number says of a parcel.
 fn kind_of(kind: u32) -> ParcelKind
@@ -40,18 +41,17 @@ fn number_of(kind: ParcelKind) -> u32
 }
 
 /// Puts a new channel into the handle, or tells why there is none.
-#[tactic(auto, using(crate::proofs::Below::is_below))]
 fn begin(
     alloc: Global,
     handle: &mut ChannelHandle,
-    made: Result<Channel, Refusal>,
+    made: Result<Channel, OpenFault>,
     reason: &mut Why,
 ) -> i32
     ensures begun { result ≡ pos 0 → IfOk made (λ channel. handle.new.held.value ≡ Some channel) }
     ensures unchanged { (result ≡ pos 0 → ⊥) → handle.new ≡ handle.old }
     ensures made { result ≡ pos 0 → IsOk made }
     ensures answer { OnOk made ((result ≡ pos 0) ⊎ (result ≡ NO_MEMORY)) }
-    ensures refused { IfErr made (λ r. (result ≡ code_of r) × (reason.new ≡ why_of r)) }
+    ensures refused { IfErr made (λ fault. (result ≡ (open_why fault).code) × (reason.new ≡ open_why fault)) }
 {
     match made {
         Ok(channel) => match Box::new(alloc, channel) {
@@ -60,12 +60,12 @@ fn begin(
                 0
             }
             Err(_) => {
-                *reason = Refusal::NoMemory.why();
+                *reason = open_why(OpenFault::NoMemory);
                 NO_MEMORY
             }
         },
-        Err(refusal) => {
-            let why = refusal.why();
+        Err(fault) => {
+            let why = open_why(fault);
             *reason = why;
             why.code
         }
@@ -84,7 +84,7 @@ pub extern "C" fn tribes_open_channel(
     ensures begins { result ≡ pos 0 → IfSome channel.new.held.value (IsNewChannel places longest) }
     ensures some { result ≡ pos 0 → IsSome channel.new.held.value }
     ensures has_channel { channel.old.state ≡ OPEN_CHANNEL → result ≡ HAS_CHANNEL }
-    ensures answer { (channel.old.state ≡ OPEN_CHANNEL → ⊥) → IsMade (longest_refusal longest) result reason.new }
+    ensures answer { (channel.old.state ≡ OPEN_CHANNEL → ⊥) → IsOpened (option_map open_why (longest_fault longest)) result reason.new }
     ensures unchanged { (result ≡ pos 0 → ⊥) → channel.new ≡ channel.old }
 {
     if channel.is_open() {
@@ -103,6 +103,27 @@ pub extern "C" fn tribes_close_channel(alloc: Global, channel: &mut ChannelHandl
 {
     match channel.take(alloc) {
         Some(_) => 0,
+        None => NO_CHANNEL,
+    }
+}
+
+/// Tells why the last call of a channel that did nothing did nothing.
+#[unsafe(no_mangle)]
+pub extern "C" fn tribes_channel_why(
+    alloc: Global,
+    channel: &mut ChannelHandle,
+    reason: &mut Why,
+) -> i32
+    ensures answer { (channel.old.state ≡ OPEN_CHANNEL → ⊥) → result ≡ NO_CHANNEL }
+    ensures some { channel.old.state ≡ OPEN_CHANNEL → result ≡ pos 0 }
+    ensures unchanged { channel.new.held.value ≡ channel.old.held.value }
+{
+    match channel.take(alloc) {
+        Some(taken) => {
+            *reason = taken.why();
+            channel.put(taken);
+            0
+        }
         None => NO_CHANNEL,
     }
 }
@@ -134,26 +155,27 @@ pub extern "C" fn tribes_channel_counts(
 fn post_held(link: &mut Link, channel: &mut Channel, kind: ParcelKind, bytes: &[u8]) -> i32
     ensures posted { result ≡ pos 0
         → Holds (record { kind = kind; bytes = bytes.now }) channel.old.outbox link.old channel.new.outbox link.new }
-    ensures answer { Answered 0 result
-        (option_map hold_refusal (result_err (post_answer channel.old.outbox (record { kind = kind; bytes = bytes.now })))) }
+    ensures answer { CodedBy 0 result
+        (option_map hold_why (result_err (post_answer channel.old.outbox (record { kind = kind; bytes = bytes.now })))) }
     ensures inbox { channel.new.inbox ≡ channel.old.inbox }
     ensures unchanged { (result ≡ pos 0 → ⊥) → (channel.new ≡ channel.old) × (link.new ≡ link.old) }
 {
     match channel.post(link, kind, bytes) {
         Ok(()) => 0,
-        Err(refusal) => refused(link, refusal),
+        Err(fault) => channel.note(hold_why(fault)),
     }
 }
 
 /// Posts a parcel as an unguaranteed event, and gives the answer.
-fn post_loose(link: &mut Link, kind: ParcelKind, bytes: &[u8]) -> i32
+fn post_loose(link: &mut Link, channel: &mut Channel, kind: ParcelKind, bytes: &[u8]) -> i32
     ensures posted { result ≡ pos 0 → PostsLoose (record { kind = kind; bytes = bytes.now }) link.old link.new }
-    ensures answer { Answered 0 result (length_refusal MAX_SINGLE_BYTES (length bytes.now)) }
+    ensures answer { AnswersLoose (record { kind = kind; bytes = bytes.now }) result link.old }
+    ensures channel { channel.new ≡ channel.old }
     ensures unchanged { (result ≡ pos 0 → ⊥) → link.new ≡ link.old }
 {
     match Channel::post_loose(link, kind, bytes) {
         Ok(()) => 0,
-        Err(refusal) => refused(link, refusal),
+        Err(refusal) => channel.note(refusal.why()),
     }
 }
 
@@ -173,10 +195,10 @@ pub extern "C" fn tribes_post_message(
     ensures loose { guaranteed ≡ 0 → result ≡ pos 0 → BehindBoth
         (λ old c new c'. PostsLoose (record { kind = kind_of kind; bytes = bytes.now }) old new × (c' ≡ c))
         end.old.held.value channel.old.held.value end.new.held.value channel.new.held.value }
-    ensures answer_guaranteed { (guaranteed ≡ 0 → ⊥) → AnswersByBoth end.old.state channel.old.state channel.old.held.value result
-        (λ c. Answered 0 result (option_map hold_refusal (result_err (post_answer c.outbox (record { kind = kind_of kind; bytes = bytes.now }))))) }
-    ensures answer_loose { guaranteed ≡ 0 → AnswersByBoth end.old.state channel.old.state channel.old.held.value result
-        (λ c. Answered 0 result (length_refusal MAX_SINGLE_BYTES (length bytes.now))) }
+    ensures answer_guaranteed { (guaranteed ≡ 0 → ⊥) → AnswersByBoth end.old.state channel.old.state end.old.held.value channel.old.held.value result
+        (λ side c. CodedBy 0 result (option_map hold_why (result_err (post_answer c.outbox (record { kind = kind_of kind; bytes = bytes.now }))))) }
+    ensures answer_loose { guaranteed ≡ 0 → AnswersByBoth end.old.state channel.old.state end.old.held.value channel.old.held.value result
+        (λ side c. AnswersLoose (record { kind = kind_of kind; bytes = bytes.now }) result side) }
     ensures unchanged { (result ≡ pos 0 → ⊥) → end.new.held.value ≡ end.old.held.value }
     ensures unchanged_channel { (result ≡ pos 0 → ⊥) → channel.new.held.value ≡ channel.old.held.value }
 {
@@ -185,13 +207,12 @@ pub extern "C" fn tribes_post_message(
     };
     let mut link = taken_end;
     let Some(taken_channel) = channel.take(alloc) else {
-        let code = refused(&mut *link, Refusal::NoChannel);
         end.put(link);
-        return code;
+        return NO_CHANNEL;
     };
     let mut parcels = taken_channel;
     let code = if guaranteed == 0 {
-        post_loose(&mut *link, kind_of(kind), bytes)
+        post_loose(&mut *link, &mut *parcels, kind_of(kind), bytes)
     } else {
         post_held(&mut *link, &mut *parcels, kind_of(kind), bytes)
     };
@@ -236,7 +257,7 @@ fn next_of(
             }
         }
         Ok(None) => 0,
-        Err(refusal) => refused(link, refusal),
+        Err(fault) => channel.note(next_why(fault)),
     }
 }
 
@@ -259,7 +280,8 @@ pub extern "C" fn tribes_message(
         end.old.held.value channel.old.held.value end.new.held.value channel.new.held.value }
     ensures none { result ≡ pos 0 → BehindBoth (λ old c new c'. Turns Awaits c old c' new)
         end.old.held.value channel.old.held.value end.new.held.value channel.new.held.value }
-    ensures answer { AnswersByBoth end.old.state channel.old.state channel.old.held.value result (NextAnswered (length bytes.old) result) }
+    ensures answer { AnswersByBoth end.old.state channel.old.state end.old.held.value channel.old.held.value result
+        (λ side c. NextAnswered (length bytes.old) result c) }
     ensures ended { end.old.state ≡ OPEN → channel.old.state ≡ OPEN_CHANNEL
         → (result ≡ pos 0 → ⊥) → (result ≡ pos 1 → ⊥) → (result ≡ pos 2 → ⊥)
         → BehindBoth (λ old c new c'. c.inbox.room ≤ length bytes.old → Turns (EndsWith result) c old c' new)
@@ -275,9 +297,8 @@ pub extern "C" fn tribes_message(
     };
     let mut link = taken_end;
     let Some(taken_channel) = channel.take(alloc) else {
-        let code = refused(&mut *link, Refusal::NoChannel);
         end.put(link);
-        return code;
+        return NO_CHANNEL;
     };
     let mut parcels = taken_channel;
     let code = next_of(&mut *link, &mut *parcels, bytes, kind, count);

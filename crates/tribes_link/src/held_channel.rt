@@ -2,13 +2,13 @@
 ghost use Rattle.std.specs.Prelude.{◌≡◌, IsSome};
 ghost use Rattle.std.specs.declared.option.Option.{Option};
 ghost use Rattle.std.specs.declared.option.Option.TheVariants.{None, Some};
-ghost use Rattle.tribes_ends.specs.declared.channel.Channel.{Channel};
+ghost use Rattle.tribes_channel.specs.declared.channel.Channel.{Channel};
 
 use crate::held::Loose;
 use std::alloc::Global;
 use std::marker::Model;
 use std::ptr::null_mut;
-use tribes_ends::Channel;
+use tribes_channel::Channel;
 
 /// Nothing, or a channel and the right to free it.
 #[repr(C)]
@@ -21,7 +21,7 @@ pub struct HeldChannel {
 }
 
 impl Model for HeldChannel {
-    ghost use Rattle.tribes_ends.specs.contracts.channel.Channel.{the_row};
+    ghost use Rattle.tribes_channel.specs.contracts.channel.Channel.{the_row};
     ghost use Rattle.tribes_link.specs.Owned.{owned};
 
     ghost also_owns = { λ h. owned the_row h.alloc h.at h.value };

@@ -2,11 +2,11 @@
 use Rattle.std.specs.Prelude.{◌≡◌, ℕ, List, Some, None, IsSome}
 use Rattle.tn_types.specs.declared.choices.Class.TheVariants.{Guaranteed, Loose}
 use Rattle.messages.specs.declared.faults.PieceFault.{PieceFault}
-use Rattle.messages.specs.InboxState.{InboxState, waiting, piece_fault}
-use Rattle.tribes_ends.specs.Channel.{Gathers, Awaits, EndsBy}
+use Rattle.messages.specs.InboxState.{InboxState, waiting}
+use Rattle.tribes_channel.specs.Channel.{Gathers, Awaits, EndsBy}
 use Rattle.tribes_ends.specs.Sides.{Pops}
-use Rattle.tribes_ends.specs.declared.channel.Gathered.{Gathered}
-use Rattle.tribes_ends.specs.declared.channel.Gathered.TheVariants.{Nothing, Whole, Loose as Unguaranteed, Bad}
+use Rattle.tribes_channel.specs.declared.receiving.Gathered.{Gathered}
+use Rattle.tribes_channel.specs.declared.receiving.Gathered.TheVariants.{Nothing, Whole, Loose as Unguaranteed, Bad}
 use Rattle.tribes_ends.specs.declared.link.Side.{Side}
 
 -- all that was taken, and then an unguaranteed event

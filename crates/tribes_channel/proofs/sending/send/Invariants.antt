@@ -1,6 +1,6 @@
 use Rattle.std.proofs.Common.{length}
-use Rattle.tribes_ends.specs.Channel.{Sends}
-use Rattle.tribes_ends.proofs.channel.send.Given as goal
+use Rattle.tribes_channel.specs.Channel.{Sends}
+use Rattle.tribes_channel.proofs.sending.send.Given as goal
 
 abbrev pub invariant-pieces : goal.invariant-pieces
 invariant-pieces l = Sends l.fn.outbox l.fn.link l.outbox l.link

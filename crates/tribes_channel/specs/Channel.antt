@@ -1,11 +1,10 @@
 -- A channel: an outbox and an inbox over one end. What leaves the outbox is posted at the end as guaranteed events, and what the end
 -- delivers is taken by the inbox, each in order and nothing left out. Said of the lists of what happened at the end, at the outbox and
 -- at the inbox, as far as they go on.
-use Rattle.std.specs.Prelude.{◌≡◌, refl, ℕ, ◌^◌, ◌<◌, ◌≤◌, ◌||◌, nat_lt, List, [], ◌∷◌, ◌++◌, map, length, slice_get, if◌then◌else◌, Option, Some, None, IsSome, Err}
+use Rattle.std.specs.Prelude.{◌≡◌, refl, ℕ, ◌^◌, ◌<◌, ◌≤◌, ◌||◌, nat_lt, List, [], ◌∷◌, ◌++◌, map, length, slice_get, if◌then◌else◌, Option, Some, None, IsSome, ⊤}
 use Rattle.tn_types.specs.declared.choices.Class.{Class}
 use Rattle.tn_types.specs.declared.choices.Class.TheVariants.{Guaranteed, Loose}
 use Rattle.tn_types.specs.Histories.{Does}
-use Rattle.event_manager.specs.declared.sender.PostFault.{PostFault}
 use Rattle.messages.specs.declared.faults.PieceFault.{PieceFault}
 use Rattle.messages.specs.declared.form.ParcelKind.{ParcelKind}
 use Rattle.messages.specs.declared.limits.TheConstants.{MAX_MESSAGE_BYTES, MAX_SINGLE_BYTES}
@@ -15,15 +14,17 @@ use Rattle.messages.specs.InboxState.{InboxState, waiting, piece_fault, loose_fa
 use Rattle.messages.specs.InboxStands.{InboxEvent, InboxStandsFor, Took, HandedOut}
 use Rattle.stream_manager.specs.EndStands.{EndState}
 use Rattle.stream_manager.specs.Server as server
-use Rattle.stream_manager.specs.Server.{ServerEvent}
 use Rattle.stream_manager.specs.Client as client
-use Rattle.stream_manager.specs.Client.{ClientEvent}
 use Rattle.stream_manager.specs.ConnCalls as server_calls
 use Rattle.stream_manager.specs.ClientCalls as client_calls
-use Rattle.stream_manager.specs.Stands.{ConnStandsFor, ClientStandsFor}
+use Rattle.tribes_ends.specs.Refusals.{PostRefused}
 use Rattle.tribes_ends.specs.Sides.{Posts, Pops}
 use Rattle.tribes_ends.specs.declared.refusal.Refusal.{Refusal}
-use Rattle.tribes_ends.specs.declared.refusal.Refusal.TheVariants.{BadLongest, BadPiece}
+use Rattle.tribes_ends.specs.declared.refusal.Refusal.TheVariants.{TooLong}
+use Rattle.tribes_channel.specs.declared.faults.NextFault.{NextFault}
+use Rattle.tribes_channel.specs.declared.faults.NextFault.TheVariants.{BadPiece}
+use Rattle.tribes_channel.specs.declared.faults.OpenFault.{OpenFault}
+use Rattle.tribes_channel.specs.declared.faults.OpenFault.TheVariants.{BadLongest, NoMemory}
 use Rattle.tribes_ends.specs.declared.link.Side.{Side}
 use Rattle.tribes_ends.specs.declared.link.Side.TheVariants.{Server, Client}
 
@@ -45,8 +46,17 @@ after_each event (x ∷ xs) log = after_each event xs (event x ∷ log)
 
 -- ---- a new channel
 
-abbrev pub longest_refusal : ℕ → Option Refusal
-longest_refusal longest = if nat_lt longest MAX_SINGLE_BYTES || nat_lt MAX_MESSAGE_BYTES longest then Some (BadLongest longest) else None
+abbrev pub longest_fault : ℕ → Option OpenFault
+longest_fault longest = if nat_lt longest MAX_SINGLE_BYTES || nat_lt MAX_MESSAGE_BYTES longest then Some (BadLongest longest) else None
+
+-- what is wrong is told first; else memory alone may lack
+abbrev pub MadeUnless : Option OpenFault → Option OpenFault → Type 0
+MadeUnless (Some fault) answer = answer ≡ Some fault
+MadeUnless None None = ⊤
+MadeUnless None (Some fault) = fault ≡ NoMemory
+
+abbrev pub OpenAnswer : ℕ → Option OpenFault → Type 0
+OpenAnswer longest answer = MadeUnless (longest_fault longest) answer
 
 pub record IsNewChannel (places longest : ℕ) (c : ChannelState) : Type 0 where
   pub outbox : OutboxStandsFor c.outbox []
@@ -61,11 +71,6 @@ pub record IsNewChannel (places longest : ℕ) (c : ChannelState) : Type 0 where
 abbrev pub ready_of : Side → List (Class × List ℕ)
 ready_of (Server c) = c.common.receiver.ready
 ready_of (Client c) = c.common.receiver.ready
-
--- a guaranteed event is refused: too many are unacknowledged, or as many were posted as a connection has in its life
-abbrev pub HasNoPlace : Side → Type 0
-HasNoPlace (Server c) = (log : List ServerEvent) → ConnStandsFor c log → (fault : PostFault) × (server.posted_at_server c.common.config log ≡ Err fault)
-HasNoPlace (Client c) = (log : List ClientEvent) → ClientStandsFor c log → (fault : PostFault) × (client.posted_at_client c.common.config log ≡ Err fault)
 
 -- these pieces were posted, in this order, each as a guaranteed event, and nothing else happened
 abbrev pub PostsAll : Side → List (List ℕ) → Side → Type 0
@@ -101,11 +106,10 @@ pub record Sends (before : OutboxState) (old : Side) (after : OutboxState) (new 
   pub stands : (log : List OutboxEvent) → OutboxStandsFor before log → OutboxStandsFor after (after_each HandedOn pieces log)
   pub posted : PostsAll old pieces new
   pub same : pieces ≡ [] → new ≡ old
-  pub ready : ready_of new ≡ ready_of old
 
--- a piece is left only if the end has no place for it
+-- a piece is left only if the end refuses it
 abbrev pub LeavesNone : OutboxState → Side → Type 0
-LeavesNone o side = IsSome (slice_get o.held 0) → HasNoPlace side
+LeavesNone o side = (piece : List ℕ) → slice_get o.held 0 ≡ Some piece → PostRefused piece Guaranteed side IsSome
 
 -- a parcel is taken up whole, and then pieces are posted as long as there are places
 pub record Holds (p : Parcel) (before : OutboxState) (old : Side) (after : OutboxState) (new : Side) : Type 0 where
@@ -120,6 +124,11 @@ pub record PostsLoose (p : Parcel) (old new : Side) : Type 0 where
   pub piece : List ℕ
   pub whole : pieces_of p ≡ piece ∷ []
   pub posted : Posts old Loose piece new
+
+-- one that is too long is refused, and else the end answers for it
+pub record LooseRefused (p : Parcel) (side : Side) (answer : Option Refusal) : Type 0 where
+  pub long : MAX_SINGLE_BYTES < length p.bytes → answer ≡ Some (TooLong MAX_SINGLE_BYTES)
+  pub short : length p.bytes ≤ MAX_SINGLE_BYTES → (piece : List ℕ) → pieces_of p ≡ piece ∷ [] → PostRefused piece Loose side (λ r. answer ≡ r)
 
 -- ---- what comes in
 
@@ -182,25 +191,25 @@ abbrev pub EndsAt : Option PieceFault → PieceFault → InboxState → Side →
 EndsAt None fault before old after new = EndsBy fault before old after new
 EndsAt (Some was) fault before old after new = (fault ≡ was) × (after ≡ before) × (new ≡ old)
 
-pub record Ends (refusal : Refusal) (before : InboxState) (old : Side) (after : InboxState) (new : Side) : Type 0 where
+pub record Ends (answer : NextFault) (before : InboxState) (old : Side) (after : InboxState) (new : Side) : Type 0 where
   pub fault : PieceFault
-  pub is : refusal ≡ BadPiece fault
+  pub is : answer ≡ BadPiece fault
   pub ends : EndsAt before.fault fault before old after new
 
--- held pieces are posted as long as there are places, and then this happens to what comes in
+-- this happens to what comes in, and then held pieces are posted as long as there are places
 pub record Turns (Did : InboxState → Side → InboxState → Side → Type 0) (c : ChannelState) (old : Side) (c' : ChannelState) (new : Side) : Type 0 where
   pub mid : Side
-  pub sends : Sends c.outbox old c'.outbox mid
-  pub none_left : LeavesNone c'.outbox mid
-  pub did : Did c.inbox mid c'.inbox new
+  pub did : Did c.inbox old c'.inbox mid
+  pub sends : Sends c.outbox mid c'.outbox new
+  pub none_left : LeavesNone c'.outbox new
 
 -- ---- examples
 
 two_pieces : after_each HandedOn ((1 ∷ []) ∷ (0 ∷ 7 ∷ []) ∷ []) [] ≡ HandedOn (0 ∷ 7 ∷ []) ∷ HandedOn (1 ∷ []) ∷ []
 two_pieces = refl
 
-too_short : longest_refusal 22 ≡ Some (BadLongest 22)
+too_short : longest_fault 22 ≡ Some (BadLongest 22)
 too_short = refl
 
-as_long_as_any : longest_refusal 65535 ≡ None
+as_long_as_any : longest_fault 65535 ≡ None
 as_long_as_any = refl

@@ -1,6 +1,6 @@
 -- What a channel did, and then one piece more.
-use Rattle.std.proofs.Common.{◌≡◌, ◌∙◌, ℕ, List, [], ◌∷◌, ◌++◌, drop, map, Option, Some, None, refl, sym, ap, subst, append_assoc}
-use Rattle.std.specs.Prelude.{slice_get}
+use Rattle.std.proofs.Common.{◌≡◌, ◌∙◌, ℕ, zero, suc, min, length, take, List, [], ◌∷◌, ◌++◌, drop, map, Option, Some, None, refl, sym, ap, subst, append_assoc}
+use Rattle.std.specs.Prelude.{slice_get, IsSome}
 use Rattle.tn_types.specs.declared.choices.Class.{Class}
 use Rattle.tn_types.specs.declared.choices.Class.TheVariants.{Guaranteed}
 use Rattle.tn_types.specs.Histories.{Does}
@@ -12,8 +12,10 @@ use Rattle.stream_manager.specs.EndCalls.{popped}
 use Rattle.stream_manager.specs.Server as server
 use Rattle.stream_manager.specs.Client as client
 use Rattle.stream_manager.specs.Stands.{ConnState, ClientState, ConnStandsFor, ClientStandsFor}
-use Rattle.tribes_ends.specs.Channel.{after_each, ready_of, with_ready, PostsAll, PopsAtEnd, PopsAll, Sends, Gathers, guaranteed}
+use Rattle.tribes_channel.specs.Channel.{after_each, ready_of, with_ready, PostsAll, PopsAtEnd, PopsAll, Sends, Gathers, guaranteed}
+use Rattle.tribes_ends.specs.Refusals.{PostRefused}
 use Rattle.tribes_ends.specs.Sides.{Posts, Pops}
+use Rattle.tribes_ends.specs.declared.refusal.Refusal.{Refusal}
 use Rattle.tribes_ends.specs.declared.link.Side.{Side}
 use Rattle.tribes_ends.specs.declared.link.Side.TheVariants.{Server, Client}
 
@@ -55,21 +57,20 @@ posts-more (Client a) (Client b) (Server c) ps p all one = absurd one
 posts-more (Server a) (Client b) c ps p all one = absurd all
 posts-more (Client a) (Server b) c ps p all one = absurd all
 
-pub sends-none : (o : OutboxState) (s : Side) → Sends o s o s
-sends-none o s = record { pieces = []; held = refl; places = refl; stands = λ log st. st; posted = posts-none s; same = λ e. refl; ready = refl }
+pub sends_none : (o : OutboxState) (s : Side) → Sends o s o s
+sends_none o s = record { pieces = []; held = refl; places = refl; stands = λ log st. st; posted = posts-none s; same = λ e. refl }
 
-pub sends-more : (o o1 o2 : OutboxState) (a b c : Side) (p : List ℕ) → Sends o a o1 b → slice_get o1.held 0 ≡ Some p
-    → Posts b Guaranteed p c → ready_of c ≡ ready_of b → Does OutboxStandsFor o1 (HandedOn p) o2 → o2.held ≡ drop 1 o1.held → o2.places ≡ o1.places
+pub sends_more : (o o1 o2 : OutboxState) (a b c : Side) (p : List ℕ) → Sends o a o1 b → slice_get o1.held 0 ≡ Some p
+    → Posts b Guaranteed p c → Does OutboxStandsFor o1 (HandedOn p) o2 → o2.held ≡ drop 1 o1.held → o2.places ≡ o1.places
     → Sends o a o2 c
-sends-more o o1 o2 a b c p all first one ready does rest places = record {
-    pieces = all.pieces ++ p ∷ [];
-    held = one-behind o.held all.pieces o1.held p all.held first ∙ ap (λ r. (all.pieces ++ p ∷ []) ++ r) (sym rest);
-    places = places ∙ all.places;
-    stands = λ log s. subst (λ l. OutboxStandsFor o2 l) (sym (after-each-more HandedOn all.pieces p log)) (does (after_each HandedOn all.pieces log) (all.stands log s));
-    posted = posts-more a b c all.pieces p all.posted one;
-    same = λ e. absurd (never-empty all.pieces p e);
-    ready = ready ∙ all.ready;
-  }
+sends_more o o1 o2 a b c p all first one does rest places = record {
+  pieces = all.pieces ++ p ∷ [];
+  held = one-behind o.held all.pieces o1.held p all.held first ∙ ap (λ r. (all.pieces ++ p ∷ []) ++ r) (sym rest);
+  places = places ∙ all.places;
+  stands = λ log s. subst (λ l. OutboxStandsFor o2 l) (sym (after-each-more HandedOn all.pieces p log)) (does (after_each HandedOn all.pieces log) (all.stands log s));
+  posted = posts-more a b c all.pieces p all.posted one;
+  same = λ e. absurd (never-empty all.pieces p e);
+}
 
 -- ---- events that are handed out
 
@@ -88,40 +89,58 @@ end-more a b c es x all first is =
 
 pops-more : (a b c : Side) (es : List (Class × List ℕ)) (class : Class) (p : List ℕ) → PopsAll a es b → Pops b class p c → PopsAll a (es ++ (class, p) ∷ []) c
 pops-more (Server a) (Server b) (Server c) es class p all one =
-    let common : c.common ≡ popped b.common = ap (λ (s : ConnState). s.common) one.rest in
-    (one.rest ∙ ap (λ (s : ConnState). record s { common = popped b.common }) all.0 ∙ ap (λ (e : EndState). record a { common = e }) (sym common),
-     end-more a.common b.common c.common es (class, p) all.1 one.first common,
-     λ log s. one.stands log (all.2 log s))
+    let common : c.common ≡ popped b.common = ap (λ (s : ConnState). s.common) one.rest in (
+      one.rest ∙ ap (λ (s : ConnState). record s { common = popped b.common }) all.0 ∙ ap (λ (e : EndState). record a { common = e }) (sym common),
+      end-more a.common b.common c.common es (class, p) all.1 one.first common,
+      λ log s. one.stands log (all.2 log s),
+    )
 pops-more (Client a) (Client b) (Client c) es class p all one =
-    let common : c.common ≡ popped b.common = ap (λ (s : ClientState). s.common) one.rest in
-    (one.rest ∙ ap (λ (s : ClientState). record s { common = popped b.common }) all.0 ∙ ap (λ (e : EndState). record a { common = e }) (sym common),
-     end-more a.common b.common c.common es (class, p) all.1 one.first common,
-     λ log s. one.stands log (all.2 log s))
+    let common : c.common ≡ popped b.common = ap (λ (s : ClientState). s.common) one.rest in (
+      one.rest ∙ ap (λ (s : ClientState). record s { common = popped b.common }) all.0 ∙ ap (λ (e : EndState). record a { common = e }) (sym common),
+      end-more a.common b.common c.common es (class, p) all.1 one.first common,
+      λ log s. one.stands log (all.2 log s),
+    )
 pops-more (Server a) (Server b) (Client c) es class p all one = absurd one
 pops-more (Client a) (Client b) (Server c) es class p all one = absurd one
 pops-more (Server a) (Client b) c es class p all one = absurd all
 pops-more (Client a) (Server b) c es class p all one = absurd all
 
-pub gathers-none : (b : InboxState) (s : Side) → b.fault ≡ None → Gathers b s b s
-gathers-none b s sound = record { pieces = []; popped = pops-none s; stands = λ log st. st; room = refl; sound = sound; still_sound = sound }
+pub gathers_none : (b : InboxState) (s : Side) → b.fault ≡ None → Gathers b s b s
+gathers_none b s sound = record { pieces = []; popped = pops-none s; stands = λ log st. st; room = refl; sound = sound; still_sound = sound }
 
-pub gathers-more : (b b1 b2 : InboxState) (a s c : Side) (p : List ℕ) → Gathers b a b1 s → Pops s Guaranteed p c → Does InboxStandsFor b1 (Took p) b2
+pub gathers_more : (b b1 b2 : InboxState) (a s c : Side) (p : List ℕ) → Gathers b a b1 s → Pops s Guaranteed p c → Does InboxStandsFor b1 (Took p) b2
     → b2.room ≡ b1.room → b2.fault ≡ None → Gathers b a b2 c
-gathers-more b b1 b2 a s c p all one does room sound = record {
-    pieces = all.pieces ++ p ∷ [];
-    popped = subst (λ es. PopsAll a es c) (sym (map-more guaranteed all.pieces p)) (pops-more a s c (map guaranteed all.pieces) Guaranteed p all.popped one);
-    stands = λ log st. subst (λ l. InboxStandsFor b2 l) (sym (after-each-more Took all.pieces p log)) (does (after_each Took all.pieces log) (all.stands log st));
-    room = room ∙ all.room;
-    sound = all.sound;
-    still_sound = sound;
-  }
+gathers_more b b1 b2 a s c p all one does room sound = record {
+  pieces = all.pieces ++ p ∷ [];
+  popped = subst (λ es. PopsAll a es c) (sym (map-more guaranteed all.pieces p)) (pops-more a s c (map guaranteed all.pieces) Guaranteed p all.popped one);
+  stands = λ log st. subst (λ l. InboxStandsFor b2 l) (sym (after-each-more Took all.pieces p log)) (does (after_each Took all.pieces log) (all.stands log st));
+  room = room ∙ all.room;
+  sound = all.sound;
+  still_sound = sound;
+}
 
 -- ---- the oldest event that waits is one fewer
 
-pub fewer-wait : (b c : Side) (class : Class) (p : List ℕ) → Pops b class p c → ready_of b ≡ (class, p) ∷ ready_of c
-fewer-wait (Server b) (Server c) class p one = head-first b.common.receiver.ready (class, p) one.first
+pub fewer_wait : (b c : Side) (class : Class) (p : List ℕ) → Pops b class p c → ready_of b ≡ (class, p) ∷ ready_of c
+fewer_wait (Server b) (Server c) class p one = head-first b.common.receiver.ready (class, p) one.first
     ∙ ap (λ r. (class, p) ∷ r) (sym (ap (λ (s : ConnState). s.common.receiver.ready) one.rest))
-fewer-wait (Client b) (Client c) class p one = head-first b.common.receiver.ready (class, p) one.first
+fewer_wait (Client b) (Client c) class p one = head-first b.common.receiver.ready (class, p) one.first
     ∙ ap (λ r. (class, p) ∷ r) (sym (ap (λ (s : ClientState). s.common.receiver.ready) one.rest))
-fewer-wait (Server b) (Client c) class p one = absurd one
-fewer-wait (Client b) (Server c) class p one = absurd one
+fewer_wait (Server b) (Client c) class p one = absurd one
+fewer_wait (Client b) (Server c) class p one = absurd one
+
+-- ---- refusals
+
+pub refused_some : (piece : List ℕ) (side : Side) (refusal : Refusal) → PostRefused piece Guaranteed side (λ r. Some refusal ≡ r) → PostRefused piece Guaranteed side IsSome
+refused_some piece (Server c) refusal h = λ log s. subst IsSome (h log s) tt
+refused_some piece (Client c) refusal h = λ log s. subst IsSome (h log s) tt
+
+-- as many as there are, at most
+pub take_within : (xs : List ℕ) (n : ℕ) → take (min n (length xs)) xs ≡ take n xs
+take_within [] n = cases-nil n
+  where
+    cases-nil : (n : ℕ) → take (min n 0) [] ≡ take n []
+    cases-nil zero = refl
+    cases-nil (suc n) = refl
+take_within (x ∷ xs) zero = refl
+take_within (x ∷ xs) (suc n) = ap (λ l. x ∷ l) (take_within xs n)

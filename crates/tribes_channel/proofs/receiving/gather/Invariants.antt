@@ -1,7 +1,7 @@
 use Rattle.std.proofs.Common.{◌≡◌, None, length}
 use Rattle.messages.specs.InboxState.{waiting}
-use Rattle.tribes_ends.specs.Channel.{Gathers, ready_of}
-use Rattle.tribes_ends.proofs.channel.gather.Given as goal
+use Rattle.tribes_channel.specs.Channel.{Gathers, ready_of}
+use Rattle.tribes_channel.proofs.receiving.gather.Given as goal
 
 abbrev pub invariant-events : goal.invariant-events
 invariant-events l = record {
