@@ -1,5 +1,5 @@
 //! A datagram in one line.
-ghost use Rattle.std.specs.Prelude.{◌≡◌, ◌++◌, OnOk, IfOk};
+ghost use Rattle.std.specs.Prelude.{◌≡◌, ◌++◌, [], OnOk, IfOk};
 ghost use Rattle.packet_text.specs.Brief.{word_of, numbered, brief_of, briefs_of, fault_brief, line_text, told_text};
 
 use crate::meanings::{kind_meaning, op_meaning, push_event, push_kind, push_shown};
