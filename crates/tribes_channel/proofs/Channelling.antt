@@ -132,15 +132,12 @@ fewer_wait (Client b) (Server c) class p one = absurd one
 -- ---- refusals
 
 pub refused_some : (piece : List ℕ) (side : Side) (refusal : Refusal) → PostRefused piece Guaranteed side (λ r. Some refusal ≡ r) → PostRefused piece Guaranteed side IsSome
-refused_some piece (Server c) refusal h = λ log s. subst IsSome (h log s) tt
-refused_some piece (Client c) refusal h = λ log s. subst IsSome (h log s) tt
+refused_some piece (Server c) refusal h = λ log s. subst IsSome (h log s) refl
+refused_some piece (Client c) refusal h = λ log s. subst IsSome (h log s) refl
 
 -- as many as there are, at most
 pub take_within : (xs : List ℕ) (n : ℕ) → take (min n (length xs)) xs ≡ take n xs
-take_within [] n = cases-nil n
-  where
-    cases-nil : (n : ℕ) → take (min n 0) [] ≡ take n []
-    cases-nil zero = refl
-    cases-nil (suc n) = refl
+take_within [] zero = refl
+take_within [] (suc n) = refl
 take_within (x ∷ xs) zero = refl
 take_within (x ∷ xs) (suc n) = ap (λ l. x ∷ l) (take_within xs n)

@@ -58,11 +58,11 @@ MadeUnless None (Some fault) = fault ≡ NoMemory
 abbrev pub OpenAnswer : ℕ → Option OpenFault → Type 0
 OpenAnswer longest answer = MadeUnless (longest_fault longest) answer
 
-pub record IsNewChannel (places longest : ℕ) (c : ChannelState) : Type 0 where
+pub record IsNewChannel (count most : ℕ) (c : ChannelState) : Type 0 where
   pub outbox : OutboxStandsFor c.outbox []
-  pub places : c.outbox.places ≡ places
+  pub places : c.outbox.places ≡ count
   pub inbox : InboxStandsFor c.inbox []
-  pub longest : c.inbox.room ≡ longest
+  pub longest : c.inbox.room ≡ most
   pub sound : c.inbox.fault ≡ None
 
 -- ---- at the end below
