@@ -96,7 +96,8 @@ static void stroke_on_map(keys *k, session *s, stroke stroke) {
 
 void keys_read(keys *k, session *s) {
     for (stroke stroke; terminal_stroke(&stroke);) {
-        if (!k->types) stroke_on_map(k, s, stroke);
+        if (stroke.key == CONTROL_C) k->quits = 1;
+        else if (!k->types) stroke_on_map(k, s, stroke);
         else if (stroke.deed != RELEASED) type(k, s, stroke.key);
     }
 }

@@ -9,7 +9,8 @@
 #include "tribes.h"
 #include <stdio.h>
 
-enum { HELLO_BYTES = 5, CHALLENGE_BYTES = 5, REPEATED_BYTES = 9, WELCOME_BYTES = 12, KEPT_LINES = 8, LOST_AFTER = 5000 }; /* the last in milliseconds of silence */
+enum { HELLO_BYTES = 5, CHALLENGE_BYTES = 5, REPEATED_BYTES = 9, WELCOME_BYTES = 12, KEPT_LINES = 8 };
+enum { LOST_AFTER = 5000 }; /* milliseconds of silence */
 
 /* what became of the last 64 of something, the newest in bit 0; a bit is set where it was lost */
 typedef struct { uint64_t lost; int count; } history;

@@ -61,7 +61,7 @@ static int stroke_of(const int *numbers, char last, stroke *s) {
     else if (last == 'O') s->key = OUT_OF_FOCUS;
     else if (last == 'u' && numbers[0] && numbers[0] < OTHERS) s->key = modifiers & SHIFT && numbers[1] ? numbers[1] : numbers[0];
     else return 0;
-    if (modifiers & CONTROL && s->key == 'c') s->key = 'q';
+    if (modifiers & CONTROL && s->key == 'c') s->key = CONTROL_C;
     return 1;
 }
 

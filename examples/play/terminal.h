@@ -3,7 +3,7 @@
 #define TERMINAL_H
 
 /* Keys that are no character. Enter, Escape and Delete are the characters that terminals send. */
-enum { ARROW_UP = 0x110000, ARROW_DOWN, ARROW_RIGHT, ARROW_LEFT, OUT_OF_FOCUS, ENTER = '\r', ESCAPE = 27, DELETE = 127 };
+enum { ARROW_UP = 0x110000, ARROW_DOWN, ARROW_RIGHT, ARROW_LEFT, OUT_OF_FOCUS, CONTROL_C, ENTER = '\r', ESCAPE = 27, DELETE = 127 };
 
 typedef enum { PRESSED = 1, REPEATED, RELEASED } deed;
 

@@ -1,6 +1,7 @@
-//! The program `decode`: the table of a datagram, or of each datagram of a report, or a line for each (docs/packets.md).
+//! The program `decode`: the table of a datagram, or of each one of a report or a demo, or a line for each (docs/packets.md).
 #![tactic(auto)]
 
+mod demo;
 mod report;
 mod slots;
 mod table;
@@ -8,6 +9,7 @@ mod words;
 
 ghost use Rattle.std.specs.Prelude.{◌≤◌, length};
 
+use demo::demo_text;
 use report::{datagram_text, push_line, report_text};
 use std::alloc::Global;
 use std::io::{self, Read, Write};
@@ -56,6 +58,15 @@ fn one_text(alloc: Global, by: End, bytes: &[u8], options: Options) -> Result<Ve
     Ok(text)
 }
 
+/// All of standard input.
+fn input(rt: &HostRuntime) -> Result<Vec<u8>, Refusal> {
+    let mut bytes = Vec::new(rt.alloc());
+    match rt.reader().read_to_end(&mut bytes) {
+        Ok(_) => Ok(bytes),
+        Err(_) => Err(Refusal::Unread),
+    }
+}
+
 /// The text that the words ask for.
 fn text_of(rt: &HostRuntime) -> Result<Vec<u8>, Refusal> {
     let words = arguments(rt)?;
@@ -66,11 +77,12 @@ fn text_of(rt: &HostRuntime) -> Result<Vec<u8>, Refusal> {
             }
             one_text(rt.alloc(), by, bytes.as_slice(), options)
         }
+        Command::Demo { options } => {
+            let bytes = input(rt)?;
+            demo_text(rt.alloc(), bytes.as_slice(), options.brief)
+        }
         Command::Report { options } => {
-            let mut bytes = Vec::new(rt.alloc());
-            if rt.reader().read_to_end(&mut bytes).is_err() {
-                return Err(Refusal::Unread);
-            }
+            let bytes = input(rt)?;
             match str::from_utf8(bytes.as_slice()) {
                 Ok(report) => report_text(rt.alloc(), options.version, report, options.brief),
                 Err(_) => Err(Refusal::NoReport),

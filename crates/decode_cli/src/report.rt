@@ -116,7 +116,12 @@ fn push_table(text: &mut Vec<u8>, head: &str, table: &[u8]) -> Result<(), Refusa
 }
 
 /// Adds what was made of a datagram.
-fn push_made(text: &mut Vec<u8>, head: &str, made: &[u8], brief: bool) -> Result<(), Refusal> {
+pub(crate) fn push_made(
+    text: &mut Vec<u8>,
+    head: &str,
+    made: &[u8],
+    brief: bool,
+) -> Result<(), Refusal> {
     if brief {
         push_line(text, head, made)
     } else {

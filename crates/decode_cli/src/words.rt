@@ -20,6 +20,10 @@ pub(crate) enum Command {
     Report {
         options: Options,
     },
+    /// Each datagram of a demo, which says its version.
+    Demo {
+        options: Options,
+    },
 }
 
 /// The version of the wire, what the slots hold before the datagram, and whether a line is wanted in place of a table.
@@ -43,6 +47,7 @@ pub(crate) enum Refusal {
     NoKind,
     NoOption,
     NoReport,
+    NoDemo,
     Unread,
     NoMemory,
 }
@@ -50,7 +55,7 @@ pub(crate) enum Refusal {
 impl fmt::Display for Refusal {
     fn fmt<W: fmt::Write>(&self, f: &mut fmt::Formatter<W>) -> fmt::Result {
         match *self {
-            Refusal::NoWay => write!(f, "wanted is down HEX, up HEX or report"),
+            Refusal::NoWay => write!(f, "wanted is down HEX, up HEX, report or demo"),
             Refusal::NoHex => write!(f, "the datagram is missing: wanted are hexadecimal digits"),
             Refusal::OddHex => write!(f, "the hexadecimal text has an odd number of digits"),
             Refusal::BadHex => write!(f, "the datagram is no hexadecimal text"),
@@ -65,6 +70,7 @@ impl fmt::Display for Refusal {
                 )
             }
             Refusal::NoReport => write!(f, "the report is no text"),
+            Refusal::NoDemo => write!(f, "what came begins with no demo's head"),
             Refusal::Unread => write!(f, "standard input could not be read"),
             Refusal::NoMemory => write!(f, "memory was not to be had"),
         }
@@ -174,6 +180,11 @@ pub(crate) fn read_command(alloc: Global, words: &[String]) -> Result<Command, R
     };
     if first.as_str() == "report" {
         return Ok(Command::Report {
+            options: read_options(words, 1)?,
+        });
+    }
+    if first.as_str() == "demo" {
+        return Ok(Command::Demo {
             options: read_options(words, 1)?,
         });
     }
