@@ -1,5 +1,8 @@
 -- What a channel did, and then one piece more.
-use Rattle.std.proofs.Common.{◌≡◌, ◌∙◌, ℕ, zero, suc, min, length, take, List, [], ◌∷◌, ◌++◌, drop, map, Option, Some, None, refl, sym, ap, subst, append_assoc}
+use Rattle.std.proofs.Common.{◌≡◌, ◌∙◌, ℕ, min, Bool, true, false, leb, length, take, List, [], ◌∷◌, ◌++◌, drop, map, Option, Some, None, refl, sym, ap, subst, append_assoc, arith}
+use Rattle.std.proofs.lemmas.List.{take_all}
+use Rattle.std.proofs.lemmas.Bool.{leb-true, leb-false}
+use Rattle.std.proofs.Math.Seq.{take-length}
 use Rattle.std.specs.Prelude.{slice_get, IsSome}
 use Rattle.tn_types.specs.declared.choices.Class.{Class}
 use Rattle.tn_types.specs.declared.choices.Class.TheVariants.{Guaranteed}
@@ -137,7 +140,12 @@ refused_some piece (Client c) refusal h = λ log s. subst IsSome (h log s) refl
 
 -- as many as there are, at most
 pub take_within : (xs : List ℕ) (n : ℕ) → take (min n (length xs)) xs ≡ take n xs
-take_within [] zero = refl
-take_within [] (suc n) = refl
-take_within (x ∷ xs) zero = refl
-take_within (x ∷ xs) (suc n) = ap (λ l. x ∷ l) (take_within xs n)
+take_within xs n = go (leb (length xs) n) refl
+  where
+    go : (b : Bool) → leb (length xs) n ≡ b → take (min n (length xs)) xs ≡ take n xs
+    go true e =
+        let le = leb-true (length xs) n e in
+        ap (λ k. take k xs) (let same : min n (length xs) ≡ length xs = omega arith in same) ∙ take-length xs ∙ sym (take_all n xs le)
+    go false e =
+        let lt = leb-false (length xs) n e in
+        ap (λ k. take k xs) (let same : min n (length xs) ≡ n = omega arith in same)
