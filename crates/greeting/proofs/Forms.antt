@@ -56,7 +56,7 @@ pub length-bytes_of : (n : Sixteen) → length (bytes_of n) ≡ 16
 unfolding bytes_of
 length-bytes_of n = refl
 
-length-begun : (kind : ℕ) (nonce : Sixteen) → length (begun kind nonce) ≡ 18
+pub length-begun : (kind : ℕ) (nonce : Sixteen) → length (begun kind nonce) ≡ 18
 length-begun kind nonce = let n = length-bytes_of nonce in omega (arith, length-append (kind ∷ GREETING_VERSION ∷ []) (bytes_of nonce), n)
 
 pub length-challenge : (nonce number : Sixteen) → length (challenge nonce number) ≡ 34

@@ -1,3 +1,4 @@
 pub mod Forms
 pub mod Passings
 pub mod Standing
+pub mod Reading

@@ -48,7 +48,7 @@ same_address a b e =
 same_itself : (a : Address) → is_same a a ≡ true
 same_itself a = grind arith
 
-equal_itself : (n : Sixteen) → is_equal n n ≡ true
+pub equal_itself : (n : Sixteen) → is_equal n n ≡ true
 equal_itself n = grind arith
 
 pub is_itself : (a : Address) (n : Sixteen) → is_guest a n (record { address = a; nonce = n }) ≡ true

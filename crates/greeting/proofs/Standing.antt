@@ -38,8 +38,8 @@ right_after : (first : List ℕ) (d : DoorState) (a : Address) (bytes : List ℕ
 right_after first d a bytes log stands right =
     let is : is_answer (form bytes) ≡ true = ap (λ (f : Form). is_answer f) right.0 in
     let number : is_right_number (secret_by first log) (before_by first log) a (nonce_in bytes) (number_in bytes) ≡ true =
-        ap (λ (s : List ℕ). is_right_number s (before_by first log) a (nonce_in bytes) (number_in bytes)) (sym stands.secret)
-        ∙ ap (λ (s : List ℕ). is_right_number d.secret s a (nonce_in bytes) (number_in bytes)) (sym stands.before) ∙ right.1 in
+    ap (λ (s : List ℕ). is_right_number s (before_by first log) a (nonce_in bytes) (number_in bytes)) (sym stands.secret)
+    ∙ ap (λ (s : List ℕ). is_right_number d.secret s a (nonce_in bytes) (number_in bytes)) (sym stands.before) ∙ right.1 in
     both (is_answer (form bytes)) _ is number
 
 -- a reply to who gave no right answer is no longer than what came
@@ -85,9 +85,10 @@ asks_so : (first : List ℕ) (d : DoorState) (a : Address) (bytes reply : List �
 asks_so first d a bytes reply Asks log h stands =
     let nonce = nonce_in bytes in
     let g : Guest = record { address = a; nonce = nonce } in
-    let right = right_after first d a bytes log stands h.0 in
-    (true_left _ (has_asked first g log) (both (is_guest a nonce g) (is_right_after first log a bytes) (is_itself a nonce) right),
-     λ (i : ℕ) (is : guest_by log i ≡ Some g). no_seat d.seats (is_held_by a nonce) i g h.1.0 (stands.seats i ∙ is) (is_itself a nonce))
+    let right = right_after first d a bytes log stands h.0 in (
+      true_left _ (has_asked first g log) (both (is_guest a nonce g) (is_right_after first log a bytes) (is_itself a nonce) right),
+      λ (i : ℕ) (is : guest_by log i ≡ Some g). no_seat d.seats (is_held_by a nonce) i g h.1.0 (stands.seats i ∙ is) (is_itself a nonce),
+    )
 asks_so first d a bytes reply Dropped log h stands = tt
 asks_so first d a bytes reply Challenged log h stands = tt
 asks_so first d a bytes reply (Refused reason) log h stands = tt
@@ -157,8 +158,8 @@ pub accepted : (d new : DoorState) (g : Guest) (client : ℕ) (reply : List ℕ)
 accepted d new g client reply is lt free new_is =
     subst (λ (o : Option Guest). IfSome o (λ (h : Guest). Does d (Given h client reply) new)) (sym is)
     (λ first log stands.
-        subst (λ (n : DoorState). StandsFor first n (Given g client reply ∷ log)) (sym new_is)
-        (given_stands first d g client reply log is lt free stands))
+    subst (λ (n : DoorState). StandsFor first n (Given g client reply ∷ log)) (sym new_is)
+    (given_stands first d g client reply log is lt free stands))
 
 turned_stands : (first : List ℕ) (d : DoorState) (g : Guest) (reply : List ℕ) (log : List Passing) → d.asking ≡ Some g → StandsFor first d log
     → StandsFor first (record d { asking = None }) (Turned g reply ∷ log)
@@ -177,5 +178,5 @@ pub refused : (d new : DoorState) (g : Guest) (reply : List ℕ) → d.asking �
 refused d new g reply is new_is =
     subst (λ (o : Option Guest). IfSome o (λ (h : Guest). Does d (Turned h reply) new)) (sym is)
     (λ first log stands.
-        subst (λ (n : DoorState). StandsFor first n (Turned g reply ∷ log)) (sym new_is)
-        (turned_stands first d g reply log is stands))
+    subst (λ (n : DoorState). StandsFor first n (Turned g reply ∷ log)) (sym new_is)
+    (turned_stands first d g reply log is stands))

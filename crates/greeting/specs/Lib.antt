@@ -3,3 +3,5 @@ pub mod Datagrams
 pub mod Door
 pub mod Passing
 pub mod Knock
+pub mod Laws
+pub mod Numbers

@@ -8,9 +8,13 @@ use std::marker::Model;
 
 /// The first byte of each. Its two lowest bits are set, which they are in no packet of a connection.
 pub const HELLO: u8 = 3;
+
 pub const CHALLENGE: u8 = 7;
+
 pub const ANSWER: u8 = 11;
+
 pub const WELCOME: u8 = 15;
+
 pub const REFUSAL: u8 = 19;
 
 /// The second byte of each.
@@ -27,9 +31,13 @@ pub const MAX_TOKEN_BYTES: usize = 256;
 
 /// So many bytes have they; an answer without its token.
 pub const HELLO_BYTES: usize = 50;
+
 pub const CHALLENGE_BYTES: usize = 34;
+
 pub const ANSWER_BYTES: usize = 34;
+
 pub const WELCOME_BYTES: usize = 54;
+
 pub const REFUSAL_BYTES: usize = 19;
 
 /// No datagram of a greeting is longer.

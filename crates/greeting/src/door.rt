@@ -2,7 +2,9 @@
 ghost use Rattle.std.specs.Prelude.{◌≡◌, ◌≤◌, ◌<◌, ℕ, List, length, [], Some, None, replicate, slice_set, slice_index_or, position, is_some, IfOk, IfSome, IsNone, OnOk, OnErr};
 ghost use Rattle.greeting.specs.Door.{is_right_number, is_guest, is_held_by, is_free};
 
-use crate::datagrams::{Form, GreetingBytes, PROTOCOL_BYTES, Reason, TERMS_BYTES, form_of, nonce_in, number_in};
+use crate::datagrams::{
+    Form, GreetingBytes, PROTOCOL_BYTES, Reason, TERMS_BYTES, form_of, nonce_in, number_in,
+};
 use crate::words::{Address, SECRET_BYTES, Sixteen, number_of};
 use std::alloc::Global;
 use std::marker::Model;
@@ -67,8 +69,14 @@ impl Model for Door {
 
     ghost Value = { DoorState };
 
-    ghost view = { λ d. record { secret = d.secret; before = d.before; protocol = d.protocol; terms = d.terms; seats = d.seats.items;
-        asking = d.asking } };
+    ghost view = { λ d. record {
+      secret = d.secret;
+      before = d.before;
+      protocol = d.protocol;
+      terms = d.terms;
+      seats = d.seats.items;
+      asking = d.asking;
+    } };
 
     ghost invariant = { λ d. length d.seats.items < 2 ^ 32 };
 }
@@ -89,8 +97,14 @@ impl Door {
         terms: [u8; TERMS_BYTES],
         count: u32,
     ) -> Result<Door, NoMemory>
-        ensures state { IfOk result (λ d. d ≡ record { secret = secret; before = secret; protocol = protocol; terms = terms;
-            seats = replicate count None; asking = None }) }
+        ensures state { IfOk result (λ d. d ≡ record {
+          secret = secret;
+          before = secret;
+          protocol = protocol;
+          terms = terms;
+          seats = replicate count None;
+          asking = None;
+        }) }
         ensures log { IfOk result (λ d. StandsFor secret d []) }
     {
         let mut seats = Vec::new(alloc);

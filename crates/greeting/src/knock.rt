@@ -7,7 +7,9 @@ ghost use Rattle.greeting.specs.Words.{is_equal};
 ghost use Rattle.greeting.specs.Datagrams.{nonce_in, client_in, terms_in};
 ghost use Rattle.greeting.specs.Knock.{said_by, moved, heard_by};
 
-use crate::datagrams::{Form, GreetingBytes, PROTOCOL_BYTES, Reason, TERMS_BYTES, form_of, nonce_in, number_in};
+use crate::datagrams::{
+    Form, GreetingBytes, PROTOCOL_BYTES, Reason, TERMS_BYTES, form_of, nonce_in, number_in,
+};
 use crate::words::Sixteen;
 
 /// How far a greeting is.
@@ -16,11 +18,18 @@ pub enum Reached {
     /// The client says hello.
     Asking,
     /// A challenge came: the client says its answer.
-    Answering { number: Sixteen },
+    Answering {
+        number: Sixteen,
+    },
     /// The server let it in, as this client.
-    Joined { client: u32, terms: [u8; TERMS_BYTES] },
+    Joined {
+        client: u32,
+        terms: [u8; TERMS_BYTES],
+    },
     /// The server did not.
-    Refused { reason: Reason },
+    Refused {
+        reason: Reason,
+    },
 }
 
 /// A client that greets a server. It sends what `write` gives, and does so again from time to time until it is let in or not.
@@ -125,7 +134,9 @@ impl Knock {
             return self.reached;
         }
         match (self.reached, Reason::of(bytes[18])) {
-            (Reached::Asking | Reached::Answering { number: _ }, Some(reason)) => Reached::Refused { reason },
+            (Reached::Asking | Reached::Answering { number: _ }, Some(reason)) => Reached::Refused {
+                reason,
+            },
             (reached, _) => reached,
         }
     }

@@ -4,9 +4,11 @@
 mod datagrams;
 mod door;
 mod knock;
+mod laws;
 mod words;
 
 pub use datagrams::{GreetingBytes, Reason};
 pub use door::{AcceptFault, Door, Guest, Heard};
 pub use knock::{Knock, Reached};
+pub use laws::{answer_is_right, challenge_is_taken, hello_is_challenged};
 pub use words::{Address, SECRET_BYTES, Sixteen};

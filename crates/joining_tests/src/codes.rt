@@ -18,7 +18,8 @@ const LONG: [u8; 32] = [
     0xbf, 0xdc, 0x63, 0x64, 0x4f, 0x07, 0x13, 0x93, 0x8a, 0x7f, 0x51, 0x53, 0x5c, 0x3a, 0x35, 0xe2,
 ];
 
-const LONG_TEXT: &[u8] = b"This is a test using a larger than block-size key and a larger than block-size data. The key needs to be hashed before being used by the HMAC algorithm.";
+const LONG_TEXT: &[u8] =
+    b"This is a test using a larger than block-size key and a larger than block-size data. The key needs to be hashed before being used by the HMAC algorithm.";
 
 // Of the server's number 258 with the bytes 7 and 9, under a key of ones.
 const TAG: [u8; 16] = [

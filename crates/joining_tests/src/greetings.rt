@@ -64,9 +64,21 @@ fn full_door_and_other_games_are_told(rt: HostRuntime) -> Result<(), Fail> {
     let mut reply = GreetingBytes::new();
     other.write(b"", &mut said);
     let refused = door.hear(HERE, said.as_slice(), &mut reply);
-    assert!(rt; refused == Heard::Refused { reason: Reason::OtherProtocol });
+    assert!(rt;
+        refused
+            == Heard::Refused {
+                reason: Reason::OtherProtocol
+            }
+    );
     other.hear(reply.as_slice());
-    assert!(rt; matches!(other.reached(), Reached::Refused { reason: Reason::OtherProtocol }));
+    assert!(rt;
+        matches!(
+            other.reached(),
+            Reached::Refused {
+                reason: Reason::OtherProtocol
+            }
+        )
+    );
     knock.write(b"", &mut said);
     let challenged = door.hear(HERE, said.as_slice(), &mut reply);
     assert!(rt; challenged == Heard::Challenged);
@@ -75,7 +87,11 @@ fn full_door_and_other_games_are_told(rt: HostRuntime) -> Result<(), Fail> {
     door.renew([6; 32]);
     knock.write(b"", &mut said);
     let full = door.hear(HERE, said.as_slice(), &mut reply);
-    assert!(rt; full == Heard::Refused { reason: Reason::Full });
+    assert!(rt;
+        full == Heard::Refused {
+            reason: Reason::Full
+        }
+    );
     door.renew([7; 32]);
     assert!(rt; door.hear(HERE, said.as_slice(), &mut reply) == Heard::Dropped);
     Ok(())

@@ -3,4 +3,6 @@
 
 mod other_end;
 
-pub use other_end::{GOODBYE, GOODBYE_BYTES, GOODBYE_VERSION, GOODBYES, Presence, goodbye, goodbye_in};
+pub use other_end::{
+    GOODBYE, GOODBYE_BYTES, GOODBYE_VERSION, GOODBYES, Presence, goodbye, goodbye_in,
+};

@@ -38,11 +38,7 @@ pub fn goodbye_in(bytes: &[u8]) -> Option<u16>
 fn later(a: u64, b: u64) -> u64
     ensures { result ≡ later a b }
 {
-    if a < b {
-        b
-    } else {
-        a
-    }
+    if a < b { b } else { a }
 }
 
 /// Whether the other end of a link is there. Times are in milliseconds, from any beginning that both of a caller's times have.

@@ -6,11 +6,6 @@ use Rattle.std.proofs.lemmas.List.{take_more, flat_map_more, append_assoc, appen
 use Rattle.quantised_fields.specs.declared.kind.Kind.{Kind}
 use Rattle.protocol_number.specs.Protocol.{kind_bytes, bytes_if, bytes_at}
 
-pub one_more : {X : Type 0} (f : X → List ℕ) (m : List ℕ) (xs : List X) (i : ℕ) (d : X) → i < length xs
-    → (m ++ flat_map f (take i xs)) ++ f (get_or xs i d) ≡ m ++ flat_map f (take (i + 1) xs)
-one_more {X} f m xs i d lt =
-    flat_map_more f m (take i xs) (get_or xs i d) ∙ ap (λ (l : List X). m ++ flat_map f l) (sym (take_more xs i d lt))
-
 next_at : (kinds : List Kind) (k : ℕ) → flat_map kind_bytes (take k kinds) ++ bytes_at kinds k ≡ flat_map kind_bytes (take (suc k) kinds)
 next_at [] zero = refl
 next_at [] (suc k) = refl
@@ -24,6 +19,3 @@ next_kind m kinds k =
     let e : suc k ≡ k + 1 = omega arith in
     append_assoc m (flat_map kind_bytes (take k kinds)) (bytes_at kinds k) ∙ ap (λ (l : List ℕ). m ++ l) (next_at kinds k)
     ∙ ap (λ (n : ℕ). m ++ flat_map kind_bytes (take n kinds)) e
-
-pub all_of : {X : Type 0} (f : X → List ℕ) (m : List ℕ) (xs : List X) (n : ℕ) → length xs ≤ n → m ++ flat_map f (take n xs) ≡ m ++ flat_map f xs
-all_of {X} f m xs n le = ap (λ (l : List X). m ++ flat_map f l) (take_all n xs le)

@@ -2,8 +2,7 @@
 -- bound of a field and a count of fields have eight, the least byte first.
 use Rattle.std.specs.Prelude.{◌≡◌, refl, ℕ, pos, Bool, true, false, List, [], ◌∷◌, ◌++◌, length, Option, Some, None, slice_get}
 use Rattle.std.specs.List.{flat_map}
-use Rattle.std.specs.Int.{w32, w64, to_le_bytes}
-use Rattle.std.specs.Int.RustNames.{cast_unsigned}
+use Rattle.std.specs.Int.{w32, w64, to_le_bytes, cast_unsigned}
 use Rattle.quantised_fields.specs.declared.field.FieldSpec.{FieldSpec}
 use Rattle.quantised_fields.specs.declared.kind.Kind.{Kind}
 use Rattle.protocol_number.specs.declared.protocol.TheConstants.{FORM_VERSION}

@@ -1,7 +1,7 @@
 -- Tags: how long one is, when two are one, and what a datagram that ends in its tag is.
-use Rattle.std.proofs.Common.{◌≡◌, ◌∙◌, ℕ, ◌+◌, ◌-◌, ◌<◌, ◌≤◌, List, [], ◌∷◌, ◌++◌, length, take, drop, get_or, sym, ap, subst, refl, arith}
-use Rattle.std.specs.Prelude.{◌↔◌, min, Result, Ok, Err}
-use Rattle.std.proofs.lemmas.List.{take_more, same_from_push, take-append-drop, take_at, drop_at, length-append, length-take, length-take-le, length-drop}
+use Rattle.std.proofs.Common.{◌≡◌, ◌∙◌, ℕ, ◌+◌, ◌-◌, ◌<◌, ◌≤◌, List, [], ◌∷◌, ◌++◌, length, take, drop, get_or, sym, ap, refl, arith}
+use Rattle.std.specs.Prelude.{◌↔◌, Result, Ok, Err}
+use Rattle.std.proofs.lemmas.List.{take_more, same_from_push, take-append-drop, take_at, drop_at, length-append, length-take-le}
 use Rattle.keyed_digest.specs.Keyed.{hmac}
 use Rattle.keyed_digest.proofs.Lengths.{length-hmac}
 use Rattle.seal.specs.declared.sides.Side.{Side}
@@ -41,10 +41,11 @@ pub found : (s : SealState) (side : Side) (number : ℕ) (bytes d : List ℕ) (c
     → count + tag_bytes s.tag ≡ length d → (take count d ≡ bytes) × (drop count d ≡ tag_of s side number bytes) × (count ≡ length bytes)
 found s side number bytes d count is whole =
     let long = ap (λ (l : List ℕ). length l) is ∙ length-sealed s side number bytes in
-    let same : length bytes ≡ count = omega (arith, long, whole) in
-    (ap (λ (l : List ℕ). take count l) is ∙ take_at bytes (tag_of s side number bytes) count same,
-     ap (λ (l : List ℕ). drop count l) is ∙ drop_at bytes (tag_of s side number bytes) count same,
-     sym same)
+    let same : length bytes ≡ count = omega (arith, long, whole) in (
+      ap (λ (l : List ℕ). take count l) is ∙ take_at bytes (tag_of s side number bytes) count same,
+      ap (λ (l : List ℕ). drop count l) is ∙ drop_at bytes (tag_of s side number bytes) count same,
+      sym same,
+    )
 
 pub unopened : (s : SealState) (number count : ℕ) (d : List ℕ) → count + tag_bytes s.tag ≡ length d
     → (drop count d ≡ tag_of s (other s.side) number (take count d) → ⊥) → (bytes : List ℕ) → d ≡ sealed s (other s.side) number bytes → ⊥
@@ -59,12 +60,12 @@ pub wrong : (s : SealState) (number tag : ℕ) (side : Side) (d front back diges
 wrong s number tag side d front back digest tag_is side_is enough front_is back_is digest_is differ =
     let count = length d - tag_bytes s.tag in
     let not : drop count d ≡ tag_of s (other s.side) number (take count d) → ⊥ = λ e.
-        let mid : length d - tag ≡ count = ap (λ (t : ℕ). length d - t) tag_is in
-        let at_back : back ≡ drop count d = back_is ∙ ap (λ (m : ℕ). drop m d) mid in
-        let at_front : take count d ≡ front = sym (front_is ∙ ap (λ (m : ℕ). take m d) mid) in
-        let tags : tag_of s (other s.side) number (take count d) ≡ tag_of s side number front =
-            ap (λ (w : Side). tag_of s w number (take count d)) (sym side_is) ∙ ap (λ (l : List ℕ). tag_of s side number l) at_front in
-        differ (at_back ∙ e ∙ tags ∙ sym digest_is ∙ ap (λ (t : ℕ). take t digest) (sym tag_is)) in
+    let mid : length d - tag ≡ count = ap (λ (t : ℕ). length d - t) tag_is in
+    let at_back : back ≡ drop count d = back_is ∙ ap (λ (m : ℕ). drop m d) mid in
+    let at_front : take count d ≡ front = sym (front_is ∙ ap (λ (m : ℕ). take m d) mid) in
+    let tags : tag_of s (other s.side) number (take count d) ≡ tag_of s side number front =
+    ap (λ (w : Side). tag_of s w number (take count d)) (sym side_is) ∙ ap (λ (l : List ℕ). tag_of s side number l) at_front in
+    differ (at_back ∙ e ∙ tags ∙ sym digest_is ∙ ap (λ (t : ℕ). take t digest) (sym tag_is)) in
     (omega (arith, tag_is, enough), unopened s number count d (omega (arith, tag_is, enough)) not)
 
 -- ---- what was sealed is opened
@@ -105,13 +106,14 @@ one_more xs ys i apart more in_xs in_ys before is =
     let x = get_or xs i 0 in
     let y = get_or ys i 0 in
     let at_x = take_more xs i 0 in_xs in
-    let at_y = take_more ys i 0 in_ys in
-    (λ (none : more ≡ 0).
-        let front = before.0 (omega (arith, is, none)) in
-        let last : x ≡ y = omega (arith, is, none) in
-        at_x ∙ ap (λ (l : List ℕ). l ++ x ∷ []) front ∙ ap (λ (v : ℕ). take i ys ++ v ∷ []) last ∙ sym at_y,
-     λ (same : take (i + 1) xs ≡ take (i + 1) ys).
-        let both = same_from_push (take i xs) (take i ys) x y (sym at_x ∙ same ∙ at_y) in
-        let none = before.1 both.0 in
-        let last = both.1 in
-        omega (arith, is, none, last))
+    let at_y = take_more ys i 0 in_ys in (
+      λ (none : more ≡ 0).
+          let front = before.0 (omega (arith, is, none)) in
+          let last : x ≡ y = omega (arith, is, none) in
+          at_x ∙ ap (λ (l : List ℕ). l ++ x ∷ []) front ∙ ap (λ (v : ℕ). take i ys ++ v ∷ []) last ∙ sym at_y,
+      λ (same : take (i + 1) xs ≡ take (i + 1) ys).
+          let both = same_from_push (take i xs) (take i ys) x y (sym at_x ∙ same ∙ at_y) in
+          let none = before.1 both.0 in
+          let last = both.1 in
+          omega (arith, is, none, last),
+    )

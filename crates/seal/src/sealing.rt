@@ -56,7 +56,11 @@ impl Seal {
         ensures { take (tag_bytes self.now.tag) result ≡ tag_of self.now side number bytes.now }
     {
         let [n0, n1, n2, n3, n4, n5, n6, n7] = number.to_le_bytes();
-        keyed_digest(&self.key, &[side.byte(), n0, n1, n2, n3, n4, n5, n6, n7], bytes)
+        keyed_digest(
+            &self.key,
+            &[side.byte(), n0, n1, n2, n3, n4, n5, n6, n7],
+            bytes,
+        )
     }
 
     /// Puts a tag behind the first `count` bytes of a place, over which number of the datagram both ends agree. So many bytes are then to

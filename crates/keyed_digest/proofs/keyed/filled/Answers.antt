@@ -1,4 +1,4 @@
-use Rattle.std.proofs.Common.{ap, ◌∙◌, ◌++◌, ◌-◌, List, ℕ, length, drop, replicate}
+use Rattle.std.proofs.Common.{ap, ◌∙◌, ◌++◌, List, ℕ, length, drop, replicate}
 use Rattle.std.proofs.lemmas.List.{drop-replicate}
 use Rattle.keyed_digest.proofs.keyed.filled.Goals as goal
 

@@ -14,7 +14,7 @@ returns-clause-log c =
     let asks : d.asking ≡ Some c.in-Some.guest = ap (λ (s : DoorState). s.asking) (sym c.self.view_is) ∙ c.in-Some.is in
     let lt : c.args.client < length seats = grind (arith, common_steps) in
     let free : slice_index_or seats c.args.client None ≡ None =
-        free_at seats c.args.client c.index.result.now lt c.index.ensures (sym c.is_some.ensures ∙ c.if-is_some.false) in
+    free_at seats c.args.client c.index.result.now lt c.index.ensures (sym c.is_some.ensures ∙ c.if-is_some.false) in
     accepted d c.take.new.self c.in-Some.guest c.args.client c.take.new.reply asks
     (subst (λ (l : List (Option Guest)). c.args.client < length l) same lt)
     (subst (λ (l : List (Option Guest)). slice_index_or l c.args.client None ≡ None) same free) c.take.ensures.given

@@ -10,8 +10,8 @@ returns-clause-answer c =
     let d = c.args.self.now in
     let bytes = c.args.bytes.now in
     let right : is_right_number d.secret d.before c.args.from (nonce_in bytes) (number_in bytes) ≡ true =
-        ap (λ (n : Sixteen). is_right_number d.secret d.before c.args.from n (number_in bytes)) (sym c.nonce_in-nonce.ensures)
-        ∙ ap (λ (m : Sixteen). is_right_number d.secret d.before c.args.from c.nonce_in-nonce.result m) (sym c.number_in.ensures)
-        ∙ sym c.is_right.ensures ∙ c.if-not-is_right.false in
+    ap (λ (n : Sixteen). is_right_number d.secret d.before c.args.from n (number_in bytes)) (sym c.nonce_in-nonce.ensures)
+    ∙ ap (λ (m : Sixteen). is_right_number d.secret d.before c.args.from c.nonce_in-nonce.result m) (sym c.number_in.ensures)
+    ∙ sym c.is_right.ensures ∙ c.if-not-is_right.false in
     admitted d c.args.from bytes c.admit.result (c.requires.answer, right)
     (subst (λ (n : Sixteen). Admits d c.args.from n c.admit.result) c.nonce_in-nonce.ensures c.admit.ensures.answer)

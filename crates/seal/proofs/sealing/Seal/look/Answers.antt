@@ -1,4 +1,4 @@
-use Rattle.std.proofs.Common.{◌≡◌, ◌∙◌, ◌≤◌, List, length, take, arith, ap}
+use Rattle.std.proofs.Common.{◌≡◌, ◌∙◌, arith, ap}
 use Rattle.seal.specs.Sealing.{SealState, other, tag_bytes}
 use Rattle.seal.proofs.Tags.{wrong}
 use Rattle.seal.proofs.sealing.Seal.look.Goals as goal
