@@ -23,8 +23,8 @@
  * Threads: any number of ends may be used in any number of threads; one end in one call at a time. An end stays on the thread
  * that made it, or is handed on under a lock or by a thread's start or join.
  *
- * Memory: from malloc and free, in tribes_server, tribes_client and tribes_open_channel alone, freed by tribes_free and
- * tribes_close_channel.
+ * Memory: from malloc and free, in tribes_server, tribes_client, tribes_channel_open and tribes_timeline_open alone, freed by tribes_free,
+ * tribes_channel_free and tribes_timeline_free.
  *
  * Versions: a header fits a library where tribes_version() answers TRIBES_VERSION. docs/library.md says what changes it. The version of
  * the datagrams is another thing: it stands in tribes_config, and both ends of a connection have the same. */
@@ -310,15 +310,15 @@ int32_t tribes_event(tribes_end *end, uint8_t *bytes, size_t room, size_t *count
 
 /* messages of any length, both ways, and short events in one order with them. A channel goes with one end, from its first event on:
  * what the end posts and pops as guaranteed events are its pieces, so call neither tribes_post nor tribes_event at that end.
- * tribes_open_channel makes one that holds so many pieces of 24 bytes which are still to be posted, for messages that come with at most
+ * tribes_channel_open makes one that holds so many pieces of 24 bytes which are still to be posted, for messages that come with at most
  * `longest` bytes, 23 to TRIBES_MAX_MESSAGE. tribes_post_message takes a message, or where `kind` is 0 a short event, whole or not at
  * all, and posts pieces while the end has places; with `guaranteed` 0 it has at most TRIBES_MAX_SHORT bytes, and is one unguaranteed event.
  * tribes_message hands out the oldest parcel that is whole, and posts what is still held: it answers 2: a guaranteed one, 1: another, 0:
  * none is; `kind` is then 0 for a short event and 1 for a message, and there has to be room for `longest`. Call it behind tribes_arrive
  * until it answers 0, and before tribes_plan, since it may drop a plan. A piece that no honest end sends ends the channel: it answers
  * PIECE_.. from then on, behind all that was whole before; the end goes on, and tribes_event pops what comes */
-int32_t tribes_open_channel(tribes_channel *channel, uint32_t places, uint32_t longest, tribes_reason *reason);
-int32_t tribes_close_channel(tribes_channel *channel);
+int32_t tribes_channel_open(tribes_channel *channel, uint32_t places, uint32_t longest, tribes_reason *reason);
+int32_t tribes_channel_free(tribes_channel *channel);
 int32_t tribes_post_message(tribes_end *end, tribes_channel *channel, uint32_t kind, const uint8_t *bytes, size_t count,
                             uint32_t guaranteed);
 int32_t tribes_message(tribes_end *end, tribes_channel *channel, uint8_t *bytes, size_t room, uint32_t *kind, size_t *count);

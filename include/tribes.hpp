@@ -132,7 +132,7 @@ public:
     static result<channel> make(std::uint32_t places, std::uint32_t longest) {
         channel made;
         tribes_reason why{};
-        if (tribes_open_channel(&made.handle_, places, longest, &why) < 0) return refusal{why.code, why.first, why.second};
+        if (tribes_channel_open(&made.handle_, places, longest, &why) < 0) return refusal{why.code, why.first, why.second};
         return result<channel>(std::move(made));
     }
     channel(const channel &) = delete;
@@ -142,7 +142,7 @@ public:
         std::swap(handle_, other.handle_);
         return *this;
     }
-    ~channel() { tribes_close_channel(&handle_); }
+    ~channel() { tribes_channel_free(&handle_); }
 
     /* Pieces that wait to be posted, and how many more may. */
     tribes_places places() {

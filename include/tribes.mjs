@@ -441,7 +441,7 @@ class Tribes {
         const at = this.take(16);
         this.look();
         this.words.fill(0, at >> 2, (at >> 2) + 4);
-        const code = this.calls.tribes_open_channel(at, 0, places, longest, this.to.why, 0);
+        const code = this.calls.tribes_channel_open(at, 0, places, longest, this.to.why, 0);
         this.look();
         if (code >= 0) return at;
         this.calls.tribes_give(at);
@@ -450,7 +450,7 @@ class Tribes {
 
     /** Frees a channel, and its handle. */
     close(at) {
-        this.calls.tribes_close_channel(at, 0);
+        this.calls.tribes_channel_free(at, 0);
         this.calls.tribes_give(at);
     }
 

@@ -418,8 +418,8 @@ unsafe extern "C" {
     fn tribes_arrive(end: *mut Handle, bytes: *const u8, count: usize, room: u32, moves: *mut u32) -> i32;
     fn tribes_post(end: *mut Handle, bytes: *const u8, count: usize, guaranteed: u32, number: *mut u32) -> i32;
     fn tribes_event(end: *mut Handle, bytes: *mut u8, room: usize, count: *mut usize) -> i32;
-    fn tribes_open_channel(channel: *mut ChannelHandle, places: u32, longest: u32, error: *mut Error) -> i32;
-    fn tribes_close_channel(channel: *mut ChannelHandle) -> i32;
+    fn tribes_channel_open(channel: *mut ChannelHandle, places: u32, longest: u32, error: *mut Error) -> i32;
+    fn tribes_channel_free(channel: *mut ChannelHandle) -> i32;
     fn tribes_post_message(
         end: *mut Handle, channel: *mut ChannelHandle, kind: u32, bytes: *const u8, count: usize, guaranteed: u32,
     ) -> i32;
@@ -506,7 +506,7 @@ impl Channel {
     pub fn new(places: u32, longest: u32) -> Result<Channel, Error> {
         let mut channel = Channel(ChannelHandle { state: 0, at: core::ptr::null_mut() });
         let mut error = Error::default();
-        let code = unsafe { tribes_open_channel(&mut channel.0, places, longest, &mut error) };
+        let code = unsafe { tribes_channel_open(&mut channel.0, places, longest, &mut error) };
         if code < 0 { Err(error) } else { Ok(channel) }
     }
 
@@ -528,7 +528,7 @@ impl Channel {
 
 impl Drop for Channel {
     fn drop(&mut self) {
-        let _ = unsafe { tribes_close_channel(&mut self.0) };
+        let _ = unsafe { tribes_channel_free(&mut self.0) };
     }
 }
 

@@ -34,12 +34,12 @@ static void made(void) {
     tribes_config config = {0, 16777215, TRIBES_MAX_DATAGRAM, 3, 1};
     wants(!tribes_server(&server, &config, &kind, 1, &field, 1, &none, 0, &no_length, 0, &why), "server");
     wants(!tribes_client(&client, &config, &kind, 1, &field, 1, &why), "client");
-    wants(!tribes_open_channel(&out, 2850, TRIBES_MAX_MESSAGE, &why), "open");
-    wants(!tribes_open_channel(&in, 2850, TRIBES_MAX_MESSAGE, &why), "open");
+    wants(!tribes_channel_open(&out, 2850, TRIBES_MAX_MESSAGE, &why), "open");
+    wants(!tribes_channel_open(&in, 2850, TRIBES_MAX_MESSAGE, &why), "open");
 }
 static void freed(void) {
-    tribes_close_channel(&out);
-    tribes_close_channel(&in);
+    tribes_channel_free(&out);
+    tribes_channel_free(&in);
     tribes_free(&server);
     tribes_free(&client);
 }

@@ -85,12 +85,12 @@ static void opened(tribes_end *end, tribes_channel *channel) {
     answers("no channel", tribes_post_message(end, channel, 1, place, 0, 1), TRIBES_NO_CHANNEL);
     answers("no channel", tribes_channel_why(channel, &why), TRIBES_NO_CHANNEL);
     answers("no channel", tribes_channel_counts(channel, &all), TRIBES_NO_CHANNEL);
-    answers("no channel", tribes_close_channel(channel), TRIBES_NO_CHANNEL);
-    answers("too short", tribes_open_channel(channel, places, TRIBES_MAX_SHORT - 1, &why), TRIBES_BAD_LONGEST);
-    answers("too long", tribes_open_channel(channel, places, TRIBES_MAX_MESSAGE + 1, &why), TRIBES_BAD_LONGEST);
+    answers("no channel", tribes_channel_free(channel), TRIBES_NO_CHANNEL);
+    answers("too short", tribes_channel_open(channel, places, TRIBES_MAX_SHORT - 1, &why), TRIBES_BAD_LONGEST);
+    answers("too long", tribes_channel_open(channel, places, TRIBES_MAX_MESSAGE + 1, &why), TRIBES_BAD_LONGEST);
     is("names it", why.first, TRIBES_MAX_MESSAGE + 1);
-    answers("open", tribes_open_channel(channel, places, longest, &why), 0);
-    answers("again", tribes_open_channel(channel, places, longest, &why), TRIBES_HAS_CHANNEL);
+    answers("open", tribes_channel_open(channel, places, longest, &why), 0);
+    answers("again", tribes_channel_open(channel, places, longest, &why), TRIBES_HAS_CHANNEL);
     refused("a place too small", channel, tribes_message(end, channel, place, longest - 1, &kind, &count), TRIBES_NO_ROOM, longest, 0);
 }
 
@@ -207,7 +207,7 @@ static uint32_t left_of(list *posted) {
 
 static void freed(side *it) {
     for (uint32_t k = 0; k < it->posted.count; k++) free(it->posted.all[k].bytes);
-    answers("close", tribes_close_channel(&it->channel), 0);
+    answers("close", tribes_channel_free(&it->channel), 0);
     answers("free", tribes_free(&it->end), 0);
 }
 
@@ -327,7 +327,7 @@ static void dishonest(uint32_t run) {
     longest = draw(2) ? 200 + draw(400) : 23 + draw(100);
     whole = 0;
     made(&server, &client, 1 + run % 3);
-    answers("open", tribes_open_channel(&server.channel, places, longest, &why), 0);
+    answers("open", tribes_channel_open(&server.channel, places, longest, &why), 0);
     while (!ends) {
         piece p;
         drawn_piece(&p);
@@ -369,7 +369,7 @@ static void dishonest(uint32_t run) {
         }
     }
     longest = TRIBES_MAX_MESSAGE;
-    answers("close", tribes_close_channel(&server.channel), 0);
+    answers("close", tribes_channel_free(&server.channel), 0);
     answers("free", tribes_free(&server.end), 0);
     answers("free", tribes_free(&client.end), 0);
 }

@@ -20,8 +20,8 @@ int main(void) {
     line[120] = 0;
     if (tribes_server(&server, &config, &kind, 1, &field, 1, bytes, 0, &none, 0, &why)) return 1;
     if (tribes_client(&client, &config, &kind, 1, &field, 1, &why)) return 1;
-    tribes_open_channel(&to_server, 64, 1000, &why);
-    tribes_open_channel(&from_client, 64, 1000, &why);
+    tribes_channel_open(&to_server, 64, 1000, &why);
+    tribes_channel_open(&from_client, 64, 1000, &why);
     tribes_post_message(&client, &to_server, 0, (const uint8_t *)"Ada", 3, 1);
     int32_t code = tribes_post_message(&client, &to_server, 1, (const uint8_t *)line, 120, 1);
     if (code < 0) printf("%s\n", tribes_text(code));
@@ -34,8 +34,8 @@ int main(void) {
         tribes_pack(&server, &value, 0, bytes, sizeof bytes, &count);
         tribes_arrive(&client, bytes, count, 0, &moves);
     }
-    tribes_close_channel(&to_server);
-    tribes_close_channel(&from_client);
+    tribes_channel_free(&to_server);
+    tribes_channel_free(&from_client);
     tribes_free(&server);
     tribes_free(&client);
     return 0;

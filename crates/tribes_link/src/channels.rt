@@ -74,7 +74,7 @@ fn begin(
 
 /// Makes a channel with so many places for pieces of 24 bytes, for messages that come with at most `longest` bytes.
 #[unsafe(no_mangle)]
-pub extern "C" fn tribes_open_channel(
+pub extern "C" fn tribes_channel_open(
     alloc: Global,
     channel: &mut ChannelHandle,
     places: u32,
@@ -96,7 +96,7 @@ pub extern "C" fn tribes_open_channel(
 
 /// Frees a channel.
 #[unsafe(no_mangle)]
-pub extern "C" fn tribes_close_channel(alloc: Global, channel: &mut ChannelHandle) -> i32
+pub extern "C" fn tribes_channel_free(alloc: Global, channel: &mut ChannelHandle) -> i32
     ensures freed { (result ≡ pos 0) ↔ (channel.old.state ≡ OPEN_CHANNEL) }
     ensures closed { (channel.old.state ≡ OPEN_CHANNEL → ⊥) → result ≡ NO_CHANNEL }
     ensures empty { channel.new.state ≡ OPEN_CHANNEL → ⊥ }

@@ -24,8 +24,8 @@ mod timeline_handle;
 
 pub use channel_handle::{ChannelHandle, OPEN_CHANNEL};
 pub use channels::{
-    tribes_channel_counts, tribes_channel_why, tribes_close_channel, tribes_message,
-    tribes_open_channel, tribes_post_message,
+    tribes_channel_counts, tribes_channel_free, tribes_channel_open, tribes_channel_why,
+    tribes_message, tribes_post_message,
 };
 pub use clocks::{tribes_clock_came, tribes_clock_moment, tribes_clock_start};
 pub use datagrams::{tribes_arrive, tribes_pack, tribes_plan};
