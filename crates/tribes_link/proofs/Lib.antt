@@ -3,3 +3,4 @@ pub mod HeldValues
 pub mod Below
 pub mod MadeEnds
 pub mod HeldChannelValues
+pub mod Both
