@@ -4,3 +4,4 @@ pub mod Below
 pub mod MadeEnds
 pub mod HeldTimelineValues
 pub mod HeldChannelValues
+pub mod Both
