@@ -312,7 +312,11 @@ static void drawn_piece(piece *p) {
     } else {
         p->bytes[0] = (uint8_t)draw(3);
         if (p->bytes[0] < 2) p->count = 1 + draw(24);
-        p->bytes[2] = p->bytes[0] == 2 ? (uint8_t)draw(2) : p->bytes[2];
+        if (p->bytes[0] == 2) {
+            uint32_t length = draw(20) ? 24 + draw(longest > 24 ? longest - 23 : 1) : draw(600);
+            p->bytes[1] = (uint8_t)(length % 256);
+            p->bytes[2] = (uint8_t)(length / 256);
+        }
     }
 }
 

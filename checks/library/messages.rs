@@ -358,7 +358,10 @@ impl Model {
                 count = 1 + dice.draw(24) as usize;
             }
             if piece[0] == 2 {
-                piece[2] = dice.draw(2) as u8;
+                let most = if self.longest > 24 { self.longest as u32 - 23 } else { 1 };
+                let length = if dice.draw(20) > 0 { 24 + dice.draw(most) } else { dice.draw(600) };
+                piece[1] = (length % 256) as u8;
+                piece[2] = (length / 256) as u8;
             }
         }
         piece.truncate(count);
