@@ -2,6 +2,8 @@
 #include "drawn.h"
 
 enum { STEPPED, LINEAR, DELAY = 2, AHEAD = 2 }; /* packets */
+/* The clock can be a second behind: the values of 20 packets and of its delay are kept, and some more. */
+enum { DEPTH = 32 };
 
 /* places go along lines, and all else stays until its next value's moment */
 static const tribes_way ways[KINDS][MOST_FIELDS] = {
@@ -10,7 +12,7 @@ static const tribes_way ways[KINDS][MOST_FIELDS] = {
 };
 
 int32_t drawn_open(drawn *d, int64_t now) {
-    static const tribes_shape shape = {TRIBES_MAX_SLOTS, MOST_FIELDS, 0};
+    static const tribes_shape shape = {TRIBES_MAX_SLOTS, MOST_FIELDS, DEPTH};
     static const tribes_pace pace = {TURN, DELAY, AHEAD};
     int32_t code = tribes_timeline_open(&d->timeline, &shape, ways[0], KINDS * MOST_FIELDS);
     return code < 0 ? code : tribes_clock_start(&d->clock, &pace, (uint64_t)now);
