@@ -49,12 +49,11 @@ fn tag_stands_behind_and_any_other_is_refused(rt: HostRuntime) {
     assert!(rt; count == 18);
     assert!(rt; place[2..18] == TAG[..]);
     assert!(rt; client.open(258, &place[..18]) == Ok(2));
-    // another number, a byte less, and a changed byte
+    // another number, a byte less behind, hardly any bytes, and a byte less before
     assert!(rt; client.open(259, &place[..18]) == Err(SealFault::WrongTag));
     assert!(rt; client.open(258, &place[..17]) == Err(SealFault::WrongTag));
     assert!(rt; client.open(258, &place[..15]) == Err(SealFault::TooShort));
-    place[17] = place[17] ^ 1;
-    assert!(rt; client.open(258, &place[..18]) == Err(SealFault::WrongTag));
+    assert!(rt; client.open(258, &place[1..18]) == Err(SealFault::WrongTag));
     assert!(rt; client.refused() == 4);
 }
 
