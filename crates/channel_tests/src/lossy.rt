@@ -59,15 +59,16 @@ struct Seat {
     taken: u32,
 }
 
-fn seat(alloc: Global, link: Link) -> Result<Seat, OpenFault> {
+/// An end with a channel, if there is memory.
+fn seat_of(alloc: Global, link: Link) -> Option<Seat> {
     match Channel::new(alloc, PLACES, LONGEST as u32) {
-        Ok(channel) => Ok(Seat {
+        Ok(channel) => Some(Seat {
             link,
             channel,
             posted: 0,
             taken: 0,
         }),
-        Err(fault) => Err(fault),
+        Err(_) => None,
     }
 }
 
@@ -202,12 +203,12 @@ fn plays(server: &mut Seat, client: &mut Seat, dice: &mut Dice, turns: u32, lost
 #[test]
 fn parcels_come_in_order_whatever_is_lost(rt: HostRuntime) -> Result<(), Fail> {
     let alloc = rt.alloc();
-    let mut server = seat(
+    let mut server = seat_of(
         alloc,
         Link::server(alloc, &CONFIG, &[KIND], &[FIELD], &[], &[]).expect(&rt, "server"),
     )
     .expect(&rt, "channel");
-    let mut client = seat(
+    let mut client = seat_of(
         alloc,
         Link::client(alloc, &CONFIG, &[KIND], &[FIELD]).expect(&rt, "client"),
     )
@@ -234,7 +235,7 @@ fn a_message_of_any_other_size_is_refused(rt: HostRuntime) -> Result<(), Fail> {
     );
     assert!(rt; Channel::new(alloc, 1, 23).is_ok());
     let link = Link::client(alloc, &CONFIG, &[KIND], &[FIELD]).expect(&rt, "client");
-    let mut seat = seat(alloc, link).expect(&rt, "channel");
+    let mut seat = seat_of(alloc, link).expect(&rt, "channel");
     let bytes = vec![in alloc; 1u8; 65_536]?;
     let refused = seat
         .channel
