@@ -99,7 +99,8 @@ fn fill(place: &mut [u8], n: u32) {
     let mut next = n;
     for byte in place {
         next = next.wrapping_mul(1_103_515_245).wrapping_add(12_345);
-        *byte = (next >> 16) as u8;
+        let [_, _, third, _] = next.to_le_bytes();
+        *byte = third;
     }
 }
 
