@@ -1,11 +1,12 @@
 -- What a timeline takes: no call is refused, and what each adds adds up.
 use Rattle.std.proofs.Common.{◌≡◌, ◌∙◌, ℕ, zero, suc, ◌+◌, ◌*◌, ◌<◌, ◌≤◌, Bool, true, false, cond, ◌||◌, ◌==◌, List, [], ◌∷◌, ◌++◌, length, take, drop, get_or, Option, Some, None, Ok, Err, refl, sym, ap, subst, arith, append_assoc, append-nil, add-one}
-use Rattle.std.specs.Prelude.{ℤ, nat_lt, nat_le}
-use Rattle.std.specs.Option.{option_or}
+use Rattle.std.specs.Prelude.{ℤ, nat_lt, nat_le, slice_get, All, IsTrue}
+use Rattle.std.specs.Option.{option_or, option_map, option_and_then}
 use Rattle.std.specs.Result.{result_err}
 use Rattle.std.proofs.Math.Seq.{drop-cons}
 use Rattle.std.proofs.lemmas.List.{take_more}
 use Rattle.std.proofs.lemmas.Bool.Decides.{nat_tests}
+use Rattle.std.proofs.lemmas.Option.{slice_get-get_or, same_Some}
 use Rattle.tn_types.specs.Checks.{Checked, then_check}
 use Rattle.tn_types.specs.BitWords.{has_bit}
 use Rattle.tn_types.specs.declared.limits.TheConstants.{MAX_LIFE}
@@ -15,10 +16,16 @@ use Rattle.timeline.specs.declared.refusal.Refusal.{Refusal}
 use Rattle.timeline.specs.declared.refusal.Refusal.TheVariants.{NoSlot, NoPacket, GoesBack, NoKind}
 use Rattle.timeline.specs.Telling.{Told}
 use Rattle.timeline.specs.Standing.{Drawing, StandsFor, Hears, KeepsShape, slot_check, packet_check, kind_check}
-use Rattle.ghost_client.specs.State.{State, value_of}
+use Rattle.quantised_fields.specs.declared.field.FieldSpec.{FieldSpec}
+use Rattle.quantised_fields.specs.declared.kind.Kind.{Kind}
+use Rattle.quantised_fields.specs.Kinds.{IsWithinLimits}
+use Rattle.quantised_fields.specs.Levels.{is_sound, shown_of}
+use Rattle.ghost_client.specs.declared.copy.GhostCopy.{GhostCopy}
+use Rattle.ghost_client.specs.State.{State, IsInRange, copy_in, field_value, value_of}
+use Rattle.ghost_client.proofs.OfKind.{level_fits, slice_get_in}
 use Rattle.stream_manager.specs.Stands.{ClientState}
 use Rattle.stream_manager.specs.ClientCalls.{Answers}
-use Rattle.tribes_ends.specs.Drawing.{told_value, told_field, told_fields, told_item, told_items, item_fault, items_fault, hearing_fault, packet_of, HearsOf}
+use Rattle.tribes_ends.specs.Drawing.{FitFields, value_shown, told_value, told_field, told_fields, told_item, told_items, item_fault, items_fault, hearing_fault, packet_of, HearsOf}
 
 -- ---- checks that pass
 
@@ -54,6 +61,30 @@ none-told packet slot mask zero value none = refl
 none-told packet slot mask (suc n) value none =
     none-told packet slot mask n value none
     ∙ sym (ap (λ l. l ++ told_fields packet value slot mask n) (none-of (has_bit mask n) packet slot n (value slot n) (none n)))
+
+-- what a slot's copy shows, by its kind's fields and its levels
+pub value-is : (fields : List FieldSpec) (levels : List ℕ) (field : ℕ) (spec : FieldSpec) (level : ℕ) → slice_get fields field ≡ Some spec → slice_get levels field ≡ Some level
+    → value_shown fields levels field ≡ Some (shown_of spec level)
+value-is fields levels field spec level a b =
+    ap (option_and_then (λ s. option_map (shown_of s) (slice_get levels field))) a ∙ ap (option_map (shown_of spec)) b
+
+pub value-here : (c : State) (slot field : ℕ) (copy : GhostCopy) (kind : Kind) → Some copy ≡ copy_in c.slots slot → Some kind ≡ slice_get c.kinds copy.kind
+    → value_shown kind.fields copy.levels field ≡ value_of c slot field
+value-here c slot field copy kind a b =
+    ap (option_and_then (λ (k : Kind). value_shown k.fields copy.levels field)) b ∙ ap (option_and_then (field_value c.kinds field)) a
+
+pub value-none : (c : State) (slot field : ℕ) (copy : GhostCopy) → Some copy ≡ copy_in c.slots slot → None ≡ slice_get c.kinds copy.kind → value_of c slot field ≡ None
+value-none c slot field copy a b =
+    sym (ap (option_and_then (λ (k : Kind). value_shown k.fields copy.levels field)) b ∙ ap (option_and_then (field_value c.kinds field)) a)
+
+sound-at : (fields : List FieldSpec) (field : ℕ) (spec : FieldSpec) → All (λ f. IsTrue (is_sound f)) fields → slice_get fields field ≡ Some spec → IsTrue (is_sound spec)
+sound-at fields field spec all a =
+    let less = slice_get_in fields field spec a in
+    let same : get_or fields field spec ≡ spec = same_Some (get_or fields field spec) spec (sym (slice_get-get_or fields field spec less) ∙ a) in
+    subst (λ f. IsTrue (is_sound f)) same (all field spec less)
+
+pub fits-here : (kinds : List Kind) (copy : GhostCopy) (kind : Kind) → IsInRange kinds copy → Some kind ≡ slice_get kinds copy.kind → IsWithinLimits kind → FitFields kind.fields copy.levels
+fits-here kinds copy kind range its limits field spec level a b = (sound-at kind.fields field spec limits.sound a, level_fits kinds copy range kind (sym its) field spec level a b)
 
 -- a field of the mask, and one that is none of it
 pub told-here : (packet slot mask field : ℕ) (value : ℕ → ℕ → Option ℤ) (o : Option ℤ) → has_bit mask field ≡ true → o ≡ value slot field

@@ -1,17 +1,17 @@
 //! What a client's end tells a timeline of the packet that came last.
 ghost use Rattle.std.specs.Prelude.{◌≡◌, [], ◌∷◌, ◌≤◌, ◌<◌, Ok, None, OnOk, OnErr, length};
 ghost use Rattle.std.specs.Result.{result_err};
-ghost use Rattle.ghost_client.specs.State.{IsInRange, field_value, value_of};
+ghost use Rattle.ghost_client.specs.State.{value_of};
 ghost use Rattle.stream_manager.specs.ClientCalls.{Answers};
 ghost use Rattle.timeline.specs.Telling.{Came};
 ghost use Rattle.timeline.specs.Standing.{Hears, KeepsShape, slot_check, packet_check};
-ghost use Rattle.tribes_ends.specs.Drawing.{narrowed, told_value, told_fields, told_item, told_items, packet_of, HearsOf, item_fault, items_fault, hearing_fault};
+ghost use Rattle.tribes_ends.specs.Drawing.{narrowed, FitFields, value_shown, told_value, told_fields, told_item, told_items, packet_of, HearsOf, item_fault, items_fault, hearing_fault};
 
 use crate::asking::has_field;
 use crate::counts::or_zero;
 use crate::rows::first_bits;
 use ghost_client::{Copies, GhostCopy};
-use quantised_fields::{KindTable, shown};
+use quantised_fields::{FieldSpec, shown};
 use stream_manager::Client;
 use timeline::{Refusal, Timeline};
 use wire_format::GhostItem;
@@ -44,18 +44,15 @@ fn narrowed(value: i64) -> i32
     value as i32
 }
 
-/// The value that a copy shows of a field.
-fn value_shown(table: &KindTable, copy: &GhostCopy, field: u32) -> Option<i64>
-    requires { IsInRange table.now copy.now }
-    ensures { result ≡ field_value table.now field copy.now }
+/// The value that the level of a field shows.
+fn value_shown(fields: &[FieldSpec], levels: &[u32], field: u32) -> Option<i64>
+    requires { FitFields fields.now levels.now }
+    ensures { result ≡ value_shown fields.now levels.now field }
 {
-    let Some(kind) = table.kind(copy.kind) else {
+    let Some(spec) = fields.get(field as usize) else {
         return None;
     };
-    let Some(spec) = kind.fields.as_slice().get(field as usize) else {
-        return None;
-    };
-    match copy.levels.get(field as usize) {
+    match levels.get(field as usize) {
         Some(level) => Some(shown(spec, *level)),
         None => None,
     }
@@ -74,24 +71,24 @@ fn tell_value(timeline: &mut Timeline, packet: u32, slot: u32, field: u32, value
     timeline.came_checked(slot, packet, field, value);
 }
 
-/// Tells the value that a copy shows of a field.
+/// Tells the value that the level of a field shows.
 fn tell_field(
     timeline: &mut Timeline,
     packet: u32,
-    table: &KindTable,
-    copy: &GhostCopy,
+    fields: &[FieldSpec],
+    levels: &[u32],
     slot: u8,
     field: u32,
 )
     requires slot { slot < length timeline.old.slots }
     requires field { field < timeline.old.fields }
     requires packet { packet_check timeline.old packet ≡ Ok tt }
-    requires range { IsInRange table.now copy.now }
-    ensures told { Hears timeline.old (told_value packet slot field (field_value table.now field copy.now)) timeline.new }
+    requires fit { FitFields fields.now levels.now }
+    ensures told { Hears timeline.old (told_value packet slot field (value_shown fields.now levels.now field)) timeline.new }
     ensures shape { KeepsShape timeline.old timeline.new }
     ensures packet { packet_check timeline.new packet ≡ Ok tt }
 {
-    if let Some(value) = value_shown(table, copy, field) {
+    if let Some(value) = value_shown(fields, levels, field) {
         tell_value(timeline, packet, u32::from(slot), field, narrowed(value));
     }
 }
@@ -107,11 +104,15 @@ fn tell_fields(timeline: &mut Timeline, packet: u32, copies: &Copies, slot: u8, 
     let Some(copy) = copies.get(slot) else {
         return;
     };
-    let table = copies.table();
+    let Some(kind) = copies.table().kind(copy.kind) else {
+        return;
+    };
+    let fields = kind.fields.as_slice();
+    let levels = copy.levels.as_slice();
     let count = timeline.fields() as u32;
     'fields: for field in 0..count {
         if has_field(mask, field) {
-            tell_field(timeline, packet, table, copy, slot, field);
+            tell_field(timeline, packet, fields, levels, slot, field);
         }
     }
 }

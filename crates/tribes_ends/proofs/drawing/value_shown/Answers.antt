@@ -1,22 +1,24 @@
-use Rattle.std.proofs.Common.{◌≡◌, Some, sym, subst, rules}
+use Rattle.std.proofs.Common.{◌≡◌, Some, rules}
 use Rattle.std.specs.Prelude.{slice_get}
-use Rattle.ghost_client.proofs.OfKind.{level_fits, slice_get_found, field_value_is}
+use Rattle.ghost_client.proofs.OfKind.{slice_get_found}
+use Rattle.tribes_ends.proofs.Hearing.{value-is}
 use Rattle.tribes_ends.proofs.drawing.value_shown.Goals as goal
+
+pub shown-requires-clause-sound : goal.shown-requires-clause-sound
+shown-requires-clause-sound c =
+    (c.requires c.args.field c.in-Some.spec.now c.in-Some-get.level.now
+    (slice_get_found c.args.fields.now c.args.field c.in-Some.spec.now c.in-Some.ensures.lookup.3.0 c.in-Some.ensures.lookup.1)
+    (slice_get_found c.args.levels.now c.args.field c.in-Some-get.level.now c.in-Some-get.ensures.lookup.3.0 c.in-Some-get.ensures.lookup.1)).0
 
 pub shown-requires-clause-fits : goal.shown-requires-clause-fits
 shown-requires-clause-fits c =
-    let kind = c.in-Some.kind.now in
-    let spec = c.in-Some-get.spec.now in
-    let its : slice_get kind.fields c.args.field ≡ Some spec =
-    subst (λ fs. slice_get fs c.args.field ≡ Some spec) c.as_slice.ensures.value
-    (slice_get_found c.as_slice.result.now c.args.field spec c.in-Some-get.ensures.lookup.3.0 c.in-Some-get.ensures.lookup.1) in
-    level_fits c.args.table.now c.args.copy.now c.requires kind (sym c.in-Some.ensures.value) c.args.field spec c.in-Some-get-2.level.now its (sym c.in-Some-get-2.ensures)
+    (c.requires c.args.field c.in-Some.spec.now c.in-Some-get.level.now
+    (slice_get_found c.args.fields.now c.args.field c.in-Some.spec.now c.in-Some.ensures.lookup.3.0 c.in-Some.ensures.lookup.1)
+    (slice_get_found c.args.levels.now c.args.field c.in-Some-get.level.now c.in-Some-get.ensures.lookup.3.0 c.in-Some-get.ensures.lookup.1)).1
 
-pub returns-in-Some-get-2 : goal.returns-in-Some-get-2
-returns-in-Some-get-2 c =
-    let kind = c.in-Some.kind.now in
-    let spec = c.in-Some-get.spec.now in
-    let its : slice_get kind.fields c.args.field ≡ Some spec =
-    subst (λ fs. slice_get fs c.args.field ≡ Some spec) c.as_slice.ensures.value
-    (slice_get_found c.as_slice.result.now c.args.field spec c.in-Some-get.ensures.lookup.3.0 c.in-Some-get.ensures.lookup.1) in
-    rw (field_value_is c.args.table.now c.args.copy.now c.args.field kind spec c.in-Some-get-2.level.now (sym c.in-Some.ensures.value) its (sym c.in-Some-get-2.ensures)) (search rules)
+pub returns-in-Some-get : goal.returns-in-Some-get
+returns-in-Some-get c =
+    rw (value-is c.args.fields.now c.args.levels.now c.args.field c.in-Some.spec.now c.in-Some-get.level.now
+    (slice_get_found c.args.fields.now c.args.field c.in-Some.spec.now c.in-Some.ensures.lookup.3.0 c.in-Some.ensures.lookup.1)
+    (slice_get_found c.args.levels.now c.args.field c.in-Some-get.level.now c.in-Some-get.ensures.lookup.3.0 c.in-Some-get.ensures.lookup.1))
+    (search rules)
