@@ -1,9 +1,11 @@
 -- What a timeline takes: no call is refused, and what each adds adds up.
-use Rattle.std.proofs.Common.{◌≡◌, ◌∙◌, ℕ, zero, suc, ◌+◌, ◌*◌, ◌<◌, ◌≤◌, Bool, true, false, cond, ◌||◌, ◌==◌, List, [], ◌∷◌, ◌++◌, length, take, drop, get_or, Option, Some, None, Ok, Err, refl, sym, ap, subst, arith, append_assoc, append-nil, add-one}
-use Rattle.std.specs.Prelude.{ℤ, nat_lt, nat_le, slice_get, All, IsTrue}
+use Rattle.std.proofs.Common.{◌≡◌, ◌∙◌, ℕ, zero, suc, ◌+◌, ◌*◌, ◌/◌, ◌<◌, Bool, true, false, cond, ◌||◌, ◌==◌, List, [], ◌∷◌, ◌++◌, length, take, drop, get_or, Option, Some, None, Ok, Err, refl, sym, ap, subst, arith, append_assoc, append-nil, add-one}
+use Rattle.std.specs.Prelude.{ℤ, pos, ◌+ℤ◌, nat_lt, nat_le, slice_get, All, IsTrue}
 use Rattle.std.specs.Option.{option_or, option_map, option_and_then}
 use Rattle.std.specs.Result.{result_err}
 use Rattle.std.proofs.Math.Seq.{drop-cons}
+use Rattle.std.proofs.Math.Nat.{mul_comm, mul_assoc}
+use Rattle.std.proofs.lemmas.Nat.{div-mul-add}
 use Rattle.std.proofs.lemmas.List.{take_more}
 use Rattle.std.proofs.lemmas.Bool.Decides.{nat_tests}
 use Rattle.std.proofs.lemmas.Option.{slice_get-get_or, same_Some}
@@ -19,7 +21,7 @@ use Rattle.timeline.specs.Standing.{Drawing, StandsFor, Hears, KeepsShape, slot_
 use Rattle.quantised_fields.specs.declared.field.FieldSpec.{FieldSpec}
 use Rattle.quantised_fields.specs.declared.kind.Kind.{Kind}
 use Rattle.quantised_fields.specs.Kinds.{IsWithinLimits}
-use Rattle.quantised_fields.specs.Levels.{is_sound, shown_of}
+use Rattle.quantised_fields.specs.Levels.{is_sound, range_of, greatest_of, shown_in, shown_of}
 use Rattle.ghost_client.specs.declared.copy.GhostCopy.{GhostCopy}
 use Rattle.ghost_client.specs.State.{State, IsInRange, copy_in, field_value, value_of}
 use Rattle.ghost_client.proofs.OfKind.{level_fits, slice_get_in}
@@ -76,6 +78,16 @@ value-here c slot field copy kind a b =
 pub value-none : (c : State) (slot field : ℕ) (copy : GhostCopy) → Some copy ≡ copy_in c.slots slot → None ≡ slice_get c.kinds copy.kind → value_of c slot field ≡ None
 value-none c slot field copy a b =
     sym (ap (option_and_then (λ (k : Kind). value_shown k.fields copy.levels field)) b ∙ ap (option_and_then (field_value c.kinds field)) a)
+
+-- where a field has as many levels as values, each level shows the value so far above the least
+own_level : (level greatest : ℕ) → 0 < greatest → shown_in level greatest greatest ≡ level
+own_level level greatest some =
+    let e : 2 * level * greatest ≡ level * (2 * greatest) = ap (λ n. n * greatest) (mul_comm 2 level) ∙ mul_assoc level 2 greatest in
+    ap (λ n. (n + greatest) / (2 * greatest)) e ∙ div-mul-add level (2 * greatest) greatest (omega (arith, some))
+
+pub own_value : (spec : FieldSpec) (level : ℕ) → 0 < greatest_of spec → range_of spec ≡ greatest_of spec → shown_of spec level ≡ spec.lo +ℤ pos level
+own_value spec level some same =
+    ap (λ (r : ℕ). spec.lo +ℤ pos (shown_in level r (greatest_of spec))) same ∙ ap (λ (n : ℕ). spec.lo +ℤ pos n) (own_level level (greatest_of spec) some)
 
 sound-at : (fields : List FieldSpec) (field : ℕ) (spec : FieldSpec) → All (λ f. IsTrue (is_sound f)) fields → slice_get fields field ≡ Some spec → IsTrue (is_sound spec)
 sound-at fields field spec all a =

@@ -1,6 +1,7 @@
 //! What a client's end tells a timeline of the packet that came last.
-ghost use Rattle.std.specs.Prelude.{◌≡◌, [], ◌∷◌, ◌≤◌, ◌<◌, Ok, None, OnOk, OnErr, length};
+ghost use Rattle.std.specs.Prelude.{◌≡◌, [], ◌∷◌, ◌≤◌, ◌<◌, ◌^◌, Ok, None, OnOk, OnErr, IsTrue, length};
 ghost use Rattle.std.specs.Result.{result_err};
+ghost use Rattle.quantised_fields.specs.Levels.{is_sound, shown_of};
 ghost use Rattle.ghost_client.specs.State.{value_of};
 ghost use Rattle.stream_manager.specs.ClientCalls.{Answers};
 ghost use Rattle.timeline.specs.Telling.{Came};
@@ -44,6 +45,19 @@ fn narrowed(value: i64) -> i32
     value as i32
 }
 
+/// The value that a level shows, without a division where each level has a value of its own.
+#[tactic(auto, using(crate::proofs::Hearing::own_value))]
+fn level_shown(spec: &FieldSpec, level: u32) -> i64
+    requires sound { IsTrue (is_sound spec.now) }
+    requires fits { level < 2 ^ spec.now.bits }
+    ensures { result ≡ shown_of spec.now level }
+{
+    if spec.hi - spec.lo == i64::from(first_bits(spec.bits as usize)) {
+        return spec.lo + i64::from(level);
+    }
+    shown(spec, level)
+}
+
 /// The value that the level of a field shows.
 fn value_shown(fields: &[FieldSpec], levels: &[u32], field: u32) -> Option<i64>
     requires { FitFields fields.now levels.now }
@@ -53,7 +67,7 @@ fn value_shown(fields: &[FieldSpec], levels: &[u32], field: u32) -> Option<i64>
         return None;
     };
     match levels.get(field as usize) {
-        Some(level) => Some(shown(spec, *level)),
+        Some(level) => Some(level_shown(spec, *level)),
         None => None,
     }
 }
