@@ -172,7 +172,8 @@ impl GreetingBytes {
 
     /// The bytes, lent.
     pub fn as_slice(&self) -> &[u8]
-        ensures { result.now ≡ self.now }
+        ensures bytes { result.now ≡ self.now }
+        ensures few { length result.now ≤ MAX_GREETING_BYTES }
     {
         self.bytes.as_slice()
     }
