@@ -65,8 +65,8 @@ pub enum Reason {
 }
 
 impl Reason {
-    // What tells it in a refusal.
-    fn byte(self) -> u8
+    /// The number that tells it in a refusal.
+    pub fn byte(self) -> u8
         ensures { result ≡ reason_byte self }
     {
         match self {
@@ -77,8 +77,8 @@ impl Reason {
         }
     }
 
-    // The reason that a byte tells.
-    pub(crate) fn of(byte: u8) -> Option<Reason>
+    /// The reason that a number tells.
+    pub fn of(byte: u8) -> Option<Reason>
         ensures { result ≡ reason_of byte }
     {
         match byte {
@@ -172,7 +172,8 @@ impl GreetingBytes {
 
     /// The bytes, lent.
     pub fn as_slice(&self) -> &[u8]
-        ensures { result.now ≡ self.now }
+        ensures bytes { result.now ≡ self.now }
+        ensures few { length result.now ≤ MAX_GREETING_BYTES }
     {
         self.bytes.as_slice()
     }
