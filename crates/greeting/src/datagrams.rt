@@ -65,8 +65,8 @@ pub enum Reason {
 }
 
 impl Reason {
-    // What tells it in a refusal.
-    fn byte(self) -> u8
+    /// The number that tells it in a refusal.
+    pub fn byte(self) -> u8
         ensures { result ≡ reason_byte self }
     {
         match self {
@@ -77,8 +77,8 @@ impl Reason {
         }
     }
 
-    // The reason that a byte tells.
-    pub(crate) fn of(byte: u8) -> Option<Reason>
+    /// The reason that a number tells.
+    pub fn of(byte: u8) -> Option<Reason>
         ensures { result ≡ reason_of byte }
     {
         match byte {
