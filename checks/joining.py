@@ -9,23 +9,24 @@ HELLO, CHALLENGE, ANSWER, WELCOME, REFUSAL = 3, 7, 11, 15, 19
 CLIENT, SERVER, GREETING = 0, 1, 0
 TAG_BYTES = 16
 HIGHEST = 65_535
-# Of each kind of a match its weight, whether each client always sees it, and (lo, hi, bits) of its fields: docs/world.md, "Kinds".
+# Of each kind of a match its weight and (lo, hi, bits) of its fields: docs/world.md, "Kinds".
 PLACE, NARROW = [(0, HIGHEST, 16)] * 2, [(0, HIGHEST, 12)] * 2
 KINDS = (
-    (8, False, [*PLACE, (0, 100, 7), (0, 20, 5), (0, 255, 8)]),
-    (6, False, PLACE),
-    (3, False, [*PLACE, (0, 1, 1)]),
-    (4, False, [*NARROW, (0, 100, 5)]),
-    (5, True, [*PLACE, (0, 16, 5)]),
-    (1, True, [(0, 16_777_215, 24), (0, 255, 8), (0, 255, 8)]),
+    (8, [*PLACE, (0, 100, 7), (0, 20, 5), (0, 255, 8)]),
+    (6, PLACE),
+    (3, [*PLACE, (0, 1, 1)]),
+    (4, [*NARROW, (0, 100, 5)]),
+    (5, [*PLACE, (0, 16, 5)]),
+    (1, [(0, 16_777_215, 24), (0, 255, 8), (0, 255, 8)]),
 )
 
 
 def protocol_number(version=1, size=400, life=16_777_215, move_bits=10, kinds=KINDS, word=b"tribes match"):
     """The number of what both ends have to agree on (crates/protocol_number/README.md)."""
     text = struct.pack("<5I", 1, version, size, life, move_bits)
-    for weight, always, fields in kinds:
-        text += struct.pack("<3BQ", 1, weight, always, len(fields))
+    for weight, fields in kinds:
+        # Which kinds each client always sees is for the server alone: a client writes 0.
+        text += struct.pack("<3BQ", 1, weight, 0, len(fields))
         text += b"".join(struct.pack("<qqI", *field) for field in fields)
     return hashlib.sha256(text + b"\0" + word).digest()
 

@@ -77,9 +77,12 @@ fn host(rt: &HostRuntime, hosting: &Hosting, key: Option<[u8; KEY_BYTES]>) -> Re
     let Ok(terms) = Terms::of(rt.alloc(), hosting.seed, hosting.clients) else {
         return Err(Refusal::NoMemory);
     };
+    let Ok(protocol) = terms.protocol(rt.alloc()) else {
+        return Err(Refusal::NoMemory);
+    };
     let rules = Rules {
         secret: secret(rt)?,
-        protocol: terms.protocol(),
+        protocol,
         terms: terms.bytes(),
         key,
         seats: u32::from(hosting.clients),

@@ -4,9 +4,10 @@ ghost use Rattle.tn_types.specs.declared.limits.TheConstants.{MAX_CLIENTS};
 
 use host_link::{PROTOCOL_BYTES, TERMS_BYTES};
 use protocol_number::{Protocol, protocol_number};
+use quantised_fields::KindTable;
 use script_maker::make;
 use std::alloc::Global;
-use tn_types::{NoMemory, WORLD_MOVE_BITS};
+use tn_types::{MAX_KINDS, NoMemory, WORLD_MOVE_BITS};
 use world_rules::match_kinds;
 
 /// The game's own word in its protocol number.
@@ -18,6 +19,26 @@ pub(crate) struct Terms {
     version: u8,
     size: u32,
     life: u32,
+}
+
+/// The kinds as a client has them: which of them each client always sees is for the server alone.
+fn told_kinds(alloc: Global) -> Result<KindTable, NoMemory> {
+    let kinds = match_kinds();
+    let mut told = Vec::new(alloc);
+    'kinds: for k in 0..MAX_KINDS as u8 {
+        if let Some(kind) = kinds.kind(k) {
+            let mut kind = kind.copy();
+            kind.always = false;
+            if told.push(kind).is_err() {
+                return Err(NoMemory);
+            }
+        }
+    }
+    match KindTable::new(told.as_slice()) {
+        Ok(table) => Ok(table),
+        // No limit of a table asks for it.
+        Err(_) => Ok(kinds),
+    }
 }
 
 impl Terms {
@@ -44,13 +65,14 @@ impl Terms {
     }
 
     /// The protocol number of the match.
-    pub(crate) fn protocol(self) -> [u8; PROTOCOL_BYTES] {
+    pub(crate) fn protocol(self, alloc: Global) -> Result<[u8; PROTOCOL_BYTES], NoMemory> {
+        let kinds = told_kinds(alloc)?;
         let protocol = Protocol {
             version: u32::from(self.version),
             size: self.size,
             life: self.life,
             move_bits: WORLD_MOVE_BITS,
         };
-        protocol_number(protocol, &match_kinds(), WORD.as_bytes())
+        Ok(protocol_number(protocol, &kinds, WORD.as_bytes()))
     }
 }
