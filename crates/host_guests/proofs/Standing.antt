@@ -121,7 +121,7 @@ greeted : (g new : GuestsState) (a : Address) (d bytes reply : List ℕ) (heard 
     → DoorHears g.door a bytes heard → GoesBack g.door a bytes heard reply → new ≡ record g { door = unasked g.door } → ReceivesAt g a d new reply
 greeted g new a d bytes reply heard carries hears goes new_is log stands = (
   subst (λ (n : GuestsState). StandsFor n (Came a d ∷ log)) (sym new_is)
-  (unasked_stands g (Came a d ∷ log) (came_stands g a d log stands)),
+      (unasked_stands g (Came a d ∷ log) (came_stands g a d log stands)),
   λ back some sent.
       subst (λ (n : GuestsState). StandsFor n (Went a back ∷ Came a d ∷ log)) (sym new_is)
       (let came = came_stands g a d log stands in

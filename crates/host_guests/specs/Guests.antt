@@ -112,4 +112,4 @@ abbrev pub ReceivesAt : GuestsState → Address → List ℕ → GuestsState →
 ReceivesAt g a datagram new reply = (log : List Passing) → StandsFor g log
     → StandsFor new (Came a datagram ∷ log)
     × ((back : List ℕ) → (reply ≡ [] → ⊥) → Carries g.key Server GREETING_NUMBER back reply
-        → StandsFor new (Went a back ∷ Came a datagram ∷ log))
+    → StandsFor new (Went a back ∷ Came a datagram ∷ log))

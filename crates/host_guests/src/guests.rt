@@ -179,12 +179,7 @@ impl Guests {
     }
 
     // Who asks gets a seat, where its address has none and one is free.
-    fn decide(
-        &mut self,
-        from: Address,
-        number: u64,
-        reply: &mut GreetingBytes,
-    ) -> Heard
+    fn decide(&mut self, from: Address, number: u64, reply: &mut GreetingBytes) -> Heard
         ensures { (guest : Guest) → self.old.door.asking ≡ Some guest → DecidesOn self.old from guest number self.new reply.new result }
     {
         if self.seat_of(from).is_none() {

@@ -29,12 +29,7 @@ pub fn carried(key: Option<[u8; KEY_BYTES]>, number: u64, datagram: &[u8]) -> Op
 }
 
 /// Makes of the first bytes of a place the datagram to a client that carries them under this number: so many first bytes of the place.
-pub fn append(
-    key: Option<[u8; KEY_BYTES]>,
-    number: u64,
-    place: &mut [u8],
-    count: usize,
-) -> usize
+pub fn append(key: Option<[u8; KEY_BYTES]>, number: u64, place: &mut [u8], count: usize) -> usize
     requires { count + TAG_BYTES ≤ length place.old }
     ensures carries { Carries key Server number (take result place.new) (take count place.old) }
     ensures bound { result ≤ length place.new }
