@@ -1,10 +1,6 @@
 -- The guests of an entrance are those of what passed.
-use Rattle.std.proofs.Common.{◌≡◌, ℕ, Bool, true, false, List, [], ◌∷◌, take, Option, Some, None, Ok, sym, subst, inl, inr, refl}
-use Rattle.std.specs.Prelude.{◌⊎◌}
-use Rattle.datagram_tags.specs.declared.sides.Side.TheVariants.{Server}
+use Rattle.std.proofs.Common.{◌≡◌, ℕ, Bool, true, false, List, ◌∷◌, take, Option, Some, None, Ok, sym, subst, inl, inr}
 use Rattle.greeting.specs.declared.words.Address.{Address}
-use Rattle.host_guests.specs.declared.keys.TheConstants.{GREETING_NUMBER}
-use Rattle.host_guests.specs.Keys.{Carries}
 use Rattle.host_guests.specs.Passing.{Passing, Came, Went, Goes, Comes}
 use Rattle.host_guests.specs.Guests.{GuestsState, StandsFor, ReceivesAt}
 use Rattle.host_guests.specs.Entrance.{Holds, Answers}

@@ -1,5 +1,5 @@
 -- What a datagram leaves of guests that stand for a log.
-use Rattle.std.proofs.Common.{◌≡◌, ◌∙◌, ℕ, ◌+◌, ◌<◌, ◌≤◌, Bool, true, false, List, [], ◌∷◌, length, take, Option, Some, None, inl, inr, sym, ap, subst, refl, arith, slice_set}
+use Rattle.std.proofs.Common.{◌≡◌, ◌∙◌, ℕ, ◌<◌, ◌≤◌, List, [], ◌∷◌, length, Option, Some, None, inl, inr, sym, ap, subst, arith, slice_set}
 use Rattle.std.specs.Prelude.{IfSome, slice_index_or}
 use Rattle.std.proofs.lemmas.Bool.{cases_eq, cases_lt}
 use Rattle.std.proofs.lemmas.List.{get_or-set_same, get_or-set_other, set_past}
@@ -10,16 +10,16 @@ use Rattle.greeting.specs.declared.door.Guest.{Guest}
 use Rattle.greeting.specs.declared.door.Heard.{Heard as Greeting}
 use Rattle.greeting.specs.declared.door.Heard.TheVariants.{Challenged, Refused, Asks, Again}
 use Rattle.greeting.specs.declared.door.Heard.TheVariants as greeting
-use Rattle.greeting.specs.Words.{is_same, number_of}
-use Rattle.greeting.specs.Datagrams.{nonce_in, refusal, challenge}
+use Rattle.greeting.specs.Words.{number_of}
+use Rattle.greeting.specs.Datagrams.{nonce_in}
 use Rattle.greeting.specs.Door.{DoorState, IsRight, Hears as DoorHears, reply_of}
 use Rattle.greeting.proofs.Forms.{long, length-challenge, length-refusal}
 use Rattle.host_guests.specs.declared.keys.TheConstants.{GREETING_NUMBER}
 use Rattle.host_guests.specs.declared.guests.Heard.{Heard}
 use Rattle.host_guests.specs.declared.guests.Heard.TheVariants.{Joined, OfGuest, Greeted, Dropped, Stranger, Untagged}
-use Rattle.host_guests.specs.Keys.{Carries, more_bytes}
-use Rattle.host_guests.specs.Passing.{Passing, Came, Went, IsAnswer, HasAnswered, IsFair}
-use Rattle.host_guests.specs.Guests.{GuestsState, guest_at, joined, unasked, joining_in, GoesBack, Greets, Hears, StandsFor, ReceivesAt}
+use Rattle.host_guests.specs.Keys.{Carries}
+use Rattle.host_guests.specs.Passing.{Passing, Came, Went, IsAnswer, HasAnswered}
+use Rattle.host_guests.specs.Guests.{GuestsState, guest_at, joined, unasked, joining_in, GoesBack, Hears, StandsFor, ReceivesAt}
 use Rattle.host_guests.proofs.Passings.{same_itself, length_carried, fair_came, fair_back, fair_went}
 
 -- each of these guests answered a challenge

@@ -1,5 +1,5 @@
 -- What an entrance does with its socket: the guests hear what came, what they answer goes back, and what is for a guest goes to its address.
-use Rattle.std.specs.Prelude.{ℕ, ◌≡◌, ◌<◌, Bool, true, false, List, [], take, Option, Some, None, IfSome, Result, Ok, Err, ◌⊎◌}
+use Rattle.std.specs.Prelude.{ℕ, ◌≡◌, Bool, true, List, [], take, Option, Some, None, IfSome, Result, Ok, Err, ◌⊎◌}
 use Rattle.datagram_tags.specs.declared.sides.Side.TheVariants.{Server}
 use Rattle.tn_outside.specs.declared.failed.Failed.{Failed}
 use Rattle.greeting.specs.declared.words.Address.{Address}

@@ -1,15 +1,15 @@
 -- The guests of a link: who has which seat. Who answers its challenge from an address that has none gets the first that is free. Without a key what
 -- comes from a guest's address is of the guest; under a key what carries the tag of its joining, too.
-use Rattle.std.specs.Prelude.{ℕ, ◌≡◌, ◌<◌, ◌≤◌, ◌%◌, ◌==◌, Bool, true, false, List, [], ◌∷◌, length, take, Option, Some, None, IfSome, slice_index_or, slice_set, ◌⊎◌}
+use Rattle.std.specs.Prelude.{ℕ, ◌≡◌, ◌<◌, ◌≤◌, ◌%◌, ◌==◌, Bool, true, false, List, [], ◌∷◌, length, take, Option, Some, None, IfSome, slice_index_or, slice_set}
 use Rattle.datagram_tags.specs.declared.sides.Side.TheVariants.{Client, Server}
 use Rattle.greeting.specs.declared.words.Address.{Address}
 use Rattle.greeting.specs.declared.datagrams.Reason.TheVariants.{TokenRefused}
 use Rattle.greeting.specs.declared.door.Guest.{Guest}
 use Rattle.greeting.specs.declared.door.Heard.{Heard as Greeting}
 use Rattle.greeting.specs.declared.door.Heard.TheVariants as greeting
-use Rattle.greeting.specs.Words.{is_same, number_of}
+use Rattle.greeting.specs.Words.{is_same}
 use Rattle.greeting.specs.Datagrams.{nonce_in, number_in, welcome, refusal}
-use Rattle.greeting.specs.Door.{DoorState, IsRight, Hears as DoorHears, reply_of}
+use Rattle.greeting.specs.Door.{DoorState, Hears as DoorHears, reply_of}
 use Rattle.host_guests.specs.declared.keys.TheConstants.{GREETING_NUMBER}
 use Rattle.host_guests.specs.declared.guests.Heard.{Heard}
 use Rattle.host_guests.specs.declared.guests.Heard.TheVariants.{Joined, OfGuest, Greeted, Dropped, Stranger, Untagged}

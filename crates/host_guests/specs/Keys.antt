@@ -1,6 +1,6 @@
 -- What a datagram carries. Without a key it is its bytes as they are. Under a key their tag stands behind them: the first 16 bytes of a keyed
 -- digest of who sent it, of a number, and of the bytes.
-use Rattle.std.specs.Prelude.{◌≡◌, ◌+◌, ℕ, List, Option, Some, None}
+use Rattle.std.specs.Prelude.{◌≡◌, ℕ, List, Option, Some, None}
 use Rattle.datagram_tags.specs.declared.sides.Side.{Side}
 use Rattle.datagram_tags.specs.declared.sides.Side.TheVariants.{Server}
 use Rattle.datagram_tags.specs.declared.sides.TagBytes.TheVariants.{Sixteen}

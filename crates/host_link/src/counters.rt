@@ -145,7 +145,10 @@ impl fmt::Display for Counters {
             f,
             "clients {clients} late {late} in {came} {bytes_came} out {sent} {bytes_sent}"
         )?;
-        write!(f, " asked {asked} turned {turned} untagged {untagged} unsent {unsent} refused")?;
+        write!(
+            f,
+            " asked {asked} turned {turned} untagged {untagged} unsent {unsent} refused"
+        )?;
         let counts = self.refused.get();
         for (name, count) in REFUSALS.iter().zip(counts.iter()) {
             write!(f, " {name} {count}")?;

@@ -68,9 +68,7 @@ fn ready(socket: &UdpSocket, buf: &mut [u8]) -> Result<Option<(Address, usize)>,
     ensures { IfOk result (λ answer. IfSome answer (λ x. x.1 ≤ length buf.new)) }
 {
     match socket.recv_from(buf) {
-        Ok((count, SocketAddr::V4(from))) => {
-            Ok(Some((address_of(from), count)))
-        }
+        Ok((count, SocketAddr::V4(from))) => { Ok(Some((address_of(from), count))) }
         // A socket of IPv4 has no other.
         Ok((_, SocketAddr::V6(_))) => Ok(None),
         Err(e) => {

@@ -1,16 +1,16 @@
 -- Each arrival under a key is one of an honest network, or none.
-use Rattle.std.proofs.Common.{◌≡◌, ◌∙◌, ℕ, List, [], ◌∷◌, take, Option, Some, None, Result, Ok, Err, sym, ap, subst, refl}
+use Rattle.std.proofs.Common.{◌≡◌, ◌∙◌, ℕ, List, [], ◌∷◌, take, Option, Some, Result, Ok, Err, sym, ap, subst, refl}
 use Rattle.std.specs.Prelude.{slice_get}
 use Rattle.datagram_tags.specs.declared.sides.Side.{Side}
 use Rattle.datagram_tags.specs.declared.sides.Side.TheVariants.{Client, Server}
 use Rattle.datagram_tags.specs.declared.keyed_end.TagFault.{TagFault}
-use Rattle.datagram_tags.specs.Tagging.{KeyedState, other, tagged, Verifies}
+use Rattle.datagram_tags.specs.Tagging.{KeyedState, other, Verifies}
 use Rattle.datagram_tags.specs.Laws.{AreEnds}
 use Rattle.datagram_tags.proofs.Tags.{same_tagged}
 use Rattle.pair_core.specs.stream_manager.Limits.{Terms}
 use Rattle.pair_core.specs.stream_manager.Server.{server_datagrams}
 use Rattle.pair_core.specs.stream_manager.Client.{client_datagrams}
-use Rattle.pair_core.specs.History.{PairStep, History, Up, Down, history, happens, at_server, at_client, server_gets, client_gets}
+use Rattle.pair_core.specs.History.{PairStep, History, Up, Down, happens, at_server, at_client, server_gets, client_gets}
 use Rattle.pair_core.specs.Conditions.{StepFits, IsMetAt, IsHonestStep}
 use Rattle.keyed_laws.specs.Keyed.{KeyedStep, Does, ToServer, ToClient, handed, IsMadeBy, HasHappened, IsAsHonest}
 

@@ -2,7 +2,6 @@
 -- the tag. The one premise about cryptography is that such a datagram is one of the other end's (`IsMadeBy`): nobody else finds a right tag.
 use Rattle.std.specs.Prelude.{◌≡◌, ℕ, List, [], ◌∷◌, take, slice_get, Option, Some, None, Result, Ok, Err}
 use Rattle.std.specs.List.{AllByRecursion}
-use Rattle.datagram_tags.specs.declared.sides.Side.TheVariants.{Client}
 use Rattle.datagram_tags.specs.declared.keyed_end.TagFault.{TagFault}
 use Rattle.datagram_tags.specs.Tagging.{KeyedState, tagged, Verifies}
 use Rattle.datagram_tags.specs.Laws.{AreEnds}

@@ -1,4 +1,4 @@
-use Rattle.std.proofs.Common.{true, take}
+use Rattle.std.proofs.Common.{true}
 use Rattle.host_guests.proofs.Opening.{sent_holds}
 use Rattle.host_guests.proofs.entrance.Entrance.send.Goals as goal
 

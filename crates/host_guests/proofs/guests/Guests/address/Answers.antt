@@ -1,4 +1,4 @@
-use Rattle.std.proofs.Common.{◌≡◌, ◌∙◌, ap, sym}
+use Rattle.std.proofs.Common.{◌∙◌, ap, sym}
 use Rattle.host_guests.specs.Guests.{GuestsState, guest_at}
 use Rattle.host_guests.proofs.Standing.{to_guest}
 use Rattle.host_guests.proofs.guests.Guests.address.Goals as goal
