@@ -9,7 +9,7 @@ use Rattle.std.proofs.lemmas.Fmt.{decimal-digits_value}
 use Rattle.std.proofs.lemmas.Str.{digit_value_digit}
 use Rattle.std.proofs.lemmas.Str.Parse.{digit_from_value, without_leading_plus_none, numerals_by_value, tells_digits}
 use Rattle.match_script.specs.Words.{number, number_from, is_number, is_digit}
-use Rattle.command_words.specs.Said.{number_said}
+use Rattle.commands.specs.Said.{number_said}
 
 -- no sign, and no leading zero
 pub record IsPlain (word : List ℕ) : Type 0 where
