@@ -10,7 +10,8 @@ use Rattle.script_input.specs.declared.status.Status.{Status}
 use Rattle.script_input.specs.declared.status.Status.TheVariants.{Done, Usage, Script, TooLong, ReadFault, WriteFault, NoMemory, LinkFault, ClockFault, Demo}
 use Rattle.match_script.specs.declared.types.ScriptFault.{ScriptFault}
 use Rattle.script_input.specs.Reading.{Seen, seen, Reading, ReadAs, NotRead, NotGave, GaveAtMost, IsSpared, IsUntouched, answer_to}
-use Rattle.script_input.specs.Outcome.{Row, of_script, Adding, Takes, TakesFew, Writes, Refused, Cause, Outcome, EndsBehind}
+use Rattle.script_input.specs.Outcome.{Row, of_script, Adding, Takes, TakesFew, Writes, Refused, Cause, Outcome, Serves, EndsBehind}
+use Rattle.script_input.proofs.Exact.{serves}
 
 -- a fault that comes later in a call is one of the call
 pub rose_later : (a b n : ℕ) → a ≤ b → Rose b n → Rose a n
@@ -77,7 +78,10 @@ module _ (row : Row) (source : Seen) (few : TakesFew row.limit source) where
   module _ (input : List ℕ) (takes : Takes row.limit source input) (asks : row.asked input ≡ Done) (spared : IsSpared source)
       (w w1 w2 : Option (List ℕ)) (same : w2 ≡ w1) (f f1 f2 : ℕ) where
     abbrev Ended : Status → Type 0
-    Ended s = Outcome row source (seen w w2 f f2) s
+    Ended s = Serves row source (seen w w2 f f2) s
+
+    ends : (s : Status) → Outcome row source (seen w w2 f f2) s → Ended s
+    ends s o = serves row source (seen w w2 f f2) s o
 
     reads : source.faults ≤ source.faults_after
     reads = omega (arith, spared)
@@ -90,14 +94,14 @@ module _ (row : Row) (source : Seen) (few : TakesFew row.limit source) where
     front_of (text, is, adds) = (text, is, whole_front w w2 text adds)
 
     done : Writes row Adds input w w2 → f2 ≡ f → Ended Done
-    done whole kept = record { answer = (spared, kept, (input, takes, asks, whole)); taken = few; written = inr (input, takes, asks, front_of whole); reads = reads; writes = omega (arith, kept) }
+    done whole kept = ends Done (record { answer = (spared, kept, (input, takes, asks, whole)); taken = few; written = inr (input, takes, asks, front_of whole); reads = reads; writes = omega (arith, kept) })
 
     write_fault : Writes row AddsFront input w w2 → f ≤ f2 → Rose f f2 → Ended WriteFault
-    write_fault front later rose = record { answer = (spared, rose, (input, takes, asks, front)); taken = few; written = inr (input, takes, asks, front); reads = reads; writes = later }
+    write_fault front later rose = ends WriteFault (record { answer = (spared, rose, (input, takes, asks, front)); taken = few; written = inr (input, takes, asks, front); reads = reads; writes = later })
 
     no_memory : Perhaps row input w w2 → f2 ≡ f → Ended NoMemory
-    no_memory (inl still) kept = record { answer = (spared, kept); taken = few; written = inl still; reads = reads; writes = omega (arith, kept) }
-    no_memory (inr front) kept = record { answer = (spared, kept); taken = few; written = inr (input, takes, asks, front); reads = reads; writes = omega (arith, kept) }
+    no_memory (inl still) kept = ends NoMemory (record { answer = (spared, kept); taken = few; written = inl still; reads = reads; writes = omega (arith, kept) })
+    no_memory (inr front) kept = ends NoMemory (record { answer = (spared, kept); taken = few; written = inr (input, takes, asks, front); reads = reads; writes = omega (arith, kept) })
 
     -- a run that wrote a text; or a front of one, and failed; or perhaps nothing, for want of memory
     pub ended : (ran : Result (Unit {0}) RunFault) (s : Status) → OnOk ran (Writes row Adds input w w1)
@@ -118,10 +122,10 @@ module _ (row : Row) (source : Seen) (few : TakesFew row.limit source) where
   -- the input was not taken
   module _ (sink : Seen) (u : IsUntouched sink) (reads : source.faults ≤ source.faults_after) where
     abbrev NoInput : Status → Type 0
-    NoInput s = Outcome row source sink s
+    NoInput s = Serves row source sink s
 
     none : (s : Status) → Cause row source sink s → NoInput s
-    none s cause = record { answer = cause; taken = few; written = inl u.0; reads = reads; writes = omega (arith, u.1) }
+    none s cause = serves row source sink s (record { answer = cause; taken = few; written = inl u.0; reads = reads; writes = omega (arith, u.1) })
 
     pub refused_script : (line : ℕ) (why : ScriptFault) → IsSpared source → Refused row source (Script line why) → NoInput (Script line why)
     refused_script line why spared refused = none (Script line why) (spared, u, refused)
@@ -147,8 +151,8 @@ module _ (limit : ℕ) (asked : List ℕ → Status) (makes : List ℕ → List 
   none_taken ClockFault p = absurd p
   none_taken (Demo place) p = absurd p
 
-  pub not_taken : (s : Status) → NotGave limit source s → Outcome row source sink s
-  not_taken s p = record { answer = none_taken s p; taken = few; written = inl u.0; reads = reads; writes = omega (arith, u.1) }
+  pub not_taken : (s : Status) → NotGave limit source s → Serves row source sink s
+  not_taken s p = serves row source sink s (record { answer = none_taken s p; taken = few; written = inl u.0; reads = reads; writes = omega (arith, u.1) })
 
 -- ---- a command that reads a script
 
@@ -157,18 +161,18 @@ module _ {S : Type 0} (reading : Reading S) (fits : S → Type 0) (makes : S →
   script_row = of_script reading fits makes
 
   -- no script was read
-  pub no_script : (sink : Seen) (s : Status) → NotRead reading source s → IsUntouched sink → source.faults ≤ source.faults_after → Outcome script_row source sink s
-  no_script sink (Script line why) p u reads =
-      refused_script script_row source few sink u reads line why p.1 (p.0.0, p.0.1, ap answer_to p.0.2)
-  no_script sink Done p u reads = absurd p
-  no_script sink (Usage place) p u reads = absurd p
-  no_script sink TooLong p u reads = not_taken MAX_SCRIPT_BYTES script_row.asked script_row.makes source few sink u reads TooLong p
-  no_script sink ReadFault p u reads = not_taken MAX_SCRIPT_BYTES script_row.asked script_row.makes source few sink u reads ReadFault p
-  no_script sink WriteFault p u reads = absurd p
-  no_script sink NoMemory p u reads = not_taken MAX_SCRIPT_BYTES script_row.asked script_row.makes source few sink u reads NoMemory p
-  no_script sink LinkFault p u reads = absurd p
-  no_script sink ClockFault p u reads = absurd p
-  no_script sink (Demo place) p u reads = absurd p
+  pub no_script : (sink : Seen) (s : Status) → NotRead reading source s → IsUntouched sink → source.faults ≤ source.faults_after → Serves script_row source sink s
+  no_script sink (Script line why) p u later =
+      refused_script script_row source few sink u later line why p.1 (p.0.0, p.0.1, ap answer_to p.0.2)
+  no_script sink Done p u later = absurd p
+  no_script sink (Usage place) p u later = absurd p
+  no_script sink TooLong p u later = not_taken MAX_SCRIPT_BYTES script_row.asked script_row.makes source few sink u later TooLong p
+  no_script sink ReadFault p u later = not_taken MAX_SCRIPT_BYTES script_row.asked script_row.makes source few sink u later ReadFault p
+  no_script sink WriteFault p u later = absurd p
+  no_script sink NoMemory p u later = not_taken MAX_SCRIPT_BYTES script_row.asked script_row.makes source few sink u later NoMemory p
+  no_script sink LinkFault p u later = absurd p
+  no_script sink ClockFault p u later = absurd p
+  no_script sink (Demo place) p u later = absurd p
 
   -- a script was read
   module _ (script : S) (read : ReadAs reading source.old source.new (Ok script)) (fit : fits script) (spared : IsSpared source)
@@ -177,7 +181,7 @@ module _ {S : Type 0} (reading : Reading S) (fits : S → Type 0) (makes : S →
     asks = ap answer_to read.2
 
     abbrev ScriptEnded : Status → Type 0
-    ScriptEnded s = Outcome script_row source (seen w w2 f f2) s
+    ScriptEnded s = Serves script_row source (seen w w2 f f2) s
 
     -- this text was written of it, or a front of it
     pub script_ended : (text : List ℕ) → makes script text → (ran : Result (Unit {0}) RunFault) (s : Status) → OnOk ran (Adds w w1 text)

@@ -102,12 +102,12 @@ abbrev pub asked_within : (short : Bool) → Status → Status
 asked_within true s = s
 asked_within false s = TooLong
 
-abbrev pub wanted_of : Option ℕ → Status → List ℕ → Status
-wanted_of (Some limit) s input = asked_within (nat_le (length input) limit) s
-wanted_of None s input = Done
+abbrev pub wanted_of : Option ℕ → (List ℕ → Status) → List ℕ → Status
+wanted_of (Some limit) asked input = asked_within (nat_le (length input) limit) (asked input)
+wanted_of None asked input = asked []
 
 abbrev pub wanted : Row → List ℕ → Status
-wanted row input = wanted_of row.limit (row.asked input) input
+wanted row input = wanted_of row.limit row.asked input
 
 -- the command reads its source
 abbrev pub Reads : Option ℕ → Type 0
@@ -125,7 +125,17 @@ IsWanted row input source sink s = s ≡ wanted row input
 -- what the source tells is an input of which the command makes a text, where the command reads
 abbrev pub TellsInput : Option ℕ → (List ℕ → Status) → Option (List ℕ) → Type 0
 TellsInput (Some limit) asked held = (input : List ℕ) × (held ≡ Some input) × (length input ≤ limit) × (asked input ≡ Done)
-TellsInput None asked held = Unit {0}
+TellsInput None asked held = asked [] ≡ Done
 
 abbrev pub CanBeDone : Row → Option (List ℕ) → Type 0
 CanBeDone row held = TellsInput row.limit row.asked held
+
+-- ---- the whole of it
+
+pub record Serves (row : Row) (source sink : Seen) (s : Status) : Type 0 where
+  -- what each answer says of the source and of the sink, and what holds after every answer
+  pub outcome : Outcome row source sink s
+  -- the answer is the one that the input asks for, where nothing fails and memory is there
+  pub exact : (input : List ℕ) → source.old ≡ Some input → IsWanted row input source sink s
+  -- an input of which the command makes a text, and no fault: the whole text, or no memory for it
+  pub complete : CanBeDone row source.old → (HasFailed source → ⊥) → (HasFailed sink → ⊥) → (s ≡ Done) ⊎ (s ≡ NoMemory)
