@@ -69,15 +69,16 @@ impl<S: Socket + Drop> Door<S> {
         }
     }
 
-    /// Takes the datagram that stands first into a buffer. None only where nothing stood ready.
-    pub fn receive(&mut self, buf: &mut [u8]) -> Result<Option<Knock>, Failed>
+    /// Takes the datagram that stands first into a buffer. None only if nothing stood ready; the socket may rest for so many
+    /// milliseconds before it says so.
+    pub fn receive(&mut self, buf: &mut [u8], rest: u64) -> Result<Option<Knock>, Failed>
         ensures bound { IfOk result (λ answer. IfSome answer (λ k. k.count ≤ length buf.new)) }
         ensures passes { Passes (S.log self.old.socket) (S.log self.new.socket) result buf.new }
         ensures heard { HearsKnock self.old.guests self.new.guests result buf.new }
         ensures secret { self.new.guests.secret ≡ self.old.guests.secret }
         ensures holds { Holds self.old.guests (S.log self.old.socket) → Holds self.new.guests (S.log self.new.socket) }
     {
-        match self.socket.receive(buf) {
+        match self.socket.receive(buf, rest) {
             Ok(Some((from, count))) => {
                 let heard = self.guests.hear(from, &buf[..count]);
                 let answered = answer(&mut self.socket, from, heard);

@@ -15,8 +15,8 @@ pub trait Socket {
         ensures goes { Goes (log self.old) (log self.new) result to bytes.now };
 
     /// Gives the datagram that stands first in the front of a buffer, cut to its length: from where, and how many bytes. None only where
-    /// nothing stood ready.
-    fn receive(&mut self, buf: &mut [u8]) -> Result<Option<(Address, usize)>, Failed>
+    /// nothing stood ready. A socket of the system may rest before it says so, for at most `rest` milliseconds.
+    fn receive(&mut self, buf: &mut [u8], rest: u64) -> Result<Option<(Address, usize)>, Failed>
         ensures bound { IfOk result (λ answer. IfSome answer (λ x. x.1 ≤ length buf.new)) }
         ensures comes { Comes (log self.old) (log self.new) result buf.new };
 }

@@ -145,7 +145,7 @@ impl<S: Socket + Drop> Link for HostLink<'_, S> {
     }
 
     /// A datagram of a stranger is given with no byte, and a hello that repeats its number as the hello alone.
-    fn receive(&mut self, buf: &mut [u8]) -> Result<Option<(Peer, usize)>, Failed>
+    fn receive(&mut self, buf: &mut [u8], rest: u64) -> Result<Option<(Peer, usize)>, Failed>
         ensures bound { IfOk result (λ answer. IfSome answer (λ x. x.1 ≤ length buf.new)) }
         ensures takes { Receives None None result buf.new }
         ensures sent { let untold : Option (List Datagram) = None in untold ≡ untold }
@@ -157,7 +157,7 @@ impl<S: Socket + Drop> Link for HostLink<'_, S> {
         ensures holds { Holds self.old.door.guests (S.log self.old.door.socket) → Holds self.new.door.guests (S.log self.new.door.socket) }
     {
         let faults = self.faults;
-        match self.door.receive(buf) {
+        match self.door.receive(buf, rest) {
             Ok(Some(knock)) => Ok(Some(self.admitted(&knock))),
             Ok(None) => Ok(None),
             Err(Failed) => {

@@ -1,5 +1,5 @@
 //! A socket of the system, at any address of IPv4.
-ghost use Rattle.std.specs.Prelude.{None};
+ghost use Rattle.std.specs.Prelude.{◌≤◌, None, IfOk, IfSome, length};
 
 use host_guests::{Address, Socket};
 use std::io::ErrorKind;
@@ -7,10 +7,6 @@ use std::net::{Ipv4Addr, Net, SocketAddr, SocketAddrV4, UdpSocket};
 use std::time::{Clock as SystemTimes, Duration};
 use std::{io, thread};
 use tn_outside::Failed;
-
-/// How long a call that finds nothing sleeps before it says so, in milliseconds. A socket's own wait is rounded up to the kernel's ticks
-/// of 4 to 10 milliseconds, and a sleep is not.
-const REST_MILLISECONDS: u64 = 1;
 
 /// A socket that is asked without waiting, and rests by the system's clock where nothing came. It tells nothing of what passes.
 #[derive(Drop)]
@@ -47,6 +43,29 @@ impl<'a, R: Net + SystemTimes> OpenSocket<'a, R> {
     }
 }
 
+// What stands first, if anything stands ready.
+fn ready(socket: &UdpSocket, buf: &mut [u8]) -> Result<Option<(Address, usize)>, Failed>
+    ensures { IfOk result (λ answer. IfSome answer (λ x. x.1 ≤ length buf.new)) }
+{
+    match socket.recv_from(buf) {
+        Ok((count, SocketAddr::V4(from))) => {
+            let from = Address {
+                host: from.ip().to_bits(),
+                port: from.port(),
+            };
+            Ok(Some((from, count)))
+        }
+        // A socket of IPv4 has no other.
+        Ok((_, SocketAddr::V6(_))) => Ok(None),
+        Err(e) => {
+            if is_quiet(e.kind()) {
+                return Ok(None);
+            }
+            Err(Failed)
+        }
+    }
+}
+
 impl<R: SystemTimes> Socket for OpenSocket<'_, R> {
     ghost log = { λ _. None };
 
@@ -56,25 +75,15 @@ impl<R: SystemTimes> Socket for OpenSocket<'_, R> {
             .is_ok()
     }
 
-    /// Where nothing stands ready it rests for a millisecond.
-    fn receive(&mut self, buf: &mut [u8]) -> Result<Option<(Address, usize)>, Failed> {
-        match self.socket.recv_from(buf) {
-            Ok((count, SocketAddr::V4(from))) => {
-                let from = Address {
-                    host: from.ip().to_bits(),
-                    port: from.port(),
-                };
-                Ok(Some((from, count)))
+    /// If nothing stands ready it sleeps for as long as it may rest, and asks once more.
+    fn receive(&mut self, buf: &mut [u8], rest: u64) -> Result<Option<(Address, usize)>, Failed> {
+        match ready(&self.socket, buf) {
+            Ok(None) if rest > 0 => {
+                // A socket's own wait is rounded up to the kernel's ticks of 4 to 10 milliseconds, and a sleep is not.
+                thread::sleep(self.rt, Duration::from_millis(rest));
+                ready(&self.socket, buf)
             }
-            // A socket of IPv4 has no other.
-            Ok((_, SocketAddr::V6(_))) => Ok(None),
-            Err(e) => {
-                if is_quiet(e.kind()) {
-                    thread::sleep(self.rt, Duration::from_millis(REST_MILLISECONDS));
-                    return Ok(None);
-                }
-                Err(Failed)
-            }
+            answer => answer,
         }
     }
 }

@@ -12,23 +12,26 @@ ghost use Rattle.stream_manager.specs.Client.{ClientEvent, client_end};
 ghost use Rattle.message_laws.specs.Laws.{ArriveDown, ArriveUp};
 
 use messages::messages_in_order;
-use pair_laws::delivers_in_order;
+use pair_laws::{acknowledged_is_delivered, delivers_in_order};
 
 /// If an end's guaranteed events are what left its outbox, and the other end's inbox took them as they were delivered, the parcels that
 /// were handed out are the first ones that were posted, byte for byte, and so is the one that waits. If all came and nothing is held,
-/// all that was posted was handed out or waits. Both ways, whatever the network did.
+/// all that was posted was handed out or waits; so it is if nothing is held, each event is acknowledged, and the inbox took what was
+/// delivered. Both ways, whatever the network did.
 pub fn messages_over_a_connection()
     ensures down { Always ArriveDown }
     ensures up { Always ArriveUp }
 {
     delivers_in_order();
+    acknowledged_is_delivered();
     messages_in_order();
 }
 
 /// What a channel does keeps its outbox in step with its end: the pieces that leave are the guaranteed events that are posted; and
 /// its inbox takes what was delivered, one behind the other.
 pub fn channels_keep_in_step()
-    ensures leave { (pieces : List (List ℕ)) (log : List OutboxEvent) → handed_on (after_each HandedOn pieces log) ≡ handed_on log ++ pieces }
+    ensures leave { (pieces : List (List ℕ)) (log : List OutboxEvent) →
+        handed_on (after_each HandedOn pieces log) ≡ handed_on log ++ pieces }
     ensures none_posted { (pieces : List (List ℕ)) (log : List OutboxEvent) → posted_of (after_each HandedOn pieces log) ≡ posted_of log }
     ensures server { (pieces : List (List ℕ)) (log : List ServerEvent) →
         posted_at (server_end (after_each (server.Posted Guaranteed) pieces log)) ≡ posted_at (server_end log) ++ pieces }

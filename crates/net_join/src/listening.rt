@@ -10,17 +10,18 @@ ghost use Rattle.net_join.specs.Playing.{Joins};
 ghost use Rattle.net_join.specs.Stages.{HeardMore};
 
 use crate::joiner::Joiner;
-use net_rules::{MAX_RECEIVES, NetFault};
+use net_rules::{MAX_RECEIVES, NetFault, Rest};
 use std::alloc::Global;
 use tn_outside::{Clock, Link};
 
-/// Makes one call of `receive`, and hears what comes; true where the turn is due, which is asked where nothing comes.
+/// Makes one call of `receive`, and hears what comes; true if the turn is due, which is asked if nothing comes.
 fn receive<L: Link, C: Clock>(
     alloc: Global,
     joiner: &mut Joiner,
     buf: &mut [u8],
     start: u64,
     due: u64,
+    rest: &mut Rest,
     link: &mut L,
     clock: &mut C,
 ) -> Result<bool, NetFault>
@@ -36,8 +37,9 @@ fn receive<L: Link, C: Clock>(
     ensures cause { HandsOnEach (counts (L.faults link.old) (C.faults clock.old) 0)
         (counts (L.faults link.new) (C.faults clock.new) 0) result }
 {
-    match link.receive(buf) {
+    match link.receive(buf, rest.milliseconds) {
         Ok(Some((peer, count))) => {
+            rest.datagram();
             let (bytes, _) = buf.split_at(count);
             match joiner.hear(alloc, peer, bytes) {
                 Ok(()) => Ok(false),
@@ -45,7 +47,11 @@ fn receive<L: Link, C: Clock>(
             }
         }
         Ok(None) => match clock.now() {
-            Ok(now) => Ok(now.saturating_sub(start) >= due),
+            Ok(now) => {
+                let elapsed = now.saturating_sub(start);
+                rest.silence(due.saturating_sub(elapsed));
+                Ok(elapsed >= due)
+            }
             Err(_) => Err(NetFault::ClockFault),
         },
         Err(_) => Err(NetFault::LinkFault),
@@ -74,8 +80,9 @@ pub(crate) fn listen<L: Link, C: Clock>(
     ensures cause { HandsOnEach (counts (L.faults link.old) (C.faults clock.old) 0)
         (counts (L.faults link.new) (C.faults clock.new) 0) result }
 {
+    let mut rest = Rest::new();
     'calls: for _call in 0..MAX_RECEIVES {
-        if receive(alloc, joiner, buf, start, due, link, clock)? {
+        if receive(alloc, joiner, buf, start, due, &mut rest, link, clock)? {
             return Ok(());
         }
     }

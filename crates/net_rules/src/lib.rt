@@ -6,12 +6,14 @@ mod hello;
 mod laws;
 mod limits;
 mod peers;
+mod rest;
 
 pub use fault::NetFault;
 pub use hello::{Hello, WelcomeTold, hello_of, hello_with, is_arrival, welcome, welcome_of};
 pub use laws::turns_are_one;
 pub use limits::{
-    HELLO, HELLO_BYTES, MAX_RECEIVED_BYTES, MAX_RECEIVES, MAX_TURNS, TURN_MILLISECONDS, WELCOME,
-    WELCOME_BYTES,
+    HELLO, HELLO_BYTES, LARGE_BATCH, MAX_RECEIVED_BYTES, MAX_RECEIVES, MAX_TURNS,
+    TURN_MILLISECONDS, WELCOME, WELCOME_BYTES,
 };
 pub use peers::Peers;
+pub use rest::Rest;

@@ -4,6 +4,9 @@ pub const MAX_RECEIVES: u32 = 10_000;
 /// So many milliseconds lie between two turns.
 pub const TURN_MILLISECONDS: u64 = 50;
 
+/// So many datagrams without a pause are a large batch, behind which a link rests for a millisecond at most.
+pub const LARGE_BATCH: u32 = 64;
+
 /// A server is asked for so many turns at the most.
 pub const MAX_TURNS: u32 = 100_000;
 

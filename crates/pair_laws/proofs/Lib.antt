@@ -17,6 +17,7 @@ mod Spelled
 pub mod Delivered
 pub mod RefusalLaw
 pub mod InOrder
+mod Acknowledged
 pub mod HeldBlocks
 pub mod ReceivedBlocks
 pub mod Subsequences

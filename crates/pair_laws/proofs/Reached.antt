@@ -126,7 +126,7 @@ module _ {P : Type 0} (seen : P → Seen) where
           received-came truth i (carriers i (sender_log x)) (h.written i)
           (not-false (any_received (fates x) (carriers i (sender_log x))) (least_below (is_unacked (fates x) (sender_log x)) (length (posted_of (sender_log x))) i l))
 
-      unacked-run : ReceivedIsTrue x y → first_unacked (fates x) (sender_log x) ≤ run_of (came_of y)
+      pub unacked-run : ReceivedIsTrue x y → first_unacked (fates x) (sender_log x) ≤ run_of (came_of y)
       unacked-run truth = elim (cases_lt (run_of (came_of y)) (first_unacked (fates x) (sender_log x))) [
         | inl l ↦ (let came : has_come (run_of (came_of y)) (came_of y) ≡ true = acked-came truth (run_of (came_of y)) l in
             let never : has_come (run_of (came_of y)) (came_of y) ≡ false = run-ends (came_of y) in absurd cc)

@@ -10,7 +10,7 @@ mod verdicts;
 
 pub use exchange::packets_are_exchanged;
 pub use held_blocks::{held_blocks_are_as_given, received_blocks_are_held};
-pub use laws::{accepts_in_order, delivers_in_order};
+pub use laws::{accepts_in_order, acknowledged_is_delivered, delivers_in_order};
 pub use loose_events::loose_events_in_order;
 pub use refusals::honest_runs_refuse_little;
 pub use verdicts::verdicts_are_true;

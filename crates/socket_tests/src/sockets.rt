@@ -12,7 +12,7 @@ const HELLO: [u8; 5] = [2, 1, 0, 0, 0];
 fn next_length(client: &mut UdpLink<'_, HostRuntime>) -> usize {
     let mut buf = [0u8; 1_201];
     for _ in 0..1_000 {
-        match client.receive(&mut buf) {
+        match client.receive(&mut buf, 1) {
             Ok(Some((peer, count))) => return if peer.number == 0 { count } else { 0 },
             Ok(None) => (),
             Err(_) => return 0,

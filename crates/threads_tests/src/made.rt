@@ -5,8 +5,9 @@ use script_maker::make;
 use threads_top::{Judgement, run_threads};
 use tn_outside::MemSink;
 
-/// So often the match is run.
-const RUNS: u32 = 3;
+/// The match is run until a packer was seen at work beside the simulation, and so often at most: on a machine that is busy with other
+/// things they may run one after the other for a while.
+const RUNS: u32 = 100;
 
 /// More bytes than a write has.
 const ALL: usize = 1 << 26;
@@ -15,7 +16,10 @@ const ALL: usize = 1 << 26;
 fn large_match_in_threads(rt: HostRuntime) {
     let script = make(rt.alloc(), 7, 8, 5000).expect(&rt, "memory");
     let gate = WatchGate::new();
-    for _ in 0..RUNS {
+    'runs: for _ in 0..RUNS {
+        if gate.saw_both() {
+            break 'runs;
+        }
         let mut sink = MemSink {
             bytes: Vec::new(rt.alloc()),
             most: ALL,
