@@ -1,6 +1,6 @@
 -- The table keeps the rule of the command line.
 use Rattle.std.proofs.Common.{◌≡◌, ◌⊎◌, inl, inr, ℕ, suc, ◌+◌, ◌^◌, ◌<◌, ◌≤◌, Bool, true, false, List, [], ◌∷◌, ◌++◌, length, take, arith, refl, sym, ap, subst, ◌∙◌}
-use Rattle.std.specs.Prelude.{Result, Ok, Err, codes}
+use Rattle.std.specs.Prelude.{Result, Ok, Err, IfOk, codes}
 use Rattle.std.specs.Fmt.{decimal}
 use Rattle.std.specs.Str.{bytes_eq}
 use Rattle.std.proofs.lemmas.Slice.Eq.{bytes_eq-Decides}
@@ -200,3 +200,8 @@ rule words = by_result (command_of words) refl
           );
           stops = λ lt b. s.stops lt b.0 b.2 (subst (λ (ws : List (List ℕ)). command_of ws ≡ Ok b.0) b.3 (made_again b.0 b.1));
         }
+
+-- a command that words are has its numbers in their ranges
+pub fits : (words : List (List ℕ)) (r : Result Command ℕ) → Says words r → IfOk r CommandFits
+fits words (Ok c) s = s.0
+fits words (Err place) s = tt

@@ -2,7 +2,7 @@
 ghost use Rattle.std.specs.Prelude.{◌≡◌, ◌≤◌, ◌-◌, ◌∷◌, IfOk, map, string_bytes, codes};
 ghost use Rattle.tn_types.specs.declared.limits.TheConstants.{MAX_CLIENTS};
 ghost use Rattle.commands.specs.Grammar.{further, end_with, one_number, made_of, command_of};
-ghost use Rattle.commands.specs.Rule.{Says};
+ghost use Rattle.commands.specs.Rule.{CommandFits, Says};
 
 use crate::command::{Command, MAX_REPLAYED};
 use crate::number::number;
@@ -211,6 +211,7 @@ fn named_by(words: &[String]) -> Result<Command, u32>
 pub fn command_of(words: &Vec<String>) -> Result<Command, u32>
     ensures said { result ≡ command_of (map string_bytes words.now.items) }
     ensures rule { Says (map string_bytes words.now.items) result }
+    ensures fits { IfOk result CommandFits }
 {
     named_by(words.as_slice())
 }

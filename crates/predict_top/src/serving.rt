@@ -4,20 +4,11 @@ ghost use Rattle.script_input.specs.Reading.{seen};
 ghost use Rattle.script_input.specs.Outcome.{Serves};
 ghost use Rattle.predict_top.specs.Text.{prediction_of, PredictionLaws};
 
-use client_predict::{accepted_changes_nothing, offset_settles};
-use predict_match::{run_predicted, value_is_servers};
+use crate::laws::laws_of_predictions;
+use predict_match::run_predicted;
 use script_input::{Status, end_call, read_script};
 use std::alloc::Global;
 use tn_outside::{Sink, Source};
-
-// What a prediction keeps.
-fn laws_of_predictions()
-    ensures { PredictionLaws }
-{
-    accepted_changes_nothing();
-    offset_settles();
-    value_is_servers();
-}
 
 /// Serves `predict C`: reads a script from the source, runs it, and writes to the sink what a prediction of client C's player has at each
 /// line `show C` (docs/prediction.md); nothing where the match has no client C. What the sink gathers is handed on after the last line.

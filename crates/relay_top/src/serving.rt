@@ -4,31 +4,12 @@ ghost use Rattle.script_input.specs.Reading.{seen};
 ghost use Rattle.script_input.specs.Outcome.{Serves};
 ghost use Rattle.relay_top.specs.Text.{relaying, RelayLaws};
 
+use crate::laws::laws_of_relays;
 use crate::reading::read_relay_script;
-use relay_laws::{
-    settled_shows_the_relays, spectators_deliver_what_was_posted, spectators_periods_stand_for_one,
-    spectators_show_what_was_so,
-};
-use relay_node::relay_report::{
-    packs_are_of_what_was_met, same_lists_same_packs, same_met_same_packs,
-};
 use relay_node::run_relay;
 use script_input::{Status, end_call};
 use std::alloc::Global;
 use tn_outside::{Sink, Source};
-
-// What a relay keeps.
-fn laws_of_relays()
-    ensures { RelayLaws }
-{
-    packs_are_of_what_was_met();
-    same_met_same_packs();
-    same_lists_same_packs();
-    spectators_show_what_was_so();
-    spectators_periods_stand_for_one();
-    settled_shows_the_relays();
-    spectators_deliver_what_was_posted();
-}
 
 /// Serves `relay`: reads a relay script from the source, runs it, and writes its report to the sink (docs/relay.md). What the sink
 /// gathers is handed on after the last line.

@@ -1,5 +1,5 @@
 -- A call whose script was read ends as its run does; one whose script was not has the cause of that for its own.
-use Rattle.std.proofs.Common.{ℕ, ◌≡◌, ◌+◌, ◌≤◌, ◌⊎◌, inl, inr, List, Option, Some, Result, Ok, Err, OnOk, OnErr, refl, sym, ap, subst, arith}
+use Rattle.std.proofs.Common.{ℕ, ◌≡◌, ◌+◌, ◌≤◌, ◌⊎◌, inl, inr, List, Option, Some, None, Result, Ok, Err, OnOk, OnErr, refl, sym, ap, subst, arith}
 use Rattle.script_input.specs.declared.limits.TheConstants.{MAX_SCRIPT_BYTES}
 use Rattle.tn_outside.specs.Causes.{Rose, HandsOn}
 use Rattle.tn_outside.specs.Totals.{Adds, AddsFront}
@@ -153,6 +153,13 @@ module _ (limit : ℕ) (asked : List ℕ → Status) (makes : List ℕ → List 
 
   pub not_taken : (s : Status) → NotGave limit source s → Serves row source sink s
   not_taken s p = serves row source sink s (record { answer = none_taken s p; taken = few; written = inl u.0; reads = reads; writes = omega (arith, u.1) })
+
+-- nothing is read, and there was no memory for what is made
+pub not_made : (asked : List ℕ → Status) (makes : List ℕ → List ℕ → Type 0) (source sink : Seen) → IsUntouched source → IsUntouched sink
+    → Serves (record { limit = None; asked = asked; makes = makes }) source sink NoMemory
+not_made asked makes source sink still u =
+    serves (record { limit = None; asked = asked; makes = makes }) source sink NoMemory
+    (record { answer = (still.1, u.1); taken = still; written = inl u.0; reads = omega (arith, still.1); writes = omega (arith, u.1) })
 
 -- ---- a command that reads a script
 

@@ -10,6 +10,7 @@ use Rattle.plain_race.specs.legal_race.race_history.declared.race.Race.{Race}
 use Rattle.plain_race.specs.legal_race.Legal.{IsLegal}
 use Rattle.plain_race.specs.legal_race.Text.{race_text}
 use Rattle.plain_race.specs.Idle.{idle_in}
+use Rattle.race_laws.specs.Settled.{SettledShowsNewest}
 
 -- the text of a race that is legal
 pub record IsRaceText (script : Script) (race : Race) (text : List ℕ) : Type 0 where
@@ -34,6 +35,10 @@ IsLegalText plain script text = (made : Race) × IsTold plain script made text
 -- the command `threads`: it reads a script for threads, and writes such a text
 abbrev pub racing : (plain : Bool) → Row
 racing plain = of_script threads_script_of HasRanges (IsLegalText plain)
+
+-- in every such text a field that is marked settled, of a client without raw bytes, shows the newest value that the text tells
+pub record RaceLaws : Type 0 where
+  pub settled : SettledShowsNewest
 
 -- the sink has such a text more
 abbrev pub Tells : Bool → Script → Option (List ℕ) → Option (List ℕ) → Type 0

@@ -2,12 +2,11 @@
 ghost use Rattle.std.specs.Prelude.{◌≡◌, ◌⊎◌, [], true, false};
 ghost use Rattle.script_input.specs.Reading.{seen};
 ghost use Rattle.script_input.specs.Outcome.{Serves};
-ghost use Rattle.race_laws.specs.Settled.{SettledShowsNewest};
-ghost use Rattle.threads_top.specs.Telling.{racing};
+ghost use Rattle.threads_top.specs.Telling.{racing, RaceLaws};
 
 use crate::judgement::Judgement;
+use crate::laws::laws_of_races;
 use crate::run::run_threads;
-use race_laws::settled_shows_newest;
 use race_run::FreeGate;
 use script_input::{Status, end_call, read_threads_script};
 use std::alloc::Global;
@@ -37,9 +36,9 @@ pub fn top_threads<R: Threads + Wait + Sync, S: Source, K: Sink>(
     // Where the whole text was written, the sink keeps none of it back.
     ensures handed { result ≡ Status.Done → K.gathered sink.new ≡ [] }
     // In every such text a field that is marked settled, of a client without raw bytes, shows the newest value that the text tells.
-    ensures settled { SettledShowsNewest }
+    ensures laws { RaceLaws }
 {
-    settled_shows_newest();
+    laws_of_races();
     match read_threads_script(alloc, source) {
         Ok(script) => {
             let ran = run_threads(rt, alloc, &script, &FreeGate, judgement, sink);
