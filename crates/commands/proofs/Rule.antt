@@ -23,17 +23,34 @@ of_client_faults : (make : ℕ → Command) → Faults (of_client make)
 of_client_faults make = as_faults make (one_number 0 15) (one_faults 0 15 (omega arith) (omega arith))
 
 each_faults : EachFaults entries
-each_faults =
-    (end_faults Run,
-    (of_client_faults Alone,
-    (as_faults big (made_of 100000) (made_faults 100000 (omega arith) (omega arith)),
-    (end_faults Threads,
-    (of_client_faults Predict,
-    (of_client_faults Demo,
-    (replay_faults,
-    (end_faults Relay,
-    (as_faults serve (made_of 100000) (made_faults 100000 (omega arith) (omega arith)),
-    (as_faults Join (one_number 1 100000) (one_faults 1 100000 (omega arith) (omega arith)), tt))))))))))
+each_faults = (
+  end_faults Run,
+  (
+    of_client_faults Alone,
+    (
+      as_faults big (made_of 100000) (made_faults 100000 (omega arith) (omega arith)),
+      (
+        end_faults Threads,
+        (
+          of_client_faults Predict,
+          (
+            of_client_faults Demo,
+            (
+              replay_faults,
+              (
+                end_faults Relay,
+                (
+                  as_faults serve (made_of 100000) (made_faults 100000 (omega arith) (omega arith)),
+                  (as_faults Join (one_number 1 100000) (one_faults 1 100000 (omega arith) (omega arith)), tt),
+                ),
+              ),
+            ),
+          ),
+        ),
+      ),
+    ),
+  ),
+)
 
 -- a word is a name of a table, or none
 abbrev IsNone : List Entry → List ℕ → Type 0
@@ -75,14 +92,14 @@ command_faults [] place e =
     subst (λ (k : ℕ). Stops command_of [] k) is (record { within = omega arith; begun = (Run, codes "run" ∷ [], refl); stops = λ lt. absurd (omega (arith, lt)) })
 command_faults (name ∷ words) place e = elim (find entries each_faults name) [
   | inl none ↦ (
-    let no : Err 0 ≡ Err place = sym (none words) ∙ e in
-    let is : 0 ≡ place = cc in
-    subst (λ (k : ℕ). Stops command_of (name ∷ words) k) is (none_named name words none)
-  )
+      let no : Err 0 ≡ Err place = sym (none words) ∙ e in
+      let is : 0 ≡ place = cc in
+      subst (λ (k : ℕ). Stops command_of (name ∷ words) k) is (none_named name words none)
+      )
   | inr named ↦ (
-    let f = further_err (named.words_after words) place (sym (named.is words) ∙ e) in
-    subst (λ (k : ℕ). Stops command_of (name ∷ words) k) f.2 (one_named name words named f.0 (named.faults words f.0 f.1))
-  )
+      let f = further_err (named.words_after words) place (sym (named.is words) ∙ e) in
+      subst (λ (k : ℕ). Stops command_of (name ∷ words) k) f.2 (one_named name words named f.0 (named.faults words f.0 f.1))
+      )
 ]
 
 -- ---- what words are that make a command
@@ -134,17 +151,34 @@ replay_spelled (w ∷ ws) c e =
     subst (λ (x : Command). IsSpelled (codes "replay" ∷ w ∷ ws) x) m.2 (o.high, ap (λ (more : List (List ℕ)). codes "replay" ∷ more) o.are)
 
 each_spelled : EachSpelled entries
-each_spelled =
-    (end_spelled (codes "run") Run tt refl,
-    (client_spelled (codes "alone") Alone (λ n lt. lt) (λ n. refl),
-    (big_spelled,
-    (end_spelled (codes "threads") Threads tt refl,
-    (client_spelled (codes "predict") Predict (λ n lt. lt) (λ n. refl),
-    (client_spelled (codes "demo") Demo (λ n lt. lt) (λ n. refl),
-    (replay_spelled,
-    (end_spelled (codes "relay") Relay tt refl,
-    (serve_spelled,
-    (join_spelled, tt))))))))))
+each_spelled = (
+  end_spelled (codes "run") Run tt refl,
+  (
+    client_spelled (codes "alone") Alone (λ n lt. lt) (λ n. refl),
+    (
+      big_spelled,
+      (
+        end_spelled (codes "threads") Threads tt refl,
+        (
+          client_spelled (codes "predict") Predict (λ n lt. lt) (λ n. refl),
+          (
+            client_spelled (codes "demo") Demo (λ n lt. lt) (λ n. refl),
+            (
+              replay_spelled,
+              (
+                end_spelled (codes "relay") Relay tt refl,
+                (
+                  serve_spelled,
+                  (join_spelled, tt),
+                ),
+              ),
+            ),
+          ),
+        ),
+      ),
+    ),
+  ),
+)
 
 read_spelled : (table : List Entry) → EachSpelled table → (name : List ℕ) (words : List (List ℕ)) (c : Command) → read table name words ≡ Ok c → IsSpelled (name ∷ words) c
 read_spelled [] s name words c e = absurd cc
@@ -195,9 +229,9 @@ rule words = by_result (command_of words) refl
           none = λ c fits is. (let made = made_again c fits in let again : command_of words ≡ Ok c = subst (λ (ws : List (List ℕ)). command_of ws ≡ Ok c) (sym is) made in cc (e, again));
           within = s.within;
           begun = (
-            let made = spelled (take place words ++ s.begun.1) s.begun.0 s.begun.2 in
-            (s.begun.0, made.0, s.begun.1, sym made.1)
-          );
+              let made = spelled (take place words ++ s.begun.1) s.begun.0 s.begun.2 in
+              (s.begun.0, made.0, s.begun.1, sym made.1)
+              );
           stops = λ lt b. s.stops lt b.0 b.2 (subst (λ (ws : List (List ℕ)). command_of ws ≡ Ok b.0) b.3 (made_again b.0 b.1));
         }
 

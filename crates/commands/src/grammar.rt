@@ -34,11 +34,7 @@ fn one_number(words: &[String], least: u32, most: u32) -> Result<u32, u32>
     let Some(n) = number(word.as_str(), least, most) else {
         return Err(1);
     };
-    if rest.is_empty() {
-        Ok(n)
-    } else {
-        Err(2)
-    }
+    if rest.is_empty() { Ok(n) } else { Err(2) }
 }
 
 // The seed, the clients, and the count that these words say after a name.
@@ -153,11 +149,13 @@ fn big_of(words: &[String]) -> Result<Command, u32>
     ensures { result ≡ command_of (codes "big" ∷ map string_bytes words.now) }
 {
     match made_of(words, MAX_BODY_LINES) {
-        Ok(Made {
-            seed,
-            clients,
-            count,
-        }) => Ok(Command::Big {
+        Ok(
+            Made {
+                seed,
+                clients,
+                count,
+            },
+        ) => Ok(Command::Big {
             seed,
             clients,
             steps: count,
@@ -171,11 +169,13 @@ fn serve_of(words: &[String]) -> Result<Command, u32>
     ensures { result ≡ command_of (codes "serve" ∷ map string_bytes words.now) }
 {
     match made_of(words, MAX_TURNS) {
-        Ok(Made {
-            seed,
-            clients,
-            count,
-        }) => Ok(Command::Serve {
+        Ok(
+            Made {
+                seed,
+                clients,
+                count,
+            },
+        ) => Ok(Command::Serve {
             seed,
             clients,
             turns: count,

@@ -53,6 +53,10 @@ module _ (count : Option ℕ) (bytes : List ℕ) (w w' : Option (List ℕ)) wher
 
 -- ---- the ends
 
+-- a telling that came to its end
+abbrev all-told : Result (Unit {0}) RunFault
+all-told = Ok tt
+
 -- the demo was read; and what the sink was told to be before the telling, after it, and after the call
 module _ (count : Option ℕ) (source : Seen) (few : GaveAtMost 16777217 source.old source.new) (spared : IsSpared source)
     (bytes : List ℕ) (gave : Gave 16777216 source.old source.new bytes) (w w1 : Option (List ℕ)) (f f1 : ℕ) where
@@ -60,7 +64,7 @@ module _ (count : Option ℕ) (source : Seen) (few : GaveAtMost 16777217 source.
   Ended w2 f2 s = Serves (replaying count) source (seen w w2 f f2) s
 
   module _ (whole : Writes (replaying count) Adds bytes w w1) (w2 : Option (List ℕ)) (same : w2 ≡ w1) (f2 : ℕ) (kept : f1 ≡ f) where
-    worked : HandsOn f f1 (Ok {Unit {0}} {RunFault} tt ≡ Err run.WriteFault)
+    worked : HandsOn f f1 (all-told ≡ Err run.WriteFault)
     worked = record { later = omega (arith, kept); failed = λ h. absurd cc; spared = λ no. kept }
 
     pub told-done : f2 ≡ f1 → Ended w2 f2 Done

@@ -11,7 +11,7 @@ use std::sync::Wait;
 use std::thread::Threads;
 use std::time::Clock as SystemTimes;
 use std::{env, io};
-use tn_outside::{MemLink, Sink, Source, SteadyClock, StdSink, StdSource, SystemClock, UdpLink};
+use tn_outside::{MemLink, Sink, Source, StdSink, StdSource, SteadyClock, SystemClock, UdpLink};
 use tribes_program::{Judgement, Status, carry_out, exit_of, port_of};
 
 /// How many bytes are gathered before standard output is called.

@@ -95,13 +95,7 @@ fn write_counts<K: Sink>(
 }
 
 /// Serves `big SEED CLIENTS STEPS`: makes a script of these numbers, and writes what its report has, counted. It reads nothing.
-pub fn top_big<K: Sink>(
-    alloc: Global,
-    seed: u32,
-    clients: u8,
-    steps: u32,
-    sink: &mut K,
-) -> Status
+pub fn top_big<K: Sink>(alloc: Global, seed: u32, clients: u8, steps: u32, sink: &mut K) -> Status
     requires clients_least { 1 ≤ clients }
     requires clients { clients ≤ MAX_CLIENTS }
     requires steps { steps ≤ MAX_BODY_LINES }

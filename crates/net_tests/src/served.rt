@@ -5,7 +5,9 @@ use commands::{Command, command_of};
 use net_top::{Offer, top_join, top_serve};
 use script_input::Status;
 use std::alloc::{AllocError, Global};
-use tn_outside::{Arrival, Clock, Link, MemClock, MemLink, MemSink, Peer, Sending, Sink, SteadyClock};
+use tn_outside::{
+    Arrival, Clock, Link, MemClock, MemLink, MemSink, Peer, Sending, Sink, SteadyClock,
+};
 
 // Carries out a command over a link, a clock and a sink.
 fn carry_out<L: Link, C: Clock, K: Sink>(

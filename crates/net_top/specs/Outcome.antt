@@ -72,7 +72,7 @@ pub record NetRow : Type 1 where
 abbrev pub serving : (seed clients turns : ℕ) → NetRow
 serving seed clients turns = record {
   done = λ m. ((o : Begun) → BeginsWith o m → Served (made seed clients 0).head turns o m.sink.new m.sent)
-    × ServedSome (made seed clients 0).head turns m.sink.old m.sink.new m.before m.sent;
+      × ServedSome (made seed clients 0).head turns m.sink.old m.sink.new m.before m.sent;
   front = λ m. (o : Begun) → BeginsWith o m → ServedFront (made seed clients 0).head turns o m.sink.new m.sent;
 }
 

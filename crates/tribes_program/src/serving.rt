@@ -122,9 +122,7 @@ pub fn carry_out<R: Threads + Wait + Sync, S: Source, L: Link, C: Clock, K: Sink
 {
     laws_of_the_program();
     match command_of(words) {
-        Ok(command) => serve(
-            rt, alloc, command, source, link, clock, judgement, sink,
-        ),
+        Ok(command) => serve(rt, alloc, command, source, link, clock, judgement, sink),
         Err(place) => Status::Usage(place),
     }
 }

@@ -40,4 +40,3 @@ pub returns-in-Some-clause-memory : goal.returns-in-Some-clause-memory
 returns-in-Some-clause-memory g c e =
     let there = memory-failed c.args.bytes.now c.replay_at.result c.replay_at.ensures.refused e in
     rw c.in-Some.is (writes (Some c.in-Some.count) c.args.bytes.now (g.K.Sink.written c.args.sink.now) (g.K.Sink.written c.replay_at.new.sink) AddsFront there (on_err c.replay_at.result fault.NoMemory e c.replay_at.ensures.front))
-
