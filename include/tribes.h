@@ -23,8 +23,8 @@
  * Threads: any number of ends may be used in any number of threads; one end in one call at a time. An end stays on the thread
  * that made it, or is handed on under a lock or by a thread's start or join.
  *
- * Memory: from malloc and free, in tribes_server, tribes_client, tribes_channel_open and tribes_timeline_open alone, freed by tribes_free,
- * tribes_channel_free and tribes_timeline_free.
+ * Memory: from malloc and free, in tribes_server, tribes_client and calls that end in _open alone, freed by tribes_free and the calls that end
+ * in _free.
  *
  * Versions: a header fits a library where tribes_version() answers TRIBES_VERSION. docs/library.md says what changes it. The version of
  * the datagrams is another thing: it stands in tribes_config, and both ends of a connection have the same. */
@@ -55,7 +55,9 @@ enum {
     TRIBES_MAX_JUDGED = 32,     /* data packets that one datagram judges */
     TRIBES_MAX_CHANGES = 128,   /* slots that one datagram changes */
     TRIBES_MAX_SHORT = 23,      /* bytes of a short event of a channel */
-    TRIBES_MAX_MESSAGE = 65535  /* bytes of a message of a channel */
+    TRIBES_MAX_MESSAGE = 65535, /* bytes of a message of a channel */
+    TRIBES_MAX_TOKEN = 256,     /* bytes of a token of who joins */
+    TRIBES_LONGEST_TAG = 16     /* bytes of a tag */
 };
 
 enum {
@@ -151,7 +153,26 @@ enum {
     TRIBES_NO_TIME = -99,
     TRIBES_TIME_GOES_BACK = -100,
     TRIBES_NOT_NEWER = -101,
-    TRIBES_NO_OFFSET = -102
+    TRIBES_NO_OFFSET = -102,
+    /* joining, and how a link goes, which tribes_why does not tell of; they answer NO_ROOM, NO_MEMORY and TIME_GOES_BACK too */
+    TRIBES_NO_DOOR = -103,
+    TRIBES_HAS_DOOR = -104,
+    TRIBES_NOBODY_ASKS = -105,
+    TRIBES_NO_SEAT = -106,
+    TRIBES_SEAT_IS_TAKEN = -107,
+    TRIBES_NO_KNOCK = -108,
+    TRIBES_TOKEN_TOO_LONG = -109,
+    TRIBES_NO_KEY = -110,
+    TRIBES_NO_TAG = -111,
+    TRIBES_WRONG_TAG = -112,
+    TRIBES_NO_PRESENCE = -113,
+    TRIBES_NO_QUALITY = -114,
+    TRIBES_HAS_QUALITY = -115,
+    TRIBES_TOO_MANY_WAIT = -116,
+    TRIBES_NOTHING_WAITS = -117,
+    TRIBES_SECOND_IS_PAST = -118,
+    TRIBES_NO_RATE = -119,
+    TRIBES_BAD_BOUNDS = -120
 };
 
 /* A handle. Fill it with zeros before the first call, and never copy it while an end is behind it. */
@@ -279,6 +300,107 @@ typedef struct tribes_offset {
     int64_t left;
 } tribes_offset;
 
+/* a protocol number, and a secret of a server, which nobody can guess */
+typedef struct tribes_digest {
+    uint8_t bytes[32];
+} tribes_digest;
+
+typedef struct tribes_secret {
+    uint8_t bytes[32];
+} tribes_secret;
+
+/* an address of IPv6 and a port; one of IPv4 is written as IPv6 writes it: ten zeros, two bytes of 255, and its four */
+typedef struct tribes_address {
+    uint8_t bytes[16];
+    uint16_t port;
+} tribes_address;
+
+/* A door's handle. Fill it with zeros before the first call, and never copy it while a door is behind it. */
+typedef struct tribes_door {
+    uint32_t state;
+    void *at;
+} tribes_door;
+
+typedef struct tribes_terms {
+    uint8_t secret[32];
+    uint8_t protocol[32];
+    uint8_t terms[32]; /* what goes with each welcome, unread */
+    uint32_t seats;
+} tribes_terms;
+
+/* a datagram of joining that is to be sent; none where count is 0 */
+typedef struct tribes_greeting {
+    uint32_t count;
+    uint8_t bytes[290];
+} tribes_greeting;
+
+/* sixteen bytes that nobody can guess, others each time */
+typedef struct tribes_nonce {
+    uint64_t low, high;
+} tribes_nonce;
+
+/* A client that joins: all zeros but for its nonce and the protocol number. It may be copied. */
+typedef struct tribes_knock {
+    tribes_nonce nonce;
+    uint8_t protocol[32];
+    uint32_t reached; /* 0: it says hello; 1: it says its answer; 2: it was let in, as `client`; 3: it was refused */
+    tribes_nonce number;
+    uint32_t client;
+    uint8_t terms[32];
+    uint8_t reason; /* 1: other version; 2: other protocol; 3: full; 4: the game does not take the token */
+} tribes_knock;
+
+/* A key of one end: all zeros is none. The game hands the same 32 bytes to both ends. */
+typedef struct tribes_key {
+    uint8_t key[32];
+    uint32_t tag_bytes; /* 8 or 16; 0: there is no key, and no datagram has a tag */
+    uint32_t side;      /* 0: the client's end; 1: the server's */
+    uint64_t refused;   /* datagrams without their tag */
+} tribes_key;
+
+/* Whether the other end is there. tribes_presence_start makes it; it may be copied. */
+typedef struct tribes_presence {
+    uint64_t limit, last;
+    uint32_t ended, leaving; /* the reason of a goodbye; 65,536: none */
+    uint32_t said;
+} tribes_presence;
+
+/* A handle of how a link goes. Fill it with zeros before the first call, and never copy it while something is behind it. */
+typedef struct tribes_quality {
+    uint32_t state;
+    void *at;
+} tribes_quality;
+
+/* the smoothed round trip, where `known` is not 0: in eighths of a millisecond, and what single ones differ by in quarters. And how many
+ * of the last 64 data packets were lost */
+typedef struct tribes_trip {
+    uint32_t known;
+    uint64_t lost, eighths, quarters;
+} tribes_trip;
+
+typedef struct tribes_traffic {
+    uint32_t datagrams, bytes;
+} tribes_traffic;
+
+/* What goes one way: all zeros at first. It may be copied. */
+typedef struct tribes_meter {
+    uint64_t second;
+    tribes_traffic current, before;
+} tribes_meter;
+
+/* of a rate, in bytes a second: least, not 0; most; what each packet that came raises it by; and the bytes that may be saved up */
+typedef struct tribes_bounds {
+    uint32_t least, most, step, burst;
+} tribes_bounds;
+
+/* How much a link may carry. tribes_rate_start makes it; it may be copied. */
+typedef struct tribes_rate {
+    tribes_bounds bounds;
+    uint64_t start;
+    uint32_t rate; /* bytes a second, now */
+    uint64_t saved, last, eased;
+} tribes_rate;
+
 /* The functions of the library. A slice crosses as its pointer and then its count. */
 int32_t tribes_server(tribes_end *end, const tribes_config *config, const tribes_kind *kinds, size_t kind_count,
                       const tribes_field *fields, size_t field_count, const uint8_t *block_bytes, size_t byte_count,
@@ -376,6 +498,58 @@ int32_t tribes_offset_corrected(tribes_offset *offset, int32_t was, int32_t is);
 int32_t tribes_offset_faded(tribes_offset *offset);
 int32_t tribes_offset_value(const tribes_offset *offset, int64_t *value);
 
+/* joining (docs/joining.md): nothing longer than what came is sent to who did not show that it reads what is sent to its address, and nothing is
+ * kept of it. Ends with other kinds, another configuration or another word have other protocol numbers, and are refused by that name.
+ * At the server, of a datagram of an address without a seat: tribes_door_hear answers 0: it is dropped; 1: it is a hello, and is challenged; 2:
+ * it is refused, and `number` is why (as `reason` of tribes_knock); 3: it is a right answer, whose bytes from 34 on are the game's token: the
+ * game calls tribes_door_accept or tribes_door_refuse; 4: it is that of the seat `number`, which is told so again. What `reply` has goes back.
+ * At the client, tribes_knock_write gives what is to be sent now, and again from time to time; tribes_knock_hear takes what came. */
+int32_t tribes_protocol(const tribes_config *config, const tribes_kind *kinds, size_t kind_count, const tribes_field *fields, size_t field_count,
+                        const uint8_t *word, size_t word_count, tribes_digest *number, tribes_reason *reason);
+int32_t tribes_door_open(tribes_door *door, const tribes_terms *terms);
+int32_t tribes_door_free(tribes_door *door);
+int32_t tribes_door_hear(tribes_door *door, const tribes_address *from, const uint8_t *bytes, size_t count, tribes_greeting *reply, uint32_t *number);
+int32_t tribes_door_accept(tribes_door *door, uint32_t client, tribes_greeting *reply);
+int32_t tribes_door_refuse(tribes_door *door, tribes_greeting *reply);
+int32_t tribes_door_leave(tribes_door *door, uint32_t client);
+int32_t tribes_door_renew(tribes_door *door, const tribes_secret *secret); /* the secret before is still taken, until the next call */
+int32_t tribes_knock_write(const tribes_knock *knock, const uint8_t *token, size_t count, tribes_greeting *datagram);
+int32_t tribes_knock_hear(tribes_knock *knock, const uint8_t *bytes, size_t count);
+
+/* tags: behind what is sent to or by a seat, before anything else reads what came. `number` is one that both ends know, as the nonce of this joining:
+ * then what was sent in another one has no right tag. tribes_tag puts the tag behind the first `count` bytes of a place of `room` bytes, and
+ * `total` bytes are to be sent; tribes_verify takes what carries its tag, whose first `count` bytes are then the datagram */
+int32_t tribes_tag(const tribes_key *key, uint64_t number, uint8_t *place, size_t room, size_t count, size_t *total);
+int32_t tribes_verify(tribes_key *key, uint64_t number, const uint8_t *bytes, size_t length, size_t *count);
+
+/* who is there: tell of each datagram that was taken; it answers 1 with the game's reason where that is a goodbye. An end that leaves sends
+ * what tribes_presence_say gives, as long as it answers 1: three goodbyes. tribes_presence_alive answers 1 while neither end said goodbye and
+ * something came within the limit, in the caller's milliseconds */
+int32_t tribes_presence_start(tribes_presence *presence, uint64_t limit, uint64_t now);
+int32_t tribes_presence_came(tribes_presence *presence, const uint8_t *bytes, size_t count, uint64_t now, uint32_t *reason);
+int32_t tribes_presence_leave(tribes_presence *presence, uint16_t reason);
+int32_t tribes_presence_say(tribes_presence *presence, tribes_greeting *datagram);
+int32_t tribes_presence_alive(const tribes_presence *presence, uint64_t now);
+
+/* how a link goes (docs/pace.md): tell of each data packet that was sent (tribes_pack answered 2) and of each verdict, in their order; a meter of
+ * each datagram that goes one way, and it tells what went in the whole second before `now` */
+int32_t tribes_quality_open(tribes_quality *quality);
+int32_t tribes_quality_free(tribes_quality *quality);
+int32_t tribes_quality_sent(tribes_quality *quality, uint64_t now);
+int32_t tribes_quality_judged(tribes_quality *quality, uint32_t received, uint64_t now);
+int32_t tribes_quality_told(tribes_quality *quality, tribes_trip *trip);
+int32_t tribes_meter_went(tribes_meter *meter, uint32_t bytes, uint64_t now);
+int32_t tribes_meter_told(const tribes_meter *meter, uint64_t now, tribes_traffic *traffic);
+
+/* how much it may carry: tell of each packet that came or was lost, and of each datagram that was sent. tribes_rate_allowed gives the bytes that
+ * the next datagram may have now; tribes_rate_wait answers 1 with the milliseconds until it may have so many, or 0: it never may */
+int32_t tribes_rate_start(tribes_rate *rate, const tribes_bounds *bounds, uint64_t now);
+int32_t tribes_rate_came(tribes_rate *rate, uint64_t now);
+int32_t tribes_rate_lost(tribes_rate *rate, uint64_t round_trip, uint64_t now);
+int32_t tribes_rate_went(tribes_rate *rate, uint32_t bytes, uint64_t now);
+int32_t tribes_rate_allowed(const tribes_rate *rate, uint64_t now, uint32_t *bytes);
+int32_t tribes_rate_wait(const tribes_rate *rate, uint32_t bytes, uint64_t now, uint64_t *wait);
+
 /* The answer in words. */
 static inline const char *tribes_text(int32_t code) {
     switch (code) {
@@ -464,6 +638,24 @@ static inline const char *tribes_text(int32_t code) {
     case TRIBES_TIME_GOES_BACK: return "a later time was told before";
     case TRIBES_NOT_NEWER: return "a packet of this or a higher number came before";
     case TRIBES_NO_OFFSET: return "no offset has these numbers";
+    case TRIBES_NO_DOOR: return "no door is behind the handle";
+    case TRIBES_HAS_DOOR: return "a door is behind the handle already";
+    case TRIBES_NOBODY_ASKS: return "nobody asks for a client";
+    case TRIBES_NO_SEAT: return "the door has no seat of this number";
+    case TRIBES_SEAT_IS_TAKEN: return "the seat is somebody's";
+    case TRIBES_NO_KNOCK: return "no client that greets has these numbers";
+    case TRIBES_TOKEN_TOO_LONG: return "the token has more than 256 bytes";
+    case TRIBES_NO_KEY: return "no key has these numbers";
+    case TRIBES_NO_TAG: return "the datagram has fewer bytes than a tag";
+    case TRIBES_WRONG_TAG: return "the tag is another datagram's, or nobody's";
+    case TRIBES_NO_PRESENCE: return "more goodbyes than there are";
+    case TRIBES_NO_QUALITY: return "no quality of a link is behind the handle";
+    case TRIBES_HAS_QUALITY: return "a quality of a link is behind the handle already";
+    case TRIBES_TOO_MANY_WAIT: return "64 packets wait for their verdicts";
+    case TRIBES_NOTHING_WAITS: return "no packet waits for its verdict";
+    case TRIBES_SECOND_IS_PAST: return "a time of a later second was told before";
+    case TRIBES_NO_RATE: return "no rate has these numbers";
+    case TRIBES_BAD_BOUNDS: return "the least rate is 0, or above the most";
     default: return code < 0 ? "unknown" : "done";
     }
 }

@@ -513,6 +513,99 @@ private:
     tribes_offset kept_;
 };
 
+/* ---- joining (docs/joining.md), and how a link goes (docs/pace.md) */
+
+using greeting = tribes_greeting;
+inline bytes bytes_of(const greeting &some) { return {some.bytes, some.count}; }
+
+/* The number of what both ends must have alike. */
+inline result<tribes_digest> protocol(const config &terms, const kinds &table, std::string_view word) {
+    tribes_digest number{};
+    tribes_reason why{};
+    bytes letters = bytes_of(word);
+    std::int32_t code = tribes_protocol(&terms, table.rows().data(), table.rows().size(), table.fields().data(), table.fields().size(), letters.data(),
+                                        letters.size(), &number, &why);
+    if (code < 0) return refusal{why.code, why.first, why.second};
+    return number;
+}
+
+/* What a door heard: as tribes_door_hear answers, with its number and what is to go back. */
+struct heard {
+    std::int32_t answer = 0;
+    std::uint32_t number = 0;
+    greeting reply{};
+};
+
+/* Who joins: the server's side. */
+class door {
+public:
+    static result<door> make(const tribes_terms &terms) {
+        door made;
+        if (std::int32_t code = tribes_door_open(&made.handle_, &terms); code < 0) return refusal{code, 0, 0};
+        return result<door>(std::move(made));
+    }
+    door(const door &) = delete;
+    door &operator=(const door &) = delete;
+    door(door &&other) noexcept : handle_(other.handle_) { other.handle_ = {}; }
+    door &operator=(door &&other) noexcept {
+        std::swap(handle_, other.handle_);
+        return *this;
+    }
+    ~door() { tribes_door_free(&handle_); }
+
+    heard hear(const tribes_address &from, bytes came) {
+        heard all;
+        all.answer = tribes_door_hear(&handle_, &from, came.data(), came.size(), &all.reply, &all.number);
+        return all;
+    }
+    result<greeting> accept(std::uint32_t client) {
+        greeting reply{};
+        std::int32_t code = tribes_door_accept(&handle_, client, &reply);
+        return by_code(code, reply);
+    }
+    result<greeting> refuse() {
+        greeting reply{};
+        std::int32_t code = tribes_door_refuse(&handle_, &reply);
+        return by_code(code, reply);
+    }
+    result<void> leave(std::uint32_t client) { return by_code(tribes_door_leave(&handle_, client)); }
+    result<void> renew(const tribes_secret &secret) { return by_code(tribes_door_renew(&handle_, &secret)); }
+
+private:
+    door() = default;
+    tribes_door handle_{};
+};
+
+/* How a link goes. A knock, a key, a presence, a meter and a rate need no class: tribes.h has their calls. */
+class quality {
+public:
+    static result<quality> make() {
+        quality made;
+        if (std::int32_t code = tribes_quality_open(&made.handle_); code < 0) return refusal{code, 0, 0};
+        return result<quality>(std::move(made));
+    }
+    quality(const quality &) = delete;
+    quality &operator=(const quality &) = delete;
+    quality(quality &&other) noexcept : handle_(other.handle_) { other.handle_ = {}; }
+    quality &operator=(quality &&other) noexcept {
+        std::swap(handle_, other.handle_);
+        return *this;
+    }
+    ~quality() { tribes_quality_free(&handle_); }
+
+    result<void> sent(std::uint64_t now) { return by_code(tribes_quality_sent(&handle_, now)); }
+    result<void> judged(bool received, std::uint64_t now) { return by_code(tribes_quality_judged(&handle_, received, now)); }
+    tribes_trip trip() {
+        tribes_trip all{};
+        tribes_quality_told(&handle_, &all);
+        return all;
+    }
+
+private:
+    quality() = default;
+    tribes_quality handle_{};
+};
+
 /* Fields side by side as one number, the first in its lowest bits. */
 inline result<std::uint64_t> put_bits(span<const std::uint32_t> widths, span<const std::uint64_t> values) {
     std::uint64_t bits = 0;

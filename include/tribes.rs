@@ -21,6 +21,10 @@ const MAX_FIELDS: usize = 16;
 pub const MAX_SHORT: usize = 23;
 /// Bytes of a message of a channel at the most.
 pub const MAX_MESSAGE: usize = 65_535;
+/// Bytes of a token of who joins at the most.
+pub const MAX_TOKEN: usize = 256;
+/// Bytes of a tag at the most.
+pub const LONGEST_TAG: usize = 16;
 /// Bits of a move at the most.
 pub const MAX_MOVE_BITS: usize = 64;
 const MAX_MOVES: usize = 32;
@@ -298,6 +302,24 @@ pub fn words(code: i32) -> &'static str {
         -100 => "a later time was told before",
         -101 => "a packet of this or a higher number came before",
         -102 => "no offset has these numbers",
+        -103 => "no door is behind the handle",
+        -104 => "a door is behind the handle already",
+        -105 => "nobody asks for a client",
+        -106 => "the door has no seat of this number",
+        -107 => "the seat is somebody's",
+        -108 => "no client that greets has these numbers",
+        -109 => "the token has more than 256 bytes",
+        -110 => "no key has these numbers",
+        -111 => "the datagram has fewer bytes than a tag",
+        -112 => "the tag is another datagram's, or nobody's",
+        -113 => "more goodbyes than there are",
+        -114 => "no quality of a link is behind the handle",
+        -115 => "a quality of a link is behind the handle already",
+        -116 => "64 packets wait for their verdicts",
+        -117 => "no packet waits for its verdict",
+        -118 => "a time of a later second was told before",
+        -119 => "no rate has these numbers",
+        -120 => "the least rate is 0, or above the most",
         0.. => "done",
         _ => "unknown",
     }
@@ -394,6 +416,150 @@ struct TimelineHandle {
     at: *mut c_void,
 }
 
+/// A protocol number.
+#[repr(C)]
+#[derive(Clone, Copy, Debug, Default, PartialEq, Eq)]
+pub struct Digest {
+    pub bytes: [u8; 32],
+}
+
+/// A secret of a server, which nobody can guess.
+#[repr(C)]
+#[derive(Clone, Copy)]
+pub struct Secret {
+    pub bytes: [u8; 32],
+}
+
+/// An address of IPv6 and a port; one of IPv4 is written as IPv6 writes it.
+#[repr(C)]
+#[derive(Clone, Copy, Debug, PartialEq, Eq)]
+pub struct Address {
+    pub bytes: [u8; 16],
+    pub port: u16,
+}
+
+#[repr(C)]
+struct DoorHandle {
+    state: u32,
+    at: *mut c_void,
+}
+
+/// What a door is made with; `terms` go with each welcome, unread.
+#[repr(C)]
+#[derive(Clone, Copy)]
+pub struct Terms {
+    pub secret: [u8; 32],
+    pub protocol: [u8; 32],
+    pub terms: [u8; 32],
+    pub seats: u32,
+}
+
+/// A datagram of joining that is to be sent; none where `count` is 0.
+#[repr(C)]
+#[derive(Clone, Copy, Debug)]
+pub struct Greeting {
+    count: u32,
+    bytes: [u8; 290],
+}
+
+/// Sixteen bytes that nobody can guess, others each time.
+#[repr(C)]
+#[derive(Clone, Copy, Debug, Default, PartialEq, Eq)]
+pub struct Nonce {
+    pub low: u64,
+    pub high: u64,
+}
+
+/// A client that joins.
+#[repr(C)]
+#[derive(Clone, Copy, Debug)]
+pub struct Knock {
+    nonce: Nonce,
+    protocol: [u8; 32],
+    reached: u32,
+    number: Nonce,
+    client: u32,
+    terms: [u8; 32],
+    reason: u8,
+}
+
+/// A key of one end: the same 32 bytes at both, which nobody else has. Without one no datagram has a tag.
+#[repr(C)]
+#[derive(Clone, Copy)]
+pub struct Key {
+    key: [u8; 32],
+    tag_bytes: u32,
+    side: u32,
+    refused: u64,
+}
+
+/// Whether the other end is there.
+#[repr(C)]
+#[derive(Clone, Copy, Debug)]
+pub struct Presence {
+    limit: u64,
+    last: u64,
+    ended: u32,
+    leaving: u32,
+    said: u32,
+}
+
+#[repr(C)]
+struct QualityHandle {
+    state: u32,
+    at: *mut c_void,
+}
+
+/// The smoothed round trip, where `known` is not 0: in eighths of a millisecond, and what single ones differ by in quarters. And how many of the
+/// last 64 data packets were lost.
+#[repr(C)]
+#[derive(Clone, Copy, Debug, Default, PartialEq, Eq)]
+pub struct Trip {
+    pub known: u32,
+    pub lost: u64,
+    pub eighths: u64,
+    pub quarters: u64,
+}
+
+/// What went one way in a second.
+#[repr(C)]
+#[derive(Clone, Copy, Debug, Default, PartialEq, Eq)]
+pub struct Traffic {
+    pub datagrams: u32,
+    pub bytes: u32,
+}
+
+/// What goes one way.
+#[repr(C)]
+#[derive(Clone, Copy, Debug, Default)]
+pub struct Meter {
+    second: u64,
+    current: Traffic,
+    before: Traffic,
+}
+
+/// Of a rate, in bytes a second: the least, not 0; the most; what each packet that came raises it by; and the bytes that may be saved up.
+#[repr(C)]
+#[derive(Clone, Copy, Debug)]
+pub struct Bounds {
+    pub least: u32,
+    pub most: u32,
+    pub step: u32,
+    pub burst: u32,
+}
+
+/// How much a link may carry.
+#[repr(C)]
+#[derive(Clone, Copy, Debug)]
+pub struct Rate {
+    bounds: Bounds,
+    start: u64,
+    rate: u32,
+    saved: u64,
+    last: u64,
+    eased: u64,
+}
+
 #[rustfmt::skip]
 unsafe extern "C" {
     fn tribes_server(
@@ -452,6 +618,41 @@ unsafe extern "C" {
     fn tribes_offset_corrected(offset: *mut Offset, was: i32, is: i32) -> i32;
     fn tribes_offset_faded(offset: *mut Offset) -> i32;
     fn tribes_offset_value(offset: *const Offset, value: *mut i64) -> i32;
+    fn tribes_protocol(
+        config: *const Config, kinds: *const Kind, kind_count: usize, fields: *const Field, field_count: usize,
+        word: *const u8, word_count: usize, number: *mut Digest, reason: *mut Error,
+    ) -> i32;
+    fn tribes_door_open(door: *mut DoorHandle, terms: *const Terms) -> i32;
+    fn tribes_door_free(door: *mut DoorHandle) -> i32;
+    fn tribes_door_hear(
+        door: *mut DoorHandle, from: *const Address, bytes: *const u8, count: usize, reply: *mut Greeting, number: *mut u32,
+    ) -> i32;
+    fn tribes_door_accept(door: *mut DoorHandle, client: u32, reply: *mut Greeting) -> i32;
+    fn tribes_door_refuse(door: *mut DoorHandle, reply: *mut Greeting) -> i32;
+    fn tribes_door_leave(door: *mut DoorHandle, client: u32) -> i32;
+    fn tribes_door_renew(door: *mut DoorHandle, secret: *const Secret) -> i32;
+    fn tribes_knock_write(knock: *const Knock, token: *const u8, count: usize, datagram: *mut Greeting) -> i32;
+    fn tribes_knock_hear(knock: *mut Knock, bytes: *const u8, count: usize) -> i32;
+    fn tribes_tag(key: *const Key, number: u64, place: *mut u8, room: usize, count: usize, total: *mut usize) -> i32;
+    fn tribes_verify(key: *mut Key, number: u64, bytes: *const u8, length: usize, count: *mut usize) -> i32;
+    fn tribes_presence_start(presence: *mut Presence, limit: u64, now: u64) -> i32;
+    fn tribes_presence_came(presence: *mut Presence, bytes: *const u8, count: usize, now: u64, reason: *mut u32) -> i32;
+    fn tribes_presence_leave(presence: *mut Presence, reason: u16) -> i32;
+    fn tribes_presence_say(presence: *mut Presence, datagram: *mut Greeting) -> i32;
+    fn tribes_presence_alive(presence: *const Presence, now: u64) -> i32;
+    fn tribes_quality_open(quality: *mut QualityHandle) -> i32;
+    fn tribes_quality_free(quality: *mut QualityHandle) -> i32;
+    fn tribes_quality_sent(quality: *mut QualityHandle, now: u64) -> i32;
+    fn tribes_quality_judged(quality: *mut QualityHandle, received: u32, now: u64) -> i32;
+    fn tribes_quality_told(quality: *mut QualityHandle, trip: *mut Trip) -> i32;
+    fn tribes_meter_went(meter: *mut Meter, bytes: u32, now: u64) -> i32;
+    fn tribes_meter_told(meter: *const Meter, now: u64, traffic: *mut Traffic) -> i32;
+    fn tribes_rate_start(rate: *mut Rate, bounds: *const Bounds, now: u64) -> i32;
+    fn tribes_rate_came(rate: *mut Rate, now: u64) -> i32;
+    fn tribes_rate_lost(rate: *mut Rate, round_trip: u64, now: u64) -> i32;
+    fn tribes_rate_went(rate: *mut Rate, bytes: u32, now: u64) -> i32;
+    fn tribes_rate_allowed(rate: *const Rate, now: u64, bytes: *mut u32) -> i32;
+    fn tribes_rate_wait(rate: *const Rate, bytes: u32, now: u64, wait: *mut u64) -> i32;
 }
 
 /// The version of the interface that the library has: it fits where this is `VERSION`.
@@ -864,5 +1065,310 @@ impl Offset {
         let mut value = 0;
         by_code(unsafe { tribes_offset_value(self, &mut value) })?;
         Ok(value)
+    }
+}
+
+/// The number of what both ends must have alike: a configuration but for its client, the kinds, and a word of the game's own.
+pub fn protocol(config: &Config, kinds: &[Kind], fields: &[Field], word: &[u8]) -> Result<Digest, Error> {
+    let (mut number, mut error) = (Digest::default(), Error::default());
+    let code = unsafe {
+        tribes_protocol(
+            config, kinds.as_ptr(), kinds.len(), fields.as_ptr(), fields.len(), word.as_ptr(), word.len(), &mut number, &mut error,
+        )
+    };
+    if code < 0 { Err(error) } else { Ok(number) }
+}
+
+impl From<std::net::SocketAddr> for Address {
+    fn from(at: std::net::SocketAddr) -> Address {
+        let bytes = match at.ip() {
+            std::net::IpAddr::V4(ip) => ip.to_ipv6_mapped().octets(),
+            std::net::IpAddr::V6(ip) => ip.octets(),
+        };
+        Address { bytes, port: at.port() }
+    }
+}
+
+impl Greeting {
+    const NONE: Greeting = Greeting { count: 0, bytes: [0; 290] };
+
+    /// The bytes that are to be sent.
+    pub fn bytes(&self) -> &[u8] {
+        &self.bytes[..self.count as usize]
+    }
+}
+
+/// Why a client is not let in.
+#[derive(Clone, Copy, Debug, PartialEq, Eq)]
+pub enum Reason {
+    OtherVersion,
+    OtherProtocol,
+    Full,
+    TokenRefused,
+}
+
+impl Reason {
+    fn of(number: u32) -> Reason {
+        [Reason::OtherVersion, Reason::OtherProtocol, Reason::Full, Reason::TokenRefused][(number as usize).clamp(1, 4) - 1]
+    }
+}
+
+/// What is done with a datagram of who has no seat.
+#[derive(Clone, Copy, Debug, PartialEq, Eq)]
+pub enum Heard {
+    Dropped,
+    Challenged,
+    Refused(Reason),
+    /// A right answer, whose bytes from 34 on are the game's token: the game accepts or refuses.
+    Asks,
+    /// That of who has this seat, which is told so again.
+    Again(u32),
+}
+
+/// Who joins: the server's side.
+pub struct Door(DoorHandle);
+
+// SAFETY: as of an end.
+unsafe impl Send for Door {}
+
+// SAFETY, of each call: as of an end.
+impl Door {
+    pub fn new(terms: &Terms) -> Result<Door, Error> {
+        let mut made = DoorHandle { state: 0, at: core::ptr::null_mut() };
+        by_code(unsafe { tribes_door_open(&mut made, terms) })?;
+        Ok(Door(made))
+    }
+
+    /// A datagram came from an address without a seat; what is to go back there.
+    pub fn hear(&mut self, from: &Address, bytes: &[u8]) -> (Heard, Greeting) {
+        let (mut reply, mut number) = (Greeting::NONE, 0);
+        let heard = match unsafe { tribes_door_hear(&mut self.0, from, bytes.as_ptr(), bytes.len(), &mut reply, &mut number) } {
+            1 => Heard::Challenged,
+            2 => Heard::Refused(Reason::of(number)),
+            3 => Heard::Asks,
+            4 => Heard::Again(number),
+            _ => Heard::Dropped,
+        };
+        (heard, reply)
+    }
+
+    /// Who asks has this client from now on; what is to go to its address.
+    pub fn accept(&mut self, client: u32) -> Result<Greeting, Error> {
+        let mut reply = Greeting::NONE;
+        by_code(unsafe { tribes_door_accept(&mut self.0, client, &mut reply) }).map(|_| reply)
+    }
+
+    /// The game does not take the token of who asks; what is to go to its address.
+    pub fn refuse(&mut self) -> Result<Greeting, Error> {
+        let mut reply = Greeting::NONE;
+        by_code(unsafe { tribes_door_refuse(&mut self.0, &mut reply) }).map(|_| reply)
+    }
+
+    /// A client left: its seat is free.
+    pub fn leave(&mut self, client: u32) {
+        let _ = unsafe { tribes_door_leave(&mut self.0, client) };
+    }
+
+    /// Another secret. The one before is still taken, until the next one.
+    pub fn renew(&mut self, secret: &Secret) {
+        let _ = unsafe { tribes_door_renew(&mut self.0, secret) };
+    }
+}
+
+impl Drop for Door {
+    fn drop(&mut self) {
+        let _ = unsafe { tribes_door_free(&mut self.0) };
+    }
+}
+
+/// How far a client is that joins.
+#[derive(Clone, Copy, Debug, PartialEq, Eq)]
+pub enum Reached {
+    Asking,
+    Answering,
+    Joined { client: u32, terms: [u8; 32] },
+    Refused(Reason),
+}
+
+impl Knock {
+    pub fn new(nonce: Nonce, protocol: Digest) -> Knock {
+        Knock { nonce, protocol: protocol.bytes, reached: 0, number: Nonce::default(), client: 0, terms: [0; 32], reason: 0 }
+    }
+
+    pub fn reached(&self) -> Reached {
+        match self.reached {
+            1 => Reached::Answering,
+            2 => Reached::Joined { client: self.client, terms: self.terms },
+            3 => Reached::Refused(Reason::of(self.reason as u32)),
+            _ => Reached::Asking,
+        }
+    }
+
+    /// What is to be sent now, and again from time to time: no bytes once it was let in or refused.
+    pub fn write(&self, token: &[u8]) -> Result<Greeting, Error> {
+        let mut datagram = Greeting::NONE;
+        by_code(unsafe { tribes_knock_write(self, token.as_ptr(), token.len(), &mut datagram) }).map(|_| datagram)
+    }
+
+    /// A datagram came from the server. What is none of this joining changes nothing.
+    pub fn hear(&mut self, bytes: &[u8]) {
+        let _ = unsafe { tribes_knock_hear(self, bytes.as_ptr(), bytes.len()) };
+    }
+}
+
+impl Key {
+    /// No key: no datagram has a tag.
+    pub const NONE: Key = Key { key: [0; 32], tag_bytes: 0, side: 0, refused: 0 };
+
+    /// With tags of 8 or 16 bytes.
+    pub fn client(key: [u8; 32], tag_bytes: u32) -> Key {
+        Key { key, tag_bytes, side: 0, refused: 0 }
+    }
+
+    /// With tags of 8 or 16 bytes.
+    pub fn server(key: [u8; 32], tag_bytes: u32) -> Key {
+        Key { key, tag_bytes, side: 1, refused: 0 }
+    }
+
+    /// Puts the tag behind the first `count` bytes of a place; all that is to be sent.
+    pub fn tag<'a>(&self, number: u64, place: &'a mut [u8], count: usize) -> Result<&'a [u8], Error> {
+        let mut total = 0;
+        by_code(unsafe { tribes_tag(self, number, place.as_mut_ptr(), place.len(), count, &mut total) })?;
+        Ok(&place[..total])
+    }
+
+    /// What was tagged, if it carries the other end's tag.
+    pub fn verify<'a>(&mut self, number: u64, bytes: &'a [u8]) -> Result<&'a [u8], Error> {
+        let mut count = 0;
+        by_code(unsafe { tribes_verify(self, number, bytes.as_ptr(), bytes.len(), &mut count) })?;
+        Ok(&bytes[..count])
+    }
+
+    /// How many datagrams were refused.
+    pub fn refused(&self) -> u64 {
+        self.refused
+    }
+}
+
+impl Presence {
+    /// The other end was heard `now`, and is given up after `limit` milliseconds without a datagram.
+    pub fn new(limit: u64, now: u64) -> Presence {
+        let mut made = Presence { limit, last: now, ended: 0, leaving: 0, said: 0 };
+        let _ = unsafe { tribes_presence_start(&mut made, limit, now) };
+        made
+    }
+
+    /// A datagram of it was taken; its reason where that is a goodbye.
+    pub fn came(&mut self, bytes: &[u8], now: u64) -> Option<u16> {
+        let mut reason = 0;
+        let code = unsafe { tribes_presence_came(self, bytes.as_ptr(), bytes.len(), now, &mut reason) };
+        (code == 1).then_some(reason as u16)
+    }
+
+    /// This end leaves.
+    pub fn leave(&mut self, reason: u16) {
+        let _ = unsafe { tribes_presence_leave(self, reason) };
+    }
+
+    /// The goodbye that is to be sent next: three of them once this end leaves.
+    pub fn say(&mut self) -> Option<Greeting> {
+        let mut datagram = Greeting::NONE;
+        let code = unsafe { tribes_presence_say(self, &mut datagram) };
+        (code == 1).then_some(datagram)
+    }
+
+    pub fn is_alive(&self, now: u64) -> bool {
+        unsafe { tribes_presence_alive(self, now) == 1 }
+    }
+}
+
+/// How a link goes.
+pub struct Quality(QualityHandle);
+
+// SAFETY: as of an end.
+unsafe impl Send for Quality {}
+
+// SAFETY, of each call: as of an end.
+impl Quality {
+    pub fn new() -> Result<Quality, Error> {
+        let mut made = QualityHandle { state: 0, at: core::ptr::null_mut() };
+        by_code(unsafe { tribes_quality_open(&mut made) })?;
+        Ok(Quality(made))
+    }
+
+    /// A data packet was sent.
+    pub fn sent(&mut self, now: u64) -> Result<(), Error> {
+        by_code(unsafe { tribes_quality_sent(&mut self.0, now) }).map(|_| ())
+    }
+
+    /// The oldest packet that waits came, or was lost.
+    pub fn judged(&mut self, received: bool, now: u64) -> Result<(), Error> {
+        by_code(unsafe { tribes_quality_judged(&mut self.0, received as u32, now) }).map(|_| ())
+    }
+
+    pub fn trip(&mut self) -> Trip {
+        let mut trip = Trip::default();
+        let _ = unsafe { tribes_quality_told(&mut self.0, &mut trip) };
+        trip
+    }
+}
+
+impl Drop for Quality {
+    fn drop(&mut self) {
+        let _ = unsafe { tribes_quality_free(&mut self.0) };
+    }
+}
+
+impl Meter {
+    /// A datagram went.
+    pub fn went(&mut self, bytes: u32, now: u64) -> Result<(), Error> {
+        by_code(unsafe { tribes_meter_went(self, bytes, now) }).map(|_| ())
+    }
+
+    /// What went in the whole second before.
+    pub fn told(&self, now: u64) -> Result<Traffic, Error> {
+        let mut traffic = Traffic::default();
+        by_code(unsafe { tribes_meter_told(self, now, &mut traffic) }).map(|_| traffic)
+    }
+}
+
+impl Rate {
+    pub fn new(bounds: Bounds, now: u64) -> Result<Rate, Error> {
+        let mut rate = Rate { bounds, start: 0, rate: 0, saved: 0, last: 0, eased: 0 };
+        by_code(unsafe { tribes_rate_start(&mut rate, &bounds, now) })?;
+        Ok(rate)
+    }
+
+    /// A packet came.
+    pub fn came(&mut self, now: u64) -> Result<(), Error> {
+        by_code(unsafe { tribes_rate_came(self, now) }).map(|_| ())
+    }
+
+    /// A packet was lost, while a round trip takes so many milliseconds.
+    pub fn lost(&mut self, round_trip: u64, now: u64) -> Result<(), Error> {
+        by_code(unsafe { tribes_rate_lost(self, round_trip, now) }).map(|_| ())
+    }
+
+    /// A datagram was sent.
+    pub fn went(&mut self, bytes: u32, now: u64) -> Result<(), Error> {
+        by_code(unsafe { tribes_rate_went(self, bytes, now) }).map(|_| ())
+    }
+
+    /// Bytes that the next datagram may have now.
+    pub fn allowed(&self, now: u64) -> Result<u32, Error> {
+        let mut bytes = 0;
+        by_code(unsafe { tribes_rate_allowed(self, now, &mut bytes) }).map(|_| bytes)
+    }
+
+    /// Milliseconds until it may have so many; None: never.
+    pub fn wait(&self, bytes: u32, now: u64) -> Result<Option<u64>, Error> {
+        let mut wait = 0;
+        let code = by_code(unsafe { tribes_rate_wait(self, bytes, now, &mut wait) })?;
+        Ok((code == 1).then_some(wait))
+    }
+
+    /// Bytes a second, now.
+    pub fn bytes_a_second(&self) -> u32 {
+        self.rate
     }
 }

@@ -45,6 +45,133 @@ static void without_end(const char *what, tribes_end *end) {
     for (size_t k = 0; k < sizeof codes / sizeof *codes; k++) is(what, codes[k], TRIBES_NO_END);
 }
 
+/* a door and a knock: each handle, each order of calls, any numbers */
+static void joins(void) {
+    tribes_door door = {0}, none = {0}, junk = {12345, (void *)8}, *closed[] = {&none, &junk, &door};
+    tribes_terms terms = {.seats = 1};
+    tribes_address from = {{0}, 1};
+    tribes_greeting place = {0};
+    tribes_secret secret = {{0}};
+    tribes_knock knock = {.reached = 4};
+    uint8_t bytes[300] = {0};
+    uint32_t n = 0;
+    is("door", tribes_door_open(&door, &terms), 0);
+    is("door again", tribes_door_open(&door, &terms), TRIBES_HAS_DOOR);
+    is("nobody asks", tribes_door_accept(&door, 0, &place), TRIBES_NOBODY_ASKS);
+    is("nobody asks", tribes_door_refuse(&door, &place), TRIBES_NOBODY_ASKS);
+    is("nobody leaves", tribes_door_leave(&door, 0xffffffffu), 0);
+    is("no knock", tribes_knock_hear(&knock, bytes, 0), TRIBES_NO_KNOCK);
+    knock = (tribes_knock){.reached = 3, .reason = 5};
+    is("no reason", tribes_knock_write(&knock, bytes, 0, &place), TRIBES_NO_KNOCK);
+    knock = (tribes_knock){.nonce = {1, 2}};
+    is("long token", tribes_knock_write(&knock, bytes, 257, &place), TRIBES_TOKEN_TOO_LONG);
+    is("hello", tribes_knock_write(&knock, bytes, 256, &place), 0);
+    is("challenged", tribes_door_hear(&door, &from, place.bytes, place.count, &place, &n), 1);
+    is("shorter", (int32_t)place.count, 34);
+    is("challenge", tribes_knock_hear(&knock, place.bytes, place.count), 0);
+    is("answer", tribes_knock_write(&knock, bytes, 256, &place), 0);
+    from.port = 2;
+    is("from elsewhere", tribes_door_hear(&door, &from, place.bytes, place.count, &place, &n), 0);
+    is("nothing goes back", (int32_t)place.count, 0);
+    from.port = 1;
+    tribes_knock_write(&knock, bytes, 256, &place);
+    is("asks", tribes_door_hear(&door, &from, place.bytes, place.count, &place, &n), 3);
+    is("no seat", tribes_door_accept(&door, 1, &place), TRIBES_NO_SEAT);
+    is("accept", tribes_door_accept(&door, 0, &place), 0);
+    is("accept again", tribes_door_accept(&door, 0, &place), TRIBES_NOBODY_ASKS);
+    is("welcome", tribes_knock_hear(&knock, place.bytes, place.count), 0);
+    is("joined", (int32_t)knock.reached, 2);
+    is("free", tribes_door_free(&door), 0);
+    for (int k = 0; k < 3; k++) {
+        is("closed", tribes_door_hear(closed[k], &from, bytes, 50, &place, &n), TRIBES_NO_DOOR);
+        is("closed", tribes_door_accept(closed[k], 0, &place), TRIBES_NO_DOOR);
+        is("closed", tribes_door_refuse(closed[k], &place), TRIBES_NO_DOOR);
+        is("closed", tribes_door_leave(closed[k], 0), TRIBES_NO_DOOR);
+        is("closed", tribes_door_renew(closed[k], &secret), TRIBES_NO_DOOR);
+        is("closed", tribes_door_free(closed[k]), TRIBES_NO_DOOR);
+    }
+}
+
+/* keys, who is there, and how a link goes: any numbers */
+static void cares(void) {
+    tribes_key key = {.tag_bytes = 7}, none = {0};
+    tribes_presence presence = {.said = 4};
+    tribes_greeting place = {0};
+    tribes_quality quality = {0}, junk = {12345, (void *)8};
+    tribes_trip trip;
+    tribes_rate rate = {0};
+    tribes_bounds bounds = {2, 1, 1, 1};
+    uint8_t bytes[300] = {0};
+    uint32_t n = 0;
+    uint64_t wait;
+    size_t count = 0;
+    is("no key", tribes_tag(&key, 0, bytes, 300, 1, &count), TRIBES_NO_KEY);
+    is("no key", tribes_verify(&key, 0, bytes, 300, &count), TRIBES_NO_KEY);
+    key = (tribes_key){.tag_bytes = 8, .side = 2};
+    is("no side", tribes_tag(&key, 0, bytes, 300, 1, &count), TRIBES_NO_KEY);
+    key.side = 1;
+    is("no room", tribes_tag(&key, 0, bytes, 300, 293, &count), TRIBES_NO_ROOM);
+    is("no room", tribes_tag(&key, 0, bytes, 300, SIZE_MAX, &count), TRIBES_NO_ROOM);
+    is("no room", tribes_tag(&none, 0, bytes, 300, 301, &count), TRIBES_NO_ROOM);
+    is("room", tribes_tag(&key, 0, bytes, 300, 292, &count), 0);
+    is("no tag", tribes_verify(&key, 0, bytes, 7, &count), TRIBES_NO_TAG);
+    is("reflected", tribes_verify(&key, 0, bytes, 300, &count), TRIBES_WRONG_TAG);
+    is("counted", (int32_t)key.refused, 2);
+    is("without a key", tribes_verify(&none, 0, bytes, 300, &count), 0);
+    is("all of it", (int32_t)count, 300);
+    is("fourth goodbye", tribes_presence_came(&presence, bytes, 4, 0, &n), TRIBES_NO_PRESENCE);
+    is("fourth goodbye", tribes_presence_say(&presence, &place), TRIBES_NO_PRESENCE);
+    is("fourth goodbye", tribes_presence_leave(&presence, 1), TRIBES_NO_PRESENCE);
+    is("fourth goodbye", tribes_presence_alive(&presence, 1), TRIBES_NO_PRESENCE);
+    is("start", tribes_presence_start(&presence, 10, 5), 0);
+    is("alive", tribes_presence_alive(&presence, 15), 1);
+    is("gone", tribes_presence_alive(&presence, 16), 0);
+    is("no quality", tribes_quality_sent(&junk, 0), TRIBES_NO_QUALITY);
+    is("no quality", tribes_quality_told(&quality, &trip), TRIBES_NO_QUALITY);
+    is("quality", tribes_quality_open(&quality), 0);
+    is("nothing waits", tribes_quality_judged(&quality, 1, 5), TRIBES_NOTHING_WAITS);
+    for (int k = 0; k < 64; k++) is("sent", tribes_quality_sent(&quality, 5), 0);
+    is("64 wait", tribes_quality_sent(&quality, 5), TRIBES_TOO_MANY_WAIT);
+    is("back", tribes_quality_judged(&quality, 1, 4), TRIBES_TIME_GOES_BACK);
+    is("judged", tribes_quality_judged(&quality, 1, 25), 0);
+    is("told", tribes_quality_told(&quality, &trip), 0);
+    is("20 milliseconds", (int32_t)trip.eighths, 160);
+    is("free", tribes_quality_free(&quality), 0);
+    is("free again", tribes_quality_free(&quality), TRIBES_NO_QUALITY);
+    is("no rate", tribes_rate_came(&rate, 0), TRIBES_NO_RATE);
+    is("no rate", tribes_rate_wait(&rate, 0, 0, &wait), TRIBES_NO_RATE);
+    is("bounds", tribes_rate_start(&rate, &bounds, 0), TRIBES_BAD_BOUNDS);
+}
+
+/* what the caller keeps, of any bytes: each call answers, and none stops the program */
+static void any_bytes(long times) {
+    static union { uint32_t words[64]; tribes_knock knock; tribes_key key; tribes_presence presence; tribes_meter meter; tribes_rate rate; } any;
+    tribes_greeting place = {0};
+    tribes_traffic traffic;
+    uint8_t bytes[300];
+    for (; times > 0; times--) {
+        for (size_t k = 0; k < 64; k++) any.words[k] = draw() % 3 ? draw() : draw() % 5;
+        for (size_t k = 0; k < sizeof bytes; k++) bytes[k] = (uint8_t)draw();
+        uint32_t n = draw() % 300;
+        uint64_t wait;
+        size_t count = 0;
+        tribes_knock_hear(&any.knock, bytes, n);
+        tribes_knock_write(&any.knock, bytes, n, &place);
+        tribes_tag(&any.key, draw(), bytes, sizeof bytes, n, &count);
+        tribes_verify(&any.key, draw(), bytes, n, &count);
+        tribes_presence_came(&any.presence, bytes, n % 5, draw(), &n);
+        tribes_presence_say(&any.presence, &place);
+        tribes_presence_alive(&any.presence, draw());
+        tribes_meter_went(&any.meter, draw(), draw());
+        tribes_meter_told(&any.meter, draw(), &traffic);
+        tribes_rate_came(&any.rate, draw());
+        tribes_rate_lost(&any.rate, draw(), draw());
+        tribes_rate_went(&any.rate, draw(), draw());
+        tribes_rate_allowed(&any.rate, draw(), &n);
+        tribes_rate_wait(&any.rate, draw(), draw(), &wait);
+    }
+}
+
 int main(int argc, char **argv) {
     long datagrams = argc > 1 ? atol(argv[1]) : 500000;
     tribes_config config = {0, 100, 128, 1, 0};
@@ -182,6 +309,9 @@ int main(int argc, char **argv) {
     is("free again", tribes_free(&server), TRIBES_NO_END);
     without_end("freed", &server);
     is("free", tribes_free(&client), 0);
+    joins();
+    cares();
+    any_bytes(datagrams / 10);
     printf("%d checks, %d wrong; random datagrams: %ld refused, %ld taken\n", checks, wrong, refused, taken);
     return wrong != 0;
 }

@@ -6,15 +6,19 @@ use crate::words::{Sixteen, sixteen_at};
 use arrayvec::ArrayVec;
 use std::marker::Model;
 
-/// The first byte of each. Its two lowest bits are set, which they are in no packet of a connection.
+/// The first byte of a hello. The two lowest bits of each first byte are set, which they are in no packet of a connection.
 pub const HELLO: u8 = 3;
 
+/// The first byte of a challenge.
 pub const CHALLENGE: u8 = 7;
 
+/// The first byte of an answer.
 pub const ANSWER: u8 = 11;
 
+/// The first byte of a welcome.
 pub const WELCOME: u8 = 15;
 
+/// The first byte of a refusal.
 pub const REFUSAL: u8 = 19;
 
 /// The second byte of each.
@@ -29,15 +33,19 @@ pub const TERMS_BYTES: usize = 32;
 /// The most bytes of a token.
 pub const MAX_TOKEN_BYTES: usize = 256;
 
-/// So many bytes have they; an answer without its token.
+/// So many bytes has a hello.
 pub const HELLO_BYTES: usize = 50;
 
+/// So many bytes has a challenge.
 pub const CHALLENGE_BYTES: usize = 34;
 
+/// So many bytes has an answer before its token.
 pub const ANSWER_BYTES: usize = 34;
 
+/// So many bytes has a welcome.
 pub const WELCOME_BYTES: usize = 54;
 
+/// So many bytes has a refusal.
 pub const REFUSAL_BYTES: usize = 19;
 
 /// No datagram of a greeting is longer.
@@ -57,8 +65,8 @@ pub enum Reason {
 }
 
 impl Reason {
-    // What tells it in a refusal.
-    fn byte(self) -> u8
+    /// The number that tells it in a refusal.
+    pub fn byte(self) -> u8
         ensures { result ≡ reason_byte self }
     {
         match self {
@@ -69,8 +77,8 @@ impl Reason {
         }
     }
 
-    // The reason that a byte tells.
-    pub(crate) fn of(byte: u8) -> Option<Reason>
+    /// The reason that a number tells.
+    pub fn of(byte: u8) -> Option<Reason>
         ensures { result ≡ reason_of byte }
     {
         match byte {
@@ -164,7 +172,8 @@ impl GreetingBytes {
 
     /// The bytes, lent.
     pub fn as_slice(&self) -> &[u8]
-        ensures { result.now ≡ self.now }
+        ensures bytes { result.now ≡ self.now }
+        ensures few { length result.now ≤ MAX_GREETING_BYTES }
     {
         self.bytes.as_slice()
     }

@@ -73,6 +73,17 @@ impl Knock {
         }
     }
 
+    /// A client that is so far, for callers that keep what it has themselves.
+    pub fn at(nonce: Sixteen, protocol: [u8; PROTOCOL_BYTES], reached: Reached) -> Knock
+        ensures { result ≡ record { nonce = nonce; protocol = protocol; reached = reached } }
+    {
+        Knock {
+            nonce,
+            protocol,
+            reached,
+        }
+    }
+
     /// How far it is.
     pub fn reached(&self) -> Reached
         ensures { result ≡ self.now.reached }

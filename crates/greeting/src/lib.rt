@@ -7,7 +7,9 @@ mod knock;
 mod laws;
 mod words;
 
-pub use datagrams::{GreetingBytes, Reason};
+pub use datagrams::{
+    GreetingBytes, MAX_GREETING_BYTES, MAX_TOKEN_BYTES, PROTOCOL_BYTES, Reason, TERMS_BYTES,
+};
 pub use door::{AcceptFault, Door, Guest, Heard};
 pub use knock::{Knock, Reached};
 pub use laws::{answer_is_right, challenge_is_taken, hello_is_challenged};

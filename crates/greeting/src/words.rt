@@ -38,6 +38,7 @@ impl Address {
 }
 
 /// Sixteen bytes: the nonce of a client, or the number of a challenge.
+#[repr(C)]
 #[derive(Clone, Copy)]
 pub struct Sixteen {
     /// The first eight, of which the first is the least.

@@ -1,9 +1,9 @@
 //! Codes from outside: RFC 4231 has those of a key, and Python's `hmac` and `hashlib` gave the others.
 
+use datagram_tags::{KeyedEnd, Side, TagBytes, TagFault};
 use keyed_digest::keyed_digest;
 use protocol_number::{Protocol, protocol_number};
 use quantised_fields::{FieldSpec, Kind, KindTable};
-use seal::{Seal, SealFault, Side, TagBytes};
 use std::test::Fail;
 
 // Test case 1.
@@ -41,29 +41,29 @@ fn digests_are_the_published_ones(rt: HostRuntime) {
 
 #[test]
 fn tag_stands_behind_and_any_other_is_refused(rt: HostRuntime) {
-    let server = Seal::new([1; 32], TagBytes::Sixteen, Side::Server);
-    let mut client = Seal::new([1; 32], TagBytes::Sixteen, Side::Client);
+    let server = KeyedEnd::new([1; 32], TagBytes::Sixteen, Side::Server);
+    let mut client = KeyedEnd::new([1; 32], TagBytes::Sixteen, Side::Client);
     let mut place = [7; 20];
     place[1] = 9;
-    let count = server.seal(258, &mut place, 2);
+    let count = server.append_tag(258, &mut place, 2);
     assert!(rt; count == 18);
     assert!(rt; place[2..18] == TAG[..]);
-    assert!(rt; client.open(258, &place[..18]) == Ok(2));
+    assert!(rt; client.verify(258, &place[..18]) == Ok(2));
     // another number, a byte less behind, hardly any bytes, and a byte less before
-    assert!(rt; client.open(259, &place[..18]) == Err(SealFault::WrongTag));
-    assert!(rt; client.open(258, &place[..17]) == Err(SealFault::WrongTag));
-    assert!(rt; client.open(258, &place[..15]) == Err(SealFault::TooShort));
-    assert!(rt; client.open(258, &place[1..18]) == Err(SealFault::WrongTag));
+    assert!(rt; client.verify(259, &place[..18]) == Err(TagFault::WrongTag));
+    assert!(rt; client.verify(258, &place[..17]) == Err(TagFault::WrongTag));
+    assert!(rt; client.verify(258, &place[..15]) == Err(TagFault::TooShort));
+    assert!(rt; client.verify(258, &place[1..18]) == Err(TagFault::WrongTag));
     assert!(rt; client.refused() == 4);
 }
 
 #[test]
 fn reflected_datagram_is_refused(rt: HostRuntime) {
-    let mut server = Seal::new([1; 32], TagBytes::Eight, Side::Server);
+    let mut server = KeyedEnd::new([1; 32], TagBytes::Eight, Side::Server);
     let mut place = [7; 10];
-    let count = server.seal(0, &mut place, 2);
+    let count = server.append_tag(0, &mut place, 2);
     assert!(rt; count == 10);
-    assert!(rt; server.open(0, &place) == Err(SealFault::WrongTag));
+    assert!(rt; server.verify(0, &place) == Err(TagFault::WrongTag));
 }
 
 fn field(lo: i64, hi: i64, bits: u32) -> FieldSpec {

@@ -1,4 +1,4 @@
-//! What no clause says of joining, and of how a connection goes: `keyed_digest`, `seal`, `greeting`, `presence`, `protocol_number`,
+//! What no clause says of joining, and of how a connection goes: `keyed_digest`, `datagram_tags`, `greeting`, `presence`, `protocol_number`,
 //! `link_quality`, `pace`. It has no code but its tests, and nothing stands on it.
 #![tactic(auto)]
 

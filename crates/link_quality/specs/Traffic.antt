@@ -1,6 +1,7 @@
 -- How much went one way in a second, by the list of the datagrams, the newest first.
 use Rattle.std.specs.Prelude.{ℕ, zero, suc, ◌+◌, ◌-◌, ◌/◌, min, nat_lt, nat_eq, if◌then◌else◌, ◌≡◌, ◌≤◌, refl, List, [], ◌∷◌, All, Ok, Err}
 use Rattle.tn_types.specs.Checks.{Checked}
+use Rattle.link_quality.specs.declared.traffic.MeterParts.{MeterParts}
 use Rattle.link_quality.specs.declared.traffic.Traffic.{Traffic}
 use Rattle.link_quality.specs.declared.traffic.TheConstants.{SECOND}
 use Rattle.link_quality.specs.declared.traffic.MeterRefusal.{MeterRefusal}
@@ -38,6 +39,10 @@ pub record Meter : Type 0 where
   pub second : ℕ
   pub current : Traffic
   pub before : Traffic
+
+-- the meter of these numbers
+abbrev pub meter_from : MeterParts → Meter
+meter_from p = record { second = p.second; current = p.current; before = p.before }
 
 pub record StandsFor (m : Meter) (log : List Datagram) : Type 0 where
   pub current_is : m.current ≡ traffic_in m.second log

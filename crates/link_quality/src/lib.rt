@@ -8,5 +8,5 @@ mod verdicts;
 
 pub use packets::{LinkQuality, QualityRefusal, WAITING_PACKETS};
 pub use smoothing::{MAX_ROUND_TRIP, RoundTrip};
-pub use traffic::{MeterRefusal, SECOND, Traffic, TrafficMeter};
+pub use traffic::{MeterParts, MeterRefusal, SECOND, Traffic, TrafficMeter};
 pub use verdicts::JUDGED_PACKETS;

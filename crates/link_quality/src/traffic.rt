@@ -9,12 +9,25 @@ use std::marker::Model;
 pub const SECOND: u64 = 1_000;
 
 /// How much went in a second: each count stays at 4,294,967,295 where more did.
+#[repr(C)]
 #[derive(Clone, Copy, Debug, PartialEq, Eq)]
 pub struct Traffic {
     /// How many datagrams.
     pub datagrams: u32,
     /// How many bytes they have.
     pub bytes: u32,
+}
+
+/// A meter's numbers, for callers that keep it themselves.
+#[repr(C)]
+#[derive(Clone, Copy)]
+pub struct MeterParts {
+    /// The second of the last datagram that was told.
+    pub second: u64,
+    /// What went in it so far.
+    pub current: Traffic,
+    /// What went in the second before it.
+    pub before: Traffic,
 }
 
 /// What a meter refuses. Nothing changed.
@@ -62,7 +75,7 @@ fn with_datagram(traffic: Traffic, bytes: u32) -> Traffic
 }
 
 impl TrafficMeter {
-    ghost use Rattle.link_quality.specs.Traffic.{Datagram, StandsFor, second_check, traffic_before};
+    ghost use Rattle.link_quality.specs.Traffic.{Datagram, StandsFor, second_check, traffic_before, meter_from};
 
     /// Nothing went yet.
     pub fn new() -> TrafficMeter
@@ -72,6 +85,28 @@ impl TrafficMeter {
             second: 0,
             current: no_traffic(),
             before: no_traffic(),
+        }
+    }
+
+    /// The meter of these numbers.
+    pub fn of_parts(parts: MeterParts) -> TrafficMeter
+        ensures { result ≡ meter_from parts }
+    {
+        TrafficMeter {
+            second: parts.second,
+            current: parts.current,
+            before: parts.before,
+        }
+    }
+
+    /// Its numbers.
+    pub fn parts(&self) -> MeterParts
+        ensures { meter_from result ≡ self.now }
+    {
+        MeterParts {
+            second: self.second,
+            current: self.current,
+            before: self.before,
         }
     }
 

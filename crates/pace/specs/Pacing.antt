@@ -3,6 +3,7 @@ use Rattle.std.specs.Prelude.{ℕ, ◌-◌, ◌*◌, ◌/◌, Bool, nat_le, nat_
 use Rattle.tn_types.specs.Checks.{Checked}
 use Rattle.pace.specs.declared.rate.PaceTerms.{PaceTerms}
 use Rattle.pace.specs.declared.rate.TheConstants.{THOUSANDTHS}
+use Rattle.pace.specs.declared.pace.PaceParts.{PaceParts}
 use Rattle.pace.specs.declared.pace.PaceRefusal.{PaceRefusal}
 use Rattle.pace.specs.declared.pace.PaceRefusal.TheVariants.{TimeGoesBack}
 use Rattle.pace.specs.Rates.{raised, eased, saved_up, AreTerms}
@@ -65,6 +66,10 @@ pub record Pacing : Type 0 where
   pub saved : ℕ
   pub last : ℕ
   pub eased : ℕ
+
+-- a pace of these numbers
+abbrev pub pacing_from : PaceParts → Pacing
+pacing_from p = record { terms = p.terms; start = p.start; rate = p.rate; saved = p.saved; last = p.last; eased = p.eased }
 
 pub record StandsFor (p : Pacing) (log : List PaceEvent) : Type 0 where
   pub rate_is : p.rate ≡ rate_of p.terms p.start log

@@ -6,5 +6,5 @@ mod pace;
 mod rate;
 
 pub use laws::{no_more_than_the_most, rate_stays_between};
-pub use pace::{Pace, PaceRefusal};
-pub use rate::PaceTerms;
+pub use pace::{Pace, PaceParts, PaceRefusal};
+pub use rate::{PaceTerms, are_terms};

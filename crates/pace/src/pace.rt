@@ -1,9 +1,12 @@
 //! What may go now.
-ghost use Rattle.std.specs.Prelude.{◌≡◌, ◌≤◌, ◌<◌, ◌-◌, ◌*◌, ◌/◌, ◌↔◌, [], IfOk, OnOk, OnErr, IsErr, IfSome, IsNone};
+ghost use Rattle.std.specs.Prelude.{◌≡◌, ◌≤◌, ◌<◌, ◌-◌, ◌*◌, ◌/◌, ◌↔◌, [], IfOk, OnOk, OnErr, IsErr, IfSome, IsSome, IsNone, IsTrue};
 ghost use Rattle.tn_types.specs.Histories.{Does, Answers};
 ghost use Rattle.pace.specs.Rates.{AreTerms};
+ghost use Rattle.pace.specs.Pacing.{IsBetween, pacing_from};
 
-use crate::rate::{PaceTerms, THOUSANDTHS, eased, raised, saved_up, wait_for, whole_bytes};
+use crate::rate::{
+    PaceTerms, THOUSANDTHS, are_terms, eased, raised, saved_up, wait_for, whole_bytes,
+};
 use std::marker::Model;
 
 /// What is refused. Nothing changed.
@@ -11,6 +14,33 @@ use std::marker::Model;
 pub enum PaceRefusal {
     /// A later time was told before.
     TimeGoesBack,
+}
+
+/// A pace's numbers, for callers that keep it themselves.
+#[repr(C)]
+#[derive(Clone, Copy)]
+pub struct PaceParts {
+    pub terms: PaceTerms,
+    /// When it began.
+    pub start: u64,
+    /// The rate, in bytes a second.
+    pub rate: u32,
+    /// What is saved up, in thousandths of a byte.
+    pub saved: u64,
+    /// The time that was told last.
+    pub last: u64,
+    /// When a loss lowered the rate last.
+    pub eased: u64,
+}
+
+// Whether a pace may have these numbers.
+fn are_between(parts: PaceParts) -> bool
+    ensures { IsTrue result ↔ IsBetween (pacing_from parts) }
+{
+    if !are_terms(parts.terms) || parts.rate < parts.terms.least || parts.terms.most < parts.rate {
+        return false;
+    }
+    parts.saved <= parts.terms.burst as u64 * THOUSANDTHS
 }
 
 /// How many bytes the next datagram should have: a rate that each packet that came raises by a step, and that a loss lowers by a quarter, at most
@@ -56,6 +86,38 @@ impl Pace {
             saved: terms.burst as u64 * THOUSANDTHS,
             last: now,
             eased: now,
+        }
+    }
+
+    /// The pace of these numbers: `None` exactly if none has them.
+    pub fn of_parts(parts: PaceParts) -> Option<Pace>
+        ensures some { IsSome result ↔ IsBetween (pacing_from parts) }
+        ensures value { IfSome result (λ p. p ≡ pacing_from parts) }
+    {
+        if are_between(parts) {
+            return Some(Pace {
+                terms: parts.terms,
+                start: parts.start,
+                rate: parts.rate,
+                saved: parts.saved,
+                last: parts.last,
+                eased: parts.eased,
+            });
+        }
+        None
+    }
+
+    /// Its numbers.
+    pub fn parts(&self) -> PaceParts
+        ensures { pacing_from result ≡ self.now }
+    {
+        PaceParts {
+            terms: self.terms,
+            start: self.start,
+            rate: self.rate,
+            saved: self.saved,
+            last: self.last,
+            eased: self.eased,
         }
     }
 

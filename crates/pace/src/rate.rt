@@ -1,11 +1,12 @@
 //! The rate, and what is saved up by it.
-ghost use Rattle.std.specs.Prelude.{◌≡◌, ◌≤◌, ◌<◌, ◌*◌, ◌/◌};
+ghost use Rattle.std.specs.Prelude.{◌≡◌, ◌≤◌, ◌<◌, ◌*◌, ◌/◌, ◌↔◌, IsTrue};
 ghost use Rattle.pace.specs.Rates.{raised, eased, saved_up, wait_for, AreTerms};
 
 /// Thousandths of a byte: what a rate of 1 byte a second saves up in a millisecond.
 pub const THOUSANDTHS: u64 = 1_000;
 
 /// What a game asks of the rate.
+#[repr(C)]
 #[derive(Clone, Copy, Debug)]
 pub struct PaceTerms {
     /// The least rate, in bytes a second, above 0.
@@ -16,6 +17,13 @@ pub struct PaceTerms {
     pub step: u32,
     /// How many bytes may be saved up: as many as the longest datagram has, or more.
     pub burst: u32,
+}
+
+/// Whether a rate may have these terms: the least is above 0, and the most not below it.
+pub fn are_terms(terms: PaceTerms) -> bool
+    ensures { IsTrue result ↔ AreTerms terms }
+{
+    0 < terms.least && terms.least <= terms.most
 }
 
 /// The rate after a packet came.

@@ -3,7 +3,8 @@
 use Rattle.std.specs.Prelude.{◌≡◌, refl, ◌==◌, ◌&&◌, ◌+◌, ◌-◌, nat_lt, nat_le, if◌then◌else◌, ℕ, Bool, true, false, not, List, [], ◌∷◌, Option, Some, None, is_some}
 use Rattle.std.specs.Option.{option_or}
 use Rattle.std.specs.Int.{w16, to_le_bytes, from_le_bytes}
-use Rattle.presence.specs.declared.other_end.TheConstants.{GOODBYE, GOODBYE_VERSION, GOODBYES}
+use Rattle.presence.specs.declared.other_end.PresenceParts.{PresenceParts}
+use Rattle.presence.specs.declared.other_end.TheConstants.{GOODBYE, GOODBYE_VERSION, GOODBYES, NO_GOODBYE}
 
 -- ---- the datagram
 
@@ -70,6 +71,15 @@ pub record PresenceState : Type 0 where
   pub ended : Option ℕ
   pub leaving : Option ℕ
   pub said : ℕ
+
+-- the reason that a number tells, if it tells one
+abbrev pub reason_from : ℕ → Option ℕ
+reason_from number = if nat_lt number NO_GOODBYE then Some number else None
+
+-- what these numbers tell
+abbrev pub presence_from : PresenceParts → PresenceState
+presence_from p =
+    record { limit = p.limit; last = p.last; ended = reason_from p.ended; leaving = reason_from p.leaving; said = p.said }
 
 pub record StandsFor (start : ℕ) (p : PresenceState) (log : List PresenceEvent) : Type 0 where
   pub last : p.last ≡ last_by start log

@@ -4,5 +4,6 @@
 mod other_end;
 
 pub use other_end::{
-    GOODBYE, GOODBYE_BYTES, GOODBYE_VERSION, GOODBYES, Presence, goodbye, goodbye_in,
+    GOODBYE, GOODBYE_BYTES, GOODBYE_VERSION, GOODBYES, NO_GOODBYE, Presence, PresenceParts,
+    goodbye, goodbye_in,
 };

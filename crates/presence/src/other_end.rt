@@ -1,6 +1,6 @@
 //! The other end of a link, by what is heard of it.
-ghost use Rattle.std.specs.Prelude.{◌≡◌, [], IfSome, is_some};
-ghost use Rattle.presence.specs.Presence.{goodbye, goodbye_in, later, is_within};
+ghost use Rattle.std.specs.Prelude.{◌≡◌, ◌≤◌, ◌↔◌, [], IfSome, IsSome, is_some};
+ghost use Rattle.presence.specs.Presence.{goodbye, goodbye_in, later, is_within, reason_from, presence_from};
 
 use std::marker::Model;
 
@@ -15,6 +15,46 @@ pub const GOODBYE_BYTES: usize = 4;
 
 /// So many goodbyes are said, since any of them may be lost.
 pub const GOODBYES: u8 = 3;
+
+/// What a number of `PresenceParts` is where nobody said goodbye.
+pub const NO_GOODBYE: u32 = 65_536;
+
+/// The numbers of a `Presence`, for callers that keep it themselves.
+#[repr(C)]
+#[derive(Clone, Copy)]
+pub struct PresenceParts {
+    /// For how many milliseconds nothing may be heard.
+    pub limit: u64,
+    /// When the other end was heard last.
+    pub last: u64,
+    /// With which reason the other end said goodbye, or `NO_GOODBYE`.
+    pub ended: u32,
+    /// With which reason this end leaves, or `NO_GOODBYE`.
+    pub leaving: u32,
+    /// How many goodbyes this end said, 3 at the most.
+    pub said: u32,
+}
+
+// The reason that a number tells, if it tells one.
+fn reason_from(number: u32) -> Option<u16>
+    ensures { result ≡ reason_from number }
+{
+    if number < NO_GOODBYE {
+        Some(number as u16)
+    } else {
+        None
+    }
+}
+
+// The number that tells a reason, or none.
+fn number_of(reason: Option<u16>) -> u32
+    ensures { reason_from result ≡ reason }
+{
+    match reason {
+        Some(reason) => u32::from(reason),
+        None => NO_GOODBYE,
+    }
+}
 
 /// The goodbye with a reason of the game's.
 pub fn goodbye(reason: u16) -> [u8; GOODBYE_BYTES]
@@ -66,6 +106,7 @@ impl Model for Presence {
 }
 
 impl Presence {
+    ghost use Rattle.presence.specs.declared.other_end.TheConstants.{GOODBYES};
     ghost use Rattle.presence.specs.Presence.{StandsFor, Does, Answers, Came, Ended, Left, Said, is_alive_by, ended_by, says_next};
 
     /// The other end was heard `now`, and is given up where nothing is heard for more than `limit` milliseconds.
@@ -79,6 +120,36 @@ impl Presence {
             ended: None,
             leaving: None,
             said: 0,
+        }
+    }
+
+    /// That of these numbers: `None` exactly if none has them.
+    pub fn of_parts(parts: PresenceParts) -> Option<Presence>
+        ensures some { IsSome result ↔ (parts.said ≤ GOODBYES) }
+        ensures value { IfSome result (λ p. p ≡ presence_from parts) }
+    {
+        if parts.said > u32::from(GOODBYES) {
+            return None;
+        }
+        Some(Presence {
+            limit: parts.limit,
+            last: parts.last,
+            ended: reason_from(parts.ended),
+            leaving: reason_from(parts.leaving),
+            said: parts.said as u8,
+        })
+    }
+
+    /// Its numbers.
+    pub fn parts(&self) -> PresenceParts
+        ensures { presence_from result ≡ self.now }
+    {
+        PresenceParts {
+            limit: self.limit,
+            last: self.last,
+            ended: number_of(self.ended),
+            leaving: number_of(self.leaving),
+            said: u32::from(self.said),
         }
     }
 

@@ -23,6 +23,6 @@ pub use laws::accepted_moves_change_nothing;
 pub use link::{Link, Packed, Side};
 pub use refusal::Refusal;
 pub use rows::{Change, Copied, Judged};
-pub use tables::{ConfigRow, FieldRow, KindRow};
+pub use tables::{ConfigRow, FieldRow, KindRow, config, kind_table};
 pub use tn_types::Class;
 pub use why::Why;

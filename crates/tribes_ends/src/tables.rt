@@ -63,7 +63,7 @@ fn move_bits(row: &ConfigRow) -> u32
 }
 
 /// The configuration of these numbers.
-pub(crate) fn config(row: &ConfigRow) -> Result<Config, Refusal>
+pub fn config(row: &ConfigRow) -> Result<Config, Refusal>
     ensures fits { IfOk result IsConfig }
     ensures value { IfOk result (λ c. c ≡ config_of row.now) }
     ensures refused { result_err result ≡ config_refusal row.now }
@@ -102,7 +102,7 @@ fn field_list(rows: &[FieldRow]) -> FieldList
 }
 
 /// The table of these kinds, whose fields stand one after the other.
-pub(crate) fn kind_table(kinds: &[KindRow], fields: &[FieldRow]) -> Result<KindTable, Refusal>
+pub fn kind_table(kinds: &[KindRow], fields: &[FieldRow]) -> Result<KindTable, Refusal>
     ensures table { IfOk result (λ table. table ≡ kinds_of kinds.now fields.now) }
     ensures refused { result_err result ≡ kinds_refusal kinds.now fields.now }
 {

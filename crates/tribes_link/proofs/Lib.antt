@@ -5,3 +5,7 @@ pub mod MadeEnds
 pub mod HeldTimelineValues
 pub mod HeldChannelValues
 pub mod Both
+pub mod HeldDoorValues
+pub mod HeldQualityValues
+pub mod Reasons
+pub mod Joined

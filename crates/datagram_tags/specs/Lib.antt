@@ -1,0 +1,3 @@
+pub mod Tagging
+pub mod Laws
+pub mod Numbers

@@ -1,3 +1,0 @@
-pub mod Sealing
-pub mod Laws
-pub mod Numbers

@@ -1,6 +1,0 @@
--- The number that docs/joining.md tells.
-use Rattle.std.specs.Prelude.{◌≡◌, refl}
-use Rattle.seal.specs.declared.sealing.TheConstants.{KEY_BYTES}
-
-key_bytes : KEY_BYTES ≡ 32
-key_bytes = refl

@@ -1,0 +1,8 @@
+use Rattle.pace.specs.Pacing.{WasLost, pacing_from}
+use Rattle.tribes_link.proofs.Joined.{does_from}
+use Rattle.tribes_link.proofs.rates.tribes_rate_lost.Goals as goal
+
+pub returns-in-Ok-clause-told : goal.returns-in-Ok-clause-told
+returns-in-Ok-clause-told c = λ is.
+    does_from (pacing_from c.args.rate.now) c.in-Some.kept c.lost.new.self (pacing_from c.parts.result) (WasLost c.args.now c.args.round_trip)
+    c.in-Some.ensures.value c.parts.ensures c.in-Ok.ensures.log
