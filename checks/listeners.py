@@ -6,12 +6,12 @@ import struct
 import threading
 import time
 
+from joining import Greeter
 from networks import head_of
 
 TURN = 0.05
 # Linux's option for stamps in nanoseconds, and the room of one beside a datagram.
 STAMPS, STAMP_ROOM = 35, 64
-HELLO = b"\x02\x01\x00\x00\x00"
 
 
 def packet(client, seq, horizon, came):
@@ -21,16 +21,17 @@ def packet(client, seq, horizon, came):
 
 
 class Listener:
-    """A client of the host at this address: what it was sent, and when."""
+    """A client of the host at this address, under a key if there is one: what it was sent, and when."""
 
-    def __init__(self, address):
+    def __init__(self, address, key=None):
+        self.greeter = Greeter(key)
         self.socket = socket.socket(socket.AF_INET, socket.SOCK_DGRAM)
         self.socket.setsockopt(socket.SOL_SOCKET, STAMPS, 1)
         self.socket.setsockopt(socket.SOL_SOCKET, socket.SO_RCVBUF, 1_048_576)
         self.socket.connect(address)
         self.socket.setblocking(False)
         self.number, self.seq, self.horizon = None, 0, 0
-        self.came, self.got, self.times = set(), [], []
+        self.came, self.got, self.times, self.made = set(), [], [], []
 
     def send(self, data):
         try:
@@ -40,7 +41,7 @@ class Listener:
 
     def say_hello(self):
         if self.number is None:
-            self.send(HELLO)
+            self.send(self.greeter.said())
 
     def take(self):
         """Takes what waits, and answers each datagram with one that acknowledges it."""
@@ -49,16 +50,13 @@ class Listener:
                 data, beside, _, _ = self.socket.recvmsg(2_048, STAMP_ROOM)
             except OSError:
                 return
-            if data[0] == 7:
-                # The number of a challenge, once more: a host wants it back before it gives a client.
-                if self.number is None:
-                    self.send(HELLO + data[1:])
-            elif data[0] == 3:
-                self.number = data[5]
-                self.answer()
-            elif self.number is not None:
+            packet = self.greeter.took(data)
+            if packet is not None:
                 seconds, nanoseconds = struct.unpack("qq", beside[0][2][:16])
-                self.note(data, seconds + nanoseconds / 1e9)
+                self.note(packet, seconds + nanoseconds / 1e9)
+            elif self.number is None and self.greeter.client is not None:
+                self.number = self.greeter.client
+                self.answer()
 
     def note(self, data, stamp):
         self.got.append(data)
@@ -72,7 +70,9 @@ class Listener:
     def answer(self):
         """Sends a packet. The first one is sent at the welcome."""
         self.seq += 1
-        self.send(packet(self.number, self.seq, self.horizon, self.came))
+        made = packet(self.number, self.seq, self.horizon, self.came)
+        self.made.append(made)
+        self.send(self.greeter.sent(made))
 
     def lateness(self, made):
         """How many seconds behind its time each turn's data packet came, by the turn that was earliest: each turn made one of `made`."""
@@ -84,9 +84,9 @@ class Listener:
 class Listening(threading.Thread):
     """Listeners who say hello until they are welcomed, and take what comes, until they are stopped."""
 
-    def __init__(self, addresses):
+    def __init__(self, addresses, key=None):
         super().__init__()
-        self.listeners, self.goes = [Listener(address) for address in addresses], True
+        self.listeners, self.goes = [Listener(address, key) for address in addresses], True
         self.start()
 
     def run(self):

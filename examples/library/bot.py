@@ -2,6 +2,8 @@
 """A bot that joins ./tribes host or serve, runs about and says hello now and then: bot.py ADDRESS PORT TURNS. At the end it prints how many
 objects it was shown and what was said. It wants bindings/python (PYTHONPATH) and the shared library (TRIBES_LIBRARY)."""
 
+import hashlib
+import os
 import random
 import socket
 import struct
@@ -25,18 +27,34 @@ KINDS = [
 WIDTHS = (4, 4, 1, 1)
 
 
-def joined(wire, hello):
-    """Says hello until a welcome comes, with the number of a challenge where one is asked for; the end that the welcome makes."""
-    asked = hello
+def protocol():
+    """The number of what a host and this client have to agree on (crates/protocol_number/README.md)."""
+    text = struct.pack("<5I", 1, 1, 400, 16_777_215, sum(WIDTHS))
+    for kind in KINDS:
+        text += struct.pack("<3BQ", 1, kind.weight, 0, len(kind.fields))
+        text += b"".join(struct.pack("<qqI", *field) for field in kind.fields)
+    return hashlib.sha256(text + b"\0tribes match").digest()
+
+
+def joined(wire, nonce):
+    """Says the hellos of a host (docs/joining.md) and of `serve` until a welcome comes, and answers a challenge; the end that the welcome makes."""
+    said = bytes((3, 1)) + nonce + protocol()
     for _ in range(100):
-        wire.send(asked)
+        wire.send(said)
+        if said[0] == 3:
+            wire.send(b"\x02" + nonce[:4])
         try:
             data = wire.recv(tribes.MAX_DATAGRAM)
         except (TimeoutError, ConnectionRefusedError):
             continue
-        if len(data) == 5 and data[0] == 7:
-            asked = hello + data[1:]
-        elif len(data) == 12 and data[0] == 3 and data[1:5] == hello[1:]:
+        if (len(data), data[:18]) == (34, bytes((7, 1)) + nonce):
+            said = bytes((11, 1)) + nonce + data[18:]
+        elif (len(data), data[:18]) == (54, bytes((15, 1)) + nonce):
+            client, life, size, version = struct.unpack("<3IB", data[18:31])
+            return tribes.Client(tribes.Config(client, life, size, version, 10), KINDS)
+        elif (len(data), data[:18]) == (19, bytes((19, 1)) + nonce):
+            sys.exit(f"bot: it is refused for reason {data[18]}")
+        elif (len(data), data[:5]) == (12, b"\x03" + nonce[:4]):
             life, size = int.from_bytes(data[6:9], "little"), int.from_bytes(data[9:11], "little")
             return tribes.Client(tribes.Config(data[5], life, size, data[11], 10), KINDS)
     sys.exit("bot: nobody answers there")
@@ -59,7 +77,7 @@ def main():
     wire = socket.socket(socket.AF_INET, socket.SOCK_DGRAM)
     wire.connect((address, port))
     wire.settimeout(0.05)
-    end = joined(wire, b"\x02" + struct.pack("<I", random.getrandbits(32)))
+    end = joined(wire, os.urandom(16))
     wire.setblocking(False)
     said, way, start = [], (8, 8), time.monotonic()
     for turn in range(turns):

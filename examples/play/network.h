@@ -3,11 +3,11 @@
 #ifndef NETWORK_H
 #define NETWORK_H
 
-#include "tribes.h"
+#include "joining.h"
 #include <netinet/in.h>
 #include <sys/types.h>
 
-enum { MOST_HELD = 256, ROOM = TRIBES_MAX_DATAGRAM + 1 }; /* one byte more, so that what is too long shows */
+enum { MOST_HELD = 256, ROOM = TRIBES_MAX_DATAGRAM + TAG_ROOM + 1 }; /* one byte more, so that what is too long shows */
 
 typedef struct { int up; int64_t due; uint64_t order; size_t count; uint8_t bytes[ROOM]; } held;
 

@@ -1,6 +1,6 @@
 /* A client for people of a match that `./tribes serve` serves, in C over the linked library; docs/play.md says how it looks.
 
-       play [ADDRESS:PORT] [--bot SEED [SECONDS]] [--demo FILE]
+       play [ADDRESS:PORT] [--bot SEED [SECONDS]] [--demo FILE] [--key FILE]
 
    A turn of 50 milliseconds: what came is taken (session.c), the own player is predicted (predict.c), the move of the keys is sampled and
    goes out by a network that the keys can make bad (network.c), and the screen is drawn (screen.c). With --bot there is no screen, and the
@@ -22,6 +22,7 @@ enum { DONE, FAILED, USAGE };
 typedef struct {
     struct sockaddr_in server;
     const char *demo;
+    tribes_key key;
     int is_bot;
     uint32_t seed;
     int64_t ends; /* after so many milliseconds */
@@ -55,8 +56,22 @@ static int is_server(const char *word, struct sockaddr_in *server) {
 }
 
 static int usage(const char *word) {
-    fprintf(stderr, "play: '%s' does not stand there; wanted is play [ADDRESS:PORT] [--bot SEED [SECONDS]] [--demo FILE]\n", word);
+    fprintf(stderr, "play: '%s' does not stand there; wanted is play [ADDRESS:PORT] [--bot SEED [SECONDS]] [--demo FILE] [--key FILE]\n", word);
     return USAGE;
+}
+
+/* The key of a file: 64 digits of base 16 in one line. */
+static int read_key(const char *path, tribes_key *key) {
+    char line[66] = "";
+    FILE *file = fopen(path, "r");
+    int right = file && fgets(line, sizeof line, file) && strspn(line, "0123456789abcdefABCDEF") == 64 && (!line[64] || line[64] == '\n');
+    if (file) fclose(file);
+    for (int i = 0; right && i < 32; i++) {
+        char digits[] = {line[2 * i], line[2 * i + 1], 0};
+        key->key[i] = (uint8_t)strtoul(digits, NULL, 16);
+    }
+    key->tag_bytes = TAG_ROOM;
+    return right;
 }
 
 static int read_words(int count, char **word, words *w) {
@@ -74,6 +89,10 @@ static int read_words(int count, char **word, words *w) {
         }
     }
     if (i + 1 < count && !strcmp(word[i], "--demo")) w->demo = word[i + 1], i += 2;
+    if (i + 1 < count && !strcmp(word[i], "--key")) {
+        if (!read_key(word[i + 1], &w->key)) return usage(word[i + 1]);
+        i += 2;
+    }
     return i < count ? usage(word[i]) : DONE;
 }
 
@@ -120,7 +139,7 @@ static int play(session *s, const words *w, const char *server) {
         int64_t now = milliseconds();
         session_listen(s, now);
         if (!w->is_bot) keys_read(&k, s);
-        if (now - s->heard > LOST_AFTER) return 0;
+        if (now - s->heard > LOST_AFTER || joining_refused(&s->joining)) return 0;
         if (now >= next) {
             if (w->is_bot) keys_of_bot(&k, s, &dice);
             else keys_turn(&k);
@@ -169,7 +188,7 @@ int main(int count, char **word) {
     if (read_words(count, word, &w)) return USAGE;
     snprintf(server, sizeof server, "%s:%u", inet_ntoa(w.server.sin_addr), ntohs(w.server.sin_port));
     if (tribes_version() != TRIBES_VERSION) return fprintf(stderr, "play: the library is of another version\n"), FAILED;
-    if (session_start(&s, &w.server, (uint32_t)now ^ (uint32_t)getpid() << 16, now)) return stop("a socket");
+    if (session_start(&s, &w.server, &w.key, (uint32_t)now ^ (uint32_t)getpid() << 16, now)) return stop("a socket");
     if (w.demo && !(s.demo = fopen(w.demo, "wb"))) return stop(w.demo);
     if (!w.is_bot) hear_signals();
     if (!w.is_bot && screen_open()) {
@@ -181,7 +200,9 @@ int main(int count, char **word) {
     if (w.is_bot) tell_copies(&s);
     else if (there && s.welcomed) printf("client %u: %u turns, %u moves, %u datagrams taken\n", s.config.client, s.turns, s.counts.moves, s.taken);
     const char *what = s.welcomed ? "the server was lost" : "no server answers";
-    if (!there) fprintf(stderr, "play: %s at %s: nothing came for %d seconds\n", what, server, LOST_AFTER / 1000);
+    const char *refused = joining_refused(&s.joining);
+    if (refused) fprintf(stderr, "play: the server at %s does not let us in: %s\n", server, refused);
+    else if (!there) fprintf(stderr, "play: %s at %s: nothing came for %d seconds\n", what, server, LOST_AFTER / 1000);
     session_end(&s);
     if (s.demo && fclose(s.demo)) return stop(w.demo);
     return there ? DONE : FAILED;

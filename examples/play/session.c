@@ -15,36 +15,22 @@ static const tribes_field fields[] = {
 static const tribes_kind kinds[KINDS] = {{5, 8}, {2, 6}, {3, 3}, {3, 4}, {3, 5}, {3, 1}};
 
 /* a number in bytes: the least one first */
-static uint32_t number_at(const uint8_t *bytes, unsigned count) {
-    uint32_t number = 0;
-    for (unsigned i = 0; i < count; i++) number |= (uint32_t)bytes[i] << 8 * i;
-    return number;
-}
-
 static void put_number(uint8_t *bytes, uint32_t number, unsigned count) {
     for (unsigned i = 0; i < count; i++) bytes[i] = (uint8_t)(number >> 8 * i);
 }
 
-int session_start(session *s, const struct sockaddr_in *server, uint32_t nonce, int64_t now) {
+int session_start(session *s, const struct sockaddr_in *server, const tribes_key *key, uint32_t seed, int64_t now) {
     memset(s, 0, sizeof *s);
     s->heard = now;
-    s->hello[0] = 2;
-    put_number(s->hello + 1, nonce, 4);
-    return network_open(&s->net, server, nonce);
+    if (joining_start(&s->joining, key, kinds, KINDS, fields, sizeof fields / sizeof *fields)) return -1;
+    return network_open(&s->net, server, seed);
 }
 
-/* A challenge is 7 and a number. A host wants it back before it gives a client. */
-static void take_challenge(session *s, const uint8_t *bytes, size_t count) {
-    if (count != CHALLENGE_BYTES || bytes[0] != 7) return;
-    memcpy(s->hello + HELLO_BYTES, bytes + 1, 4);
-    s->challenged = 1;
-}
-
-/* A welcome is 3, the hello's nonce, the client, LIFE, SIZE and the version. The first one counts, and makes the client's end. */
-static void take_welcome(session *s, const uint8_t *bytes, size_t count, int64_t now) {
-    if (count != WELCOME_BYTES || bytes[0] != 3 || memcmp(bytes + 1, s->hello + 1, 4)) return;
-    tribes_config config = {bytes[5], number_at(bytes + 6, 3), number_at(bytes + 9, 2), bytes[11], MOVE_BITS};
+/* What comes before the welcome. It makes the client's end. */
+static void hear(session *s, const uint8_t *bytes, size_t count, int64_t now) {
+    tribes_config config;
     tribes_reason why;
+    if (!joining_hears(&s->joining, bytes, count, &config)) return;
     if (tribes_client(&s->end, &config, kinds, KINDS, fields, sizeof fields / sizeof *fields, &why) < 0) return; /* out of its ranges */
     if (drawn_open(&s->others, now) < 0) { /* no memory: the next welcome may find some */
         tribes_free(&s->end);
@@ -152,26 +138,29 @@ void session_listen(session *s, int64_t now) {
     ssize_t count;
     network_go(&s->net, now);
     while ((count = network_receive(&s->net, bytes, now)) >= 0) {
-        if (s->welcomed) take(s, bytes, (size_t)count, now);
-        else take_challenge(s, bytes, (size_t)count), take_welcome(s, bytes, (size_t)count, now);
+        size_t carried = (size_t)count;
+        if (!joining_opens(&s->joining, bytes, &carried)) continue; /* it has not its tag: nobody reads it */
+        if (s->welcomed) take(s, bytes, carried, now);
+        else hear(s, bytes, carried, now);
     }
 }
 
 void session_turn(session *s, const tribes_step *move, int64_t now) {
-    uint8_t bytes[TRIBES_MAX_DATAGRAM];
+    uint8_t bytes[TRIBES_MAX_DATAGRAM], place[TRIBES_MAX_DATAGRAM + TAG_ROOM];
     int64_t none = 0;
     uint32_t number;
     size_t count;
     if (!s->welcomed) {
-        network_send(&s->net, s->hello, s->challenged ? REPEATED_BYTES : HELLO_BYTES, now);
-        s->challenged = 0;
+        size_t said = joining_says(&s->joining, s->turns, place);
+        if (said) network_send(&s->net, place, said, now);
     } else {
         /* Who stands still needs no move, and the server works off those that wait there after a bad time. An offset fades by moves. */
         int rests = !move->dx && !move->dy && !move->fire && !s->own.right && !s->own.down;
         uint64_t bits = tribes_move_of_step(move->dx, move->dy, move->fire, move->act);
         if (!rests && tribes_sample(&s->end, bits, &number) >= 0) predict_sampled(&s->own, bits);
         int32_t made = tribes_pack(&s->end, &none, 0, bytes, sizeof bytes, &count);
-        if (made > 0) network_send(&s->net, bytes, count, now);
+        size_t carried = made > 0 ? joining_carry(&s->joining, bytes, count, place) : 0;
+        if (carried) network_send(&s->net, place, carried, now);
         if (tribes_counts(&s->end, &s->counts) == 0 && made == 2) s->sent_at[s->counts.sent % 64] = now;
     }
     network_go(&s->net, now);

@@ -1,15 +1,16 @@
-/* One client of a served match (docs/serving.md): hello and welcome, its end of the connection, its predicted player, its figures. */
+/* One client of a served match: how it joins, its end of the connection, its predicted player, its figures. */
 #ifndef SESSION_H
 #define SESSION_H
 
 #include "drawn.h"
+#include "joining.h"
 #include "match.h"
 #include "network.h"
 #include "predict.h"
 #include "tribes.h"
 #include <stdio.h>
 
-enum { HELLO_BYTES = 5, CHALLENGE_BYTES = 5, REPEATED_BYTES = 9, WELCOME_BYTES = 12, KEPT_LINES = 8 };
+enum { KEPT_LINES = 8 };
 enum { LOST_AFTER = 5000 }; /* milliseconds of silence */
 
 /* what became of the last 64 of something, the newest in bit 0; a bit is set where it was lost */
@@ -23,8 +24,7 @@ typedef struct {
     tribes_end end;
     int welcomed;
     tribes_config config;         /* as the welcome said */
-    uint8_t hello[REPEATED_BYTES]; /* the hello, and behind it the number of the newest challenge */
-    int challenged;               /* whether a challenge came since the last hello: the next one repeats its number */
+    joining joining;
     prediction own;
     drawn others;
     int64_t heard;                /* when the last datagram was taken, or the start */
@@ -47,7 +47,7 @@ typedef struct {
 typedef struct { uint32_t slot, kind, block; int64_t values[TRIBES_MAX_FIELDS]; } copy;
 
 /* Answers 0, or -1 where the system gives no socket (errno). */
-int session_start(session *s, const struct sockaddr_in *server, uint32_t nonce, int64_t now);
+int session_start(session *s, const struct sockaddr_in *server, const tribes_key *key, uint32_t seed, int64_t now);
 /* Takes what came. */
 void session_listen(session *s, int64_t now);
 /* The end of a turn: says hello; or samples the move, and sends a datagram. */

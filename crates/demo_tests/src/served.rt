@@ -1,10 +1,27 @@
 //! Calls of the program over a source and a sink in memory.
 ghost use Rattle.std.specs.Prelude.{◌<◌};
 
-use demo_top::top_demo;
+use commands::{Command, command_of};
+use demo_top::{top_demo, top_replay};
 use script_input::Status;
-use std::alloc::AllocError;
-use tn_outside::{MemSink, MemSource, SteadySource};
+use std::alloc::{AllocError, Global};
+use tn_outside::{MemSink, MemSource, Sink, Source, SteadySource};
+
+// Carries out a command over a source and a sink.
+fn carry_out<S: Source, K: Sink>(
+    alloc: Global,
+    words: &Vec<String>,
+    source: &mut S,
+    sink: &mut K,
+) -> Status {
+    match command_of(words) {
+        Ok(Command::Demo { client }) => top_demo(alloc, client, source, sink),
+        Ok(Command::Replay) => top_replay(alloc, None, source, sink),
+        Ok(Command::ReplayAt { count }) => top_replay(alloc, Some(count), source, sink),
+        Ok(_) => Status::Usage(0),
+        Err(place) => Status::Usage(place),
+    }
+}
 
 /// More bytes than a call here reads or writes at once.
 pub(crate) const ALL: usize = 1 << 20;
@@ -38,7 +55,7 @@ pub(crate) fn served<'a>(
         calls: 0,
         faults: 0,
     };
-    let status = top_demo(rt.alloc(), &all, &mut source, &mut sink);
+    let status = carry_out(rt.alloc(), &all, &mut source, &mut sink);
     let MemSink {
         bytes,
         most: _,

@@ -1,4 +1,2 @@
-pub mod Rule
-pub mod Words
 pub mod Client
 pub mod Ends

@@ -16,6 +16,7 @@ use Rattle.demo_replay.specs.demo_view.stream_manager.End.{came_of}
 use Rattle.event_manager.specs.Receiving.{run_of}
 use Rattle.demo_record.specs.Recording.{AreRecorded, demo_head, demo_text, events_down}
 use Rattle.demo_record.specs.Laws.{client_log}
+use Rattle.demo_replay.specs.Cuts.{CutsKeepAFront}
 use Rattle.demo_replay.specs.Replaying.{Replayed, Took, replayed_line, takes_told, replay_text}
 
 -- a line `take` with each of these lists of events, from number k on
@@ -37,6 +38,10 @@ pub record IsToldOf (script : Script) (c : ℕ) : Type 0 where
 -- of each demo whose records can be read back, as those of one that was written can
 abbrev pub TellsTheClient : Type 0
 TellsTheClient = (script : Script) (c : ℕ) → HasRanges script → c < script.head.clients → AreRecorded script c → IsToldOf script c
+
+-- a demo that is cut at any byte after its head tells the first lines of the whole one, and then its last line
+pub record DemoLaws : Type 0 where
+  pub cut_tells_a_front : (bytes : List ℕ) → CutsKeepAFront bytes
 
 -- a script was read, and where the client is one of its match, the client's demo tells what the client was told
 abbrev pub ToldOfClient : ℕ → Option (List ℕ) → Option (List ℕ) → Type 0

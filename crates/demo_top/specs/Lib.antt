@@ -1,4 +1,2 @@
-pub mod Command
-pub mod Outcome
 pub mod Laws
-pub mod Numbers
+pub mod Rows

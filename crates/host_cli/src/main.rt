@@ -2,19 +2,22 @@
 #![tactic(auto)]
 
 mod file;
+mod terms;
 mod words;
 
 ghost use Rattle.std.specs.Prelude.{◌≤◌};
 ghost use Rattle.tn_types.specs.declared.limits.TheConstants.{MAX_CLIENTS};
 
 use file::FileSink;
+use hex::FromHex;
 use host_link::net_serve::{Offer, serve};
-use host_link::{Counters, HostClock, HostLink, OpenSocket, SECRET_BYTES};
+use host_link::{Counters, HostClock, HostLink, KEY_BYTES, OpenSocket, Rules, SECRET_BYTES};
 use net_rules::NetFault;
-use std::env;
 use std::process::ExitCode;
 use std::random::RandomSource;
-use words::{Hosting, Refusal, hosting_of};
+use std::{env, fs};
+use terms::Terms;
+use words::{Hosting, Refusal, hosting_of, key_file};
 
 /// The words of the command line, without the program's name.
 fn arguments(rt: &HostRuntime) -> Result<Vec<String>, Refusal> {
@@ -50,17 +53,45 @@ fn secret(rt: &HostRuntime) -> Result<[u8; SECRET_BYTES], Refusal> {
     }
 }
 
-/// Hosts the match, to its last turn.
-fn host(rt: &HostRuntime, hosting: &Hosting) -> Result<(), Refusal>
+/// The key in a file: 64 digits of base 16 in one line.
+fn key_in(rt: &HostRuntime, file: &str) -> Result<[u8; KEY_BYTES], Refusal> {
+    let Ok(text) = fs::read_to_string(rt, file) else {
+        return Err(Refusal::NoKey);
+    };
+    let line = text.as_str();
+    let digits = match line.strip_suffix('\n') {
+        Some(digits) => digits,
+        None => line,
+    };
+    match <[u8; KEY_BYTES] as FromHex>::from_hex(digits) {
+        Ok(key) => Ok(key),
+        Err(_) => Err(Refusal::NoKey),
+    }
+}
+
+/// Hosts the match, to its last turn, under a key if there is one.
+fn host(rt: &HostRuntime, hosting: &Hosting, key: Option<[u8; KEY_BYTES]>) -> Result<(), Refusal>
     requires clients_least { 1 ≤ hosting.now.clients }
     requires clients { hosting.now.clients ≤ MAX_CLIENTS }
 {
-    let secret = secret(rt)?;
+    let Ok(terms) = Terms::of(rt.alloc(), hosting.seed, hosting.clients) else {
+        return Err(Refusal::NoMemory);
+    };
+    let Ok(protocol) = terms.protocol(rt.alloc()) else {
+        return Err(Refusal::NoMemory);
+    };
+    let rules = Rules {
+        secret: secret(rt)?,
+        protocol,
+        terms: terms.bytes(),
+        key,
+        seats: u32::from(hosting.clients),
+    };
     let counters = Counters::new();
     let Ok(socket) = OpenSocket::bind(rt, hosting.address) else {
         return Err(Refusal::NoAddress);
     };
-    let Ok(mut link) = HostLink::new(rt.alloc(), socket, secret, &counters) else {
+    let Ok(mut link) = HostLink::new(rt.alloc(), socket, rules, &counters) else {
         return Err(Refusal::NoMemory);
     };
     let Ok(mut clock) = HostClock::new(rt, &counters) else {
@@ -96,7 +127,11 @@ fn host(rt: &HostRuntime, hosting: &Hosting) -> Result<(), Refusal>
 fn hosted(rt: &HostRuntime) -> Result<(), Refusal> {
     let words = arguments(rt)?;
     let hosting = hosting_of(words.as_slice())?;
-    host(rt, &hosting)
+    let key = match key_file(words.as_slice())? {
+        Some(file) => Some(key_in(rt, file)?),
+        None => None,
+    };
+    host(rt, &hosting, key)
 }
 
 fn main(rt: HostRuntime) -> ExitCode {

@@ -10,7 +10,7 @@ use tn_types::MAX_CLIENTS;
 // The greatest number of clients.
 const MOST_CLIENTS: u32 = MAX_CLIENTS as u32;
 
-/// `ADDRESS:PORT SEED CLIENTS TURNS`: at this address the made match of a number is served to so many clients in so many turns.
+/// `ADDRESS:PORT SEED CLIENTS TURNS [--key FILE]`: at this address the made match of a number is served to so many clients in so many turns.
 #[derive(Clone, Copy, Debug, PartialEq, Eq)]
 pub(crate) struct Hosting {
     pub(crate) address: SocketAddrV4,
@@ -29,6 +29,7 @@ pub(crate) enum Refusal {
     NoSeed,
     NoClients,
     NoTurns,
+    NoKey,
     NoAddress,
     NoSecret,
     NoClock,
@@ -46,6 +47,7 @@ impl Refusal {
             Refusal::NoSeed => 2,
             Refusal::NoClients => 2,
             Refusal::NoTurns => 2,
+            Refusal::NoKey => 2,
             Refusal::Unwritten => 6,
             Refusal::NoMemory => 7,
             Refusal::NoAddress => 8,
@@ -59,7 +61,7 @@ impl Refusal {
 impl fmt::Display for Refusal {
     fn fmt<W: fmt::Write>(&self, f: &mut fmt::Formatter<W>) -> fmt::Result {
         match *self {
-            Refusal::NoWords => write!(f, "wanted is ADDRESS:PORT SEED CLIENTS TURNS"),
+            Refusal::NoWords => write!(f, "wanted is ADDRESS:PORT SEED CLIENTS TURNS [--key FILE]"),
             Refusal::NoSuchAddress => write!(
                 f,
                 "the first word is no address of IPv4 with a port, as 0.0.0.0:28001"
@@ -67,6 +69,10 @@ impl fmt::Display for Refusal {
             Refusal::NoSeed => write!(f, "SEED is a number from 0 to 4294967295"),
             Refusal::NoClients => write!(f, "CLIENTS is a number from 1 to 16"),
             Refusal::NoTurns => write!(f, "TURNS is a number from 1 to 100000"),
+            Refusal::NoKey => write!(
+                f,
+                "the key's file can't be read, or is not 64 digits of base 16 in one line"
+            ),
             Refusal::NoAddress => write!(
                 f,
                 "the address can't be had: it is taken, or not of this machine"
@@ -116,13 +122,25 @@ pub(crate) fn hosting_of(words: &[String]) -> Result<Hosting, Refusal>
     let Some(turns) = number_at(words, 3, 1, MAX_TURNS) else {
         return Err(Refusal::NoTurns);
     };
-    if words.len() > 4 {
-        return Err(Refusal::NoWords);
-    }
     Ok(Hosting {
         address,
         seed,
         clients: clients as u8,
         turns,
     })
+}
+
+/// The file in which the key stands, if one is named behind the other words.
+pub(crate) fn key_file(words: &[String]) -> Result<Option<&str>, Refusal> {
+    match words {
+        [_, _, _, _] => Ok(None),
+        [_, _, _, _, word, file] => {
+            if word.as_str() == "--key" {
+                Ok(Some(file.as_str()))
+            } else {
+                Err(Refusal::NoWords)
+            }
+        }
+        _ => Err(Refusal::NoWords),
+    }
 }

@@ -1,4 +1,3 @@
-mod Vectors
 pub mod Passings
 pub mod Standing
 pub mod Opening

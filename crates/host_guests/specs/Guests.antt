@@ -1,108 +1,115 @@
--- The guests of a link: places by number, each an address's or nobody's. Only who repeated its number gets one.
-use Rattle.std.specs.Prelude.{ℕ, ◌≡◌, ◌+◌, ◌<◌, ◌≤◌, Bool, true, false, if◌then◌else◌, ◌&&◌, nat_lt, List, ◌∷◌, length, position, Option, Some, None, slice_index_or, slice_set}
-use Rattle.host_guests.specs.declared.guests.TheConstants.{MAX_COUNTED}
-use Rattle.host_guests.specs.declared.challenges.Address.{Address}
-use Rattle.host_guests.specs.declared.guests.Guest.{Guest}
+-- The guests of a link: who has which seat. Who answers its challenge from an address that has none gets the first that is free. Without a key what
+-- comes from a guest's address is of the guest; under a key what carries the tag of its joining, too.
+use Rattle.std.specs.Prelude.{ℕ, ◌≡◌, ◌<◌, ◌≤◌, ◌%◌, ◌==◌, Bool, true, false, List, [], ◌∷◌, length, take, Option, Some, None, IfSome, slice_index_or, slice_set}
+use Rattle.datagram_tags.specs.declared.sides.Side.TheVariants.{Client, Server}
+use Rattle.greeting.specs.declared.words.Address.{Address}
+use Rattle.greeting.specs.declared.datagrams.Reason.TheVariants.{TokenRefused}
+use Rattle.greeting.specs.declared.door.Guest.{Guest}
+use Rattle.greeting.specs.declared.door.Heard.{Heard as Greeting}
+use Rattle.greeting.specs.declared.door.Heard.TheVariants as greeting
+use Rattle.greeting.specs.Words.{is_same}
+use Rattle.greeting.specs.Datagrams.{nonce_in, number_in, welcome, refusal}
+use Rattle.greeting.specs.Door.{DoorState, Hears as DoorHears, reply_of}
+use Rattle.host_guests.specs.declared.keys.TheConstants.{GREETING_NUMBER}
 use Rattle.host_guests.specs.declared.guests.Heard.{Heard}
-use Rattle.host_guests.specs.declared.guests.Heard.TheVariants.{Hello, OfGuest, Stranger, Full, Dropped}
-use Rattle.host_guests.specs.Challenges.{is_right, number_for, challenge}
-use Rattle.host_guests.specs.Passing.{Passing, Came, Went, is_same, has_repeated, IsFair}
+use Rattle.host_guests.specs.declared.guests.Heard.TheVariants.{Joined, OfGuest, Greeted, Dropped, Stranger, Untagged}
+use Rattle.host_guests.specs.Keys.{Carries}
+use Rattle.host_guests.specs.Passing.{Passing, Came, Went, HasAnswered, IsFair}
 
--- what a clause sees: the secret, the places, and how many datagrams came
+-- what a clause sees; of each seat the number under which its guest's datagrams are tagged
 pub record GuestsState : Type 0 where
-  pub secret : List ℕ
-  pub places : List Guest
-  pub heard : ℕ
+  pub door : DoorState
+  pub key : Option (List ℕ)
+  pub numbers : List ℕ
+  pub seats : ℕ
 
-abbrev pub nobody : Guest
-nobody = record { address = record { host = 0; port = 0 }; client = None; heard = 0 }
+-- the two lowest bits of the first byte are set, as in no packet of a connection
+abbrev pub is_greeting : List ℕ → Bool
+is_greeting [] = false
+is_greeting (kind ∷ rest) = kind % 4 == 3
 
-abbrev pub guest_at : List Guest → ℕ → Guest
-guest_at places i = slice_index_or places i nobody
+-- the number of a joining, in the answer: the first eight bytes of the challenge's
+abbrev pub joining_in : List ℕ → ℕ
+joining_in bytes = (number_in bytes).low
 
--- somebody has the place
-abbrev pub is_taken : Guest → Bool
-is_taken g = nat_lt 0 g.heard
+abbrev pub guest_at : GuestsState → ℕ → Option Guest
+guest_at g place = slice_index_or g.door.seats place None
 
-abbrev pub is_at : Address → Guest → Bool
-is_at a g = is_taken g && is_same g.address a
+abbrev pub number_at : GuestsState → ℕ → ℕ
+number_at g place = slice_index_or g.numbers place 0
 
--- the place of an address, if it has one
-abbrev pub place_at : List Guest → Address → Option ℕ
-place_at places a = position (is_at a) places
+abbrev pub is_at : Address → Option Guest → Bool
+is_at a None = false
+is_at a (Some guest) = is_same guest.address a
 
--- a count with so much more; it stops at its limit
-abbrev pub counted : ℕ → ℕ → ℕ
-counted count more = if nat_lt count MAX_COUNTED then count + more else count
+-- the seat of an address among the first so many
+abbrev pub SeatBelow : GuestsState → Address → ℕ → Option ℕ → Type 0
+SeatBelow g a count (Some place) = (place < count) × (is_at a (guest_at g place) ≡ true)
+SeatBelow g a count None = (place : ℕ) → place < count → is_at a (guest_at g place) ≡ false
 
--- the guest at a place was heard, as the so-manieth datagram of all
-abbrev pub heard_again : List Guest → ℕ → ℕ → List Guest
-heard_again places i at = slice_set places i (record (guest_at places i) { heard = at })
+abbrev pub SeatOf : GuestsState → Address → Option ℕ → Type 0
+SeatOf g a seat = SeatBelow g a g.seats seat
 
--- a place is an address's from now on
-abbrev pub seated : List Guest → ℕ → Address → ℕ → List Guest
-seated places i a at = slice_set places i (record { address = a; client = None; heard = at })
+-- nobody waits for a decision
+abbrev pub unasked : DoorState → DoorState
+unasked d = record d { asking = None }
 
--- ---- who makes room
+-- the guest has a seat from now on, and its datagrams are tagged under this number
+abbrev pub joined : GuestsState → ℕ → Guest → ℕ → GuestsState
+joined g place guest number = record g {
+  door = record (unasked g.door) { seats = slice_set g.door.seats place (Some guest) };
+  numbers = slice_set g.numbers place number;
+}
 
-abbrev pub HasNoClient : List Guest → ℕ → Type 0
-HasNoClient places i = (guest_at places i).client ≡ None
+-- ---- what is done with a greeting that a datagram carries
 
-abbrev pub AllHaveClients : List Guest → Type 0
-AllHaveClients places = (i : ℕ) → i < length places → HasNoClient places i → ⊥
+-- who asks, from an address that has no seat, gets a free one; else it is refused
+abbrev pub DecidesOn : GuestsState → Address → Guest → ℕ → GuestsState → List ℕ → Heard → Type 0
+DecidesOn g a guest number new reply (Joined place) =
+    SeatOf g a None × (guest_at g place ≡ None) × (new ≡ joined g place guest number) × (reply ≡ welcome guest.nonce place g.door.terms)
+DecidesOn g a guest number new reply Greeted =
+    (new ≡ record g { door = unasked g.door }) × (reply ≡ refusal guest.nonce TokenRefused)
+DecidesOn g a guest number new reply heard = ⊥
 
--- among the first so many places, this one has no client, and none without one was silent longer
-pub record IsLongestBelow (places : List Guest) (count i : ℕ) : Type 0 where
-  pub place : i < count
-  pub free : HasNoClient places i
-  pub longest : (j : ℕ) → j < count → HasNoClient places j → (guest_at places i).heard ≤ (guest_at places j).heard
+-- what goes back, by what the door made of it: who asks in vain is refused
+abbrev pub GoesBack : DoorState → Address → List ℕ → Greeting → List ℕ → Type 0
+GoesBack d a bytes greeting.Asks reply = reply ≡ refusal (nonce_in bytes) TokenRefused
+GoesBack d a bytes heard reply = reply ≡ reply_of d a bytes heard
 
-abbrev pub IsSilentLongest : List Guest → ℕ → Type 0
-IsSilentLongest places i = IsLongestBelow places (length places) i
+abbrev pub Greets : GuestsState → Address → List ℕ → GuestsState → List ℕ → Heard → Type 0
+Greets g a bytes new reply (Joined place) =
+    DoorHears g.door a bytes greeting.Asks × SeatOf g a None × (guest_at g place ≡ None)
+    × (new ≡ joined g place (record { address = a; nonce = nonce_in bytes }) (joining_in bytes))
+    × (reply ≡ welcome (nonce_in bytes) place g.door.terms)
+Greets g a bytes new reply Greeted =
+    (heard : Greeting) × DoorHears g.door a bytes heard × GoesBack g.door a bytes heard reply × (new ≡ record g { door = unasked g.door })
+Greets g a bytes new reply Dropped =
+    DoorHears g.door a bytes greeting.Dropped × (new ≡ record g { door = unasked g.door }) × (reply ≡ [])
+Greets g a bytes new reply heard = ⊥
 
--- what was found among the first so many places
-abbrev pub SilentBelow : List Guest → ℕ → Option ℕ → Type 0
-SilentBelow places count None = (j : ℕ) → j < count → HasNoClient places j → ⊥
-SilentBelow places count (Some i) = IsLongestBelow places count i
+-- ---- what is done with a datagram
 
-abbrev pub is_longer : List Guest → Option ℕ → Guest → Bool
-is_longer places None g = true
-is_longer places (Some k) g = nat_lt g.heard (guest_at places k).heard
-
--- ---- what a datagram does
-
--- an address that repeated its number keeps its place, or gets that of the guest without a client who was silent longest
-abbrev pub Seats : List Guest → Address → ℕ → ℕ → List Guest → Option ℕ → Type 0
-Seats places a at i new None = IsSilentLongest places i × (new ≡ seated places i a at)
-Seats places a at i new (Some own) = (i ≡ own) × (new ≡ heard_again places i at)
-
--- what is done with a datagram of an address, by what is answered
-abbrev pub Hears : GuestsState → Address → List ℕ → ℕ → List Guest → Heard → Type 0
-Hears g a bytes at new (Hello i) = (is_right g.secret a bytes ≡ true) × Seats g.places a at i new (place_at g.places a)
-Hears g a bytes at new Full =
-    (is_right g.secret a bytes ≡ true) × (place_at g.places a ≡ None) × AllHaveClients g.places × (new ≡ g.places)
-Hears g a bytes at new (OfGuest i) =
-    (is_right g.secret a bytes ≡ false) × (place_at g.places a ≡ Some i) × (new ≡ heard_again g.places i at)
-Hears g a bytes at new (Stranger number) =
-    (is_right g.secret a bytes ≡ false) × (place_at g.places a ≡ None) × (number_for g.secret a bytes ≡ Some number) × (new ≡ g.places)
-Hears g a bytes at new Dropped =
-    (is_right g.secret a bytes ≡ false) × (place_at g.places a ≡ None) × (number_for g.secret a bytes ≡ None) × (new ≡ g.places)
-
--- the place of the guest from whom a datagram is
-abbrev pub place_of : Heard → Option ℕ
-place_of (Hello i) = Some i
-place_of (OfGuest i) = Some i
-place_of heard = None
+abbrev pub Hears : GuestsState → Address → List ℕ → GuestsState → List ℕ → Heard → Type 0
+Hears g a datagram new reply (OfGuest place count) =
+    (is_greeting datagram ≡ false) × SeatOf g a (Some place) × (count ≤ length datagram)
+    × Carries g.key Client (number_at g place) datagram (take count datagram) × (new ≡ g) × (reply ≡ [])
+Hears g a datagram new reply Stranger = (is_greeting datagram ≡ false) × SeatOf g a None × (new ≡ g) × (reply ≡ [])
+Hears g a datagram new reply Untagged =
+    (number : ℕ) × ((bytes : List ℕ) → Carries g.key Client number datagram bytes → ⊥) × (new ≡ g) × (reply ≡ [])
+Hears g a datagram new reply heard =
+    (bytes : List ℕ) × Carries g.key Client GREETING_NUMBER datagram bytes × Greets g a bytes new reply heard
 
 -- ---- the log
 
--- what passed with a datagram and its answer: a stranger is sent its number
-abbrev pub with_answer : Heard → Address → List ℕ → List Passing → List Passing
-with_answer (Stranger number) a bytes log = Went a (challenge number) ∷ Came a bytes ∷ log
-with_answer heard a bytes log = Came a bytes ∷ log
-
--- the guests are those of a log: each has repeated its number, and nobody else was sent more than came from there
+-- each guest answered a challenge, its number follows from its joining, and to nobody else went more than came from there
 pub record StandsFor (g : GuestsState) (log : List Passing) : Type 0 where
-  pub known : (i : ℕ) → i < length g.places → is_taken (guest_at g.places i) ≡ true
-      → has_repeated g.secret (guest_at g.places i).address log ≡ true
-  pub fair : IsFair g.secret log
+  pub secret : g.door.before ≡ g.door.secret
+  pub known : (place : ℕ) → IfSome (guest_at g place) (λ guest. HasAnswered g.key g.door.secret guest.address log)
+  pub fair : IsFair g.key g.door.secret log
+
+-- the datagram came, and what it is answered by may go back
+abbrev pub ReceivesAt : GuestsState → Address → List ℕ → GuestsState → List ℕ → Type 0
+ReceivesAt g a datagram new reply = (log : List Passing) → StandsFor g log
+    → StandsFor new (Came a datagram ∷ log)
+    × ((back : List ℕ) → (reply ≡ [] → ⊥) → Carries g.key Server GREETING_NUMBER back reply
+    → StandsFor new (Went a back ∷ Came a datagram ∷ log))

@@ -1,5 +1,5 @@
-pub mod Challenges
+pub mod Keys
 pub mod Passing
 pub mod Guests
-pub mod Doors
+pub mod Entrance
 pub mod Numbers

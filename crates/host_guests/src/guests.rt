@@ -1,71 +1,55 @@
-//! Those with whom a link speaks: their addresses, who makes room for whom, and what is said to a stranger.
-ghost use Rattle.std.specs.Prelude.{◌≡◌, ◌<◌, ℕ, List, length, [], ◌∷◌, Some, None, true, false, slice_set, replicate, IfOk, IfSome, IsNone};
-ghost use Rattle.host_guests.specs.Guests.{counted};
+//! Those with whom a link speaks: who has which seat, and what is done with a datagram.
+ghost use Rattle.std.specs.Prelude.{◌≡◌, ◌<◌, ◌≤◌, ℕ, List, length, take, [], ◌∷◌, Some, None, false, slice_index_or, slice_set, replicate, IfOk, IfSome, IsNone};
+ghost use Rattle.host_guests.specs.Guests.{is_greeting, joining_in};
 
-use crate::challenges::{Address, SECRET_BYTES, is_right, number_for};
+use crate::keys::{GREETING_NUMBER, KEY_BYTES, carried};
+use greeting::{
+    Address, Door, GreetingBytes, Heard as Greeting, PROTOCOL_BYTES, SECRET_BYTES, TERMS_BYTES,
+};
 use std::alloc::Global;
 use std::marker::Model;
 use tn_types::NoMemory;
 
-/// A count goes no further than this.
-pub const MAX_COUNTED: u64 = 1 << 60;
-
-/// One place among the guests.
-#[derive(Clone, Copy, Debug, PartialEq, Eq)]
-pub struct Guest {
-    pub address: Address,
-    /// The client that it has, if a welcome went to it.
-    pub client: Option<u8>,
-    /// How many datagrams had come from all addresses when it was last heard; 0 where nobody has the place.
-    pub heard: u64,
+/// What guests are greeted by.
+#[derive(Clone, Copy)]
+pub struct Rules {
+    /// One that nobody can guess.
+    pub secret: [u8; SECRET_BYTES],
+    /// The number of what both ends have to agree on.
+    pub protocol: [u8; PROTOCOL_BYTES],
+    /// They go with each welcome.
+    pub terms: [u8; TERMS_BYTES],
+    /// Where there is one, each datagram carries its tag, both ways.
+    pub key: Option<[u8; KEY_BYTES]>,
+    /// So many guests there may be.
+    pub seats: u32,
 }
-
-/// Nobody has the place.
-const NOBODY: Guest = Guest {
-    address: Address { host: 0, port: 0 },
-    client: None,
-    heard: 0,
-};
 
 /// What is done with a datagram.
 #[derive(Clone, Copy, Debug, PartialEq, Eq)]
 pub enum Heard {
-    /// It repeats its number: its first bytes are a hello of the guest at this place.
-    Hello { place: usize },
-    /// It is of the guest at this place.
-    OfGuest { place: usize },
-    /// It is the hello of a stranger, to whom this number is to go.
-    Stranger { number: u32 },
-    /// It repeats its number, and each place is that of a client.
-    Full,
-    /// It is any other one of a stranger.
+    /// It is the right answer of who has no seat, and gets this one.
+    Joined { place: u32 },
+    /// It is of the guest who has this seat, and carries so many bytes.
+    OfGuest { place: u32, count: usize },
+    /// It is any other greeting that is answered: a hello, an answer that came again, or one for which there is no seat.
+    Greeted,
+    /// It is a greeting that is not answered, as a wrong answer.
     Dropped,
+    /// It is no greeting, and from an address that has no seat.
+    Stranger,
+    /// It has not the tag of its bytes.
+    Untagged,
 }
 
-impl Heard {
-    ghost use Rattle.host_guests.specs.Guests.{place_of};
-
-    /// The place of the guest from whom it is.
-    pub fn place(self) -> Option<usize>
-        ensures { result ≡ place_of self }
-    {
-        match self {
-            Heard::Hello { place } => Some(place),
-            Heard::OfGuest { place } => Some(place),
-            Heard::Stranger { number: _ } => None,
-            Heard::Full => None,
-            Heard::Dropped => None,
-        }
-    }
-}
-
-/// All places, and the secret from which numbers follow. An address gets a place by a hello that repeats its number, and keeps it until
-/// it makes room for another one; one with a client keeps it for good.
+/// All seats, and by what numbers their guests' datagrams are tagged.
 #[derive(Drop)]
 pub struct Guests {
-    secret: [u8; SECRET_BYTES],
-    places: Vec<Guest>,
-    heard: u64,
+    door: Door,
+    key: Option<[u8; KEY_BYTES]>,
+    // of each seat the number of its guest's joining
+    numbers: Vec<u64>,
+    seats: u32,
 }
 
 impl Model for Guests {
@@ -73,205 +57,209 @@ impl Model for Guests {
 
     ghost Value = { GuestsState };
 
-    ghost view = { λ g. record { secret = g.secret; places = g.places.items; heard = g.heard } };
+    ghost view = { λ g. record { door = g.door; key = g.key; numbers = g.numbers.items; seats = g.seats } };
 }
 
-/// A count with one more.
-fn counted(count: u64) -> u64
-    ensures { result ≡ counted count 1 }
+/// Whether these bytes are one of a greeting, by the two lowest bits of the first: they are set in no packet of a connection.
+pub fn is_greeting(bytes: &[u8]) -> bool
+    ensures { result ≡ is_greeting bytes.now }
 {
-    if count < MAX_COUNTED {
-        count + 1
-    } else {
-        count
-    }
+    bytes.len() > 0 && bytes[0] % 4 == 3
+}
+
+// The number of a joining: the first eight bytes of the challenge's number, which stands in the answer.
+#[tactic(auto, unfolding(greeting::specs::Words::word_at))]
+fn joining_in(answer: &[u8]) -> u64
+    requires { 34 ≤ length answer.now }
+    ensures { result ≡ joining_in answer.now }
+{
+    let mut eight = [0; 8];
+    eight.copy_from_slice(&answer[18..26]);
+    u64::from_le_bytes(eight)
 }
 
 impl Guests {
-    ghost use Rattle.host_guests.specs.Challenges.{is_right};
+    ghost use Rattle.greeting.specs.declared.door.Guest.{Guest};
     ghost use Rattle.host_guests.specs.Passing.{Passing, Went};
-    ghost use Rattle.host_guests.specs.Guests.{nobody, guest_at, is_taken, place_at, heard_again, is_longer, Seats, Hears, IsSilentLongest, AllHaveClients, SilentBelow, with_answer, StandsFor};
+    ghost use Rattle.host_guests.specs.Guests.{GuestsState, guest_at, number_at, is_at, SeatBelow, DecidesOn, Greets, Hears, ReceivesAt, StandsFor};
 
-    /// So many places, which nobody has, under a secret.
-    pub fn new(alloc: Global, secret: [u8; SECRET_BYTES], count: usize) -> Result<Guests, NoMemory>
-        ensures places { IfOk result (λ g. g ≡ record { secret = secret; places = replicate count nobody; heard = 0 }) }
+    /// All seats are free.
+    pub fn new(alloc: Global, rules: Rules) -> Result<Guests, NoMemory>
+        ensures state { IfOk result (λ g. g ≡ record {
+          door = record {
+            secret = rules.secret;
+            before = rules.secret;
+            protocol = rules.protocol;
+            terms = rules.terms;
+            seats = replicate rules.seats None;
+            asking = None;
+          };
+          key = rules.key;
+          numbers = replicate rules.seats 0;
+          seats = rules.seats;
+        }) }
         ensures log { IfOk result (λ g. StandsFor g []) }
     {
-        let mut places = Vec::new(alloc);
-        match places.resize(count, NOBODY) {
+        let Rules {
+            secret,
+            protocol,
+            terms,
+            key,
+            seats,
+        } = rules;
+        let Ok(door) = Door::new(alloc, secret, protocol, terms, seats) else {
+            return Err(NoMemory);
+        };
+        let mut numbers = Vec::new(alloc);
+        match numbers.resize(seats as usize, 0) {
             Ok(()) => Ok(Guests {
-                secret,
-                places,
-                heard: 0,
+                door,
+                key,
+                numbers,
+                seats,
             }),
             Err(_) => Err(NoMemory),
         }
     }
 
-    // The place of an address, if it has one.
-    fn find(&self, address: Address) -> Option<usize>
-        ensures { result ≡ place_at self.now.places address }
+    // Whether a seat is that of this address.
+    fn is_at(&self, place: u32, from: Address) -> bool
+        ensures { result ≡ is_at from (guest_at self.now place) }
     {
-        self.places.iter().position(|g| g.heard > 0
-            && g.address.host == address.host
-            && g.address.port == address.port)
-    }
-
-    // Whether a place without a client was silent longer than the one found before, if one was found.
-    fn is_longer(&self, found: Option<usize>, guest: &Guest) -> bool
-        requires { IfSome found (λ k. k < length self.now.places) }
-        ensures { result ≡ is_longer self.now.places found guest.now }
-    {
-        match found {
-            Some(k) => guest.heard < self.places[k].heard,
-            None => true,
+        match self.door.guest(place) {
+            Some(guest) => guest.address.is_same(from),
+            None => false,
         }
     }
 
-    // The place, among those without a client, that was silent longest.
-    fn silent(&self) -> Option<usize>
-        ensures { SilentBelow self.now.places (length self.now.places) result }
+    // The seat of an address, if it has one.
+    fn seat_of(&self, from: Address) -> Option<u32>
+        ensures { SeatBelow self.now from self.now.seats result }
     {
-        let mut found = None;
-        'places: for i in 0..self.places.len() {
-            let guest = self.places[i];
-            if guest.client.is_none() && self.is_longer(found, &guest) {
-                found = Some(i);
+        'seats: for place in 0..self.seats {
+            if self.is_at(place, from) {
+                return Some(place);
             }
         }
-        found
+        None
     }
 
-    // A datagram came from the guest at a place.
-    fn hear_again(&mut self, i: usize)
-        requires { i < length self.old.places }
-        ensures places { self.new.places ≡ heard_again self.old.places i self.old.heard }
-        ensures counts { self.new.heard ≡ self.old.heard }
-        ensures secret { self.new.secret ≡ self.old.secret }
+    // A free seat, if there is one.
+    fn free(&self) -> Option<u32>
+        ensures { IfSome result (λ i. guest_at self.now i ≡ None) }
     {
-        let guest = self.places[i];
-        self.places[i] = Guest {
-            heard: self.heard,
-            ..guest
+        'seats: for place in 0..self.seats {
+            if self.door.guest(place).is_none() {
+                return Some(place);
+            }
+        }
+        None
+    }
+
+    // The number under which the datagrams of a seat's guest are tagged.
+    fn number(&self, place: u32) -> u64
+        ensures { result ≡ number_at self.now place }
+    {
+        let i = place as usize;
+        if i < self.numbers.len() {
+            self.numbers[i]
+        } else {
+            0
+        }
+    }
+
+    // The guest of a seat joined by this number.
+    fn note(&mut self, place: u32, number: u64)
+        ensures { self.new ≡ record self.old { numbers = slice_set self.old.numbers place number } }
+    {
+        let i = place as usize;
+        if i < self.numbers.len() {
+            self.numbers[i] = number;
+        }
+    }
+
+    // Who asks gets a seat, where its address has none and one is free.
+    fn decide(&mut self, from: Address, number: u64, reply: &mut GreetingBytes) -> Heard
+        ensures { (guest : Guest) → self.old.door.asking ≡ Some guest → DecidesOn self.old from guest number self.new reply.new result }
+    {
+        if self.seat_of(from).is_none() {
+            if let Some(place) = self.free() {
+                if self.door.accept(place, reply).is_ok() {
+                    self.note(place, number);
+                    return Heard::Joined { place };
+                }
+            }
+        }
+        let _asked = self.door.refuse(reply);
+        Heard::Greeted
+    }
+
+    // A greeting came.
+    fn greet(&mut self, from: Address, bytes: &[u8], reply: &mut GreetingBytes) -> Heard
+        ensures { Greets self.old from bytes.now self.new reply.new result }
+    {
+        match self.door.hear(from, bytes, reply) {
+            Greeting::Asks => self.decide(from, joining_in(bytes), reply),
+            Greeting::Dropped => Heard::Dropped,
+            _ => Heard::Greeted,
+        }
+    }
+
+    // A datagram came that is no greeting.
+    fn pass(&self, from: Address, datagram: &[u8]) -> Heard
+        requires { is_greeting datagram.now ≡ false }
+        ensures { Hears self.now from datagram.now self.now [] result }
+    {
+        let Some(place) = self.seat_of(from) else {
+            return Heard::Stranger;
         };
+        match carried(self.key, self.number(place), datagram) {
+            Some(count) => Heard::OfGuest { place, count },
+            None => Heard::Untagged,
+        }
     }
 
-    // An address that repeated its number has a place, where one is to be had.
-    fn admit(&mut self, address: Address) -> Option<usize>
-        ensures place { IfSome result (λ i. Seats self.old.places address self.old.heard i self.new.places
-            (place_at self.old.places address)) }
-        ensures full { IsNone result → (place_at self.old.places address ≡ None) × AllHaveClients self.old.places
-            × (self.new.places ≡ self.old.places) }
-        ensures counts { self.new.heard ≡ self.old.heard }
-        ensures secret { self.new.secret ≡ self.old.secret }
+    // A datagram came.
+    fn judge(&mut self, from: Address, datagram: &[u8], reply: &mut GreetingBytes) -> Heard
+        requires { reply.old ≡ [] }
+        ensures { Hears self.old from datagram.now self.new reply.new result }
     {
-        if let Some(i) = self.find(address) {
-            self.hear_again(i);
-            return Some(i);
+        if !is_greeting(datagram) {
+            return self.pass(from, datagram);
         }
-        match self.silent() {
-            Some(i) => {
-                self.places[i] = Guest {
-                    address,
-                    client: None,
-                    heard: self.heard,
-                };
-                Some(i)
-            }
+        match carried(self.key, GREETING_NUMBER, datagram) {
+            Some(count) => self.greet(from, &datagram[..count], reply),
+            None => Heard::Untagged,
+        }
+    }
+
+    /// A datagram came from an address. What `reply` then has is to go back there, carried under the number of greetings, if it has any
+    /// bytes.
+    pub fn hear(&mut self, from: Address, datagram: &[u8], reply: &mut GreetingBytes) -> Heard
+        requires { reply.old ≡ [] }
+        ensures answer { Hears self.old from datagram.now self.new reply.new result }
+        ensures log { ReceivesAt self.old from datagram.now self.new reply.new }
+    {
+        self.judge(from, datagram, reply)
+    }
+
+    /// Where the guest of a seat is, if somebody has it, and under what number what is for it is tagged. Anything may go there.
+    pub fn address(&self, place: u32) -> Option<(Address, u64)>
+        ensures some { IfSome result (λ a. IfSome (guest_at self.now place) (λ g. a.0 ≡ g.address) × (a.1 ≡ number_at self.now place)) }
+        ensures none { IsNone result → guest_at self.now place ≡ None }
+        ensures log { IfSome result (λ a. (log : List Passing) (datagram : List ℕ) → StandsFor self.now log
+            → StandsFor self.now (Went a.0 datagram ∷ log)) }
+    {
+        match self.door.guest(place) {
+            Some(guest) => Some((guest.address, self.number(place))),
             None => None,
         }
     }
 
-    // A datagram came that does not repeat its number.
-    fn pass(&mut self, address: Address, bytes: &[u8]) -> Heard
-        requires { is_right self.old.secret address bytes.now ≡ false }
-        ensures answer { Hears self.old address bytes.now self.old.heard self.new.places result }
-        ensures counts { self.new.heard ≡ self.old.heard }
-        ensures secret { self.new.secret ≡ self.old.secret }
+    /// The key, if there is one.
+    pub fn key(&self) -> Option<[u8; KEY_BYTES]>
+        ensures { result ≡ self.now.key }
     {
-        match self.find(address) {
-            Some(place) => {
-                self.hear_again(place);
-                Heard::OfGuest { place }
-            }
-            None => match number_for(&self.secret, address, bytes) {
-                Some(number) => Heard::Stranger { number },
-                None => Heard::Dropped,
-            },
-        }
-    }
-
-    // A datagram came that repeats its number.
-    fn welcome(&mut self, address: Address, bytes: &[u8]) -> Heard
-        requires { is_right self.old.secret address bytes.now ≡ true }
-        ensures answer { Hears self.old address bytes.now self.old.heard self.new.places result }
-        ensures counts { self.new.heard ≡ self.old.heard }
-        ensures secret { self.new.secret ≡ self.old.secret }
-    {
-        match self.admit(address) {
-            Some(place) => Heard::Hello { place },
-            None => Heard::Full,
-        }
-    }
-
-    /// A datagram came from an address. It is of a guest where the address has a place, or where it repeats the address's number, for
-    /// which the address gets a place; to the hello of a stranger the answer is its number. All else is dropped.
-    pub fn hear(&mut self, address: Address, bytes: &[u8]) -> Heard
-        ensures answer { Hears self.old address bytes.now self.new.heard self.new.places result }
-        ensures counts { self.new.heard ≡ counted self.old.heard 1 }
-        ensures secret { self.new.secret ≡ self.old.secret }
-        ensures log { (log : List Passing) → StandsFor self.old log → StandsFor self.new (with_answer result address bytes.now log) }
-    {
-        self.heard = counted(self.heard);
-        if is_right(&self.secret, address, bytes) {
-            self.welcome(address, bytes)
-        } else {
-            self.pass(address, bytes)
-        }
-    }
-
-    /// A client is the guest's at a place.
-    pub fn give(&mut self, i: usize, client: u8)
-        requires { i < length self.old.places }
-        ensures places { self.new.places ≡ slice_set self.old.places i (record (guest_at self.old.places i) { client = Some client }) }
-        ensures counts { self.new.heard ≡ self.old.heard }
-        ensures secret { self.new.secret ≡ self.old.secret }
-        ensures log { (log : List Passing) → StandsFor self.old log → StandsFor self.new log }
-    {
-        let guest = self.places[i];
-        self.places[i] = Guest {
-            client: Some(client),
-            ..guest
-        };
-    }
-
-    /// The address of the guest at a place, if somebody has it: anything may go there.
-    pub fn address(&self, i: usize) -> Option<Address>
-        ensures some { IfSome result (λ a. (i < length self.now.places) × (is_taken (guest_at self.now.places i) ≡ true)
-            × (a ≡ (guest_at self.now.places i).address)) }
-        ensures none { IsNone result → i < length self.now.places → is_taken (guest_at self.now.places i) ≡ false }
-        ensures log { IfSome result (λ a. (log : List Passing) (bytes : List ℕ) → StandsFor self.now log
-            → StandsFor self.now (Went a bytes ∷ log)) }
-    {
-        if i < self.places.len() && self.places[i].heard > 0 {
-            Some(self.places[i].address)
-        } else {
-            None
-        }
-    }
-
-    /// How many places there are.
-    pub fn len(&self) -> usize
-        ensures { result ≡ length self.now.places }
-    {
-        self.places.len()
-    }
-
-    /// The guest at a place.
-    pub fn guest(&self, i: usize) -> Guest
-        requires { i < length self.now.places }
-        ensures { result ≡ guest_at self.now.places i }
-    {
-        self.places[i]
+        self.key
     }
 }

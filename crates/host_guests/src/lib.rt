@@ -1,15 +1,13 @@
-//! Those with whom a server on the net speaks: their places by number, and how much may go to each.
+//! Those with whom a server on the net speaks: their seats by number, how much may go to each, and under a key the tag of each datagram.
 #![tactic(auto)]
 
-mod challenges;
-mod door;
+mod entrance;
 mod guests;
+mod keys;
 mod socket;
 
-pub use challenges::{
-    Address, BLOCK_BYTES, CHALLENGE, CHALLENGE_BYTES, Repeated, SECRET_BYTES, challenge, is_right,
-    number_for,
-};
-pub use door::{Door, Knock, Sent};
-pub use guests::{Guest, Guests, Heard, MAX_COUNTED};
+pub use entrance::{Entrance, Knock, MAX_SENT_BYTES, Sent};
+pub use greeting::{Address, PROTOCOL_BYTES, SECRET_BYTES, TERMS_BYTES};
+pub use guests::{Guests, Heard, Rules, is_greeting};
+pub use keys::{GREETING_NUMBER, KEY_BYTES, TAG_BYTES, append, carried};
 pub use socket::Socket;

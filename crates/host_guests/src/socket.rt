@@ -2,7 +2,7 @@
 ghost use Rattle.std.specs.Prelude.{◌≤◌, List, length, Option, IfOk, IfSome};
 ghost use Rattle.host_guests.specs.Passing.{Passing, Goes, Comes};
 
-use crate::challenges::Address;
+use greeting::Address;
 use tn_outside::Failed;
 
 /// Datagrams from addresses, and to them.

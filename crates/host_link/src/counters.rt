@@ -19,6 +19,7 @@ pub struct Counters {
     bytes_sent: Cell<u64>,
     asked: Cell<u64>,
     turned: Cell<u64>,
+    untagged: Cell<u64>,
     unsent: Cell<u64>,
     late: Cell<u64>,
     refused: Cell<[u64; REFUSALS.len()]>,
@@ -61,6 +62,7 @@ impl Counters {
             bytes_sent: Cell::new(0),
             asked: Cell::new(0),
             turned: Cell::new(0),
+            untagged: Cell::new(0),
             unsent: Cell::new(0),
             late: Cell::new(0),
             refused: Cell::new([0; REFUSALS.len()]),
@@ -79,14 +81,19 @@ impl Counters {
         add(&self.bytes_sent, bytes);
     }
 
-    /// A stranger said hello, and was to be sent its number.
+    /// A greeting was answered.
     pub(crate) fn note_asked(&self) {
         add(&self.asked, 1);
     }
 
-    /// A datagram was dropped: any other one of a stranger, or a hello for which there was no place.
+    /// A datagram of a stranger was dropped.
     pub(crate) fn note_turned(&self) {
         add(&self.turned, 1);
+    }
+
+    /// A datagram was dropped that has not its tag.
+    pub(crate) fn note_untagged(&self) {
+        add(&self.untagged, 1);
     }
 
     /// The system did not send a datagram.
@@ -132,12 +139,16 @@ impl fmt::Display for Counters {
         let (clients, late) = (self.clients.get(), self.late.get());
         let (came, bytes_came) = (self.came.get(), self.bytes_came.get());
         let (sent, bytes_sent) = (self.sent.get(), self.bytes_sent.get());
-        let (asked, turned, unsent) = (self.asked.get(), self.turned.get(), self.unsent.get());
+        let (asked, turned) = (self.asked.get(), self.turned.get());
+        let (untagged, unsent) = (self.untagged.get(), self.unsent.get());
         write!(
             f,
             "clients {clients} late {late} in {came} {bytes_came} out {sent} {bytes_sent}"
         )?;
-        write!(f, " asked {asked} turned {turned} unsent {unsent} refused")?;
+        write!(
+            f,
+            " asked {asked} turned {turned} untagged {untagged} unsent {unsent} refused"
+        )?;
         let counts = self.refused.get();
         for (name, count) in REFUSALS.iter().zip(counts.iter()) {
             write!(f, " {name} {count}")?;

@@ -9,7 +9,7 @@ mod socket;
 
 pub use clock::HostClock;
 pub use counters::Counters;
-pub use host_guests::SECRET_BYTES;
+pub use host_guests::{KEY_BYTES, PROTOCOL_BYTES, Rules, SECRET_BYTES, TERMS_BYTES};
 pub use link::HostLink;
 pub use net_serve;
 pub use socket::OpenSocket;

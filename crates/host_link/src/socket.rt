@@ -8,6 +8,12 @@ use std::time::{Clock as SystemTimes, Duration};
 use std::{io, thread};
 use tn_outside::Failed;
 
+/// What stands before the four bytes of an address of IPv4, as IPv6 writes it.
+const MAPPED: u64 = 0xffff_0000_0000;
+
+/// So many hosts has IPv4.
+const HOSTS: u64 = 1 << 32;
+
 /// A socket that is asked without waiting, and rests by the system's clock where nothing came. It tells nothing of what passes.
 #[derive(Drop)]
 pub struct OpenSocket<'a, R: SystemTimes> {
@@ -33,6 +39,20 @@ fn is_quiet(kind: ErrorKind) -> bool {
     )
 }
 
+// An address of IPv4, as IPv6 writes it.
+fn address_of(from: SocketAddrV4) -> Address {
+    Address {
+        high: 0,
+        low: MAPPED + u64::from(from.ip().to_bits()),
+        port: from.port(),
+    }
+}
+
+// Its four bytes.
+fn host_of(to: Address) -> u32 {
+    (to.low % HOSTS) as u32
+}
+
 impl<'a, R: Net + SystemTimes> OpenSocket<'a, R> {
     /// A socket at an address. Fails where that can't be had.
     pub fn bind(rt: &'a R, address: SocketAddrV4) -> Result<OpenSocket<'a, R>, Failed> {
@@ -48,13 +68,7 @@ fn ready(socket: &UdpSocket, buf: &mut [u8]) -> Result<Option<(Address, usize)>,
     ensures { IfOk result (λ answer. IfSome answer (λ x. x.1 ≤ length buf.new)) }
 {
     match socket.recv_from(buf) {
-        Ok((count, SocketAddr::V4(from))) => {
-            let from = Address {
-                host: from.ip().to_bits(),
-                port: from.port(),
-            };
-            Ok(Some((from, count)))
-        }
+        Ok((count, SocketAddr::V4(from))) => { Ok(Some((address_of(from), count))) }
         // A socket of IPv4 has no other.
         Ok((_, SocketAddr::V6(_))) => Ok(None),
         Err(e) => {
@@ -71,7 +85,7 @@ impl<R: SystemTimes> Socket for OpenSocket<'_, R> {
 
     fn send(&mut self, to: Address, bytes: &[u8]) -> bool {
         self.socket
-            .send_to(bytes, (Ipv4Addr::from_bits(to.host), to.port))
+            .send_to(bytes, (Ipv4Addr::from_bits(host_of(to)), to.port))
             .is_ok()
     }
 

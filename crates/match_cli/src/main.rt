@@ -3,12 +3,6 @@
 
 ghost use Rattle.std.specs.Prelude.{◌≡◌, false};
 
-use demo_top::top_demo;
-use match_top::top;
-use net_top::top_net;
-use predict_top::top_predict;
-use relay_top::top_relay;
-use script_input::{Status, exit_of};
 use std::alloc::Global;
 use std::io::BufWriter;
 use std::net::Net;
@@ -17,8 +11,8 @@ use std::sync::Wait;
 use std::thread::Threads;
 use std::time::Clock as SystemTimes;
 use std::{env, io};
-use threads_top::{Judgement, top_threads};
-use tn_outside::{SERVER_PORT, Sink, Source, StdSink, StdSource, SystemClock, UdpLink};
+use tn_outside::{MemLink, Sink, Source, StdSink, StdSource, SteadyClock, SystemClock, UdpLink};
+use tribes_program::{Judgement, Status, carry_out, exit_of, port_of};
 
 /// How many bytes are gathered before standard output is called.
 const GATHERED_BYTES: usize = 65_536;
@@ -38,26 +32,23 @@ fn arguments(rt: &HostRuntime) -> Option<Vec<String>> {
     Some(words)
 }
 
-/// Serves the words over a link at this port, 0 for a free one, and the system's clock.
-fn serve_over_link<R: Net + SystemTimes, K: Sink>(
-    rt: &R,
-    alloc: Global,
-    words: &Vec<String>,
-    port: u16,
-    sink: &mut K,
-) -> Status {
-    let Ok(mut link) = UdpLink::bind(rt, port) else {
-        return Status::LinkFault;
-    };
-    let Ok(mut clock) = SystemClock::new(rt) else {
-        return Status::ClockFault;
-    };
-    top_net(alloc, words, &mut link, &mut clock, sink)
+/// A link with no other end, for what needs none.
+fn no_link(alloc: Global) -> MemLink<'static> {
+    MemLink {
+        alloc,
+        arrivals: &[],
+        came: 0,
+        kept: Vec::new(alloc),
+        failing_sends: &[],
+        failing_receives: &[],
+        sends: 0,
+        receives: 0,
+        faults: 0,
+    }
 }
 
-/// Carries out what the words ask for: `threads` in threads, `serve` and `join` over a link, and all others on one thread, each by its
-/// own call.
-fn carry_out<R: Threads + Wait + Net + SystemTimes + Sync, S: Source, K: Sink>(
+/// Carries out what the words ask for: over a link at the port that they want and the system's clock, or over none.
+fn over_link<R: Threads + Wait + Net + SystemTimes + Sync, S: Source, K: Sink>(
     rt: &R,
     alloc: Global,
     words: &Vec<String>,
@@ -67,20 +58,28 @@ fn carry_out<R: Threads + Wait + Net + SystemTimes + Sync, S: Source, K: Sink>(
 ) -> Status
     requires { judgement.old ≡ false }
 {
-    match words.first() {
-        Some(name) if name.as_str() == "threads" => {
-            top_threads(rt, alloc, words, source, judgement, sink)
-        }
-        Some(name) if name.as_str() == "serve" => {
-            serve_over_link(rt, alloc, words, SERVER_PORT, sink)
-        }
-        Some(name) if name.as_str() == "join" => serve_over_link(rt, alloc, words, 0, sink),
-        Some(name) if name.as_str() == "predict" => top_predict(alloc, words, source, sink),
-        Some(name) if name.as_str() == "demo" => top_demo(alloc, words, source, sink),
-        Some(name) if name.as_str() == "replay" => top_demo(alloc, words, source, sink),
-        Some(name) if name.as_str() == "relay" => top_relay(alloc, words, source, sink),
-        _ => top(alloc, words, source, sink),
-    }
+    let Some(port) = port_of(words) else {
+        let mut clock = SteadyClock { rest: &[0] };
+        return carry_out(
+            rt,
+            alloc,
+            words,
+            source,
+            &mut no_link(alloc),
+            &mut clock,
+            judgement,
+            sink,
+        );
+    };
+    let Ok(mut link) = UdpLink::bind(rt, port) else {
+        return Status::LinkFault;
+    };
+    let Ok(mut clock) = SystemClock::new(rt) else {
+        return Status::ClockFault;
+    };
+    carry_out(
+        rt, alloc, words, source, &mut link, &mut clock, judgement, sink,
+    )
 }
 
 fn main(rt: HostRuntime) -> ExitCode {
@@ -89,7 +88,7 @@ fn main(rt: HostRuntime) -> ExitCode {
         Some(words) => {
             let mut source = StdSource::new(rt.reader());
             match BufWriter::with_capacity(rt.alloc(), GATHERED_BYTES, io::writer(&rt)) {
-                Ok(out) => carry_out(
+                Ok(out) => over_link(
                     &rt,
                     rt.alloc(),
                     &words,

@@ -4,7 +4,7 @@ use Rattle.std.specs.List.{flat_map}
 use Rattle.match_count.specs.match_laws.Laws.{Isolation}
 use Rattle.match_count.specs.match_laws.Report.{report}
 use Rattle.two_worlds.specs.Text.{alone_text}
-use Rattle.match_top.specs.Outcome.{AloneIsOfRun}
+use Rattle.match_top.specs.Rows.{AloneIsOfRun}
 
 pub alone_is_of_run : Isolation → AloneIsOfRun
 unfolding report alone_text

@@ -1,4 +1,1 @@
-pub mod Ends
-pub mod Words
-pub mod Rule
 pub mod Isolated

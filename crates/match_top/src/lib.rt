@@ -1,7 +1,8 @@
-//! The calls of the program over a source and a sink: what its words ask for, and how it ends.
+//! The calls of the program over a source and a sink that run one match: `run`, `alone C` and `big`.
 #![tactic(auto)]
 
-mod command;
+mod laws;
 mod serving;
 
-pub use serving::top;
+pub use laws::laws_of_commands;
+pub use serving::{top_alone, top_big, top_run};

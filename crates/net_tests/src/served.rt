@@ -1,10 +1,45 @@
 //! Calls of the program over a link, a clock and a sink in memory.
 ghost use Rattle.std.specs.Prelude.{◌<◌, length};
 
-use net_top::top_net;
+use commands::{Command, command_of};
+use net_top::{Offer, top_join, top_serve};
 use script_input::Status;
 use std::alloc::{AllocError, Global};
-use tn_outside::{Arrival, MemClock, MemLink, MemSink, Peer, Sending, SteadyClock};
+use tn_outside::{
+    Arrival, Clock, Link, MemClock, MemLink, MemSink, Peer, Sending, Sink, SteadyClock,
+};
+
+// Carries out a command over a link, a clock and a sink.
+fn carry_out<L: Link, C: Clock, K: Sink>(
+    alloc: Global,
+    words: &Vec<String>,
+    link: &mut L,
+    clock: &mut C,
+    sink: &mut K,
+) -> Status {
+    match command_of(words) {
+        Ok(
+            Command::Serve {
+                seed,
+                clients,
+                turns,
+            },
+        ) => top_serve(
+            alloc,
+            Offer {
+                seed,
+                clients,
+                turns,
+            },
+            link,
+            clock,
+            sink,
+        ),
+        Ok(Command::Join { turns }) => top_join(alloc, turns, link, clock, sink),
+        Ok(_) => Status::Usage(0),
+        Err(place) => Status::Usage(place),
+    }
+}
 
 /// More bytes than a line has.
 pub(crate) const ALL: usize = 4096;
@@ -90,7 +125,7 @@ pub(crate) fn served<'a>(
         calls: 0,
         faults: 0,
     };
-    let status = top_net(alloc, &all, &mut link, &mut clock, &mut sink);
+    let status = carry_out(alloc, &all, &mut link, &mut clock, &mut sink);
     let MemSink {
         bytes,
         most: _,

@@ -18,9 +18,7 @@ use Rattle.net_rules.specs.Runs.{Begun, Begins}
 use Rattle.net_serve.specs.Stages.{Served, ServedFront, ServedSome}
 use Rattle.net_join.specs.Joining.{sends as join_sends, ending}
 use Rattle.net_join.specs.Stages.{Joined, JoinedFront, JoinedSome, nonce_of}
-use Rattle.net_top.specs.declared.command.NetCommand.{NetCommand}
-use Rattle.net_top.specs.declared.command.NetCommand.TheVariants.{Serve, Join}
-use Rattle.net_top.specs.Outcome.{told, Met, met, NetOutcome, IsWanted, CanBeDone, status_of}
+use Rattle.net_top.specs.Outcome.{told, Met, met, NetRow, serving, joining, Cause, NetOutcome, IsWanted, NothingFailed, NetServes, status_of}
 
 -- a call that worked, and one that failed
 abbrev worked : Result (Unit {0}) NetFault
@@ -51,170 +49,99 @@ joined_front turns o w d s =
       text = whole_front o.written w (ending nonce (events o.ahead s.counts)) s.text;
     }
 
-module _ (seed clients turns : ℕ) (a a' : Option Ahead) (c c' w w' w2 : Option (List ℕ)) (d d' : Option (List Datagram)) (lf lf' cf cf' kf kf' kf2 : ℕ) where
-  abbrev head : Head
-  head = (made seed clients 0).head
+-- ---- which answer it is
 
-  -- after serving, and after the sink's last call
+exact : (row : NetRow) (m : Met) (s : Status) → Cause row m s → IsWanted m s
+exact row m Done h = refl
+exact row m (Usage place) h = absurd h
+exact row m (Script line fault) h = absurd h
+exact row m TooLong h = absurd h
+exact row m ReadFault h = absurd h
+exact row m WriteFault h = h.2
+exact row m NoMemory h = tt
+exact row m LinkFault h = h.0
+exact row m ClockFault h = h.1
+exact row m (Demo place) h = absurd h
+
+complete : (row : NetRow) (m : Met) (s : Status) → Cause row m s → NothingFailed m → (s ≡ Done) ⊎ (s ≡ NoMemory)
+complete row m Done h can = inl refl
+complete row m (Usage place) h can = absurd h
+complete row m (Script line fault) h can = absurd h
+complete row m TooLong h can = absurd h
+complete row m ReadFault h can = absurd h
+complete row m WriteFault h can = absurd (can.sink h.2)
+complete row m NoMemory h can = inr refl
+complete row m LinkFault h can = absurd (can.link h.0)
+complete row m ClockFault h can = absurd (can.clock h.1)
+complete row m (Demo place) h can = absurd h
+
+net_serves : (row : NetRow) (m : Met) (s : Status) → NetOutcome row m s → NetServes row m s
+net_serves row m s o = record { outcome = o; exact = exact row m s o.answer; complete = complete row m s o.answer }
+
+-- ---- the ends of a command
+
+module _ (row : NetRow) (a a' : Option Ahead) (c c' w w' w2 : Option (List ℕ)) (d d' : Option (List Datagram)) (lf lf' cf cf' kf kf' kf2 : ℕ) where
+  -- after the run, and after the sink's last call
   abbrev then : Met
   then = met (told a a' lf lf') (told c c' cf cf') (told w w' kf kf') d d'
 
   abbrev now : Met
   now = met (told a a' lf lf') (told c c' cf cf') (told w w2 kf kf2) d d'
 
-  module _ (done : (o : Begun) → Begins o a c w d → Served head turns o w' d') (heard : ServedSome head turns w w' d d') (same : w2 ≡ w')
-      (cause : HandsOnEach (counts lf cf kf) (counts lf' cf' kf') worked) where
-    pub all_done : kf2 ≡ kf' → NetOutcome (Ok (Serve seed clients turns)) now Done
-    all_done kept = record {
-      answer = (
-        (cause.link.spared (λ e. absurd cc), cause.clock.spared (λ e. absurd cc), kept ∙ cause.sink.spared (λ e. absurd cc)),
-        (
-          λ o b. subst (λ (x : Option (List ℕ)). Served head turns o x d') (sym same) (done o b),
-          subst (λ (x : Option (List ℕ)). ServedSome head turns w x d d') (sym same) heard,
-        ),
-      );
+  module _ (cause : HandsOnEach (counts lf cf kf) (counts lf' cf' kf') worked) where
+    pub all_done : row.done now → kf2 ≡ kf' → NetServes row now Done
+    all_done done kept = net_serves row now Done (record {
+      answer = ((cause.link.spared (λ e. absurd cc), cause.clock.spared (λ e. absurd cc), kept ∙ cause.sink.spared (λ e. absurd cc)), done);
       link = cause.link.later;
       clock = cause.clock.later;
       sink = omega (arith, cause.sink.later, kept);
-    }
+    })
 
-    pub not_handed : kf' ≤ kf2 → Rose kf' kf2 → NetOutcome (Ok (Serve seed clients turns)) now WriteFault
-    not_handed later rose = record {
-      answer = (
-        cause.link.spared (λ e. absurd cc),
-        cause.clock.spared (λ e. absurd cc),
-        rose_later kf kf' kf2 cause.sink.later rose,
-        λ o b. served_front head turns o w2 d' (subst (λ (x : Option (List ℕ)). Served head turns o x d') (sym same) (done o b)),
-      );
+    pub not_handed : row.front now → kf' ≤ kf2 → Rose kf' kf2 → NetServes row now WriteFault
+    not_handed front later rose = net_serves row now WriteFault (record {
+      answer = (cause.link.spared (λ e. absurd cc), cause.clock.spared (λ e. absurd cc), rose_later kf kf' kf2 cause.sink.later rose, front);
       link = cause.link.later;
       clock = cause.clock.later;
       sink = omega (arith, cause.sink.later, later);
-    }
+    })
 
-  pub stopped : ((o : Begun) → Begins o a c w d → ServedFront head turns o w' d') → (f : NetFault) → HandsOnEach (counts lf cf kf) (counts lf' cf' kf') (failed f)
-      → NetOutcome (Ok (Serve seed clients turns)) then (status_of f)
-  stopped front fault.NoMemory h = record {
-    answer = ((h.link.spared (λ e. absurd cc), h.clock.spared (λ e. absurd cc), h.sink.spared (λ e. absurd cc)), front);
-    link = h.link.later;
-    clock = h.clock.later;
-    sink = h.sink.later;
-  }
-  stopped front fault.LinkFault h = record {
-    answer = (h.link.failed refl, h.clock.spared (λ e. absurd cc), h.sink.spared (λ e. absurd cc), front);
-    link = h.link.later;
-    clock = h.clock.later;
-    sink = h.sink.later;
-  }
-  stopped front fault.ClockFault h = record {
-    answer = (h.link.spared (λ e. absurd cc), h.clock.failed refl, h.sink.spared (λ e. absurd cc), front);
-    link = h.link.later;
-    clock = h.clock.later;
-    sink = h.sink.later;
-  }
-  stopped front fault.WriteFault h = record {
-    answer = (h.link.spared (λ e. absurd cc), h.clock.spared (λ e. absurd cc), h.sink.failed refl, front);
-    link = h.link.later;
-    clock = h.clock.later;
-    sink = h.sink.later;
-  }
+  module _ (front : row.front then) where
+    abbrev Stopped : NetFault → Type 0
+    Stopped f = HandsOnEach (counts lf cf kf) (counts lf' cf' kf') (failed f)
 
-module _ (turns : ℕ) (a a' : Option Ahead) (c c' w w' w2 : Option (List ℕ)) (d d' : Option (List Datagram)) (lf lf' cf cf' kf kf' kf2 : ℕ) where
-  -- after joining, and after the sink's last call
-  abbrev joined_then : Met
-  joined_then = met (told a a' lf lf') (told c c' cf cf') (told w w' kf kf') d d'
+    ends_so : (f : NetFault) → Stopped f → Cause row then (status_of f) → NetServes row then (status_of f)
+    ends_so f h answer = net_serves row then (status_of f) (record { answer = answer; link = h.link.later; clock = h.clock.later; sink = h.sink.later })
 
-  abbrev joined_now : Met
-  joined_now = met (told a a' lf lf') (told c c' cf cf') (told w w2 kf kf2) d d'
+    pub stopped : (f : NetFault) → Stopped f → NetServes row then (status_of f)
+    stopped fault.NoMemory h = ends_so fault.NoMemory h ((h.link.spared (λ e. absurd cc), h.clock.spared (λ e. absurd cc), h.sink.spared (λ e. absurd cc)), front)
+    stopped fault.LinkFault h = ends_so fault.LinkFault h (h.link.failed refl, h.clock.spared (λ e. absurd cc), h.sink.spared (λ e. absurd cc), front)
+    stopped fault.ClockFault h = ends_so fault.ClockFault h (h.link.spared (λ e. absurd cc), h.clock.failed refl, h.sink.spared (λ e. absurd cc), front)
+    stopped fault.WriteFault h = ends_so fault.WriteFault h (h.link.spared (λ e. absurd cc), h.clock.spared (λ e. absurd cc), h.sink.failed refl, front)
 
-  module _ (done : (o : Begun) → Begins o a c w d → Joined turns o w' d') (heard : JoinedSome turns w w' d d') (same : w2 ≡ w')
-      (cause : HandsOnEach (counts lf cf kf) (counts lf' cf' kf') worked) where
-    pub all_joined : kf2 ≡ kf' → NetOutcome (Ok (Join turns)) joined_now Done
-    all_joined kept = record {
-      answer = (
-        (cause.link.spared (λ e. absurd cc), cause.clock.spared (λ e. absurd cc), kept ∙ cause.sink.spared (λ e. absurd cc)),
-        (
-          λ o b. subst (λ (x : Option (List ℕ)). Joined turns o x d') (sym same) (done o b),
-          subst (λ (x : Option (List ℕ)). JoinedSome turns w x d d') (sym same) heard,
-        ),
-      );
-      link = cause.link.later;
-      clock = cause.clock.later;
-      sink = omega (arith, cause.sink.later, kept);
-    }
+-- ---- what a run that came to its end left, also after the sink's last call
 
-    pub join_not_handed : kf' ≤ kf2 → Rose kf' kf2 → NetOutcome (Ok (Join turns)) joined_now WriteFault
-    join_not_handed later rose = record {
-      answer = (
-        cause.link.spared (λ e. absurd cc),
-        cause.clock.spared (λ e. absurd cc),
-        rose_later kf kf' kf2 cause.sink.later rose,
-        λ o b. joined_front turns o w2 d' (subst (λ (x : Option (List ℕ)). Joined turns o x d') (sym same) (done o b)),
-      );
-      link = cause.link.later;
-      clock = cause.clock.later;
-      sink = omega (arith, cause.sink.later, later);
-    }
+module _ (seed clients turns : ℕ) (m : Met) (w2 : Option (List ℕ)) (kf2 : ℕ) (same : w2 ≡ m.sink.new) where
+  abbrev after : Met
+  after = met m.link m.clock (told m.sink.old w2 m.sink.faults kf2) m.before m.sent
 
-  pub join_stopped : ((o : Begun) → Begins o a c w d → JoinedFront turns o w' d') → (f : NetFault) → HandsOnEach (counts lf cf kf) (counts lf' cf' kf') (failed f)
-      → NetOutcome (Ok (Join turns)) joined_then (status_of f)
-  join_stopped front fault.NoMemory h = record {
-    answer = ((h.link.spared (λ e. absurd cc), h.clock.spared (λ e. absurd cc), h.sink.spared (λ e. absurd cc)), front);
-    link = h.link.later;
-    clock = h.clock.later;
-    sink = h.sink.later;
-  }
-  join_stopped front fault.LinkFault h = record {
-    answer = (h.link.failed refl, h.clock.spared (λ e. absurd cc), h.sink.spared (λ e. absurd cc), front);
-    link = h.link.later;
-    clock = h.clock.later;
-    sink = h.sink.later;
-  }
-  join_stopped front fault.ClockFault h = record {
-    answer = (h.link.spared (λ e. absurd cc), h.clock.failed refl, h.sink.spared (λ e. absurd cc), front);
-    link = h.link.later;
-    clock = h.clock.later;
-    sink = h.sink.later;
-  }
-  join_stopped front fault.WriteFault h = record {
-    answer = (h.link.spared (λ e. absurd cc), h.clock.spared (λ e. absurd cc), h.sink.failed refl, front);
-    link = h.link.later;
-    clock = h.clock.later;
-    sink = h.sink.later;
-  }
+  pub served_now : (serving seed clients turns).done m → (serving seed clients turns).done after
+  served_now h = (
+    λ o b. subst (λ (x : Option (List ℕ)). Served (made seed clients 0).head turns o x m.sent) (sym same) (h.0 o b),
+    subst (λ (x : Option (List ℕ)). ServedSome (made seed clients 0).head turns m.sink.old x m.before m.sent) (sym same) h.1,
+  )
 
--- ---- which answer it is
+  pub served_front_now : (serving seed clients turns).done m → (serving seed clients turns).front after
+  served_front_now h o b = let now = served_now h in served_front (made seed clients 0).head turns o w2 m.sent (now.0 o b)
 
-pub exact : (command : Result NetCommand ℕ) (m : Met) (s : Status) → NetOutcome command m s → IsWanted command m s
-exact (Ok c) m Done h = refl
-exact (Ok c) m (Usage place) h = absurd (h.answer)
-exact (Ok c) m (Script line fault) h = absurd (h.answer)
-exact (Ok c) m TooLong h = absurd (h.answer)
-exact (Ok c) m ReadFault h = absurd (h.answer)
-exact (Ok c) m WriteFault h = (tt, (h.answer).2)
-exact (Ok c) m NoMemory h = tt
-exact (Ok c) m LinkFault h = (tt, (h.answer).0)
-exact (Ok c) m ClockFault h = (tt, (h.answer).1)
-exact (Ok c) m (Demo place) h = absurd (h.answer)
-exact (Err place) m Done h = absurd (let e = (h.answer).0 in cc)
-exact (Err place) m (Usage p) h = (h.answer).0
-exact (Err place) m (Script line fault) h = absurd (let e = (h.answer).0 in cc)
-exact (Err place) m TooLong h = absurd (let e = (h.answer).0 in cc)
-exact (Err place) m ReadFault h = absurd (let e = (h.answer).0 in cc)
-exact (Err place) m WriteFault h = absurd (let e = (h.answer).0 in cc)
-exact (Err place) m NoMemory h = absurd (let e = (h.answer).0 in cc)
-exact (Err place) m LinkFault h = absurd (let e = (h.answer).0 in cc)
-exact (Err place) m ClockFault h = absurd (let e = (h.answer).0 in cc)
-exact (Err place) m (Demo p) h = absurd (let e = (h.answer).0 in cc)
+module _ (turns : ℕ) (m : Met) (w2 : Option (List ℕ)) (kf2 : ℕ) (same : w2 ≡ m.sink.new) where
+  abbrev joined_after : Met
+  joined_after = met m.link m.clock (told m.sink.old w2 m.sink.faults kf2) m.before m.sent
 
-pub complete : (command : Result NetCommand ℕ) (m : Met) (s : Status) → NetOutcome command m s → CanBeDone command m → (s ≡ Done) ⊎ (s ≡ NoMemory)
-complete (Err place) m s h can = absurd (can.is_command)
-complete (Ok c) m Done h can = inl refl
-complete (Ok c) m (Usage place) h can = absurd (h.answer)
-complete (Ok c) m (Script line fault) h can = absurd (h.answer)
-complete (Ok c) m TooLong h can = absurd (h.answer)
-complete (Ok c) m ReadFault h can = absurd (h.answer)
-complete (Ok c) m WriteFault h can = absurd (can.sink (h.answer).2)
-complete (Ok c) m NoMemory h can = inr refl
-complete (Ok c) m LinkFault h can = absurd (can.link (h.answer).0)
-complete (Ok c) m ClockFault h can = absurd (can.clock (h.answer).1)
-complete (Ok c) m (Demo place) h can = absurd (h.answer)
+  pub joined_now : (joining turns).done m → (joining turns).done joined_after
+  joined_now h = (
+    λ o b. subst (λ (x : Option (List ℕ)). Joined turns o x m.sent) (sym same) (h.0 o b),
+    subst (λ (x : Option (List ℕ)). JoinedSome turns m.sink.old x m.before m.sent) (sym same) h.1,
+  )
+
+  pub joined_front_now : (joining turns).done m → (joining turns).front joined_after
+  joined_front_now h o b = let now = joined_now h in joined_front turns o w2 m.sent (now.0 o b)

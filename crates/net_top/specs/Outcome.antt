@@ -1,19 +1,19 @@
 -- How a call over a link ends, and what it leaves of the link, of the clock and of the sink: what the rules ask for of what was heard
 -- was written and sent; or a front of both, and the cause. A fault is answered exactly where that count of faults rose.
-use Rattle.std.specs.Prelude.{ℕ, ◌≡◌, ◌≤◌, ◌⊎◌, List, Option, Result, Ok, Err}
+use Rattle.std.specs.Prelude.{ℕ, ◌≡◌, ◌≤◌, ◌⊎◌, List, Option}
 use Rattle.tn_outside.specs.Causes.{Rose}
 use Rattle.tn_outside.specs.Links.{Datagram, Ahead}
 use Rattle.script_maker.specs.Made.{made}
 use Rattle.script_input.specs.declared.status.Status.{Status}
-use Rattle.script_input.specs.declared.status.Status.TheVariants.{Done, Usage, WriteFault, NoMemory, LinkFault, ClockFault}
-use Rattle.script_input.specs.Outcome.{IsCommand}
+use Rattle.script_input.specs.declared.status.Status.TheVariants.{Done, WriteFault, NoMemory, LinkFault, ClockFault}
 use Rattle.net_rules.specs.declared.fault.NetFault.{NetFault}
 use Rattle.net_rules.specs.declared.fault.NetFault.TheVariants as fault
 use Rattle.net_rules.specs.Runs.{Begun, Begins}
+use Rattle.net_rules.specs.Turns.{TurnsAreOne}
+use Rattle.net_serve.specs.match_laws.Laws.{Isolation}
+use Rattle.net_serve.specs.Laws.{PacksAreSent, RawsAreArrivals, TicksAreTurns, IsReadAgain}
 use Rattle.net_serve.specs.Stages.{Served, ServedFront, ServedSome}
 use Rattle.net_join.specs.Stages.{Joined, JoinedFront, JoinedSome}
-use Rattle.net_top.specs.declared.command.NetCommand.{NetCommand}
-use Rattle.net_top.specs.declared.command.NetCommand.TheVariants.{Serve, Join}
 
 -- ---- what is told before a call and after it
 
@@ -48,8 +48,9 @@ pub record Met : Type 0 where
 abbrev pub met : Told Ahead → Told (List ℕ) → Told (List ℕ) → Option (List Datagram) → Option (List Datagram) → Met
 met link clock sink before sent = record { link = link; clock = clock; sink = sink; before = before; sent = sent }
 
-abbrev pub IsUntouched : Met → Type 0
-IsUntouched m = Stays m.link × Stays m.clock × Stays m.sink × (m.sent ≡ m.before)
+-- the link and the clock were left as they were
+abbrev pub IsUnmet : Met → Type 0
+IsUnmet m = Stays m.link × Stays m.clock × (m.sent ≡ m.before)
 
 -- no count of faults rose
 abbrev pub AllSpared : Met → Type 0
@@ -61,37 +62,37 @@ AllSpared m = IsSpared m.link × IsSpared m.clock × IsSpared m.sink
 abbrev pub BeginsWith : Begun → Met → Type 0
 BeginsWith o m = Begins o m.link.old m.clock.old m.sink.old m.before
 
--- where the link and the clock tell what they have ahead, the text that the rules ask for over the two lists was written, and what
--- they ask for sent; and whatever they tell, it was so for some datagrams that were heard in so many turns
-abbrev pub IsDone : NetCommand → Met → Type 0
-IsDone (Serve seed clients turns) m =
-    ((o : Begun) → BeginsWith o m → Served (made seed clients 0).head turns o m.sink.new m.sent)
-    × ServedSome (made seed clients 0).head turns m.sink.old m.sink.new m.before m.sent
-IsDone (Join turns) m =
-    ((o : Begun) → BeginsWith o m → Joined turns o m.sink.new m.sent)
-    × JoinedSome turns m.sink.old m.sink.new m.before m.sent
+-- a command over a link: what was written and sent where all was done; and where it was not, a front of both
+pub record NetRow : Type 1 where
+  pub done : Met → Type 0
+  pub front : Met → Type 0
 
--- or a front of it
-abbrev pub IsFront : NetCommand → Met → Type 0
-IsFront (Serve seed clients turns) m = (o : Begun) → BeginsWith o m → ServedFront (made seed clients 0).head turns o m.sink.new m.sent
-IsFront (Join turns) m = (o : Begun) → BeginsWith o m → JoinedFront turns o m.sink.new m.sent
+-- where the link and the clock tell what they have ahead, the text that the rules ask for over the two lists was written, and what they ask
+-- for sent; and whatever they tell, it was so for some datagrams that were heard in so many turns
+abbrev pub serving : (seed clients turns : ℕ) → NetRow
+serving seed clients turns = record {
+  done = λ m. ((o : Begun) → BeginsWith o m → Served (made seed clients 0).head turns o m.sink.new m.sent)
+      × ServedSome (made seed clients 0).head turns m.sink.old m.sink.new m.before m.sent;
+  front = λ m. (o : Begun) → BeginsWith o m → ServedFront (made seed clients 0).head turns o m.sink.new m.sent;
+}
 
--- the cause of the answer to a command: a fault is answered exactly where that count of faults rose, and under `Done` and `NoMemory` none did
-abbrev pub Cause : NetCommand → Met → Status → Type 0
-Cause c m Done = AllSpared m × IsDone c m
-Cause c m WriteFault = IsSpared m.link × IsSpared m.clock × HasFailed m.sink × IsFront c m
-Cause c m LinkFault = HasFailed m.link × IsSpared m.clock × IsSpared m.sink × IsFront c m
-Cause c m ClockFault = IsSpared m.link × HasFailed m.clock × IsSpared m.sink × IsFront c m
-Cause c m NoMemory = AllSpared m × IsFront c m
-Cause c m s = ⊥
+abbrev pub joining : (turns : ℕ) → NetRow
+joining turns = record {
+  done = λ m. ((o : Begun) → BeginsWith o m → Joined turns o m.sink.new m.sent) × JoinedSome turns m.sink.old m.sink.new m.before m.sent;
+  front = λ m. (o : Begun) → BeginsWith o m → JoinedFront turns o m.sink.new m.sent;
+}
 
--- where the words are no command, the answer is `Usage` and nothing was touched
-abbrev pub AnswerTo : Result NetCommand ℕ → Met → Status → Type 0
-AnswerTo (Err place) m s = (s ≡ Usage place) × IsUntouched m
-AnswerTo (Ok c) m s = Cause c m s
+-- the cause of an answer: a fault is answered exactly where that count of faults rose, and under `Done` and `NoMemory` none did
+abbrev pub Cause : NetRow → Met → Status → Type 0
+Cause row m Done = AllSpared m × row.done m
+Cause row m WriteFault = IsSpared m.link × IsSpared m.clock × HasFailed m.sink × row.front m
+Cause row m LinkFault = HasFailed m.link × IsSpared m.clock × IsSpared m.sink × row.front m
+Cause row m ClockFault = IsSpared m.link × HasFailed m.clock × IsSpared m.sink × row.front m
+Cause row m NoMemory = AllSpared m × row.front m
+Cause row m s = ⊥
 
-pub record NetOutcome (command : Result NetCommand ℕ) (m : Met) (s : Status) : Type 0 where
-  pub answer : AnswerTo command m s
+pub record NetOutcome (row : NetRow) (m : Met) (s : Status) : Type 0 where
+  pub answer : Cause row m s
   -- no count of faults fell
   pub link : m.link.faults ≤ m.link.faults_after
   pub clock : m.clock.faults ≤ m.clock.faults_after
@@ -99,29 +100,41 @@ pub record NetOutcome (command : Result NetCommand ℕ) (m : Met) (s : Status) :
 
 -- ---- which answer it is
 
--- the answer that words ask for
-abbrev pub wanted : Result NetCommand ℕ → Status
-wanted (Ok c) = Done
-wanted (Err place) = Usage place
+-- all was done; or a fault of the outside or want of memory came before that
+abbrev pub IsWanted : Met → Status → Type 0
+IsWanted m WriteFault = HasFailed m.sink
+IsWanted m LinkFault = HasFailed m.link
+IsWanted m ClockFault = HasFailed m.clock
+IsWanted m NoMemory = Unit {0}
+IsWanted m s = s ≡ Done
 
--- the wanted answer, or that of a fault of the outside or of want of memory, which came before it
-abbrev pub IsWanted : Result NetCommand ℕ → Met → Status → Type 0
-IsWanted command m WriteFault = IsCommand command × HasFailed m.sink
-IsWanted command m LinkFault = IsCommand command × HasFailed m.link
-IsWanted command m ClockFault = IsCommand command × HasFailed m.clock
-IsWanted command m NoMemory = IsCommand command
-IsWanted command m s = s ≡ wanted command
-
--- the words are a command, and nothing failed
-pub record CanBeDone (command : Result NetCommand ℕ) (m : Met) : Type 0 where
-  pub is_command : IsCommand command
+-- nothing failed
+pub record NothingFailed (m : Met) : Type 0 where
   pub link : HasFailed m.link → ⊥
   pub clock : HasFailed m.clock → ⊥
   pub sink : HasFailed m.sink → ⊥
 
--- all was done then, or no memory for it
-abbrev pub IsComplete : Result NetCommand ℕ → Met → Status → Type 0
-IsComplete command m s = CanBeDone command m → (s ≡ Done) ⊎ (s ≡ NoMemory)
+-- ---- the whole of it
+
+pub record NetServes (row : NetRow) (m : Met) (s : Status) : Type 0 where
+  -- what each answer says of the link, of the clock and of the sink, and what holds after every answer
+  pub outcome : NetOutcome row m s
+  -- the answer is `Done`, where nothing fails and memory is there
+  pub exact : IsWanted m s
+  pub complete : NothingFailed m → (s ≡ Done) ⊎ (s ≡ NoMemory)
+
+-- what every match over a link keeps
+pub record NetLaws : Type 0 where
+  -- the rules ask for one run of so many turns
+  pub one_run : TurnsAreOne
+  -- the datagrams that were sent to a client, welcomes aside, are those of its `pack` lines in the report of the script, which are a function
+  -- of the client's own list; its `raw` lines are its arrivals; and there are as many ticks as turns
+  pub packs_are_sent : PacksAreSent
+  pub isolation : Isolation
+  pub raws_are_arrivals : RawsAreArrivals
+  pub ticks_are_turns : TicksAreTurns
+  -- the text is read as the script, where this has no more lines than a script may have
+  pub is_read_again : IsReadAgain
 
 -- ---- a fault of a server, as an answer
 

@@ -1,8 +1,9 @@
-//! The call of the program over a link, a clock and a sink: what its words ask for, and how it ends.
+//! The calls of the program over a link, a clock and a sink: `serve` and `join`.
 #![tactic(auto)]
 
-mod command;
+mod laws;
 mod serving;
 
-pub use command::NetCommand;
-pub use serving::top_net;
+pub use laws::laws_of_links;
+pub use net_serve::Offer;
+pub use serving::{top_join, top_serve};

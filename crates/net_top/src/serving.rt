@@ -1,19 +1,12 @@
 //! The commands over a link.
-ghost use Rattle.std.specs.Prelude.{◌≡◌, [], map, string_bytes, Ok};
-ghost use Rattle.net_serve.specs.match_laws.Laws.{Isolation};
-ghost use Rattle.net_rules.specs.Turns.{TurnsAreOne};
-ghost use Rattle.net_serve.specs.Laws.{PacksAreSent, RawsAreArrivals, TicksAreTurns, IsReadAgain};
-ghost use Rattle.net_top.specs.declared.command.NetCommand.TheVariants.{Serve, Join};
-ghost use Rattle.net_top.specs.Command.{command_of, CommandFits, Says};
-ghost use Rattle.net_top.specs.Outcome.{told, met, NetOutcome, IsWanted, IsComplete, status_of};
+ghost use Rattle.std.specs.Prelude.{◌≡◌, ◌≤◌, []};
+ghost use Rattle.tn_types.specs.declared.limits.TheConstants.{MAX_CLIENTS};
+ghost use Rattle.net_top.specs.Outcome.{told, met, serving, joining, NetServes, NetLaws, status_of};
 
-use crate::command::{NetCommand, command_of};
+use crate::laws::laws_of_links;
 use net_join::join;
-use net_rules::{NetFault, turns_are_one};
-use net_serve::match_laws::isolation;
-use net_serve::{
-    Nobody, Offer, is_read_again, packs_are_sent, raws_are_arrivals, serve, ticks_are_turns,
-};
+use net_rules::NetFault;
+use net_serve::{Nobody, Offer, serve};
 use script_input::Status;
 use std::alloc::Global;
 use tn_outside::{Clock, Link, Sink};
@@ -30,29 +23,28 @@ fn status_of(fault: NetFault) -> Status
     }
 }
 
-/// Serves a match, and hands on what the sink gathered.
-fn serve_match<L: Link, C: Clock, K: Sink>(
+/// Serves `serve SEED CLIENTS TURNS`: serves a match that is made of the seed to those who say hello, and writes its script. What the sink
+/// gathers is handed on after the last line.
+pub fn top_serve<L: Link, C: Clock, K: Sink>(
     alloc: Global,
-    seed: u32,
-    clients: u8,
-    turns: u32,
+    offer: Offer,
     link: &mut L,
     clock: &mut C,
     sink: &mut K,
 ) -> Status
-    requires { CommandFits (Serve seed clients turns) }
-    ensures outcome { NetOutcome (Ok (Serve seed clients turns))
+    requires clients_least { 1 ≤ offer.clients }
+    requires clients { offer.clients ≤ MAX_CLIENTS }
+    // What each answer says of the link, of the clock and of the sink, what holds after every answer, and which answer it is.
+    ensures serves { NetServes (serving offer.seed offer.clients offer.turns)
         (met (told (L.ahead link.old) (L.ahead link.new) (L.faults link.old) (L.faults link.new))
         (told (C.ahead clock.old) (C.ahead clock.new) (C.faults clock.old) (C.faults clock.new))
         (told (K.written sink.old) (K.written sink.new) (K.faults sink.old) (K.faults sink.new))
         (L.sent link.old) (L.sent link.new)) result }
+    // Where all was done, the sink keeps nothing of the text back.
     ensures handed { result ≡ Status.Done → K.gathered sink.new ≡ [] }
+    ensures laws { NetLaws }
 {
-    let offer = Offer {
-        seed,
-        clients,
-        turns,
-    };
+    laws_of_links();
     match serve(alloc, offer, link, clock, sink, &mut Nobody) {
         Ok(()) => match sink.flush() {
             Ok(()) => Status::Done,
@@ -62,87 +54,29 @@ fn serve_match<L: Link, C: Clock, K: Sink>(
     }
 }
 
-/// Joins a match, and hands on what the sink gathered.
-fn join_match<L: Link, C: Clock, K: Sink>(
+/// Serves `join TURNS`: joins a match, and writes at its end what who joined was shown. What the sink gathers is handed on after the last
+/// line.
+pub fn top_join<L: Link, C: Clock, K: Sink>(
     alloc: Global,
     turns: u32,
     link: &mut L,
     clock: &mut C,
     sink: &mut K,
 ) -> Status
-    ensures outcome { NetOutcome (Ok (Join turns))
+    ensures serves { NetServes (joining turns)
         (met (told (L.ahead link.old) (L.ahead link.new) (L.faults link.old) (L.faults link.new))
         (told (C.ahead clock.old) (C.ahead clock.new) (C.faults clock.old) (C.faults clock.new))
         (told (K.written sink.old) (K.written sink.new) (K.faults sink.old) (K.faults sink.new))
         (L.sent link.old) (L.sent link.new)) result }
     ensures handed { result ≡ Status.Done → K.gathered sink.new ≡ [] }
+    ensures laws { NetLaws }
 {
+    laws_of_links();
     match join(alloc, turns, link, clock, sink) {
         Ok(()) => match sink.flush() {
             Ok(()) => Status::Done,
             Err(_) => Status::WriteFault,
         },
         Err(fault) => status_of(fault),
-    }
-}
-
-/// Does the commands over a link: takes what comes over it, sends what is to be sent, and writes the script of what was served, or at its
-/// end what who joined was shown. What the sink gathers is handed on after the last line.
-pub fn top_net<L: Link, C: Clock, K: Sink>(
-    alloc: Global,
-    words: &Vec<String>,
-    link: &mut L,
-    clock: &mut C,
-    sink: &mut K,
-) -> Status
-    // What each answer says of the link, of the clock and of the sink, and what holds after every answer.
-    ensures outcome { NetOutcome (command_of (map string_bytes words.now.items))
-        (met (told (L.ahead link.old) (L.ahead link.new) (L.faults link.old) (L.faults link.new))
-        (told (C.ahead clock.old) (C.ahead clock.new) (C.faults clock.old) (C.faults clock.new))
-        (told (K.written sink.old) (K.written sink.new) (K.faults sink.old) (K.faults sink.new))
-        (L.sent link.old) (L.sent link.new)) result }
-    // Which command the words are, or where they stop being one.
-    ensures words { Says (map string_bytes words.now.items) (command_of (map string_bytes words.now.items)) }
-    // Where all was done, the sink keeps nothing of the text back.
-    ensures handed { result ≡ Status.Done → K.gathered sink.new ≡ [] }
-    // The answer is the one that the words ask for, where nothing fails and memory is there.
-    ensures exact { IsWanted (command_of (map string_bytes words.now.items))
-        (met (told (L.ahead link.old) (L.ahead link.new) (L.faults link.old) (L.faults link.new))
-        (told (C.ahead clock.old) (C.ahead clock.new) (C.faults clock.old) (C.faults clock.new))
-        (told (K.written sink.old) (K.written sink.new) (K.faults sink.old) (K.faults sink.new))
-        (L.sent link.old) (L.sent link.new)) result }
-    // A command and no fault: all was done, or no memory for it.
-    ensures complete { IsComplete (command_of (map string_bytes words.now.items))
-        (met (told (L.ahead link.old) (L.ahead link.new) (L.faults link.old) (L.faults link.new))
-        (told (C.ahead clock.old) (C.ahead clock.new) (C.faults clock.old) (C.faults clock.new))
-        (told (K.written sink.old) (K.written sink.new) (K.faults sink.old) (K.faults sink.new))
-        (L.sent link.old) (L.sent link.new)) result }
-    // The rules ask for one run of so many turns.
-    ensures one_run { TurnsAreOne }
-    // The datagrams that were sent to a client, welcomes aside, are those of its `pack` lines in the report of the script, which are a
-    // function of the client's own list; its `raw` lines are its arrivals; and there are as many ticks as turns.
-    ensures packs_are_sent { PacksAreSent }
-    ensures isolation { Isolation }
-    ensures raws_are_arrivals { RawsAreArrivals }
-    ensures ticks_are_turns { TicksAreTurns }
-    // The text is read as the script, where this has no more lines than a script may have.
-    ensures is_read_again { IsReadAgain }
-{
-    turns_are_one();
-    packs_are_sent();
-    isolation();
-    raws_are_arrivals();
-    ticks_are_turns();
-    is_read_again();
-    match command_of(words) {
-        Ok(
-            NetCommand::Serve {
-                seed,
-                clients,
-                turns,
-            },
-        ) => serve_match(alloc, seed, clients, turns, link, clock, sink),
-        Ok(NetCommand::Join { turns }) => join_match(alloc, turns, link, clock, sink),
-        Err(place) => Status::Usage(place),
     }
 }

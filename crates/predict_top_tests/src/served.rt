@@ -1,10 +1,25 @@
 //! Calls of `predict` over a source and a sink in memory.
 ghost use Rattle.std.specs.Prelude.{◌<◌};
 
+use commands::{Command, command_of};
 use predict_top::top_predict;
 use script_input::Status;
-use std::alloc::AllocError;
-use tn_outside::{MemSink, MemSource, SteadySource};
+use std::alloc::{AllocError, Global};
+use tn_outside::{MemSink, MemSource, Sink, Source, SteadySource};
+
+// Carries out a command over a source and a sink.
+fn carry_out<S: Source, K: Sink>(
+    alloc: Global,
+    words: &Vec<String>,
+    source: &mut S,
+    sink: &mut K,
+) -> Status {
+    match command_of(words) {
+        Ok(Command::Predict { client }) => top_predict(alloc, client, source, sink),
+        Ok(_) => Status::Usage(0),
+        Err(place) => Status::Usage(place),
+    }
+}
 
 /// What a call with these words answers, and what it writes. The source gives and the sink takes at most `most` bytes a
 /// call, and the calls with these numbers fail.
@@ -35,7 +50,7 @@ pub(crate) fn served<'a>(
         calls: 0,
         faults: 0,
     };
-    let status = top_predict(rt.alloc(), &all, &mut source, &mut sink);
+    let status = carry_out(rt.alloc(), &all, &mut source, &mut sink);
     let MemSink {
         bytes,
         most: _,

@@ -1,6 +1,6 @@
 -- What a call took from its source: all bytes, where they are not too many; a text of at most 1,048,576 bytes that is a script; or why
 -- there is none.
-use Rattle.std.specs.Prelude.{ℕ, ◌≡◌, ◌+◌, ◌≤◌, List, length, Option, Result, Ok, Err, Bool, true, false, nat_le}
+use Rattle.std.specs.Prelude.{ℕ, ◌≡◌, ◌+◌, ◌≤◌, List, length, Option, Result, Ok, Err}
 use Rattle.script_input.specs.declared.limits.TheConstants.{MAX_SCRIPT_BYTES}
 use Rattle.tn_outside.specs.Causes.{Rose}
 use Rattle.tn_outside.specs.Totals.{Drained, GaveFront}
@@ -63,14 +63,7 @@ NotRead reading source s = NotGave MAX_SCRIPT_BYTES source s
 
 -- ---- which answer it is
 
+-- the answer that a text asks for
 abbrev pub answer_to : {S : Type 0} → Result S Fault → Status
 answer_to (Ok script) = Done
 answer_to (Err (line, fault)) = Script line fault
-
-abbrev pub answer_within : {S : Type 0} → (short : Bool) → Result S Fault → Status
-answer_within true read = answer_to read
-answer_within false read = TooLong
-
--- the answer that a text asks for, where nothing fails and memory is there
-abbrev pub answer_of : {S : Type 0} → Reading S → List ℕ → Status
-answer_of reading text = answer_within (nat_le (length text) MAX_SCRIPT_BYTES) (reading text)

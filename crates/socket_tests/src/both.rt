@@ -1,6 +1,6 @@
 //! Both ends over UDP, in two threads. Where the port of a server is taken, or no socket can be made, this shows nothing.
 
-use net_top::top_net;
+use crate::carried::carry_out;
 use script_input::Status;
 use std::alloc::Global;
 use std::net::Net;
@@ -31,7 +31,7 @@ fn called<R: Net + SystemTimes>(
         calls: 0,
         faults: 0,
     };
-    let status = top_net(alloc, &all, &mut link, &mut clock, &mut sink);
+    let status = carry_out(alloc, &all, &mut link, &mut clock, &mut sink);
     let MemSink {
         bytes,
         most: _,

@@ -1,6 +1,6 @@
 //! Sockets of one machine. Where the port of a server is taken, or no socket can be made, these show nothing.
 
-use net_top::top_net;
+use crate::carried::carry_out;
 use script_input::Status;
 use std::alloc::{AllocError, Global};
 use tn_outside::{Clock, Link, MemSink, Peer, SERVER_PORT, SystemClock, UdpLink};
@@ -52,7 +52,7 @@ fn match_over_sockets(rt: HostRuntime) {
         calls: 0,
         faults: 0,
     };
-    assert!(rt; top_net(rt.alloc(), &words, &mut server, &mut clock, &mut sink) == Status::Done);
+    assert!(rt; carry_out(rt.alloc(), &words, &mut server, &mut clock, &mut sink) == Status::Done);
     // The hello came in the first turn or in a later one, so a welcome and at most three datagrams came back.
     assert!(rt; server.faults == 0 && next_length(&mut client) == 12);
     assert!(rt; next_length(&mut client) > 12);

@@ -1,5 +1,6 @@
 //! The command `threads` on small scripts.
 
+use commands::{Command, command_of};
 use match_script::ScriptFault;
 use script_input::Status;
 use std::alloc::{AllocError, Global};
@@ -52,7 +53,11 @@ fn writes<R: Threads + Wait + Sync>(
         faults: 0,
     };
     let mut judgement = Judgement::new();
-    let answer = top_threads(rt, alloc, &all, &mut source, &mut judgement, &mut sink);
+    let answer = match command_of(&all) {
+        Ok(Command::Threads) => top_threads(rt, alloc, &mut source, &mut judgement, &mut sink),
+        Ok(_) => Status::Usage(0),
+        Err(place) => Status::Usage(place),
+    };
     answer == status && sink.bytes.as_slice() == told.as_bytes() && !judgement.is_refused()
 }
 

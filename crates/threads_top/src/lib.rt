@@ -2,10 +2,12 @@
 #![tactic(auto)]
 
 mod judgement;
+mod laws;
 mod run;
 mod threads;
 
 pub use judgement::Judgement;
+pub use laws::laws_of_races;
 pub use plain_race::legal_race::tell;
 pub use race_run::{FreeGate, Gate};
 pub use run::{judge, run_threads};

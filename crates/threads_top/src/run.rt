@@ -61,7 +61,7 @@ fn text_of_race<R: Threads + Wait + Sync, G: Gate + Sync>(
 ) -> Result<Vec<u8>, NoMemory>
     requires ranges { HasRanges script.now }
     requires open { judgement.old ≡ false }
-    ensures told { IfOk result (λ text. IsLegalText judgement.new tt script.now text.items) }
+    ensures told { IfOk result (λ text. IsLegalText judgement.new script.now text.items) }
     ensures untold { OnErr result (judgement.new ≡ false) }
 {
     let made = race(rt, alloc, script, gate)?;

@@ -1,12 +1,13 @@
 -- What is answered, and what is refused.
-use Rattle.std.proofs.Common.{◌≡◌, ℕ, ◌+◌, get_or, ◌*◌, ◌<◌, ◌≤◌, List, length, take, Option, Some, None, Ok, Err, refl, ap, sym, ◌∙◌}
-use Rattle.std.specs.Prelude.{ℤ, slice_get, unwrap_or}
+use Rattle.std.proofs.Common.{◌≡◌, ℕ, ◌+◌, get_or, ◌*◌, ◌<◌, ◌≤◌, Bool, true, false, cond, ◌||◌, ◌==◌, List, length, take, Option, Some, None, Ok, Err, refl, ap, sym, ◌∙◌, arith}
+use Rattle.std.specs.Prelude.{ℤ, nat_lt, slice_get, unwrap_or}
 use Rattle.std.specs.Option.{option_and_then}
 use Rattle.std.proofs.lemmas.Bool.{le-leb, lt-leb}
+use Rattle.std.proofs.lemmas.Bool.Decides.{nat_tests}
 use Rattle.std.proofs.lemmas.Option.{slice_get-get_or, slice_get_past}
 use Rattle.tn_types.specs.Checks.{Checked, then_check}
 use Rattle.timeline.specs.declared.refusal.Refusal.{Refusal}
-use Rattle.timeline.specs.declared.refusal.Refusal.TheVariants.{NoSlot, NoField, NoKind}
+use Rattle.timeline.specs.declared.refusal.Refusal.TheVariants.{NoSlot, NoField, NoKind, NoPacket, GoesBack}
 use Rattle.timeline.specs.declared.between.Interpolation.{Interpolation}
 use Rattle.timeline.specs.declared.between.Interpolation.TheVariants.{Stepped}
 use Rattle.timeline.specs.Keeping.{Kept, kept_of, value_in}
@@ -39,6 +40,16 @@ no_slot t slot next h = ap (λ c. then_check c next) (slot_bad t slot h)
 
 pub packet_answer : (t : Drawing) (slot packet : ℕ) → slot < length t.slots → then_check (slot_check t slot) (packet_check t packet) ≡ packet_check t packet
 packet_answer t slot packet h = ap (λ c. then_check c (packet_check t packet)) (slot_good t slot h)
+
+-- a packet that may tell is one
+passed : (b : Bool) (e : Refusal) (rest : Checked Refusal) → cond b (Err e) rest ≡ Ok tt → b ≡ false
+passed false e rest h = refl
+passed true e rest h = absurd (cc)
+
+pub is_packet : (t : Drawing) (packet : ℕ) → packet_check t packet ≡ Ok tt → packet ≤ 16777215
+is_packet t packet h =
+    let low : (packet == 0 || nat_lt 16777215 packet) ≡ false = passed (packet == 0 || nat_lt 16777215 packet) NoPacket (cond (nat_lt packet t.latest) (Err GoesBack) (Ok tt)) h in
+    grind (arith, nat_tests)
 
 -- one check after two others
 pub three_pass : (a b c : Checked Refusal) (u : Unit {0}) → then_check a b ≡ Ok u → then_check a (then_check b c) ≡ c

@@ -53,8 +53,9 @@ impl Frames {
         requires { frame.packet ≤ MAX_LIFE }
         ensures { self.new ≡ record self.old { frames = frame ∷ take (self.old.room - 1) self.old.frames } }
     {
-        let room = self.frames.capacity();
-        self.frames.truncate(room - 1);
+        if self.frames.len() == self.frames.capacity() {
+            let _ = self.frames.pop_back();
+        }
         self.frames.push_front_reserved(frame);
     }
 

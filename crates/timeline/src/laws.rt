@@ -1,8 +1,8 @@
 //! What holds of the value at every moment.
 ghost use Rattle.timeline.specs.Laws.{ValueIsBetween, OwnMomentIsItsValue, NewestStays, WindowIsEnough};
 
-/// If a moment lies between two values that came, so does its value: of a stepped field it is the first one, of a linear one it lies between
-/// both, of a turning one on the short way from one to the other.
+/// If a moment lies between two values that came, so does its value: of a stepped field it is the first one, of a linear one it lies
+/// between both, of a turning one on the short way from one to the other.
 pub fn value_is_between()
     ensures { ValueIsBetween }
 {}

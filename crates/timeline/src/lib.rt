@@ -1,4 +1,5 @@
-//! What a client draws of the others: for each field of each slot the last values that came, and between two of them a value for each moment.
+//! What a client draws of the others: for each field of each slot the last values that came, and between two of them a value for each
+//! moment.
 //!
 //! A moment is a packet's number with a fraction, `MOMENTS` to a packet (docs/timeline.md).
 #![tactic(auto)]

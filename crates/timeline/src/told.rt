@@ -1,5 +1,5 @@
 //! The timeline: what is told of slots, and the value of a field at a moment.
-ghost use Rattle.std.specs.Prelude.{◌≡◌, ℕ, ◌+◌, ◌*◌, ◌≤◌, ◌<◌, ◌^◌, ℤ, length, replicate, IfOk, OnOk, OnErr, [], IsTrue, ◌↔◌};
+ghost use Rattle.std.specs.Prelude.{◌≡◌, ℕ, ◌+◌, ◌*◌, ◌≤◌, ◌<◌, ◌^◌, ℤ, length, replicate, Ok, IfOk, OnOk, OnErr, [], IsTrue, ◌↔◌};
 ghost use Rattle.tn_types.specs.Histories.{Does, Answers};
 ghost use Rattle.tn_types.specs.Checks.{then_check};
 ghost use Rattle.std.specs.Result.{result_err};
@@ -173,9 +173,21 @@ impl Timeline {
         if self.fields <= field as usize {
             return Err(Refusal::NoField);
         }
+        self.came_checked(slot, packet, field, value);
+        Ok(())
+    }
+
+    /// The same where the caller knows that nothing is refused: it tests nothing.
+    pub fn came_checked(&mut self, slot: u32, packet: u32, field: u32, value: i32)
+        requires slot { slot < length self.old.slots }
+        requires packet { packet_check self.old packet ≡ Ok tt }
+        requires field { field < self.old.fields }
+        ensures log { Does StandsFor self.old (record { slot = slot; packet = packet; what = Came field value }) self.new }
+        ensures shape { KeepsShape self.old self.new }
+        ensures latest { self.new.latest ≡ packet }
+    {
         self.slots[slot as usize].come(field as usize, Keyframe { packet, value });
         self.latest = packet;
-        Ok(())
     }
 
     /// By this packet the slot's copy is gone. It is drawn until its moment. Refused as the first that holds of `NoSlot`, `NoPacket` and
@@ -200,7 +212,8 @@ impl Timeline {
     fn checked(&self, slot: u32, packet: u32) -> Result<(), Refusal>
         ensures answer { result ≡ then_check (slot_check self.now slot) (packet_check self.now packet) }
         ensures slot { OnOk result (slot < length self.now.slots) }
-        ensures packet { OnOk result (packet ≤ MAX_LIFE) }
+        ensures packet { OnOk result (packet_check self.now packet ≡ Ok tt) }
+        ensures life { OnOk result (packet ≤ MAX_LIFE) }
     {
         if self.slots.len() <= slot as usize {
             return Err(Refusal::NoSlot);

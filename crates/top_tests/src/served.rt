@@ -1,10 +1,11 @@
 //! Calls of the program over a source and a sink in memory, and texts that are written out for them.
 ghost use Rattle.std.specs.Prelude.{◌<◌};
 
-use match_top::top;
+use commands::{Command, command_of};
+use match_top::{top_alone, top_big, top_run};
 use script_input::Status;
 use std::alloc::{AllocError, Global};
-use tn_outside::{MemSink, MemSource, SteadySource};
+use tn_outside::{MemSink, MemSource, Sink, Source, SteadySource};
 
 /// More bytes than a script or a line of its report here has.
 pub(crate) const ALL: usize = 4096;
@@ -18,6 +19,28 @@ pub(crate) enum Part {
     Times(u32, &'static str),
     /// A line for each number from the first on, so many: the number between words.
     Numbered(u32, u32, &'static str, &'static str),
+}
+
+// Carries out a command over a source and a sink.
+fn carry_out<S: Source, K: Sink>(
+    alloc: Global,
+    words: &Vec<String>,
+    source: &mut S,
+    sink: &mut K,
+) -> Status {
+    match command_of(words) {
+        Ok(Command::Run) => top_run(alloc, source, sink),
+        Ok(Command::Alone { client }) => top_alone(alloc, client, source, sink),
+        Ok(
+            Command::Big {
+                seed,
+                clients,
+                steps,
+            },
+        ) => top_big(alloc, seed, clients, steps, sink),
+        Ok(_) => Status::Usage(0),
+        Err(place) => Status::Usage(place),
+    }
 }
 
 /// What a call with these words answers, and what it writes. The source gives and the sink takes at most `most` bytes a
@@ -49,7 +72,7 @@ pub(crate) fn served<'a>(
         calls: 0,
         faults: 0,
     };
-    let status = top(rt.alloc(), &all, &mut source, &mut sink);
+    let status = carry_out(rt.alloc(), &all, &mut source, &mut sink);
     let MemSink {
         bytes,
         most: _,

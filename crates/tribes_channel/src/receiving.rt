@@ -108,7 +108,8 @@ fn hand_whole(inbox: &mut Inbox, place: &mut [u8]) -> Handed
     requires room { inbox.old.room ≤ length place.old }
     ensures class { result.class ≡ class.Guaranteed }
     ensures whole { waiting inbox.old ≡ Some (record { kind = result.kind; bytes = take result.count place.new }) }
-    ensures stands { Does InboxStandsFor inbox.old (HandedOut (record { kind = result.kind; bytes = take result.count place.new })) inbox.new }
+    ensures stands { Does InboxStandsFor inbox.old
+        (HandedOut (record { kind = result.kind; bytes = take result.count place.new })) inbox.new }
     ensures none_waits { waiting inbox.new ≡ None }
     ensures fault { inbox.new.fault ≡ inbox.old.fault }
     ensures room { inbox.new.room ≡ inbox.old.room }

@@ -1,39 +1,39 @@
 -- What a timeline takes: no call is refused, and what each adds adds up.
-use Rattle.std.proofs.Common.{◌≡◌, ◌∙◌, ℕ, suc, ◌+◌, ◌*◌, ◌<◌, ◌≤◌, Bool, true, false, cond, ◌||◌, ◌==◌, List, [], ◌∷◌, ◌++◌, length, take, drop, get_or, Option, Some, None, Ok, Err, refl, sym, ap, subst, arith, append_assoc, append-nil, add-one}
-use Rattle.std.specs.Prelude.{ℤ, nat_lt, nat_le, OnOk}
-use Rattle.std.specs.Option.{option_or}
+use Rattle.std.proofs.Common.{◌≡◌, ◌∙◌, ℕ, zero, suc, ◌+◌, ◌*◌, ◌/◌, ◌<◌, Bool, true, false, cond, ◌||◌, ◌==◌, List, [], ◌∷◌, ◌++◌, length, take, drop, get_or, Option, Some, None, Ok, Err, refl, sym, ap, subst, arith, append_assoc, append-nil, add-one}
+use Rattle.std.specs.Prelude.{ℤ, pos, ◌+ℤ◌, nat_lt, nat_le, slice_get, All, IsTrue}
+use Rattle.std.specs.Option.{option_or, option_map, option_and_then}
 use Rattle.std.specs.Result.{result_err}
 use Rattle.std.proofs.Math.Seq.{drop-cons}
+use Rattle.std.proofs.Math.Nat.{mul_comm, mul_assoc}
+use Rattle.std.proofs.lemmas.Nat.{div-mul-add}
 use Rattle.std.proofs.lemmas.List.{take_more}
 use Rattle.std.proofs.lemmas.Bool.Decides.{nat_tests}
+use Rattle.std.proofs.lemmas.Option.{slice_get-get_or, same_Some}
 use Rattle.tn_types.specs.Checks.{Checked, then_check}
-use Rattle.tn_types.specs.Histories.{Does}
+use Rattle.tn_types.specs.BitWords.{has_bit}
 use Rattle.tn_types.specs.declared.limits.TheConstants.{MAX_LIFE}
 use Rattle.wire_format.specs.declared.ghosts.GhostItem.{GhostItem}
 use Rattle.wire_format.specs.declared.ghosts.GhostItem.TheVariants.{Kill, Create, Update}
 use Rattle.timeline.specs.declared.refusal.Refusal.{Refusal}
 use Rattle.timeline.specs.declared.refusal.Refusal.TheVariants.{NoSlot, NoPacket, GoesBack, NoKind}
 use Rattle.timeline.specs.Telling.{Told}
-use Rattle.timeline.specs.Standing.{Drawing, StandsFor, Hears, KeepsShape, slot_check, packet_check, field_check, kind_check}
-use Rattle.timeline.proofs.AnswerFacts.{slot_good, field_good}
-use Rattle.ghost_client.specs.State.{State, value_of}
+use Rattle.timeline.specs.Standing.{Drawing, StandsFor, Hears, KeepsShape, slot_check, packet_check, kind_check}
+use Rattle.quantised_fields.specs.declared.field.FieldSpec.{FieldSpec}
+use Rattle.quantised_fields.specs.declared.kind.Kind.{Kind}
+use Rattle.quantised_fields.specs.Kinds.{IsWithinLimits}
+use Rattle.quantised_fields.specs.Levels.{is_sound, range_of, greatest_of, shown_in, shown_of}
+use Rattle.ghost_client.specs.declared.copy.GhostCopy.{GhostCopy}
+use Rattle.ghost_client.specs.State.{State, IsInRange, copy_in, field_value, value_of}
+use Rattle.ghost_client.proofs.OfKind.{level_fits, slice_get_in}
 use Rattle.stream_manager.specs.Stands.{ClientState}
 use Rattle.stream_manager.specs.ClientCalls.{Answers}
-use Rattle.tribes_ends.specs.Drawing.{told_item, told_items, item_fault, items_fault, hearing_fault, packet_of, HearsOf}
+use Rattle.tribes_ends.specs.Drawing.{FitFields, value_shown, told_value, told_field, told_fields, told_item, told_items, item_fault, items_fault, hearing_fault, packet_of, HearsOf}
 
 -- ---- checks that pass
-
-both-pass : (a b : Checked Refusal) → a ≡ Ok tt → b ≡ Ok tt → then_check a b ≡ Ok tt
-both-pass a b ha hb = ap (λ x. then_check x b) ha ∙ hb
 
 test-passed : (b : Bool) (e : Refusal) (rest : Checked Refusal) → cond b (Err e) rest ≡ Ok tt → b ≡ false
 test-passed false e rest h = refl
 test-passed true e rest h = absurd (cc)
-
-pub came_passes : (t : Drawing) (slot packet field : ℕ) → slot < length t.slots → packet_check t packet ≡ Ok tt → field < t.fields
-    → then_check (slot_check t slot) (then_check (packet_check t packet) (field_check t field)) ≡ Ok tt
-came_passes t slot packet field s p f =
-    both-pass (slot_check t slot) (then_check (packet_check t packet) (field_check t field)) (slot_good t slot s) (both-pass (packet_check t packet) (field_check t field) p (field_good t field f))
 
 -- a packet that may tell may tell more
 pub still_heard : (old new : Drawing) (packet : ℕ) → packet_check old packet ≡ Ok tt → new.latest ≡ packet → packet_check new packet ≡ Ok tt
@@ -51,13 +51,67 @@ hears-more a b c before after h k log s = subst (StandsFor c) (sym (append_assoc
 pub keeps-more : (a b c : Drawing) → KeepsShape a b → KeepsShape b c → KeepsShape a c
 keeps-more a b c h k = record { ways = k.ways ∙ h.ways; fields = k.fields ∙ h.fields; depth = k.depth ∙ h.depth; slots = k.slots ∙ h.slots }
 
-of-ok : {X : Type 0} (r : Checked Refusal) → r ≡ Ok tt → OnOk r X → X
-of-ok (Ok tt) ok x = x
-of-ok (Err e) ok x = absurd (cc)
+-- ---- fields
 
-pub came-heard : (t new : Drawing) (slot packet field : ℕ) (told : Told) (r : Checked Refusal) → slot < length t.slots → packet_check t packet ≡ Ok tt → field < t.fields
-    → r ≡ then_check (slot_check t slot) (then_check (packet_check t packet) (field_check t field)) → OnOk r (Does StandsFor t told new) → Hears t (told ∷ []) new
-came-heard t new slot packet field told r s p f is does log h = of-ok r (is ∙ came_passes t slot packet field s p f) does log h
+none-of : (b : Bool) (packet slot field : ℕ) (o : Option ℤ) → o ≡ None → cond b (told_value packet slot field o) [] ≡ []
+none-of true packet slot field o e = ap (told_value packet slot field) e
+none-of false packet slot field o e = refl
+
+-- of a slot that shows no value nothing is told
+pub none-told : (packet slot mask count : ℕ) (value : ℕ → ℕ → Option ℤ) → ((field : ℕ) → value slot field ≡ None) → [] ≡ told_fields packet value slot mask count
+none-told packet slot mask zero value none = refl
+none-told packet slot mask (suc n) value none =
+    none-told packet slot mask n value none
+    ∙ sym (ap (λ l. l ++ told_fields packet value slot mask n) (none-of (has_bit mask n) packet slot n (value slot n) (none n)))
+
+-- what a slot's copy shows, by its kind's fields and its levels
+pub value-is : (fields : List FieldSpec) (levels : List ℕ) (field : ℕ) (spec : FieldSpec) (level : ℕ) → slice_get fields field ≡ Some spec → slice_get levels field ≡ Some level
+    → value_shown fields levels field ≡ Some (shown_of spec level)
+value-is fields levels field spec level a b =
+    ap (option_and_then (λ s. option_map (shown_of s) (slice_get levels field))) a ∙ ap (option_map (shown_of spec)) b
+
+pub value-here : (c : State) (slot field : ℕ) (copy : GhostCopy) (kind : Kind) → Some copy ≡ copy_in c.slots slot → Some kind ≡ slice_get c.kinds copy.kind
+    → value_shown kind.fields copy.levels field ≡ value_of c slot field
+value-here c slot field copy kind a b =
+    ap (option_and_then (λ (k : Kind). value_shown k.fields copy.levels field)) b ∙ ap (option_and_then (field_value c.kinds field)) a
+
+pub value-none : (c : State) (slot field : ℕ) (copy : GhostCopy) → Some copy ≡ copy_in c.slots slot → None ≡ slice_get c.kinds copy.kind → value_of c slot field ≡ None
+value-none c slot field copy a b =
+    sym (ap (option_and_then (λ (k : Kind). value_shown k.fields copy.levels field)) b ∙ ap (option_and_then (field_value c.kinds field)) a)
+
+-- where a field has as many levels as values, each level shows the value so far above the least
+own_level : (level greatest : ℕ) → 0 < greatest → shown_in level greatest greatest ≡ level
+own_level level greatest some =
+    let e : 2 * level * greatest ≡ level * (2 * greatest) = ap (λ n. n * greatest) (mul_comm 2 level) ∙ mul_assoc level 2 greatest in
+    ap (λ n. (n + greatest) / (2 * greatest)) e ∙ div-mul-add level (2 * greatest) greatest (omega (arith, some))
+
+pub own_value : (spec : FieldSpec) (level : ℕ) → 0 < greatest_of spec → range_of spec ≡ greatest_of spec → shown_of spec level ≡ spec.lo +ℤ pos level
+own_value spec level some same =
+    ap (λ (r : ℕ). spec.lo +ℤ pos (shown_in level r (greatest_of spec))) same ∙ ap (λ (n : ℕ). spec.lo +ℤ pos n) (own_level level (greatest_of spec) some)
+
+sound-at : (fields : List FieldSpec) (field : ℕ) (spec : FieldSpec) → All (λ f. IsTrue (is_sound f)) fields → slice_get fields field ≡ Some spec → IsTrue (is_sound spec)
+sound-at fields field spec all a =
+    let less = slice_get_in fields field spec a in
+    let same : get_or fields field spec ≡ spec = same_Some (get_or fields field spec) spec (sym (slice_get-get_or fields field spec less) ∙ a) in
+    subst (λ f. IsTrue (is_sound f)) same (all field spec less)
+
+pub fits-here : (kinds : List Kind) (copy : GhostCopy) (kind : Kind) → IsInRange kinds copy → Some kind ≡ slice_get kinds copy.kind → IsWithinLimits kind → FitFields kind.fields copy.levels
+fits-here kinds copy kind range its limits field spec level a b = (sound-at kind.fields field spec limits.sound a, level_fits kinds copy range kind (sym its) field spec level a b)
+
+-- a field of the mask, and one that is none of it
+pub told-here : (packet slot mask field : ℕ) (value : ℕ → ℕ → Option ℤ) (o : Option ℤ) → has_bit mask field ≡ true → o ≡ value slot field
+    → told_value packet slot field o ≡ told_field packet value slot mask field
+told-here packet slot mask field value o t e = ap (told_value packet slot field) e ∙ sym (ap (λ (b : Bool). cond b (told_value packet slot field (value slot field)) []) t)
+
+pub told-not : (packet slot mask field : ℕ) (value : ℕ → ℕ → Option ℤ) → has_bit mask field ≡ false → [] ≡ told_field packet value slot mask field
+told-not packet slot mask field value f = sym (ap (λ (b : Bool). cond b (told_value packet slot field (value slot field)) []) f)
+
+-- with what is told of the next field
+pub field-heard : (a b c : Drawing) (packet slot mask field : ℕ) (value : ℕ → ℕ → Option ℤ) → Hears a (told_fields packet value slot mask field) b
+    → Hears b (told_field packet value slot mask field) c → Hears a (told_fields packet value slot mask (field + 1)) c
+field-heard a b c packet slot mask field value h k =
+    subst (λ (n : ℕ). Hears a (told_fields packet value slot mask n) c) (sym (add-one field))
+    (hears-more a b c (told_fields packet value slot mask field) (told_field packet value slot mask field) h k)
 
 -- ---- items
 

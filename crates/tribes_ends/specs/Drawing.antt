@@ -1,11 +1,13 @@
 -- What a timeline is told of the packet that a client took last: item by item, each by the packet's number. A create begins a copy in its
 -- slot, with a value of each field; an update brings values of the fields of its mask; a kill ends the copy. Told is the value that the
 -- slot's copy shows, of as many fields as the timeline keeps. A timeline holds values of 32 bits: one beyond is told as the nearest.
-use Rattle.std.specs.Prelude.{◌≡◌, refl, ℕ, zero, suc, ◌+◌, ◌-◌, ◌^◌, ℤ, pos, negsuc, int_le, List, [], ◌∷◌, ◌++◌, length, if◌then◌else◌, Option, Some, None}
-use Rattle.std.specs.Option.{option_or, option_map}
+use Rattle.std.specs.Prelude.{◌≡◌, ◌<◌, IsTrue, refl, ℕ, zero, suc, ◌+◌, ◌-◌, ◌^◌, ℤ, pos, negsuc, int_le, List, [], ◌∷◌, ◌++◌, length, slice_get, if◌then◌else◌, Option, Some, None}
+use Rattle.std.specs.Option.{option_or, option_map, option_and_then}
 use Rattle.std.specs.Result.{result_err}
 use Rattle.tn_types.specs.BitWords.{has_bit}
 use Rattle.tn_types.specs.Checks.{then_check}
+use Rattle.quantised_fields.specs.declared.field.FieldSpec.{FieldSpec}
+use Rattle.quantised_fields.specs.Levels.{is_sound, shown_of}
 use Rattle.wire_format.specs.declared.ghosts.GhostItem.{GhostItem}
 use Rattle.wire_format.specs.declared.ghosts.GhostItem.TheVariants.{Kill, Create, Update}
 use Rattle.ghost_client.specs.State.{value_of}
@@ -27,6 +29,16 @@ use Rattle.tribes_ends.specs.declared.link.Side.TheVariants.{Server, Client}
 -- the nearest value of 32 bits
 abbrev pub narrowed : ℤ → ℤ
 narrowed value = if int_le LEAST_VALUE value then if int_le value MOST_VALUE then value else MOST_VALUE else LEAST_VALUE
+
+-- each level fits its field, and the field is sound
+abbrev pub FitFields : List FieldSpec → List ℕ → Type 0
+FitFields fields levels =
+    (field : ℕ) (spec : FieldSpec) (level : ℕ) → slice_get fields field ≡ Some spec → slice_get levels field ≡ Some level
+    → IsTrue (is_sound spec) × (level < 2 ^ spec.bits)
+
+-- the value that the level of a field shows; none of a field that has no level
+abbrev pub value_shown : List FieldSpec → List ℕ → ℕ → Option ℤ
+value_shown fields levels field = option_and_then (λ spec. option_map (shown_of spec) (slice_get levels field)) (slice_get fields field)
 
 abbrev pub told_value : ℕ → ℕ → ℕ → Option ℤ → List Told
 told_value packet slot field None = []

@@ -1,16 +1,18 @@
 //! What a client's end tells a timeline of the packet that came last.
-ghost use Rattle.std.specs.Prelude.{◌≡◌, [], ◌∷◌, ◌≤◌, ◌<◌, Ok, None, OnOk, OnErr, length};
+ghost use Rattle.std.specs.Prelude.{◌≡◌, [], ◌∷◌, ◌≤◌, ◌<◌, ◌^◌, Ok, None, OnOk, OnErr, IsTrue, length};
 ghost use Rattle.std.specs.Result.{result_err};
+ghost use Rattle.quantised_fields.specs.Levels.{is_sound, shown_of};
 ghost use Rattle.ghost_client.specs.State.{value_of};
 ghost use Rattle.stream_manager.specs.ClientCalls.{Answers};
 ghost use Rattle.timeline.specs.Telling.{Came};
 ghost use Rattle.timeline.specs.Standing.{Hears, KeepsShape, slot_check, packet_check};
-ghost use Rattle.tribes_ends.specs.Drawing.{narrowed, told_field, told_fields, told_item, told_items, packet_of, HearsOf, item_fault, items_fault, hearing_fault};
+ghost use Rattle.tribes_ends.specs.Drawing.{narrowed, FitFields, value_shown, told_value, told_fields, told_item, told_items, packet_of, HearsOf, item_fault, items_fault, hearing_fault};
 
 use crate::asking::has_field;
 use crate::counts::or_zero;
 use crate::rows::first_bits;
-use ghost_client::Copies;
+use ghost_client::{Copies, GhostCopy};
+use quantised_fields::{FieldSpec, shown};
 use stream_manager::Client;
 use timeline::{Refusal, Timeline};
 use wire_format::GhostItem;
@@ -43,8 +45,35 @@ fn narrowed(value: i64) -> i32
     value as i32
 }
 
+/// The value that a level shows, without a division where each level has a value of its own.
+#[tactic(auto, using(crate::proofs::Hearing::own_value))]
+fn level_shown(spec: &FieldSpec, level: u32) -> i64
+    requires sound { IsTrue (is_sound spec.now) }
+    requires fits { level < 2 ^ spec.now.bits }
+    ensures { result ≡ shown_of spec.now level }
+{
+    if spec.hi - spec.lo == i64::from(first_bits(spec.bits as usize)) {
+        return spec.lo + i64::from(level);
+    }
+    shown(spec, level)
+}
+
+/// The value that the level of a field shows.
+fn value_shown(fields: &[FieldSpec], levels: &[u32], field: u32) -> Option<i64>
+    requires { FitFields fields.now levels.now }
+    ensures { result ≡ value_shown fields.now levels.now field }
+{
+    let Some(spec) = fields.get(field as usize) else {
+        return None;
+    };
+    match levels.get(field as usize) {
+        Some(level) => Some(level_shown(spec, *level)),
+        None => None,
+    }
+}
+
 /// Tells a value of a field.
-#[tactic(auto, using(crate::proofs::Hearing::came_passes, crate::proofs::Hearing::still_heard))]
+#[tactic(auto, using(crate::proofs::Hearing::still_heard))]
 fn tell_value(timeline: &mut Timeline, packet: u32, slot: u32, field: u32, value: i32)
     requires slot { slot < length timeline.old.slots }
     requires field { field < timeline.old.fields }
@@ -53,30 +82,27 @@ fn tell_value(timeline: &mut Timeline, packet: u32, slot: u32, field: u32, value
     ensures shape { KeepsShape timeline.old timeline.new }
     ensures packet { packet_check timeline.new packet ≡ Ok tt }
 {
-    let _ = timeline.came(slot, packet, field, value);
+    timeline.came_checked(slot, packet, field, value);
 }
 
-/// Tells the value of a field, if its bit is set.
+/// Tells the value that the level of a field shows.
 fn tell_field(
     timeline: &mut Timeline,
     packet: u32,
-    copies: &Copies,
+    fields: &[FieldSpec],
+    levels: &[u32],
     slot: u8,
-    mask: u32,
     field: u32,
 )
     requires slot { slot < length timeline.old.slots }
     requires field { field < timeline.old.fields }
-    requires few { field < 32 }
     requires packet { packet_check timeline.old packet ≡ Ok tt }
-    ensures told { Hears timeline.old (told_field packet (value_of copies.now) slot mask field) timeline.new }
+    requires fit { FitFields fields.now levels.now }
+    ensures told { Hears timeline.old (told_value packet slot field (value_shown fields.now levels.now field)) timeline.new }
     ensures shape { KeepsShape timeline.old timeline.new }
     ensures packet { packet_check timeline.new packet ≡ Ok tt }
 {
-    if !has_field(mask, field) {
-        return;
-    }
-    if let Some(value) = copies.value(slot, field as u8) {
+    if let Some(value) = value_shown(fields, levels, field) {
         tell_value(timeline, packet, u32::from(slot), field, narrowed(value));
     }
 }
@@ -89,9 +115,19 @@ fn tell_fields(timeline: &mut Timeline, packet: u32, copies: &Copies, slot: u8, 
     ensures shape { KeepsShape timeline.old timeline.new }
     ensures packet { packet_check timeline.new packet ≡ Ok tt }
 {
+    let Some(copy) = copies.get(slot) else {
+        return;
+    };
+    let Some(kind) = copies.table().kind(copy.kind) else {
+        return;
+    };
+    let fields = kind.fields.as_slice();
+    let levels = copy.levels.as_slice();
     let count = timeline.fields() as u32;
     'fields: for field in 0..count {
-        tell_field(timeline, packet, copies, slot, mask, field);
+        if has_field(mask, field) {
+            tell_field(timeline, packet, fields, levels, slot, field);
+        }
     }
 }
 

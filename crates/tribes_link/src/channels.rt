@@ -195,8 +195,10 @@ pub extern "C" fn tribes_post_message(
     ensures loose { guaranteed ≡ 0 → result ≡ pos 0 → BehindBoth
         (λ old c new c'. PostsLoose (record { kind = kind_of kind; bytes = bytes.now }) old new × (c' ≡ c))
         end.old.held.value channel.old.held.value end.new.held.value channel.new.held.value }
-    ensures answer_guaranteed { (guaranteed ≡ 0 → ⊥) → AnswersByBoth end.old.state channel.old.state end.old.held.value channel.old.held.value result
-        (λ side c. CodedBy 0 result (option_map hold_why (result_err (post_answer c.outbox (record { kind = kind_of kind; bytes = bytes.now }))))) }
+    ensures answer_guaranteed { (guaranteed ≡ 0 → ⊥)
+        → AnswersByBoth end.old.state channel.old.state end.old.held.value channel.old.held.value result
+        (λ side c. CodedBy 0 result
+        (option_map hold_why (result_err (post_answer c.outbox (record { kind = kind_of kind; bytes = bytes.now }))))) }
     ensures answer_loose { guaranteed ≡ 0 → AnswersByBoth end.old.state channel.old.state end.old.held.value channel.old.held.value result
         (λ side c. AnswersLoose (record { kind = kind_of kind; bytes = bytes.now }) result side) }
     ensures unchanged { (result ≡ pos 0 → ⊥) → end.new.held.value ≡ end.old.held.value }
@@ -230,9 +232,11 @@ fn next_of(
     count: &mut usize,
 ) -> i32
     ensures guaranteed { result ≡ pos 2
-        → Turns (GivesWhole (record { kind = kind_of kind.new; bytes = take count.new bytes.new })) channel.old link.old channel.new link.new }
+        → Turns (GivesWhole (record { kind = kind_of kind.new; bytes = take count.new bytes.new }))
+        channel.old link.old channel.new link.new }
     ensures loose { result ≡ pos 1
-        → Turns (GivesLoose (record { kind = kind_of kind.new; bytes = take count.new bytes.new })) channel.old link.old channel.new link.new }
+        → Turns (GivesLoose (record { kind = kind_of kind.new; bytes = take count.new bytes.new }))
+        channel.old link.old channel.new link.new }
     ensures none { result ≡ pos 0 → Turns Awaits channel.old link.old channel.new link.new }
     ensures answer { NextAnswered (length bytes.old) result channel.old }
     ensures ended { channel.old.inbox.room ≤ length bytes.old → (result ≡ pos 0 → ⊥) → (result ≡ pos 1 → ⊥) → (result ≡ pos 2 → ⊥)

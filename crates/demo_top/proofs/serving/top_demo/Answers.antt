@@ -1,47 +1,35 @@
-use Rattle.std.proofs.Common.{◌≡◌, Ok, map, string_bytes, Result, ℕ, subst}
-use Rattle.script_input.specs.Reading.{seen}
-use Rattle.demo_top.specs.declared.command.DemoCommand.{DemoCommand}
-use Rattle.demo_top.specs.declared.command.DemoCommand.TheVariants.{Demo, Replay, ReplayAt}
-use Rattle.demo_top.specs.Command.{command_of}
-use Rattle.demo_top.specs.Outcome.{DemoOutcome}
-use Rattle.demo_top.proofs.Rule.{rule}
+use Rattle.std.proofs.Common.{◌≡◌, refl, subst}
+use Rattle.match_script.specs.Ranges.{HasRanges}
+use Rattle.match_script.specs.Script.{script_of}
+use Rattle.script_input.specs.declared.status.Status.{Status}
+use Rattle.script_input.specs.declared.status.Status.TheVariants.{Done}
+use Rattle.script_input.specs.Reading.{Seen, seen}
+use Rattle.script_input.specs.Outcome.{EndsBehind}
+use Rattle.script_input.proofs.Outcome.{done_ran, on_ok, no_script, script_ended}
+use Rattle.demo_record.specs.Recording.{demo_text}
 use Rattle.demo_top.proofs.serving.top_demo.Goals as goal
 
-pub returns-in-Ok-Demo-clause-outcome : goal.returns-in-Ok-Demo-clause-outcome
-returns-in-Ok-Demo-clause-outcome g c =
-    let s = c.in-Ok-Demo in
-    let words = map string_bytes c.args.words.now.items in
-    let is : Ok (Demo s.client) ≡ command_of words = subst (λ (x : DemoCommand). Ok x ≡ command_of words) s.field-0-is s.ensures in
-    subst (λ (x : Result DemoCommand ℕ). DemoOutcome x
-    (seen (g.S.Source.held c.args.source.now) (g.S.Source.held c.serve_demo.new.source) (g.S.Source.faults c.args.source.now) (g.S.Source.faults c.serve_demo.new.source))
-    (seen (g.K.Sink.written c.args.sink.now) (g.K.Sink.written c.serve_demo.new.sink) (g.K.Sink.faults c.args.sink.now) (g.K.Sink.faults c.serve_demo.new.sink)) c.serve_demo.result) is c.serve_demo.ensures.outcome
+pub returns-in-Ok-clause-serves : goal.returns-in-Ok-clause-serves
+returns-in-Ok-clause-serves g c =
+    let e = c.in-Ok.ensures in let r = c.write_demo_of-ran.ensures in let h = c.end_call.ensures in
+    let source : Seen = seen (g.S.Source.held c.args.source.now) (g.S.Source.held c.read_script.new.source) (g.S.Source.faults c.args.source.now) (g.S.Source.faults c.read_script.new.source) in
+    script_ended script_of HasRanges (λ script text. text ≡ demo_text script c.args.client) source e.taken c.in-Ok.script e.ok e.ranges (e.cause.spared (λ h. absurd cc))
+    (g.K.Sink.written c.args.sink.now) (g.K.Sink.written c.write_demo_of-ran.new.sink) (g.K.Sink.written c.end_call.new.sink) h.bytes
+    (g.K.Sink.faults c.args.sink.now) (g.K.Sink.faults c.write_demo_of-ran.new.sink) (g.K.Sink.faults c.end_call.new.sink)
+    (demo_text c.in-Ok.script c.args.client) refl c.write_demo_of-ran.result c.end_call.result r.demo r.front r.cause h.ends
 
-pub returns-in-Ok-Demo-clause-words : goal.returns-in-Ok-Demo-clause-words
-returns-in-Ok-Demo-clause-words g c = rule (map string_bytes c.args.words.now.items)
+pub returns-in-Ok-clause-tells_the_client : goal.returns-in-Ok-clause-tells_the_client
+returns-in-Ok-clause-tells_the_client g c done =
+    let ran = c.write_demo_of-ran.result in
+    let f1 = g.K.Sink.faults c.write_demo_of-ran.new.sink in
+    let f2 = g.K.Sink.faults c.end_call.new.sink in
+    let ends : EndsBehind ran f1 f2 Done = subst (λ (s : Status). EndsBehind ran f1 f2 s) done c.end_call.ensures.ends in
+    let recorded = on_ok ran tt (done_ran ran f1 f2 ends) c.write_demo_of-ran.ensures.short in
+    (c.in-Ok.script, c.in-Ok.ensures.ok, λ few. c.replay_tells_the_client.ensures c.in-Ok.script c.args.client c.in-Ok.ensures.ranges few (recorded few))
 
-pub returns-in-Ok-Replay-clause-outcome : goal.returns-in-Ok-Replay-clause-outcome
-returns-in-Ok-Replay-clause-outcome g c =
-    let s = c.in-Ok-Replay in
-    let words = map string_bytes c.args.words.now.items in
-    let is : Ok (Replay) ≡ command_of words = subst (λ (x : DemoCommand). Ok x ≡ command_of words) s.field-0-is s.ensures in
-    subst (λ (x : Result DemoCommand ℕ). DemoOutcome x
-    (seen (g.S.Source.held c.args.source.now) (g.S.Source.held c.serve_replay.new.source) (g.S.Source.faults c.args.source.now) (g.S.Source.faults c.serve_replay.new.source))
-    (seen (g.K.Sink.written c.args.sink.now) (g.K.Sink.written c.serve_replay.new.sink) (g.K.Sink.faults c.args.sink.now) (g.K.Sink.faults c.serve_replay.new.sink)) c.serve_replay.result) is c.serve_replay.ensures.outcome
-
-pub returns-in-Ok-Replay-clause-words : goal.returns-in-Ok-Replay-clause-words
-returns-in-Ok-Replay-clause-words g c = rule (map string_bytes c.args.words.now.items)
-
-pub returns-in-Ok-ReplayAt-clause-outcome : goal.returns-in-Ok-ReplayAt-clause-outcome
-returns-in-Ok-ReplayAt-clause-outcome g c =
-    let s = c.in-Ok-ReplayAt in
-    let words = map string_bytes c.args.words.now.items in
-    let is : Ok (ReplayAt s.count) ≡ command_of words = subst (λ (x : DemoCommand). Ok x ≡ command_of words) s.field-0-is s.ensures in
-    subst (λ (x : Result DemoCommand ℕ). DemoOutcome x
-    (seen (g.S.Source.held c.args.source.now) (g.S.Source.held c.serve_replay-in-Ok-ReplayAt.new.source) (g.S.Source.faults c.args.source.now) (g.S.Source.faults c.serve_replay-in-Ok-ReplayAt.new.source))
-    (seen (g.K.Sink.written c.args.sink.now) (g.K.Sink.written c.serve_replay-in-Ok-ReplayAt.new.sink) (g.K.Sink.faults c.args.sink.now) (g.K.Sink.faults c.serve_replay-in-Ok-ReplayAt.new.sink)) c.serve_replay-in-Ok-ReplayAt.result) is c.serve_replay-in-Ok-ReplayAt.ensures.outcome
-
-pub returns-in-Ok-ReplayAt-clause-words : goal.returns-in-Ok-ReplayAt-clause-words
-returns-in-Ok-ReplayAt-clause-words g c = rule (map string_bytes c.args.words.now.items)
-
-pub returns-in-Err-clause-words : goal.returns-in-Err-clause-words
-returns-in-Err-clause-words g c = rule (map string_bytes c.args.words.now.items)
+pub returns-in-Err-clause-serves : goal.returns-in-Err-clause-serves
+returns-in-Err-clause-serves g c =
+    let e = c.in-Err.ensures in
+    let source : Seen = seen (g.S.Source.held c.args.source.now) (g.S.Source.held c.read_script.new.source) (g.S.Source.faults c.args.source.now) (g.S.Source.faults c.read_script.new.source) in
+    let sink : Seen = seen (g.K.Sink.written c.args.sink.now) (g.K.Sink.written c.args.sink.now) (g.K.Sink.faults c.args.sink.now) (g.K.Sink.faults c.args.sink.now) in
+    no_script script_of HasRanges (λ script text. text ≡ demo_text script c.args.client) source e.taken sink c.in-Err.status e.err (refl, refl) e.cause.later

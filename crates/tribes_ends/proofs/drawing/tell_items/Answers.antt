@@ -1,4 +1,4 @@
-use Rattle.std.proofs.Common.{◌≡◌, ◌∙◌, ℕ, ◌+◌, List, take, drop, sym, subst}
+use Rattle.std.proofs.Common.{◌∙◌, ℕ, ◌+◌, List, take, drop, sym, subst}
 use Rattle.ghost_client.specs.State.{value_of}
 use Rattle.timeline.specs.Telling.{Told}
 use Rattle.timeline.specs.Standing.{Hears}

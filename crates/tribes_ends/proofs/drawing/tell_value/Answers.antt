@@ -5,13 +5,11 @@ use Rattle.std.proofs.Common.{subst}
 use Rattle.std.proofs.lemmas.Int.{to_z-of_z}
 use Rattle.timeline.specs.Telling.{Came}
 use Rattle.timeline.specs.Standing.{Hears}
-use Rattle.tribes_ends.proofs.Hearing.{came-heard}
 use Rattle.tribes_ends.proofs.drawing.tell_value.Goals as goal
 
 pub returns-clause-told : goal.returns-clause-told
 returns-clause-told c =
     let old = c.args.timeline.now in
     let fits : FitsSigned w32 c.args.value = c.ranges.value in
-    subst (λ (v : ℤ). Hears old (record { slot = c.args.slot; packet = c.args.packet; what = Came c.args.field v } ∷ []) c.came.new.self) (to_z-of_z w32 c.args.value fits)
-    (came-heard old c.came.new.self c.args.slot c.args.packet c.args.field _ c.came.result c.requires.slot c.requires.packet c.requires.field c.came.ensures.answer
-    c.came.ensures.log)
+    subst (λ (v : ℤ). Hears old (record { slot = c.args.slot; packet = c.args.packet; what = Came c.args.field v } ∷ []) c.came_checked.new.self) (to_z-of_z w32 c.args.value fits)
+    c.came_checked.ensures.log

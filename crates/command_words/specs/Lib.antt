@@ -1,2 +1,0 @@
-pub mod OneWord
-pub mod Said

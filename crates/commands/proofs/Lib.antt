@@ -1,0 +1,4 @@
+pub mod Numbers
+pub mod Faults
+pub mod Forms
+pub mod Rule

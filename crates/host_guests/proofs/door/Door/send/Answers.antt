@@ -1,8 +1,0 @@
-use Rattle.std.proofs.Common.{true}
-use Rattle.host_guests.proofs.Opening.{sent_holds}
-use Rattle.host_guests.proofs.door.Door.send.Goals as goal
-
-pub returns-then-send-clause-holds : goal.returns-then-send-clause-holds
-returns-then-send-clause-holds g c holds =
-    sent_holds c.args.self.now.guests (g.S.Socket.log c.args.self.now.socket) (g.S.Socket.log c.send.new.self) true c.in-Some.to c.args.bytes.now
-    c.if-send.ensures.goes c.in-Some.ensures.log holds
