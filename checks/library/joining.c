@@ -120,7 +120,7 @@ static void down(int who, const uint8_t *bytes, size_t count) {
 static void decide(int at, const uint8_t *bytes, size_t count, tribes_greeting *reply) {
     int k = 0;
     tribes_reason why;
-    uint32_t none = 0;
+    uint32_t length = 4;
     while (k < SEATS && seats[k].who >= 0) k++;
     if (!heard[at]) stop("a client for who heard no challenge");
     if (k == SEATS || count != 36 || bytes[34] != at || bytes[35] <= turns[at] || draw(6) == 0) {
@@ -128,7 +128,7 @@ static void decide(int at, const uint8_t *bytes, size_t count, tribes_greeting *
         return;
     }
     if (tribes_door_accept(&door, (uint32_t)k, reply) < 0) stop("accept");
-    if (tribes_server(&seats[k].end, &config, kinds, 1, fields, 1, bytes, 0, &none, 0, &why) < 0) stop("server");
+    if (tribes_server(&seats[k].end, &config, kinds, 1, fields, 1, (const uint8_t *)"lamp", 4, &length, 1, &why) < 0) stop("server");
     for (int c = 0; c < SEATS; c++)
         if (seats[c].who == at) empty(c, &gone);
     seats[k].who = at;

@@ -194,7 +194,7 @@ impl Run {
             return self.door.refuse().unwrap_or_else(|_| stop("refuse"));
         };
         let reply = self.door.accept(k as u32).unwrap_or_else(|_| stop("accept"));
-        let mut end = Server::new(&CONFIG, &KINDS, &FIELDS, &[]).unwrap_or_else(|_| stop("server"));
+        let mut end = Server::new(&CONFIG, &KINDS, &FIELDS, &[b"lamp"]).unwrap_or_else(|_| stop("server"));
         for c in 0..SEATS {
             if self.seats[c].as_ref().is_some_and(|seat| seat.who == at) {
                 self.empty(c);

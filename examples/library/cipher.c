@@ -54,16 +54,16 @@ int main(void) {
     tribes_end server = {0}, client = {0};
     tribes_reason why;
     static tribes_ask asks[TRIBES_MAX_ASKS];
-    uint8_t packed[TRIBES_MAX_DATAGRAM] = {0}, sent[TRIBES_MAX_DATAGRAM + MORE], came[TRIBES_MAX_DATAGRAM + MORE];
+    uint8_t packed[TRIBES_MAX_DATAGRAM], sent[TRIBES_MAX_DATAGRAM + MORE], came[TRIBES_MAX_DATAGRAM + MORE];
     cipher of_server = {.way = 1}, of_client = {.way = 0};
     int64_t tank[] = {1200, 80}, values[TRIBES_MAX_FIELDS];
-    uint32_t n, none = 0, moves, slot;
+    uint32_t n, length = 4, moves, slot;
     size_t count;
     tribes_copied copied;
     if (sodium_init() < 0) return 1;
     crypto_aead_chacha20poly1305_ietf_keygen(of_server.key);
     memcpy(of_client.key, of_server.key, sizeof of_client.key);
-    if (tribes_server(&server, &config, kinds, 1, fields, 2, packed, 0, &none, 0, &why)) return 1;
+    if (tribes_server(&server, &config, kinds, 1, fields, 2, (const uint8_t *)"tank", 4, &length, 1, &why)) return 1;
     if (tribes_client(&client, &config, kinds, 1, fields, 2, &why)) return 1;
     tribes_show(&server, &(tribes_object){0, 0, 0, 1}, &n);
     for (int turn = 0; turn < TURNS; turn++) {
@@ -73,12 +73,16 @@ int main(void) {
         count = encrypt(&of_server, packed, count, sent);
         long opened = decrypt(&of_client, sent, count, came);
         if (opened >= 0) tribes_arrive(&client, came, (size_t)opened, 0, &moves);
+        tribes_pack(&client, values, 0, packed, sizeof packed, &count);
+        count = encrypt(&of_client, packed, count, sent);
+        opened = decrypt(&of_server, sent, count, came);
+        if (opened >= 0) tribes_arrive(&server, came, (size_t)opened, 0, &moves);
     }
     if (tribes_control(&client, &slot) != 1 || tribes_copy(&client, slot, &copied, values, TRIBES_MAX_FIELDS) < 0) return 1;
     printf("copy %lld %lld\n", (long long)values[0], (long long)values[1]);
-    printf("reflected: %s\n", decrypt(&of_server, sent, count, came) < 0 ? "refused" : "taken");
+    printf("reflected: %s\n", decrypt(&of_client, sent, count, came) < 0 ? "refused" : "taken");
     sent[NUMBER] ^= 1;
-    printf("changed: %s\n", decrypt(&of_client, sent, count, came) < 0 ? "refused" : "taken");
+    printf("changed: %s\n", decrypt(&of_server, sent, count, came) < 0 ? "refused" : "taken");
     tribes_free(&server);
     tribes_free(&client);
     return 0;

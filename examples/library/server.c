@@ -17,7 +17,6 @@ enum { SEATS = 2, LIMIT = 1000, TAG = 16, HELLO = 3, ANSWER = 11, TOKEN_AT = 34 
 
 static const char *names[] = {"ada", "bob"};
 static const uint8_t keys[][32] = {"the key of ada, of 32 bytes ....", "the key of bob, of 32 bytes ...."};
-
 static const tribes_field fields[] = {{0, 65535, 16}};
 static const tribes_kind kinds[] = {{1, 8}};
 static tribes_config config_of(uint32_t client) { return (tribes_config){client, 1000000, 600, 3, 8}; }
@@ -71,19 +70,22 @@ static void decide(const struct sockaddr_in *from, const uint8_t *bytes, size_t 
     while (client < SEATS && seats[client].name) client++;
     while (known < 2 && (count - TOKEN_AT != strlen(names[known]) || memcmp(bytes + TOKEN_AT, names[known], count - TOKEN_AT))) known++;
     seat *s = &seats[client];
-    tribes_config config = config_of(client);
+    const tribes_config config = config_of(client);
+    const uint32_t length = 4;
     tribes_reason why;
-    uint32_t none = 0;
-    if (known == 2 || client == SEATS) {
+    if (known == 2 || client == SEATS || tribes_server(&s->end, &config, kinds, 1, fields, 1, (const uint8_t *)"lamp", 4, &length, 1, &why) < 0) {
         tribes_door_refuse(&door, reply);
-    } else if (tribes_server(&s->end, &config, kinds, 1, fields, 1, bytes, 0, &none, 0, &why) == 0 && tribes_door_accept(&door, client, reply) == 0) {
-        s->key = (tribes_key){.tag_bytes = TAG, .side = 1};
-        memcpy(s->key.key, keys[known], 32);
-        memcpy(&s->number, bytes + 2, 8); /* of the nonce, which the client chose for this joining */
-        s->at = *from;
-        s->name = names[known];
-        tribes_presence_start(&s->presence, LIMIT, now());
+        return;
     }
+    tribes_door_accept(&door, client, reply);
+    tribes_show(&s->end, &(tribes_object){0, 0, 0, 1}, &s->lamp);
+    s->key = (tribes_key){.tag_bytes = TAG, .side = 1};
+    memcpy(s->key.key, keys[known], 32);
+    memcpy(&s->number, bytes + 2, 8); /* of the nonce, which the client chose for this joining */
+    s->at = *from;
+    s->name = names[known];
+    tribes_presence_start(&s->presence, LIMIT, now());
+    printf("%s is client %u\n", s->name, client);
 }
 
 /* a datagram of a seat: its tag is looked at first */
@@ -119,7 +121,6 @@ static void tell(uint32_t client) {
     int64_t values[] = {brightness};
     uint8_t bytes[TRIBES_MAX_DATAGRAM + TAG];
     size_t count;
-    if (!s->lamp && tribes_show(&s->end, &(tribes_object){0, 0, 0, 1}, &s->lamp) == 0) printf("%s is client %u\n", s->name, client);
     tribes_changed(&s->end, s->lamp, 1);
     if (tribes_plan(&s->end, asks, TRIBES_MAX_ASKS, &count) < 0) return;
     if (tribes_pack(&s->end, values, count, bytes, TRIBES_MAX_DATAGRAM, &count) > 0) put_tagged(s, bytes, sizeof bytes, count);
@@ -136,7 +137,6 @@ int main(int argc, char **argv) {
     memcpy(terms.protocol, protocol.bytes, 32);
     if (getrandom(terms.secret, 32, 0) != 32 || tribes_door_open(&door, &terms) < 0) return 1;
     if ((wire = socket(AF_INET, SOCK_DGRAM, 0)) < 0 || bind(wire, (struct sockaddr *)&at, sizeof at)) return 1;
-    setvbuf(stdout, NULL, _IOLBF, 0);
     for (uint64_t start = now(); now() < start + (uint64_t)atoi(argv[2]) * 1000; brightness = brightness < 65535 ? brightness + 1 : 0) {
         hear();
         for (uint32_t c = 0; c < SEATS; c++) {

@@ -61,7 +61,7 @@ impl Host {
         let (Some((name, key)), Some(client)) = (player, self.seats.iter().position(|seat| seat.is_none())) else {
             return Ok(self.door.refuse()?);
         };
-        let mut end = Server::new(&config(client as u32), &KINDS, &FIELDS, &[])?;
+        let mut end = Server::new(&config(client as u32), &KINDS, &FIELDS, &[b"lamp"])?;
         let lamp = end.show(&Object { kind: 0, block: 0, level: 0, control: 1 })?;
         let welcome = self.door.accept(client as u32)?;
         println!("{name} is client {client}");
