@@ -85,7 +85,7 @@ class Listening(threading.Thread):
     """Listeners who say hello until they are welcomed, and take what comes, until they are stopped."""
 
     def __init__(self, addresses, key=None):
-        super().__init__()
+        super().__init__(daemon=True)
         self.listeners, self.goes = [Listener(address, key) for address in addresses], True
         self.start()
 

@@ -91,5 +91,5 @@ module _ (count : Option ℕ) (source : Seen) (few : GaveAtMost 16777217 source.
 -- no demo was read
 pub told-not-read : (count : Option ℕ) (source : Seen) → GaveAtMost 16777217 source.old source.new → source.faults ≤ source.faults_after
     → (s : Status) → NotGave 16777216 source s → (w : Option (List ℕ)) (f : ℕ) → Serves (replaying count) source (seen w w f f) s
-told-not-read count source few later s no w f =
-    not_taken 16777216 (replaying count).asked (replaying count).makes source few (seen w w f f) (refl, refl) later s no
+told-not-read count source few later s lacking w f =
+    not_taken 16777216 (replaying count).asked (replaying count).makes source few (seen w w f f) (refl, refl) later s lacking

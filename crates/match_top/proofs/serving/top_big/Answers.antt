@@ -14,7 +14,7 @@ returns-in-Ok-clause-serves g c source untouched =
     let s = c.args.seed in let n = c.args.clients in let k = c.args.steps in
     let e = c.in-Ok.ensures in let r = c.write_counts-ran.ensures in let h = c.end_call.ensures in
     let text : List ℕ = summary_text s n k (counts_of (tellings c.in-Ok.script)) in
-    let fits : HasRanges (made s n k) = subst HasRanges e.made (e.ranges c.args.requires.steps) in
+    let fits : HasRanges (made s n k) = subst HasRanges e.made (e.ranges c.requires.steps) in
     let is : text ≡ summary_text s n k (counts_of (tellings (made s n k))) = rw e.made refl in
     ended_with (counting s n k) source untouched [] (untouched, refl) refl untouched.1
     (g.K.Sink.written c.args.sink.now) (g.K.Sink.written c.write_counts-ran.new.sink) (g.K.Sink.written c.end_call.new.sink) h.bytes
