@@ -13,7 +13,7 @@
 #include <sys/socket.h>
 #include <time.h>
 
-enum { LIMIT = 1000, TAG = 16, REASON = 7 };
+enum { LIMIT = 1000, TAG = 16, REASON = 7, WELCOME = 15 };
 
 static const tribes_field fields[] = {{0, 65535, 16}};
 static const tribes_kind kinds[] = {{1, 8}};
@@ -43,6 +43,7 @@ static void hear(void) {
     ssize_t came;
     while ((came = recv(wire, bytes, sizeof bytes, MSG_DONTWAIT)) >= 0) {
         size_t count = (size_t)came;
+        if (count > 0 && bytes[0] == WELCOME && knock.reached == 2) continue; /* once more: the answer went twice */
         if (knock.reached < 2) {
             tribes_config config;
             tribes_reason why;

@@ -14,6 +14,7 @@ use tribes::{Client, Config, Field, Key, Kind, Knock, LONGEST_TAG, MAX_DATAGRAM,
 const LIMIT: u64 = 1_000;
 const TAG: u32 = 16;
 const REASON: u16 = 7;
+const WELCOME: u8 = 15;
 const FIELDS: [Field; 1] = [Field { lo: 0, hi: 65_535, bits: 16 }];
 const KINDS: [Kind; 1] = [Kind { fields: 1, weight: 8 }];
 
@@ -59,6 +60,9 @@ impl Player {
                 }
                 continue;
             };
+            if count > 0 && place[0] == WELCOME {
+                continue; // once more: the answer went twice
+            }
             let Ok(bytes) = self.key.verify(self.number, &place[..count]) else { continue };
             if joined.presence.came(bytes, now).is_none() {
                 let _ = joined.end.arrive(bytes);
